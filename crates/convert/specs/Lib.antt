@@ -1,0 +1,14 @@
+pub mod Table
+pub mod Model
+pub mod Value
+pub mod Pointer
+pub mod Classify
+pub mod Keys
+pub mod FromCard
+pub mod ToJson
+pub mod FromJson
+pub mod ToCard
+pub mod Carry
+pub mod Answers
+pub mod NormalCard
+pub mod NormalJson

@@ -1,0 +1,204 @@
+-- A card's normal form, from 01's section 'Normal forms' alone: which lines, in which order, and each line's own normal form.
+-- It goes from lines to lines and knows neither the model nor JSON's members; that the way home gives it is a theorem.
+use mathlib.Core.Bool.{Bool, true, false, _&&_, _||_, not}
+use mathlib.Core.List.{List, [], _∷_, _++_, map, tail}
+use mathlib.Core.Option.{Option, none, some}
+use Prim.Native.Nat.{ℕ, zero, suc, _+_}
+use lib.ListN.{getD}
+use lib.Dec.{eqb}
+use Rattle.text.specs.Choice.{pick, with-some}
+use Rattle.text.specs.Bytes.{Bytes, ascii, empty, any, same, among, lowered, begins, parts, joined, flat, keep}
+use Rattle.text.specs.Decimal.{decimal}
+use Rattle.json.specs.Tree.{Json}
+use Rattle.json.specs.Compact.{compact}
+use Rattle.line.specs.Class.{isControl}
+use Rattle.line.specs.Grammar.{Param, param, Line}
+use Rattle.line.specs.Params.{valuesNamed, valueType, besidesValue, merged}
+use Rattle.line.specs.Text.{readText, splitText, writeText}
+use Rattle.line.specs.Write.{writeCard}
+use Rattle.convert.specs.Table.{Form, text, single, uri, phone, organization, Map, maps, typeNames, vcardType}
+use Rattle.convert.specs.Model.{Entry}
+use Rattle.convert.specs.Classify.{Class, as-version, as-uid, as-kind, as-dropped, as-full, as-parts, as-entry, as-member, as-kept, Classed, classed}
+use Rattle.convert.specs.Keys.{keys}
+use Rattle.convert.specs.Answers.{rawLines, linesOf, orNone}
+
+abbrev pub plainLine : Bytes → List Param → Bytes → Line
+plainLine n ps v = record { group = []; name = n; params = ps; value = v }
+
+-- ---- values: escapes as 01 writes them
+
+-- a TEXT value escaped anew
+unfoldable pub renewed : Bool → Bytes → Bytes
+renewed semi v = with-some (readText v) (writeText semi) v
+
+-- the string that a TEXT value stands for
+abbrev pub textOf : Bytes → Bytes
+textOf v = with-some (readText v) (λ t. t) v
+
+-- the strings of one part of N: split at bare commas, empty ones gone
+unfoldable pub partTexts : Bytes → List Bytes
+partTexts s = keep (λ v. not (empty v)) (map textOf (splitText 44 s))
+
+abbrev pub partAt : ℕ → List (List Bytes) → List Bytes
+partAt i ps = getD ps i []
+
+abbrev pub less : List Bytes → List Bytes → List Bytes
+less vs ws = keep (λ v. not (among v ws)) vs
+
+-- N's own strings, part by part: family values that are no secondary surname, .., suffixes that are no generation, ..
+unfoldable pub nameValues : Bytes → List (List Bytes)
+nameValues v =
+    let ps : List (List Bytes) = map partTexts (splitText 59 v) in
+    less (partAt 0 ps) (partAt 5 ps) ∷ partAt 1 ps ∷ partAt 2 ps ∷ partAt 3 ps ∷ less (partAt 4 ps) (partAt 6 ps) ∷ partAt 5 ps ∷ partAt 6 ps ∷ []
+
+-- N written with 7 parts by its rule: secondary surnames again after the family, generations again after the suffixes
+unfoldable pub nameText : List (List Bytes) → Bytes
+nameText ps =
+    joined (ascii ";") (map (λ vs. joined (ascii ",") (map (writeText true) vs))
+    ((partAt 0 ps ++ partAt 5 ps) ∷ partAt 1 ps ∷ partAt 2 ps ∷ partAt 3 ps ∷ (partAt 4 ps ++ partAt 6 ps) ∷ partAt 5 ps ∷ partAt 6 ps ∷ []))
+
+-- ORG: empty units gone
+abbrev pub unitsGone : List Bytes → List Bytes
+unitsGone [] = []
+unitsGone (n ∷ us) = n ∷ keep (λ u. not (empty u)) us
+
+unfoldable pub orgText : Bytes → Bytes
+orgText v = joined (ascii ";") (unitsGone (map (renewed true) (splitText 59 v)))
+
+-- TEL's number, and whether it is written raw with VALUE=uri
+unfoldable pub telNumber : Bytes → Bytes → Bytes
+telNumber type v = pick (same type (ascii "uri")) v (textOf v)
+
+unfoldable pub isTelUriForm : Bytes → Bool
+isTelUriForm n = begins (ascii "tel:") n && not (any isControl n)
+
+unfoldable pub entryValue : Form → Bytes → Bytes → Bytes
+entryValue text type v = renewed false v
+entryValue single type v = renewed false v
+entryValue uri type v = v
+entryValue phone type v = pick (isTelUriForm (telNumber type v)) (telNumber type v) (writeText false (telNumber type v))
+entryValue organization type v = orgText v
+
+-- ---- parameters PROP-ID, PREF, TYPE, VALUE
+
+abbrev pub whereAny : Bytes → List Bytes → List Param
+whereAny n [] = []
+whereAny n (v ∷ vs) = param n (v ∷ vs) ∷ []
+
+-- TYPE lower-case, repeats gone, in the table's order
+unfoldable pub typeForm : List Bytes → List Bytes
+typeForm vs = keep (λ t. among t (map lowered (flat (map (parts 44) vs)))) (map vcardType typeNames)
+
+unfoldable pub valueForm : Form → Bytes → Bytes → List Bytes
+valueForm text type v = []
+valueForm single type v = []
+valueForm uri type v = []
+valueForm phone type v = pick (isTelUriForm (telNumber type v)) (ascii "uri" ∷ []) []
+valueForm organization type v = []
+
+-- a line of a map, with its key
+unfoldable pub entryForm : Map → Bytes → Line → Line
+entryForm m k l =
+    plainLine (lowered (l .name))
+    (param (ascii "prop-id") (k ∷ []) ∷ (whereAny (ascii "pref") (valuesNamed (ascii "pref") (l .params))
+    ++ whereAny (ascii "type") (typeForm (valuesNamed (ascii "type") (l .params)))
+    ++ whereAny (ascii "value") (valueForm (m .form) (valueType (l .params)) (l .value))))
+    (entryValue (m .form) (valueType (l .params)) (l .value))
+
+-- a kept line: group lower-case, equal-named parameters merged, VALUE last, lower-case, dropped when unknown; the value as it is
+unfoldable pub keptForm : Line → Line
+keptForm l =
+    record {
+      group = lowered (l .group);
+      name = lowered (l .name);
+      params = merged (besidesValue (l .params)) ++ pick (same (valueType (l .params)) (ascii "unknown")) [] (param (ascii "value") (valueType (l .params) ∷ []) ∷ []);
+      value = l .value;
+    }
+
+-- ---- sections: UID, KIND, FN, N, the maps in table order, JSPROP, kept lines; VERSION and a derived FN are written anew
+
+pub data Section : Type 0 where
+  nowhere : Section
+  uids kinds fulls names members kepts : Section
+  map-at : ℕ → Section
+
+abbrev pub sectionOf : Class → Section
+sectionOf as-version = nowhere
+sectionOf (as-uid v) = uids
+sectionOf (as-kind v) = kinds
+sectionOf as-dropped = nowhere
+sectionOf (as-full v) = fulls
+sectionOf (as-parts ps) = names
+sectionOf (as-entry i e) = map-at i
+sectionOf (as-member n j) = members
+sectionOf as-kept = kepts
+
+abbrev pub sectionNumber : Section → ℕ
+sectionNumber nowhere = 0
+sectionNumber uids = 1
+sectionNumber kinds = 2
+sectionNumber fulls = 3
+sectionNumber names = 4
+sectionNumber members = 5
+sectionNumber kepts = 6
+sectionNumber (map-at i) = 7 + i
+
+-- the lines of a section, in their order
+unfoldable pub section : Section → List Classed → List Line
+section n cs = map (λ (c : Classed). c .line) (keep (λ (c : Classed). eqb (sectionNumber (sectionOf (c .class))) (sectionNumber n)) cs)
+
+-- PROP-ID of a line, empty where it has none
+abbrev pub propId : Line → Bytes
+propId l = joined [] (valuesNamed (ascii "prop-id") (l .params))
+
+unfoldable pub entryForms : Map → List Bytes → List Line → List Line
+entryForms m [] ls = []
+entryForms m (k ∷ ks) [] = []
+entryForms m (k ∷ ks) (l ∷ ls) = entryForm m k l ∷ entryForms m ks ls
+
+unfoldable pub mapForms : ℕ → List Map → List Classed → List Line
+mapForms i [] cs = []
+mapForms i (m ∷ ms) cs = entryForms m (keys (m .prefix) (map propId (section (map-at i) cs))) (section (map-at i) cs) ++ mapForms (suc i) ms cs
+
+-- JSPROP: the same pointer, compact JSON; the tree is the one that the line was classed by
+abbrev pub memberForm : Classed → List Line
+memberForm c = form (c .class)
+  where
+    form : Class → List Line
+    form as-version = []
+    form (as-uid v) = []
+    form (as-kind v) = []
+    form as-dropped = []
+    form (as-full v) = []
+    form (as-parts ps) = []
+    form (as-entry i e) = []
+    form (as-member n j) = plainLine (ascii "jsprop") (param (ascii "jsptr") (valuesNamed (ascii "jsptr") (c .line .params)) ∷ []) (writeText false (compact j)) ∷ []
+    form as-kept = []
+
+abbrev pub orMade : List Line → Line → List Line
+orMade [] made = made ∷ []
+orMade (l ∷ ls) made = l ∷ ls
+
+-- N's components as strings, in order
+unfoldable pub nameStrings : List Line → List Bytes
+nameStrings [] = []
+nameStrings (l ∷ ls) = flat (nameValues (l .value))
+
+-- with no converted FN, one is made of the components joined by spaces
+unfoldable pub derivedForm : List Line → Line
+derivedForm ns = plainLine (ascii "fn") (param (ascii "derived") (ascii "TRUE" ∷ []) ∷ []) (writeText false (joined (ascii " ") (nameStrings ns)))
+
+unfoldable pub normalLines : Bytes → ℕ → List Classed → List Line
+normalLines stem n cs =
+    plainLine (ascii "version") [] (ascii "4.0")
+    ∷ (orMade (map (λ (l : Line). plainLine (ascii "uid") [] (l .value)) (section uids cs)) (plainLine (ascii "uid") [] (stem ++ 45 ∷ decimal n))
+    ++ map (λ (l : Line). plainLine (ascii "kind") [] (lowered (l .value))) (section kinds cs)
+    ++ orMade (map (λ (l : Line). plainLine (ascii "fn") [] (renewed false (l .value))) (section fulls cs)) (derivedForm (section names cs))
+    ++ map (λ (l : Line). plainLine (ascii "n") [] (nameText (nameValues (l .value)))) (section names cs)
+    ++ mapForms 0 maps cs
+    ++ flat (map memberForm cs)
+    ++ map keptForm (section kepts cs))
+
+-- the normal form of an accepted card, for a stem and a card number
+unfoldable pub normalCard : Bytes → ℕ → Bytes → Bytes
+normalCard stem n s = writeCard (normalLines stem n (classed (linesOf (orNone (rawLines s)))))

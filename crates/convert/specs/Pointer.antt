@@ -1,0 +1,30 @@
+-- JSPTR: one non-empty RFC 6901 part. `~1` is a slash, `~0` a tilde; a bare slash would begin another part.
+use mathlib.Core.Bool.{Bool, true, false, not}
+use mathlib.Core.List.{List, [], _∷_, _++_}
+use mathlib.Core.Option.{Option, none, some}
+use Prim.Native.Nat.{ℕ}
+use lib.Dec.{eqb}
+use Rattle.text.specs.Choice.{pick, provided}
+use Rattle.text.specs.Bytes.{Bytes, empty}
+
+abbrev pub push : ℕ → Option Bytes → Option Bytes
+push c none = none
+push c (some s) = some (c ∷ s)
+
+-- the flag says that a tilde stands just before
+unfoldable pub pointedFrom : Bool → Bytes → Option Bytes
+pointedFrom false [] = some []
+pointedFrom true [] = none
+pointedFrom false (c ∷ s) =
+    let tilde : Option Bytes = pointedFrom true s in
+    let plain : Option Bytes = push c (pointedFrom false s) in
+    pick (eqb c 126) tilde (pick (eqb c 47) none plain)
+pointedFrom true (c ∷ s) = pick (eqb c 48) (push 126 (pointedFrom false s)) (pick (eqb c 49) (push 47 (pointedFrom false s)) none)
+
+-- the name of the member that a pointer points at
+unfoldable pub pointed : Bytes → Option Bytes
+pointed p = provided (not (empty p)) (pointedFrom false p)
+
+unfoldable pub pointer : Bytes → Bytes
+pointer [] = []
+pointer (c ∷ s) = pick (eqb c 126) (126 ∷ 48 ∷ []) (pick (eqb c 47) (126 ∷ 49 ∷ []) (c ∷ [])) ++ pointer s

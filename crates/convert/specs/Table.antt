@@ -1,0 +1,101 @@
+-- The table 'Converted lines' of 01 as data: one row a map, and the values of TYPE.
+use mathlib.Core.Bool.{Bool, true, false, _||_, _&&_}
+use mathlib.Core.List.{List, [], _∷_, _++_, map}
+use mathlib.Core.Option.{Option, none, some}
+use Prim.Native.Nat.{ℕ, zero, suc}
+use lib.Dec.{ltb, eqb}
+use Rattle.text.specs.Choice.{pick, with-some}
+use Rattle.text.specs.Bytes.{Bytes, ascii, same, any, keep}
+
+-- ---- the seven maps
+
+-- How a property's value and an entry's strings stand for each other.
+pub data Form : Type 0 where
+  text : Form  -- TEXT
+  single : Form  -- TEXT without a bare comma (NICKNAME)
+  uri : Form  -- raw
+  phone : Form  -- TEXT, or raw with VALUE=uri
+  organization : Form  -- TEXT parts: the name, then units
+
+pub record Map : Type 0 where
+  pub member : Bytes  -- the top-level member
+  pub prefix : Bytes  -- of keys made where there is no PROP-ID
+  pub properties : List Bytes  -- property names, lower-case
+  pub kinds : List Bytes  -- the entry's kind for each of them, where it has one
+  pub content : Bytes  -- the member that holds the string
+  pub form : Form
+  pub types : ℕ  -- how many values of the table of TYPE it takes; 0: neither TYPE nor PREF
+
+abbrev pub maps : List Map
+maps =
+    record { member = ascii "nicknames"; prefix = ascii "NICK"; properties = ascii "nickname" ∷ []; kinds = []; content = ascii "name"; form = single; types = 2 }
+    ∷ record { member = ascii "emails"; prefix = ascii "EMAIL"; properties = ascii "email" ∷ []; kinds = []; content = ascii "address"; form = text; types = 2 }
+    ∷ record { member = ascii "phones"; prefix = ascii "PHONE"; properties = ascii "tel" ∷ []; kinds = []; content = ascii "number"; form = phone; types = 9 }
+    ∷ record { member = ascii "links"; prefix = ascii "LINK"; properties = ascii "url" ∷ []; kinds = []; content = ascii "uri"; form = uri; types = 2 }
+    ∷ record { member = ascii "notes"; prefix = ascii "NOTE"; properties = ascii "note" ∷ []; kinds = []; content = ascii "note"; form = text; types = 0 }
+    ∷ record { member = ascii "titles"; prefix = ascii "TITLE"; properties = ascii "title" ∷ ascii "role" ∷ []; kinds = ascii "title" ∷ ascii "role" ∷ []; content = ascii "name"; form = text; types = 0 }
+    ∷ record { member = ascii "organizations"; prefix = ascii "ORG"; properties = ascii "org" ∷ []; kinds = []; content = ascii "name"; form = organization; types = 0 }
+    ∷ []
+
+-- top-level members that no JSPROP line makes
+abbrev pub reserved : List Bytes
+reserved =
+    ascii "@type" ∷ ascii "version" ∷ ascii "uid" ∷ ascii "kind" ∷ ascii "name" ∷ ascii "nicknames" ∷ ascii "emails" ∷ ascii "phones" ∷ ascii "links" ∷ ascii "notes"
+    ∷ ascii "titles" ∷ ascii "organizations" ∷ ascii "vCardProps" ∷ []
+
+-- ---- TYPE: its value, and the context (the first two) or feature that it stands for; contexts first, each alphabetical by JSON name
+
+pub data TypeName : Type 0 where
+  type-name : (vcard json : Bytes) → TypeName
+
+abbrev pub typeNames : List TypeName
+typeNames =
+    type-name (ascii "home") (ascii "private") ∷ type-name (ascii "work") (ascii "work")
+    ∷ type-name (ascii "fax") (ascii "fax") ∷ type-name (ascii "cell") (ascii "mobile") ∷ type-name (ascii "pager") (ascii "pager")
+    ∷ type-name (ascii "text") (ascii "text") ∷ type-name (ascii "textphone") (ascii "textphone") ∷ type-name (ascii "video") (ascii "video")
+    ∷ type-name (ascii "voice") (ascii "voice") ∷ []
+
+abbrev pub vcardType : TypeName → Bytes
+vcardType (type-name v j) = v
+
+abbrev pub jsonType : TypeName → Bytes
+jsonType (type-name v j) = j
+
+-- places in the table of TYPE
+abbrev pub contextCodes : List ℕ
+contextCodes = 0 ∷ 1 ∷ []
+
+abbrev pub featureCodes : List ℕ
+featureCodes = 2 ∷ 3 ∷ 4 ∷ 5 ∷ 6 ∷ 7 ∷ 8 ∷ []
+
+-- codes without repeats, in the table's order
+unfoldable pub inOrder : List ℕ → List ℕ
+inOrder cs = keep (λ c. any (eqb c) cs) (contextCodes ++ featureCodes)
+
+-- ---- N
+
+-- the kinds of components, in the order of N's parts
+abbrev pub componentKinds : List Bytes
+componentKinds =
+    ascii "surname" ∷ ascii "given" ∷ ascii "given2" ∷ ascii "title" ∷ ascii "credential" ∷ ascii "surname2" ∷ ascii "generation" ∷ []
+
+-- ---- finding a place in a list
+
+unfoldable pub position : {A : Type 0} → (A → Bool) → List A → Option ℕ
+position p [] = none
+position p (x ∷ xs) = pick (p x) (some 0) (with-some (position p xs) (λ n. some (suc n)) none)
+
+-- the map that a property belongs to, its place in the table, and which of the map's properties it is
+pub record Slot : Type 0 where
+  pub index : ℕ
+  pub map : Map
+  pub which : ℕ
+
+unfoldable pub slotFrom : ℕ → List Map → Bytes → Option Slot
+slotFrom i [] n = none
+slotFrom i (m ∷ ms) n =
+    with-some (position (same n) (m .properties)) (λ k. some (record { index = i; map = m; which = k })) (slotFrom (suc i) ms n)
+
+-- n is a lower-case property name
+unfoldable pub slotOf : Bytes → Option Slot
+slotOf n = slotFrom 0 maps n

@@ -1,0 +1,106 @@
+-- Property values and the strings they stand for, both ways.
+use mathlib.Core.Bool.{Bool, true, false, _&&_, _||_, not}
+use mathlib.Core.List.{List, [], _∷_, _++_, map, tail}
+use mathlib.Core.Option.{Option, none, some, Option·map}
+use Prim.Native.Nat.{ℕ, zero, suc}
+use lib.ListN.{length, getD}
+use lib.Dec.{eqb, leb, ltb}
+use Rattle.text.specs.Choice.{pick, chain, provided}
+use Rattle.text.specs.Bytes.{Bytes, ascii, is, any, all, empty, same, among, begins, isDigit, joined, keep, each}
+use Rattle.text.specs.Decimal.{number}
+use Rattle.text.specs.Reader.{first}
+use Rattle.line.specs.Class.{isKey, isControl}
+use Rattle.line.specs.Text.{readText, splitText, writeText}
+use Rattle.convert.specs.Table.{Form, text, single, uri, phone, organization}
+use Rattle.convert.specs.Model.{part}
+
+abbrev pub filled : Bytes → Bool
+filled v = not (empty v)
+
+-- ---- strings of forms
+
+-- keys: 1 to 255 of A-Z a-z 0-9 - _
+unfoldable pub isKeyText : Bytes → Bool
+isKeyText k = filled k && leb (length k) 255 && all isKey k
+
+-- PREF: 1 to 100, no leading zero
+unfoldable pub isPref : Bytes → Bool
+isPref p = filled p && leb (length p) 3 && all isDigit p && not (is 48 (first p)) && leb (number p) 100
+
+-- ---- ORG: the name, then units; empty units vanish
+
+abbrev pub headOr : Bytes → List Bytes → Bytes
+headOr d [] = d
+headOr d (v ∷ vs) = v
+
+unfoldable pub organized : List Bytes → List Bytes
+organized vs = headOr [] vs ∷ keep filled (tail vs)
+
+-- ---- reading a property's value; `type` is its VALUE in lower case
+
+abbrev pub alone : Option Bytes → Option (List Bytes)
+alone v = Option·map (λ t. t ∷ []) v
+
+unfoldable pub readAs : Form → Bytes → Bytes → Option (List Bytes)
+readAs text type v = alone (readText v)
+readAs single type v = provided (eqb (length (splitText 44 v)) 1) (alone (readText v))
+readAs uri type v = some (v ∷ [])
+readAs phone type v = pick (same type (ascii "uri")) (provided (begins (ascii "tel:") v) (some (v ∷ []))) (alone (readText v))
+readAs organization type v = chain (each readText (splitText 59 v)) λ vs. provided (any filled vs) (some (organized vs))
+
+-- which VALUE a form takes
+unfoldable pub takesType : Form → Bytes → Bool
+takesType text type = same type (ascii "unknown")
+takesType single type = same type (ascii "unknown")
+takesType uri type = among type (ascii "unknown" ∷ ascii "uri" ∷ [])
+takesType phone type = among type (ascii "unknown" ∷ ascii "uri" ∷ [])
+takesType organization type = same type (ascii "unknown")
+
+-- ---- writing one
+
+-- a number is written raw with VALUE=uri when it begins `tel:` and has no control but tab
+unfoldable pub isTelUri : Bytes → Bool
+isTelUri v = begins (ascii "tel:") v && not (any isControl v)
+
+unfoldable pub writeAs : Form → List Bytes → Bytes
+writeAs text vs = writeText false (headOr [] vs)
+writeAs single vs = writeText false (headOr [] vs)
+writeAs uri vs = headOr [] vs
+writeAs phone vs = pick (isTelUri (headOr [] vs)) (headOr [] vs) (writeText false (headOr [] vs))
+writeAs organization vs = joined (ascii ";") (map (writeText true) vs)
+
+unfoldable pub writtenType : Form → List Bytes → List Bytes
+writtenType text vs = []
+writtenType single vs = []
+writtenType uri vs = []
+writtenType phone vs = pick (isTelUri (headOr [] vs)) (ascii "uri" ∷ []) []
+writtenType organization vs = []
+
+-- ---- N
+
+-- values of one part, split at bare commas; empty ones vanish
+unfoldable pub partValues : Bytes → Option (List Bytes)
+partValues s = Option·map (keep filled) (each readText (splitText 44 s))
+
+-- those that are not among the others
+unfoldable pub without : List Bytes → List Bytes → List Bytes
+without others vs = keep (λ v. not (among v others)) vs
+
+-- all seven parts; reading ignores a family value also among the secondary surnames, and a suffix also among the generations
+unfoldable pub ownParts : List (List Bytes) → List (List Bytes)
+ownParts ps =
+    without (part ps 5) (part ps 0) ∷ part ps 1 ∷ part ps 2 ∷ part ps 3 ∷ without (part ps 6) (part ps 4) ∷ part ps 5 ∷ part ps 6 ∷ []
+
+-- none where an escape is bad, where there are over 7 parts, or where every value is empty
+unfoldable pub readName : Bytes → Option (List (List Bytes))
+readName v =
+    provided (leb (length (splitText 59 v)) 7)
+    (chain (each partValues (splitText 59 v)) λ ps. provided (any (λ vs. not (empty vs)) ps) (some (ownParts ps)))
+
+-- writing appends surname2 to family and generation to suffixes
+unfoldable pub writtenParts : List (List Bytes) → List (List Bytes)
+writtenParts ps =
+    (part ps 0 ++ part ps 5) ∷ part ps 1 ∷ part ps 2 ∷ part ps 3 ∷ (part ps 4 ++ part ps 6) ∷ part ps 5 ∷ part ps 6 ∷ []
+
+unfoldable pub writeName : List (List Bytes) → Bytes
+writeName ps = joined (ascii ";") (map (λ vs. joined (ascii ",") (map (writeText true) vs)) (writtenParts ps))

@@ -1,0 +1,37 @@
+-- The classes of bytes, by RFC 6350's ranges, or 01's where it differs.
+use mathlib.Core.Bool.{Bool, true, false, _&&_, _||_, not}
+use Prim.Native.Nat.{ℕ}
+use lib.Dec.{eqb, ltb}
+use Rattle.text.specs.Bytes.{between, isDigit, isLetter, isLower}
+
+-- groups and names: letters, digits, hyphens
+unfoldable pub isName : ℕ → Bool
+isName c = isLetter c || isDigit c || eqb c 45
+
+-- the same with no upper-case letter
+unfoldable pub isLowerName : ℕ → Bool
+isLowerName c = isLower c || isDigit c || eqb c 45
+
+-- a quoted parameter value has no double quote
+unfoldable pub isQuotable : ℕ → Bool
+isQuotable c = ltb c 256 && not (eqb c 34)
+
+-- a bare one has no `"` `;` `:` `,`
+unfoldable pub isBare : ℕ → Bool
+isBare c = ltb c 256 && not (eqb c 34 || eqb c 59 || eqb c 58 || eqb c 44)
+
+-- controls: 0 to 31 but tab, and 127
+unfoldable pub isControl : ℕ → Bool
+isControl c = (ltb c 32 && not (eqb c 9)) || eqb c 127
+
+-- what may follow a line end that is to vanish
+unfoldable pub isBlank : ℕ → Bool
+isBlank c = eqb c 32 || eqb c 9
+
+-- keys of the maps: A-Z a-z 0-9 - _
+unfoldable pub isKey : ℕ → Bool
+isKey c = isName c || eqb c 95
+
+-- UID stems: A-Z a-z 0-9 : - _
+unfoldable pub isStem : ℕ → Bool
+isStem c = isKey c || eqb c 58

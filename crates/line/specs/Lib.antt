@@ -1,0 +1,7 @@
+pub mod Class
+pub mod Physical
+pub mod Unfold
+pub mod Grammar
+pub mod Params
+pub mod Text
+pub mod Write
