@@ -1,1 +1,6 @@
 pub mod Opened
+pub mod Worked
+pub mod ProvedCases
+pub mod Figures
+pub mod Refusals
+pub mod Readings
