@@ -18,7 +18,8 @@ pointedFrom true [] = none
 pointedFrom false (c ∷ s) =
     let tilde : Option Bytes = pointedFrom true s in
     let plain : Option Bytes = push c (pointedFrom false s) in
-    pick (eqb c 126) tilde (pick (eqb c 47) none plain)
+    let no-tilde : Option Bytes = pick (eqb c 47) none plain in
+    pick (eqb c 126) tilde no-tilde
 pointedFrom true (c ∷ s) = pick (eqb c 48) (push 126 (pointedFrom false s)) (pick (eqb c 49) (push 47 (pointedFrom false s)) none)
 
 -- the name of the member that a pointer points at

@@ -29,12 +29,14 @@ decodeAfter zero [] = some []
 decodeAfter (suc h) [] = none
 decodeAfter zero (u ∷ us) =
     let v : ℕ = u - 256 in
-    let pending : Option Bytes = decodeAfter v us in
-    let on : Option Bytes = decodeAfter 0 us in
-    pick (ltb u 256) (before (u ∷ []) on) (pick (isHigh v) pending (pick (isLow v) none (before (encode v) on)))
+    let byte : Option Bytes = before (u ∷ []) (decodeAfter 0 us) in
+    let high : Option Bytes = decodeAfter v us in
+    let point : Option Bytes = before (encode v) (decodeAfter 0 us) in
+    let wide : Option Bytes = pick (isHigh v) high (pick (isLow v) none point) in
+    pick (ltb u 256) byte wide
 decodeAfter (suc h) (u ∷ us) =
-    let on : Option Bytes = decodeAfter 0 us in
-    pick (ltb 255 u && isLow (u - 256)) (before (encode (joinedPair (suc h) (u - 256))) on) none
+    let point : Option Bytes = before (encode (joinedPair (suc h) (u - 256))) (decodeAfter 0 us) in
+    pick (ltb 255 u && isLow (u - 256)) point none
 
 unfoldable pub decode : Bytes → Option Bytes
 decode us = decodeAfter 0 us

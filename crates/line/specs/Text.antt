@@ -39,7 +39,8 @@ splitFrom true d (c ∷ s) = onHead c (splitFrom false d s)
 splitFrom false d (c ∷ s) =
     let escape-next : List Bytes = onHead c (splitFrom true d s) in
     let rest : List Bytes = splitFrom false d s in
-    pick (eqb c 92) escape-next (pick (eqb c d) ([] ∷ rest) (onHead c rest))
+    let plain : List Bytes = pick (eqb c d) ([] ∷ rest) (onHead c rest) in
+    pick (eqb c 92) escape-next plain
 
 unfoldable pub splitText : ℕ → Bytes → List Bytes
 splitText d s = splitFrom false d s
