@@ -5,3 +5,5 @@ pub mod Lists
 pub mod Letters
 pub mod Parts
 pub mod Decimals
+pub mod Characters
+pub mod Readers
