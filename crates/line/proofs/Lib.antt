@@ -1,1 +1,4 @@
 pub mod Opened
+pub mod Texts
+pub mod Parameters
+pub mod Lines

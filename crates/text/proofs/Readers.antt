@@ -17,6 +17,9 @@ use Rattle.text.proofs.Lists.{all-head, all-tail}
 pub not-bad : {A : Type 0} {s : Bytes} {a : A} {w : Bytes} → bad s ≡ got a w → ⊥
 not-bad e = let r : _≡_ {A = ℕ} 0 1 = cc in omega arith
 
+pub not-last : {B : Type 0} {b : B} {g : B → B} {s t : Bytes} → got (last b) s ≡ got (more g) t → ⊥
+not-last e = let r : _≡_ {A = ℕ} 0 1 = cc in omega arith
+
 pub got-rest : {A : Type 0} {a b : A} {s w : Bytes} → got a s ≡ got b w → s ≡ w
 got-rest e = cc
 
