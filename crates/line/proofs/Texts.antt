@@ -1,12 +1,11 @@
 -- TEXT: what is written is read back, and split only where it was joined.
 use mathlib.Core.Path.{_≡_, refl, sym, ap, _∙_}
-use mathlib.Core.Bool.{Bool, true, false, _&&_, _||_, not}
+use mathlib.Core.Bool.{Bool, true, false, _&&_, _||_}
 use mathlib.Core.List.{List, [], _∷_, _++_, map, append-assoc, append-nil}
-use mathlib.Core.Option.{Option, none, some}
+use mathlib.Core.Option.{some}
 use Prim.Native.Nat.{ℕ}
 use lib.Dec.{eqb}
 use borrow.Author.Tests.{eqb-true, eq-eqb}
-use Rattle.text.specs.Choice.{pick, both}
 use Rattle.text.specs.Bytes.{Bytes, ascii, onHead, joined, each}
 use Rattle.text.proofs.Cases.{byBool, byKeys, not-both}
 use Rattle.text.proofs.Lists.{each-map}

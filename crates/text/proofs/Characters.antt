@@ -1,15 +1,15 @@
 -- UTF-8: texts one after the other, bytes below 256, and the encoding of every scalar value.
 use mathlib.Core.Path.{_≡_, refl, sym, ap, _∙_}
-use mathlib.Core.Bool.{Bool, true, false}
-use mathlib.Core.List.{List, [], _∷_, _++_, map}
-use Prim.Native.Nat.{ℕ, zero, suc, _+_, _/_, _%_, _≤_, _<_}
+use mathlib.Core.Bool.{true, false}
+use mathlib.Core.List.{[], _∷_, _++_, map}
+use Prim.Native.Nat.{ℕ, _+_, _/_, _%_, _≤_, _<_}
 use native.Mathlib.Omega.{arith}
 use lib.Dec.{ltb, leb}
-use borrow.Author.Tests.{ltb-false, le-ltb, le-leb}
+use borrow.Author.Tests.{le-ltb, le-leb}
 use Rattle.text.specs.Choice.{pick}
-use Rattle.text.specs.Bytes.{Bytes, between, all, ascii}
-use Rattle.text.specs.Utf8.{Due, start, due, broken, byRow, rows, lead, tails, next, run, atStart, utf8, encode}
-use Rattle.text.proofs.Cases.{byBool, byBelow, upTo, tests, in-between, between-true, beyond, below, not-both}
+use Rattle.text.specs.Bytes.{Bytes, between, all}
+use Rattle.text.specs.Utf8.{Due, start, due, broken, byRow, rows, lead, next, run, atStart, utf8, encode}
+use Rattle.text.proofs.Cases.{byBool, byBelow, upTo, tests, in-between, beyond, below, not-both}
 
 -- ---- one after the other
 
@@ -51,7 +51,7 @@ not-start s e = not-both refl (ap atStart (sym e ∙ run-broken s))
 
 -- ---- first bytes, by the rows
 
-lead-high : (c : ℕ) → ltb c 256 ≡ false → lead c ≡ broken
+pub lead-high : (c : ℕ) → ltb c 256 ≡ false → lead c ≡ broken
 unfolding lead byRow
 lead-high c l =
     rw (le-ltb c 128 (omega tests), beyond 0xc2 0xdf c (omega tests), beyond 0xe0 0xe0 c (omega tests), beyond 0xe1 0xec c (omega tests), beyond 0xed 0xed c (omega tests), beyond 0xee 0xef c (omega tests), beyond 0xf0 0xf0 c (omega tests), beyond 0xf1 0xf3 c (omega tests), beyond 0xf4 0xf4 c (omega tests))

@@ -1,11 +1,11 @@
 -- A number in decimal is read back.
 use mathlib.Core.Path.{_≡_, refl, sym, ap, _∙_}
-use mathlib.Core.Bool.{Bool, true, false, _&&_}
-use mathlib.Core.List.{List, [], _∷_, _++_}
-use Prim.Native.Nat.{ℕ, zero, suc, _+_, _-_, _*_, _/_, _%_, _≤_, _<_}
+use mathlib.Core.Bool.{true}
+use mathlib.Core.List.{[], _∷_}
+use Prim.Native.Nat.{ℕ, zero, suc, _+_, _-_, _/_, _%_, _<_}
 use native.Mathlib.Omega.{arith}
 use lib.Dec.{ltb}
-use Rattle.text.specs.Bytes.{Bytes, ascii, isDigit, between, all}
+use Rattle.text.specs.Bytes.{Bytes, ascii, isDigit, all}
 use Rattle.text.specs.Decimal.{digitsBefore, decimal, valueFrom, number}
 use Rattle.text.proofs.Cases.{byBool, tests, in-between}
 

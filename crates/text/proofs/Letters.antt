@@ -1,13 +1,11 @@
 -- Letter case of ASCII letters.
-use mathlib.Core.Path.{_≡_, refl, sym, ap, ap₂, _∙_}
-use mathlib.Core.Bool.{Bool, true, false, _||_}
-use mathlib.Core.List.{List, [], _∷_, _++_, map}
-use Prim.Native.Nat.{ℕ, suc, _+_, _-_, _≤_}
-use native.Mathlib.Omega.{arith}
-use lib.Dec.{eqb, ltb}
-use Rattle.text.specs.Choice.{pick}
-use Rattle.text.specs.Bytes.{Bytes, ascii, between, isLower, isUpper, all, lower, upper, lowered, uppered}
-use Rattle.text.proofs.Cases.{byBool, byBelow, upTo, tests, testing, beyond}
+use mathlib.Core.Path.{_≡_, refl, ap, ap₂}
+use mathlib.Core.Bool.{Bool, false}
+use mathlib.Core.List.{[], _∷_, _++_, map}
+use Prim.Native.Nat.{ℕ, _+_, _-_}
+use lib.Dec.{ltb}
+use Rattle.text.specs.Bytes.{Bytes, ascii, between, isLower, isUpper, lower, upper, lowered, uppered}
+use Rattle.text.proofs.Cases.{byBelow, upTo, tests, beyond}
 
 -- from 128 on there is no letter
 pub no-lower : (c : ℕ) → ltb c 128 ≡ false → isLower c ≡ false
@@ -45,6 +43,9 @@ upper-upper c = byBelow (λ c. upper (upper c)) upper c 128 refl (λ l. ap upper
 -- a test of bytes that the case of letters does not change
 pub upper-test : (p : ℕ → Bool) → map (λ c. p (upper c)) ((upTo 128)) ≡ map p (upTo 128) → (c : ℕ) → p (upper c) ≡ p c
 upper-test p e c = byBelow (λ c. p (upper c)) p c 128 e (λ l. ap p (high-upper c l))
+
+pub lower-test : (p : ℕ → Bool) → map (λ c. p (lower c)) (upTo 128) ≡ map p (upTo 128) → (c : ℕ) → p (lower c) ≡ p c
+lower-test p e c = byBelow (λ c. p (lower c)) p c 128 e (λ l. ap p (high-lower c l))
 
 -- ---- texts
 

@@ -1,12 +1,10 @@
 -- any, all, keep and each over lists.
-use mathlib.Core.Path.{_≡_, refl, sym, ap, ap₂, _∙_}
+use mathlib.Core.Path.{_≡_, refl, ap}
 use mathlib.Core.Bool.{Bool, true, false, _&&_, _||_, not}
 use mathlib.Core.List.{List, [], _∷_, _++_, map, append-assoc}
 use mathlib.Core.Option.{Option, none, some}
-use Prim.Native.Nat.{ℕ}
-use Rattle.text.specs.Choice.{both}
-use Rattle.text.specs.Bytes.{Bytes, any, all, keep, flat, each}
-use Rattle.text.proofs.Cases.{byBool, and-left, and-right, or-left, or-right, not-true, not-false}
+use Rattle.text.specs.Bytes.{any, all, keep, flat, each}
+use Rattle.text.proofs.Cases.{byBool, and-left, and-right, or-left, or-right}
 
 module _ {A : Type 0} (p : A → Bool) where
   pub any-append : (xs ys : List A) → any p (xs ++ ys) ≡ any p xs || any p ys
@@ -96,6 +94,11 @@ pub any-imply : {A : Type 0} (p q : A → Bool) → ((x : A) → p x ≡ false �
 unfolding any
 any-imply p q h [] e = refl
 any-imply p q h (x ∷ xs) e = rw (h x (any-head p x xs e), any-imply p q h xs (any-tail p x xs e))
+
+pub all-none : {A : Type 0} (p q : A → Bool) → ((x : A) → p x ≡ true → q x ≡ false) → (xs : List A) → all p xs ≡ true → any q xs ≡ false
+unfolding any
+all-none p q h [] e = refl
+all-none p q h (x ∷ xs) e = rw (h x (all-head p x xs e), all-none p q h xs (all-tail p x xs e))
 
 pub keep-same : {A : Type 0} (p q : A → Bool) → ((x : A) → p x ≡ q x) → (xs : List A) → keep p xs ≡ keep q xs
 unfolding keep

@@ -1,13 +1,11 @@
 -- Parts between separators, and their joining.
-use mathlib.Core.Path.{_≡_, refl, ap}
-use mathlib.Core.Bool.{Bool, true, false}
-use mathlib.Core.List.{List, [], _∷_, _++_, append-nil}
+use mathlib.Core.Path.{_≡_, refl}
+use mathlib.Core.Bool.{false}
+use mathlib.Core.List.{List, [], _∷_, _++_}
 use Prim.Native.Nat.{ℕ}
-use lib.Dec.{eqb}
 use borrow.Author.Tests.{eq-eqb}
-use Rattle.text.specs.Choice.{pick}
-use Rattle.text.specs.Bytes.{Bytes, ascii, is, any, all, onHead, parts, joined}
-use Rattle.text.proofs.Lists.{any-head, any-tail, any-append}
+use Rattle.text.specs.Bytes.{Bytes, ascii, is, any, onHead, parts, joined}
+use Rattle.text.proofs.Lists.{any-head, any-tail}
 
 -- a part without the separator, before one
 pub parts-part : (d : ℕ) (s t : Bytes) → any (is d) s ≡ false → parts d (s ++ d ∷ t) ≡ s ∷ parts d t

@@ -1,11 +1,10 @@
 -- Equal bytes: `same` decides equality; membership by it.
-use mathlib.Core.Path.{_≡_, refl, sym, ap, ap₂, _∙_}
-use mathlib.Core.Bool.{Bool, true, false, _&&_, _||_, not}
-use mathlib.Core.List.{List, [], _∷_, _++_, map, head-eq-of-cons-eq, tail-eq-of-cons-eq}
-use Prim.Native.Nat.{ℕ}
+use mathlib.Core.Path.{_≡_, refl, sym, ap₂, _∙_}
+use mathlib.Core.Bool.{true, false, _||_}
+use mathlib.Core.List.{List, [], _∷_, _++_}
 use lib.Dec.{eqb}
 use borrow.Author.Tests.{eqb-true, eq-eqb}
-use Rattle.text.specs.Bytes.{Bytes, any, all, same, among}
+use Rattle.text.specs.Bytes.{Bytes, any, same, among}
 use Rattle.text.proofs.Cases.{byBool, and-left, and-right, not-both}
 
 pub same-true : (s t : Bytes) → same s t ≡ true → s ≡ t
