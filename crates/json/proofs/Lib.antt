@@ -1,1 +1,4 @@
 pub mod Opened
+pub mod Takes
+pub mod Spelling
+pub mod Numbers

@@ -1,16 +1,16 @@
 -- Folding a UTF-8 line: every piece has at most 75 bytes and is whole characters.
 use mathlib.Core.Path.{_≡_, refl, ap}
-use mathlib.Core.Bool.{Bool, true, false, _&&_}
+use mathlib.Core.Bool.{Bool, true, false}
 use mathlib.Core.List.{List, [], _∷_}
 use Prim.Native.Nat.{ℕ, zero, suc, _+_, _≤_}
 use native.Mathlib.Omega.{arith}
 use lib.ListN.{length}
 use lib.Dec.{eqb, ltb, leb}
-use borrow.Author.Tests.{eqb-true, leb-true, lt-ltb, le-ltb, le-leb, ne-eqb}
+use borrow.Author.Tests.{eqb-true, leb-true, lt-ltb, le-ltb, ne-eqb}
 use Rattle.text.specs.Bytes.{Bytes, between}
 use Rattle.text.specs.Utf8.{Due, start, due, broken, byRow, lead, tails, next, run, utf8}
 use Rattle.text.proofs.Cases.{byBool, byBelow, tests, and-left, and-right, between-true, not-both}
-use Rattle.text.proofs.Characters.{lead-high, not-start, utf8-run, run-utf8}
+use Rattle.text.proofs.Characters.{lead-high, not-start, utf8-run, run-utf8, later, later-lead, later-tails}
 use Rattle.line.specs.Write.{width, breaks}
 use Rattle.line.proofs.Pieces.{piecesFrom, pieces}
 
@@ -21,16 +21,6 @@ abbrev pub left : Due → ℕ
 left start = 0
 left (due low high k) = suc k
 left broken = 0
-
--- only later bytes of a character are due, three at most
-abbrev later : Due → Bool
-later start = true
-later (due low high k) = leb 128 low && (leb high 191 && leb k 2)
-later broken = true
-
-later-lead : (c : ℕ) → later (lead c) ≡ true
-unfolding lead byRow between
-later-lead c = byBelow (λ c. later (lead c)) (λ c. true) c 256 refl (λ l. ap later (lead-high c l))
 
 -- the width that the first byte tells is the character's
 abbrev fitting : ℕ → Due → Bool
@@ -83,10 +73,6 @@ goes-on column w e = rw e
 left-tails : (k : ℕ) → left (tails k) ≡ k
 left-tails zero = refl
 left-tails (suc k) = refl
-
-later-tails : (k : ℕ) → k ≤ 2 → later (tails k) ≡ true
-later-tails zero l = refl
-later-tails (suc k) l = rw (le-leb k 2 (omega arith))
 
 good : (d : Due) (s : Bytes) (column : ℕ) → run d s ≡ start → later d ≡ true → column + left d ≤ 75 → Good d column (piecesFrom column s)
 unfolding run piecesFrom next

@@ -1,5 +1,5 @@
 -- Case analysis on a test and on a byte, without a case per byte.
-use mathlib.Core.Path.{_≡_, refl, sym, subst, _∙_}
+use mathlib.Core.Path.{_≡_, refl, sym, ap, subst, _∙_}
 use mathlib.Core.Bool.{Bool, true, false, _&&_, _||_, not}
 use mathlib.Core.List.{List, [], _∷_, map, head-eq-of-cons-eq, tail-eq-of-cons-eq}
 use Prim.Native.Nat.{ℕ, zero, suc, _≤_}
@@ -53,6 +53,10 @@ not-true false e = refl
 pub not-false : (a : Bool) → not a ≡ false → a ≡ true
 not-false true e = refl
 not-false false e = cc
+
+-- a byte that passes a test is no byte that does not
+pub other : (p : ℕ → Bool) (c k : ℕ) → p c ≡ true → p k ≡ false → eqb c k ≡ false
+other p c k h e = byBool (eqb c k) (λ q. not-both (ap p (sym (eqb-true c k q)) ∙ h) e) (λ q. q)
 
 -- ---- ranges
 

@@ -6,4 +6,5 @@ pub mod Letters
 pub mod Parts
 pub mod Decimals
 pub mod Characters
+pub mod Encoding
 pub mod Readers

@@ -1,7 +1,8 @@
 -- Readers: what is known where one gave something, how much it takes, runs of a class, and turns of a loop.
-use mathlib.Core.Path.{_≡_, refl, ap}
+use mathlib.Core.Path.{_≡_, refl, sym, ap}
 use mathlib.Core.Bool.{Bool, true, false}
-use mathlib.Core.List.{[], _∷_, _++_}
+use mathlib.Core.List.{[], _∷_, _++_, tail}
+use mathlib.Core.Logic.{_⊎_, inl, inr}
 use Prim.Native.Nat.{ℕ, zero, suc, _+_, _≤_, _<_}
 use native.Mathlib.Omega.{arith}
 use lib.ListN.{length}
@@ -9,7 +10,7 @@ use lib.Dec.{eqb}
 use Rattle.text.specs.Bytes.{Bytes, is, all}
 use Rattle.text.specs.Reader.{Got, got, bad, bind, under, first, on, when, Step, more, last, after, turns, loop, taken, past, one, some-of, run-of}
 use Rattle.text.proofs.Cases.{byBool}
-use Rattle.text.proofs.Lists.{all-head, all-tail}
+use Rattle.text.proofs.Lists.{all-head, all-tail, all-cons}
 
 -- ---- what is known where a reader gave something
 
@@ -32,6 +33,17 @@ bind-inv (bad t) k e = absurd (not-bad e)
 pub under-inv : {A B : Type 0} (f : A → B) (x : Got A) {b : B} {w : Bytes} → under f x ≡ got b w → (a : A) × (x ≡ got a w) × (f a ≡ b)
 under-inv f (got a t) e = (a, ap (got a) (got-rest e), got-what e)
 under-inv f (bad t) e = absurd (not-bad e)
+
+-- which way a test went
+pub on-inv : {A : Type 0} (p : ℕ → Bool) (f : ℕ → Bytes → Got A) (g : Bytes → Got A) (s : Bytes) {x : Got A} → on p f g s ≡ x
+    → ((p (first s) ≡ true) × (f (first s) (tail s) ≡ x)) ⊎ ((p (first s) ≡ false) × (g s ≡ x))
+unfolding on
+on-inv p f g s e = byBool (p (first s)) (λ q. inl (q, rw q at e)) (λ q. inr (q, rw q at e))
+
+pub when-inv : {A : Type 0} (p : ℕ → Bool) (f g : Bytes → Got A) (s : Bytes) {x : Got A} → when p f g s ≡ x
+    → ((p (first s) ≡ true) × (f s ≡ x)) ⊎ ((p (first s) ≡ false) × (g s ≡ x))
+unfolding when
+when-inv p f g s e = byBool (p (first s)) (λ q. inl (q, rw q at e)) (λ q. inr (q, rw q at e))
 
 -- ---- a reader takes n bytes at least
 
@@ -64,6 +76,16 @@ module _ {A : Type 0} where
 
   pub takes-on : {n : ℕ} {f : ℕ → Bytes → Got A} {g : Bytes → Got A} (p : ℕ → Bool) → p 256 ≡ false → n ≤ 1 → ((c : ℕ) → Takes 0 (f c)) → Takes n g → Takes n (on p f g)
   takes-on p z l h k = record { less = on-less p z l h k }
+
+  -- where nothing need be taken, the test may pass at the end too
+  if-less : {f : ℕ → Bytes → Got A} {g : Bytes → Got A} (p : ℕ → Bool) → ((c : ℕ) → Takes 0 (f c)) → Takes 0 g
+      → (s : Bytes) (a : A) (w : Bytes) → on p f g s ≡ got a w → 0 + length w ≤ length s
+  unfolding on
+  if-less p h k [] a w e = byBool (p 256) (λ q. h 256 .less [] a w (rw q at e)) (λ q. k .less [] a w (rw q at e))
+  if-less p h k (c ∷ s) a w e = byBool (p c) (λ q. omega (arith, h c .less s a w (rw q at e))) (λ q. k .less (c ∷ s) a w (rw q at e))
+
+  pub takes-if : {f : ℕ → Bytes → Got A} {g : Bytes → Got A} (p : ℕ → Bool) → ((c : ℕ) → Takes 0 (f c)) → Takes 0 g → Takes 0 (on p f g)
+  takes-if p h k = record { less = if-less p h k }
 
   pub takes-when : {n : ℕ} {f g : Bytes → Got A} (p : ℕ → Bool) → Takes n f → Takes n g → Takes n (when p f g)
   unfolding when
@@ -187,3 +209,15 @@ module _ (p : ℕ → Bool) where
   pub some-of-run : (c : ℕ) (v t : Bytes) → all p (c ∷ v) ≡ true → p (first t) ≡ false → some-of p (c ∷ (v ++ t)) ≡ got (c ∷ v) t
   unfolding some-of when run-of
   some-of-run c v t h e = rw (all-head p c v h) (run-of-run (c ∷ v) t h e)
+
+-- what was read by a class passes its test, and is not empty
+pub taken-all : (p : ℕ → Bool) (s : Bytes) → all p (taken p s) ≡ true
+unfolding taken all
+taken-all p [] = refl
+taken-all p (c ∷ s) = byBool (p c) (λ e. rw (e, e, taken-all p s)) (λ e. rw e)
+
+pub some-of-inv : (p : ℕ → Bool) → p 256 ≡ false → (s v t : Bytes) → some-of p s ≡ got v t → (c : ℕ) × (u : Bytes) × (v ≡ c ∷ u) × (all p (c ∷ u) ≡ true) × (c ≡ first s)
+unfolding some-of when taken
+some-of-inv p z [] v t e = absurd (not-bad (rw z at e))
+some-of-inv p z (c ∷ s) v t e =
+    byBool (p c) (λ q. let r = rw q at e in (c, taken p s, sym (got-what r), all-cons p c (taken p s) q (taken-all p s), refl)) (λ q. absurd (not-bad (rw q at e)))
