@@ -5,3 +5,7 @@ pub mod Numbers
 pub mod Sound
 pub mod Values
 pub mod Trees
+pub mod Whole
+pub mod Decoded
+pub mod Scalars
+pub mod Given

@@ -6,6 +6,7 @@ use Prim.Native.Nat.{ℕ, zero, suc, _≤_}
 use native.Mathlib.Omega.{arith}
 use lib.Dec.{ltb, leb, eqb}
 use borrow.Author.Tests.{eqb-true, eqb-false, ltb-true, ltb-false, leb-true, leb-false, lt-ltb, le-ltb, le-leb, lt-leb, eq-eqb, ne-eqb}
+use Rattle.text.specs.Choice.{pick}
 use Rattle.text.specs.Bytes.{between}
 
 -- ---- tests
@@ -106,6 +107,12 @@ module _ {ℓ} {A : Type ℓ} (F G : ℕ → A) (c : ℕ) where
   byBelow zero e h = h (le-ltb c 0 (omega arith))
   byBelow (suc n) e h =
       key n (eqb c n) refl (head-eq-of-cons-eq e) (λ q. byBelow n (tail-eq-of-cons-eq e) (λ l. h (le-ltb c (suc n) (not-below c n q l))))
+
+-- one test follows from another: below n by computation, and from n on the first never holds
+pub implied : (p q : ℕ → Bool) (n c : ℕ) → map (λ c. pick (p c) (q c) true) (upTo n) ≡ map (λ c. true) (upTo n) → (ltb c n ≡ false → p c ≡ false) → p c ≡ true → q c ≡ true
+implied p q n c e off h =
+    let r : pick (p c) (q c) true ≡ true = byBelow (λ c. pick (p c) (q c) true) (λ c. true) c n e (λ l. rw (off l)) in
+    rw h at r
 
 -- the same for any statement about a byte
 abbrev pub AllOf : (ℕ → Type 0) → List ℕ → Type 0

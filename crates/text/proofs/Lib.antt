@@ -1,6 +1,7 @@
 pub mod Opened
 pub mod Cases
 pub mod Same
+pub mod Choices
 pub mod Lists
 pub mod Letters
 pub mod Parts

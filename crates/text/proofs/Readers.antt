@@ -1,5 +1,5 @@
 -- Readers: what is known where one gave something, how much it takes, runs of a class, and turns of a loop.
-use mathlib.Core.Path.{_≡_, refl, sym, ap}
+use mathlib.Core.Path.{_≡_, refl, sym, ap, subst}
 use mathlib.Core.Bool.{Bool, true, false}
 use mathlib.Core.List.{[], _∷_, _++_, tail}
 use mathlib.Core.Logic.{_⊎_, inl, inr}
@@ -168,6 +168,28 @@ module _ {B : Type 0} (f : Bytes → Got (Step B)) where
   pub takes-loop-none : Takes 0 f → Takes 0 (loop f)
   unfolding loop
   takes-loop-none h = record { less = λ s b w e. takes-turns h (suc (length s)) .less s b w e }
+
+-- the last turn gives it, and every other turn keeps it
+abbrev pub Keeps : {B : Type 0} → (B → Type 0) → Step B → Type 0
+Keeps {B} P (more g) = (b : B) → P b → P (g b)
+Keeps {B} P (last b) = P b
+
+-- then it holds of what is read
+module _ {B : Type 0} (f : Bytes → Got (Step B)) (P : B → Type 0) (keeps : (s : Bytes) (w : Step B) (t : Bytes) → f s ≡ got w t → Keeps P w) where
+  after-keeps : (n : ℕ) (w : Step B) (t : Bytes) (b : B) (v : Bytes) → Keeps P w → ((c : B) → turns f n t ≡ got c v → P c) → after w t (turns f n) ≡ got b v → P b
+  after-keeps n (more g) t b v k r e = let i = under-inv g (turns f n t) e in subst P (i .2) (k (i .0) (r (i .0) (i .1)))
+  after-keeps n (last x) t b v k r e = subst P (got-what e) k
+
+  turns-keep : (n : ℕ) (s : Bytes) (b : B) (v : Bytes) → turns f n s ≡ got b v → P b
+  unfolding turns
+  turns-keep zero s b v e = absurd (not-bad e)
+  turns-keep (suc n) s b v e =
+      let i = bind-inv (f s) (λ w t. after w t (turns f n)) e in
+      after-keeps n (i .0) (i .1) b v (keeps s (i .0) (i .1) (i .2)) (λ c q. turns-keep n (i .1) c v q) (i .3)
+
+  pub loop-keeps : (s : Bytes) (b : B) (v : Bytes) → loop f s ≡ got b v → P b
+  unfolding loop
+  loop-keeps s b v e = turns-keep (suc (length s)) s b v e
 
 -- one turn more, or the last
 pub turns-more : {B : Type 0} (f : Bytes → Got (Step B)) (n : ℕ) (s t : Bytes) (g : B → B) (b : B) (v : Bytes) → f s ≡ got (more g) t → turns f n t ≡ got b v → turns f (suc n) s ≡ got (g b) v
