@@ -6,3 +6,5 @@ pub mod Pieces
 pub mod Folding
 pub mod Frame
 pub mod Cards
+pub mod Merging
+pub mod Uppered

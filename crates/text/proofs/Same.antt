@@ -4,7 +4,7 @@ use mathlib.Core.Bool.{true, false, _||_}
 use mathlib.Core.List.{List, [], _∷_, _++_}
 use lib.Dec.{eqb}
 use borrow.Author.Tests.{eqb-true, eq-eqb}
-use Rattle.text.specs.Bytes.{Bytes, any, same, among}
+use Rattle.text.specs.Bytes.{Bytes, any, all, same, among}
 use Rattle.text.proofs.Cases.{byBool, and-left, and-right, not-both}
 
 pub same-true : (s t : Bytes) → same s t ≡ true → s ≡ t
@@ -49,3 +49,9 @@ pub among-append : (s : Bytes) (ss ts : List Bytes) → among s (ss ++ ts) ≡ a
 unfolding among any
 among-append s [] ts = refl
 among-append s (t ∷ ss) ts = byBool (same s t) (λ e. rw e) (λ e. rw e (among-append s ss ts))
+
+-- every one of these is among those
+pub among-all : (ss ts : List Bytes) → ((s : Bytes) → among s ss ≡ true → among s ts ≡ true) → all (λ s. among s ts) ss ≡ true
+unfolding all
+among-all [] ts h = refl
+among-all (s ∷ ss) ts h = rw (h s (among-head s ss)) (among-all ss ts (λ u q. h u (among-later u s ss q)))
