@@ -6,3 +6,5 @@ pub mod Fresh
 pub mod Keyed
 pub mod Orders
 pub mod Cases
+pub mod Types
+pub mod Entries

@@ -8,3 +8,4 @@ pub mod Frame
 pub mod Cards
 pub mod Merging
 pub mod Uppered
+pub mod Named
