@@ -8,3 +8,4 @@ pub mod Orders
 pub mod Cases
 pub mod Types
 pub mod Entries
+pub mod Written
