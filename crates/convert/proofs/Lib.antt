@@ -4,3 +4,15 @@ pub mod ProvedCases
 pub mod Figures
 pub mod Refusals
 pub mod Readings
+pub mod Pointers
+pub mod Forms
+pub mod Names
+pub mod Fresh
+pub mod Keyed
+pub mod Orders
+pub mod Cases
+pub mod Types
+pub mod Entries
+pub mod Written
+pub mod KeptLines
+pub mod NameJson

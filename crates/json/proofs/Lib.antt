@@ -1,2 +1,13 @@
 pub mod Opened
 pub mod Examples
+pub mod Takes
+pub mod Spelling
+pub mod Numbers
+pub mod Sound
+pub mod Values
+pub mod Trees
+pub mod Whole
+pub mod Decoded
+pub mod Scalars
+pub mod Given
+pub mod Listed

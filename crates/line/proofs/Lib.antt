@@ -1,2 +1,12 @@
 pub mod Opened
 pub mod Examples
+pub mod Texts
+pub mod Parameters
+pub mod Lines
+pub mod Pieces
+pub mod Folding
+pub mod Frame
+pub mod Cards
+pub mod Merging
+pub mod Uppered
+pub mod Named

@@ -1,1 +1,11 @@
 pub mod Opened
+pub mod Cases
+pub mod Same
+pub mod Choices
+pub mod Lists
+pub mod Letters
+pub mod Parts
+pub mod Decimals
+pub mod Characters
+pub mod Encoding
+pub mod Readers
