@@ -11,3 +11,6 @@ pub mod Entries
 pub mod Written
 pub mod KeptLines
 pub mod NameJson
+pub mod Flags
+pub mod EntryParts
+pub mod EntryJson
