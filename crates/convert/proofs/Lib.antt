@@ -14,3 +14,5 @@ pub mod NameJson
 pub mod Flags
 pub mod EntryParts
 pub mod EntryJson
+pub mod Proper
+pub mod MapsJson
