@@ -16,3 +16,5 @@ pub mod EntryParts
 pub mod EntryJson
 pub mod Proper
 pub mod MapsJson
+pub mod CardParts
+pub mod CardJson

@@ -1,22 +1,21 @@
 -- The maps are read back from a card's members.
-use mathlib.Core.Path.{_≡_, refl, sym, ap, ap₂, _∙_}
-use mathlib.Core.Bool.{Bool, true, false, _&&_, _||_, not}
-use mathlib.Core.List.{List, [], _∷_, _++_, map}
-use mathlib.Core.Option.{Option, none, some}
-use Prim.Native.Nat.{ℕ, zero, suc}
-use Rattle.text.specs.Choice.{pick, chain, both, with-some}
-use Rattle.text.specs.Bytes.{Bytes, ascii, any, empty, same, among, distinct, each}
+use mathlib.Core.Path.{_≡_, refl, _∙_}
+use mathlib.Core.Bool.{true, false, not}
+use mathlib.Core.List.{List, [], _∷_, map}
+use mathlib.Core.Option.{none, some}
+use Rattle.text.specs.Choice.{pick}
+use Rattle.text.specs.Bytes.{Bytes, any, empty, same, among, distinct, each}
 use Rattle.text.proofs.Cases.{byBool, and-left, and-right, or-left, or-right, not-true, not-both}
-use Rattle.text.proofs.Same.{same-true, same-self, same-swap, among-head, among-later}
-use Rattle.json.specs.Tree.{Json, Member, member, nameOf, object, field, asObject}
-use Rattle.json.proofs.Listed.{members-listed, either, field-append, field-none}
+use Rattle.text.proofs.Same.{same-true, same-swap, among-head, among-later}
+use Rattle.json.specs.Tree.{Member, member, object, field}
+use Rattle.json.proofs.Listed.{members-listed, field-append, field-none}
 use Rattle.convert.specs.Table.{Map}
 use Rattle.convert.specs.Model.{Entry}
 use Rattle.convert.specs.FromJson.{entryFrom, mapFrom}
 use Rattle.convert.specs.ToJson.{where′, entryJson, mapsJson}
 use Rattle.convert.proofs.EntryParts.{right-none, where-same, where-other}
 use Rattle.convert.proofs.EntryJson.{entry-json}
-use Rattle.convert.proofs.Proper.{AllGood, GoodMaps, AllRows, Good}
+use Rattle.convert.proofs.Proper.{AllGood, GoodMaps, AllRows}
 use Rattle.convert.proofs.EntryParts.{Row}
 
 abbrev pub memberNames : List Map → List Bytes
@@ -70,6 +69,8 @@ maps-back [] (es ∷ ess) whole r g d f = absurd g
 maps-back (m ∷ ms) [] whole r g d f = absurd g
 maps-back (m ∷ ms) (es ∷ ess) whole r g d f =
     let new : among (m .member) (memberNames ms) ≡ false = not-true (among (m .member) (memberNames ms)) (and-left _ _ d) in
-    rw (map-back m es whole (r .0) (g .0) (f (m .member) (among-head (m .member) (memberNames ms)) ∙ maps-here m ms es ess new),
-        maps-back ms ess whole (r .1) (g .2) (and-right (not (among (m .member) (memberNames ms))) _ d)
-        (λ n p. f n (among-later n (m .member) (memberNames ms) p) ∙ maps-later n m ms es ess (differs n (m .member) (memberNames ms) p new)))
+    rw (
+      map-back m es whole (r .0) (g .0) (f (m .member) (among-head (m .member) (memberNames ms)) ∙ maps-here m ms es ess new),
+      maps-back ms ess whole (r .1) (g .2) (and-right (not (among (m .member) (memberNames ms))) _ d)
+          (λ n p. f n (among-later n (m .member) (memberNames ms) p) ∙ maps-later n m ms es ess (differs n (m .member) (memberNames ms) p new)),
+    )

@@ -132,7 +132,7 @@ module _ (a b c d e f g : List Bytes) where
   none-empty [] q = refl
   none-empty (v ∷ vs) q = not-both refl q
 
-  no-parts : hasParts seven ≡ false → seven ≡ noParts
+  pub no-parts : hasParts seven ≡ false → seven ≡ noParts
   unfolding hasParts any
   no-parts q =
       let qb = or-right (not (empty a)) _ q in

@@ -1,14 +1,13 @@
 -- Cards that a reader can give: what both round trips ask of the model.
 use mathlib.Core.Path.{_≡_, refl}
-use mathlib.Core.Bool.{Bool, true, false, _&&_, _||_, not}
-use mathlib.Core.List.{List, [], _∷_, _++_, map}
-use mathlib.Core.Option.{Option, none, some}
-use Prim.Native.Nat.{ℕ, zero, suc}
+use mathlib.Core.Bool.{true, false, _||_}
+use mathlib.Core.List.{List, [], _∷_, map}
+use mathlib.Core.Option.{some}
 use lib.ListN.{length, getD}
-use lib.Dec.{eqb, ltb, leb}
+use lib.Dec.{ltb}
 use Rattle.text.specs.Choice.{pick}
-use Rattle.text.specs.Bytes.{Bytes, ascii, any, all, empty, same, among, distinct}
-use Rattle.json.specs.Tree.{Json, Member, member, nameOf}
+use Rattle.text.specs.Bytes.{Bytes, any, all, empty, same, among, distinct}
+use Rattle.json.specs.Tree.{Member, member, nameOf}
 use Rattle.json.proofs.Sound.{Sound}
 use Rattle.convert.specs.Table.{Map, maps, position, reserved}
 use Rattle.convert.specs.Model.{Entry, Kept, Card}
@@ -75,11 +74,22 @@ AllRows (m ∷ ms) = Row m × AllRows ms
 
 pub all-rows : AllRows maps
 unfolding entryMembers among any same
-all-rows =
-    (record { content = refl; name = refl; content-known = refl; kind-known = refl; units-known = refl; contexts-known = refl; pref-known = refl; features-known = refl },
-    (record { content = refl; name = refl; content-known = refl; kind-known = refl; units-known = refl; contexts-known = refl; pref-known = refl; features-known = refl },
-    (record { content = refl; name = refl; content-known = refl; kind-known = refl; units-known = refl; contexts-known = refl; pref-known = refl; features-known = refl },
-    (record { content = refl; name = refl; content-known = refl; kind-known = refl; units-known = refl; contexts-known = refl; pref-known = refl; features-known = refl },
-    (record { content = refl; name = refl; content-known = refl; kind-known = refl; units-known = refl; contexts-known = refl; pref-known = refl; features-known = refl },
-    (record { content = refl; name = refl; content-known = refl; kind-known = refl; units-known = refl; contexts-known = refl; pref-known = refl; features-known = refl },
-    (record { content = refl; name = refl; content-known = refl; kind-known = refl; units-known = refl; contexts-known = refl; pref-known = refl; features-known = refl }, tt)))))))
+all-rows = (
+  record { content = refl; name = refl; content-known = refl; kind-known = refl; units-known = refl; contexts-known = refl; pref-known = refl; features-known = refl },
+  (
+    record { content = refl; name = refl; content-known = refl; kind-known = refl; units-known = refl; contexts-known = refl; pref-known = refl; features-known = refl },
+    (
+      record { content = refl; name = refl; content-known = refl; kind-known = refl; units-known = refl; contexts-known = refl; pref-known = refl; features-known = refl },
+      (
+        record { content = refl; name = refl; content-known = refl; kind-known = refl; units-known = refl; contexts-known = refl; pref-known = refl; features-known = refl },
+        (
+          record { content = refl; name = refl; content-known = refl; kind-known = refl; units-known = refl; contexts-known = refl; pref-known = refl; features-known = refl },
+          (
+            record { content = refl; name = refl; content-known = refl; kind-known = refl; units-known = refl; contexts-known = refl; pref-known = refl; features-known = refl },
+            (record { content = refl; name = refl; content-known = refl; kind-known = refl; units-known = refl; contexts-known = refl; pref-known = refl; features-known = refl }, tt),
+          ),
+        ),
+      ),
+    ),
+  ),
+)
