@@ -3,22 +3,16 @@ use native.Mathlib.Omega.{arith}
 use Rattle.output.proofs.Laws.{start, byte, no-byte, done}
 use Rattle.output.proofs.put_byte.Statement.{statement}
 use Rattle.output.proofs.put_byte.Tie as tie
-use Rattle.output.proofs.put_byte.Reads as reads
-use Rattle.output.proofs.put_byte.Lts as lts
 
--- src/lib.rt:45:9
 returns : tie.Need-returns
 returns c = no-byte _ (start _) (omega arith)
 
--- src/lib.rt:47:5
 slice-write-out : tie.Need-slice-write-out
 slice-write-out c = search needs
 
--- src/lib.rt:41:1
 same-length : tie.Need-same-length
 same-length c = search needs
 
--- src/lib.rt:41:1
 returns-2 : tie.Need-returns-2
 returns-2 c = done (byte _ (start _) (omega arith))
 

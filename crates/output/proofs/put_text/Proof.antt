@@ -1,18 +1,14 @@
-use Prim.Native.Nat.{ℕ, _+_, _≤_, _<_, _-_}
-use mathlib.Core.Path.{_≡_, refl, sym, ap, _∙_}
+use Prim.Native.Nat.{_+_, _≤_, _<_, _-_}
 use native.Mathlib.Omega.{arith}
 use borrow.Author.Needs.{needs}
-use lib.ListN.{length, take, drop, getD, set, take-append-drop, length-set}
+use lib.ListN.{length, take, drop}
 use denote.Ref.{now}
-use Rattle.output.specs.Put.{Puts, Sofar}
+use Rattle.output.specs.Put.{Sofar}
 use Rattle.output.proofs.Laws.{start, byte, no-byte, done, more, puts-as, sofar-as}
 use lib.Seq.{take-all}
-use mathlib.Core.List.{List, [], _∷_, _++_}
 use Rattle.output.proofs.Pieces.{one-more, whole}
 use Rattle.output.proofs.put_text.Statement.{statement}
 use Rattle.output.proofs.put_text.Tie as tie
-use Rattle.output.proofs.put_text.Reads as reads
-use Rattle.output.proofs.put_text.Lts as lts
 
 abbrev Inv-loop : tie.InvT-loop
 Inv-loop out₀ src i₀ out i = (i ≤ length src) × Sofar out₀ (take i src) i out

@@ -1,7 +1,6 @@
 use native.Mathlib.Nat.{le-refl}
 use mathlib.Core.List.{[], _∷_}
 use denote.Ref.{now}
-use borrow.Author.Needs.{needs}
 use Rattle.output.proofs.Rows.{Here, first!, next!, none, stop!, all, in!, fit!, same!, length-puts}
 use Rattle.output.proofs.put_two.Statement.{statement}
 use Rattle.output.proofs.put_two.Tie as tie
