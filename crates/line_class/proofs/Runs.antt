@@ -1,4 +1,4 @@
--- A run of bytes that pass a test: one turn of a loop over it, and its two parts.
+-- Bytes that pass a test: one turn of a loop over a run of them, or over all bytes.
 use mathlib.Core.Path.{_≡_, refl, sym, ap, _∙_}
 use mathlib.Core.Bool.{Bool, true, false}
 use mathlib.Core.List.{List, [], _∷_}
@@ -7,7 +7,7 @@ use native.Mathlib.Omega.{arith}
 use native.Mathlib.Numerals.{add-one}
 use lib.ListN.{length, take, drop, getD, drop-of-length-le}
 use lib.Seq.{drop-cons}
-use Rattle.text.specs.Bytes.{Bytes}
+use Rattle.text.specs.Bytes.{Bytes, any, all}
 use Rattle.text.specs.Reader.{taken, past}
 use Rattle.line.proofs.Cases.{byBool}
 
@@ -47,6 +47,42 @@ pub taken-alike : (p q : ℕ → Bool) (s : Bytes) → ((i : ℕ) → p (getD s 
 unfolding taken
 taken-alike p q [] h = refl
 taken-alike p q (c ∷ s) h = rw (h 0, taken-alike p q s (λ i. h (suc i)))
+
+pub any-alike : (p q : ℕ → Bool) (s : Bytes) → ((i : ℕ) → p (getD s i 0) ≡ q (getD s i 0)) → any p s ≡ any q s
+unfolding any
+any-alike p q [] h = refl
+any-alike p q (c ∷ s) h = rw (h 0, any-alike p q s (λ i. h (suc i)))
+
+pub all-alike : (p q : ℕ → Bool) (s : Bytes) → ((i : ℕ) → p (getD s i 0) ≡ q (getD s i 0)) → all p s ≡ all q s
+unfolding all
+all-alike p q [] h = refl
+all-alike p q (c ∷ s) h = rw (h 0, all-alike p q s (λ i. h (suc i)))
+
+-- ---- a byte at least, and all of them: the byte that decides, and one that does not
+
+pub any-here : (p : ℕ → Bool) (s : Bytes) (i : ℕ) → i < length s → p (getD s i 0) ≡ true → any p (drop i s) ≡ true
+unfolding any
+any-here p s i h e = rw (drop-cons s i 0, e)
+
+pub any-later : (p : ℕ → Bool) (s : Bytes) (i : ℕ) → i < length s → p (getD s i 0) ≡ false → any p (drop i s) ≡ any p (drop (i + 1) s)
+unfolding any
+any-later p s i h e = rw (drop-cons s i 0, e, add-one)
+
+pub any-none : (p : ℕ → Bool) (s : Bytes) (i : ℕ) → length s ≤ i → any p (drop i s) ≡ false
+unfolding any
+any-none p s i h = rw (drop-of-length-le s h)
+
+pub all-not : (p : ℕ → Bool) (s : Bytes) (i : ℕ) → i < length s → p (getD s i 0) ≡ false → all p (drop i s) ≡ false
+unfolding all
+all-not p s i h e = rw (drop-cons s i 0, e)
+
+pub all-later : (p : ℕ → Bool) (s : Bytes) (i : ℕ) → i < length s → p (getD s i 0) ≡ true → all p (drop i s) ≡ all p (drop (i + 1) s)
+unfolding all
+all-later p s i h e = rw (drop-cons s i 0, e, add-one)
+
+pub all-out : (p : ℕ → Bool) (s : Bytes) (i : ℕ) → length s ≤ i → all p (drop i s) ≡ true
+unfolding all
+all-out p s i h = rw (drop-of-length-le s h)
 
 -- ---- a run is a front, and what is past it the rest
 

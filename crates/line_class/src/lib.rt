@@ -3,6 +3,7 @@
 ghost use mathlib.Core.Path.{_≡_};
 ghost use Prim.Native.Nat.{_+_};
 ghost use lib.ListN.{length, drop, getD};
+ghost use Rattle.text.specs.Bytes.{any, all};
 ghost use Rattle.text.specs.Reader.{taken};
 ghost use Rattle.line_class.specs.Classes.{inClass, bitOf, hasBit, Agrees};
 
@@ -68,6 +69,38 @@ pub fn run_end(s: &[u8], at: usize, class: Class) -> usize
         i += 1;
     }
     i
+}
+
+// Whether a byte of s is of the class.
+pub fn any_of(s: &[u8], class: Class) -> bool
+    ensures { λ r. ⌜ r ≡ any (inClass class) (now (s .entry)) ⌝ }
+{
+    let table = classes();
+    let mask = bit(class);
+    let mut i = 0;
+    while i < s.len() {
+        if marked(&table, s[i], mask) {
+            return true;
+        }
+        i += 1;
+    }
+    false
+}
+
+// Whether all bytes of s are of the class.
+pub fn all_of(s: &[u8], class: Class) -> bool
+    ensures { λ r. ⌜ r ≡ all (inClass class) (now (s .entry)) ⌝ }
+{
+    let table = classes();
+    let mask = bit(class);
+    let mut i = 0;
+    while i < s.len() {
+        if !marked(&table, s[i], mask) {
+            return false;
+        }
+        i += 1;
+    }
+    true
 }
 
 // A bit for each class, by `bit`.
