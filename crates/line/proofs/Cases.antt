@@ -2,7 +2,7 @@
 use mathlib.Core.Path.{_≡_, refl}
 use mathlib.Core.Bool.{Bool, true, false}
 use mathlib.Core.List.{List, [], _∷_, map, head-eq-of-cons-eq, tail-eq-of-cons-eq}
-use Prim.Native.Nat.{ℕ}
+use Prim.Native.Nat.{ℕ, zero, suc, _+_, _≤_, _<_}
 use native.Mathlib.Omega.{arith}
 use lib.Dec.{ltb, leb, eqb}
 use borrow.Author.Tests.{eqb-true, eqb-false, ltb-true, ltb-false, leb-true, leb-false, lt-ltb, le-ltb, le-leb, lt-leb, eq-eqb, ne-eqb}
@@ -22,6 +22,11 @@ abbrev pub NoneOf : ℕ → List ℕ → Type 0
 NoneOf c [] = Unit {0}
 NoneOf c (k ∷ ks) = (eqb c k ≡ false) × NoneOf c ks
 
+-- n numbers from lo on, the last one first
+abbrev pub range : ℕ → ℕ → List ℕ
+range lo zero = []
+range lo (suc n) = (lo + n) ∷ range lo n
+
 module _ {ℓ} {A : Type ℓ} (F G : ℕ → A) (c : ℕ) where
   key : (k : ℕ) (b : Bool) → eqb c k ≡ b → F k ≡ G k → (eqb c k ≡ false → F c ≡ G c) → F c ≡ G c
   key k true q e h = rw (eqb-true c k q) e
@@ -31,3 +36,10 @@ module _ {ℓ} {A : Type ℓ} (F G : ℕ → A) (c : ℕ) where
   pub byKeys : (ks : List ℕ) → map F ks ≡ map G ks → (NoneOf c ks → F c ≡ G c) → F c ≡ G c
   byKeys [] e h = h tt
   byKeys (k ∷ ks) e h = key k (eqb c k) refl (head-eq-of-cons-eq e) (λ q. byKeys ks (tail-eq-of-cons-eq e) (λ n. h (q, n)))
+
+  -- the same for a range: each number of it is a key
+  pub inRange : (lo n : ℕ) → map F (range lo n) ≡ map G (range lo n) → lo ≤ c → c < lo + n → F c ≡ G c
+  inRange lo zero e h l = absurd (omega arith)
+  inRange lo (suc n) e h l =
+      key (lo + n) (eqb c (lo + n)) refl (head-eq-of-cons-eq e)
+      (λ q. inRange lo n (tail-eq-of-cons-eq e) h (let d : (c ≡ lo + n → ⊥) = eqb-false c (lo + n) q in omega arith))
