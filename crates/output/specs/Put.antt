@@ -41,3 +41,9 @@ pub record Left (room whole : Bytes) (todo : List Bytes) (at : ℕ) (out : Bytes
   pub x : Bytes
   pub so : Sofar room x at out
   pub rest : x ++ flat todo ≡ whole
+
+-- the same for a loop that goes by what is left of its bytes
+pub record Rest (room whole todo : Bytes) (at : ℕ) (out : Bytes) : Type 0 where
+  pub x : Bytes
+  pub so : Sofar room x at out
+  pub rest : x ++ todo ≡ whole
