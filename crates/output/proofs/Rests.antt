@@ -59,3 +59,15 @@ rest-fit r h = record { fits = lt-of-le-of-lt (r .so .fits) h }
 
 pub rest-same : {room whole todo out : Bytes} {at : ℕ} → Rest room whole todo at out → length out ≡ length room
 rest-same r = r .so .same
+
+-- `Rest` with what it is of, for a helper's signature: it computes
+pub record Going : Type 0 where
+  pub room : Bytes
+  pub whole : Bytes
+  pub todo : Bytes
+  pub at : ℕ
+  pub out : Bytes
+  pub left : Rest room whole todo at out
+
+abbrev pub going : {room whole todo out : Bytes} {at : ℕ} → Rest room whole todo at out → Going
+going {room} {whole} {todo} {out} {at} r = record { room = room; whole = whole; todo = todo; at = at; out = out; left = r }
