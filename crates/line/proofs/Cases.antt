@@ -4,6 +4,8 @@ use mathlib.Core.Bool.{Bool, true, false}
 use mathlib.Core.List.{List, [], _∷_, map, head-eq-of-cons-eq, tail-eq-of-cons-eq}
 use Prim.Native.Nat.{ℕ, zero, suc, _+_, _≤_, _<_}
 use native.Mathlib.Omega.{arith}
+use native.Mathlib.Nat.{lt-of-not-le}
+use native.Mathlib.Decide.{decLe}
 use lib.Dec.{ltb, leb, eqb}
 use borrow.Author.Tests.{eqb-true, eqb-false, ltb-true, ltb-false, leb-true, leb-false, lt-ltb, le-ltb, le-leb, lt-leb, eq-eqb, ne-eqb}
 
@@ -11,6 +13,10 @@ use borrow.Author.Tests.{eqb-true, eqb-false, ltb-true, ltb-false, leb-true, leb
 pub byBool {ℓ} : {P : Type ℓ} (b : Bool) → (b ≡ true → P) → (b ≡ false → P) → P
 byBool true t f = t refl
 byBool false t f = f refl
+
+-- two numbers, one way or the other
+pub split {ℓ} : {P : Type ℓ} (a b : ℕ) → (a ≤ b → P) → (b < a → P) → P
+split a b f g = elim (decLe a b) [ yes h ↦ f h | no h ↦ g (lt-of-not-le h) ]
 
 -- omega reads tests among the hypotheses (`omega tests`), and proves them too (`omega testing`)
 pub ruleset tests = (arith, eqb-true, eqb-false, ltb-true, ltb-false, leb-true, leb-false)

@@ -12,8 +12,7 @@ use borrow.Author.Tests.{eqb-true, leb-true, leb-false, lt-ltb, le-ltb, le-leb, 
 use Rattle.text.specs.Choice.{pick}
 use Rattle.text.specs.Bytes.{Bytes, onHead}
 use Rattle.line.specs.Text.{splitFrom, splitText}
-use Rattle.output.proofs.Laws.{split}
-use Rattle.line.proofs.Cases.{byBool}
+use Rattle.line.proofs.Cases.{byBool, split}
 use Rattle.line_text.specs.Split.{PartEnds, charEnd}
 
 -- ---- what one byte does
