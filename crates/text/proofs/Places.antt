@@ -39,6 +39,10 @@ inside p s i z h e =
     (λ h′. h′)
     (eq-or-lt-of-le h)
 
+-- the same of the byte that the code looked at
+pub inside-at : (p : ℕ → Bool) (s : Bytes) (i b : ℕ) → p 256 ≡ false → i ≤ length s → b ≡ byteAt s i → p b ≡ true → i < length s
+inside-at p s i b z l e h = inside p s i z l (rw e at h)
+
 -- the first byte and the rest of what stands from a place on
 pub first-drop : (s : Bytes) (i : ℕ) → first (drop i s) ≡ byteAt s i
 first-drop [] i = rw (drop-nil i)
