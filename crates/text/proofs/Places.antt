@@ -100,6 +100,27 @@ module _ (p : ℕ → Bool) (s : Bytes) where
     to = h .to;
   }
 
+-- the invariant of a loop that passes them: what is passed from here is passed from there
+pub record Passing (p : ℕ → Bool) (s : Bytes) (at i : ℕ) : Type 0 where
+  pub to : i ≤ length s
+  pub back : (r : ℕ) → Passes p s i r → Passes p s at r
+
+pub passing-from : (p : ℕ → Bool) (s : Bytes) (at : ℕ) → at ≤ length s → Passing p s at at
+passing-from p s at l = record { to = l; back = λ r h. h }
+
+module _ {p : ℕ → Bool} {s : Bytes} {at i : ℕ} (h : Passing p s at i) (b : ℕ) (e : b ≡ byteAt s i) where
+  pub passing-in : p 256 ≡ false → p b ≡ true → i < length s
+  passing-in z t = inside-at p s i b z (h .to) e t
+
+  pub passing-on : p 256 ≡ false → p b ≡ true → Passing p s at (i + 1)
+  passing-on z t = record {
+    to = omega (arith, passing-in z t);
+    back = λ r x. h .back r (passes-one p s i r (passing-in z t) (rw e at t) x);
+  }
+
+  pub passing-end : p b ≡ false → Passes p s at i
+  passing-end t = h .back i (passes-none p s i (h .to) (rw e at t))
+
 -- ---- bounds
 pub within-up : (a b n : ℕ) (r : Read) → a ≤ b → Within b n r → Within a n r
 within-up a b n (Next e) h w = omega arith

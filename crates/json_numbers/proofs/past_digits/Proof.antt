@@ -1,43 +1,41 @@
+use borrow.Author.Needs.{needs}
+use native.Mathlib.Omega.{arith}
+use denote.Ref.{now}
+use mathlib.Core.Path.{sym, _∙_}
+use Prim.Native.Nat.{_-_}
+use lib.ListN.{length}
+use Rattle.text.proofs.Places.{Passing, passing-from, passing-in, passing-on, passing-end}
+use Rattle.text.specs.Bytes.{isDigit}
+use Rattle.json.proofs.Fine.{digit-256}
 use Rattle.json_numbers.proofs.past_digits.Statement.{statement}
 use Rattle.json_numbers.proofs.past_digits.Tie as tie
-use Rattle.json_numbers.proofs.past_digits.Reads as reads
-use Rattle.json_numbers.proofs.past_digits.Lts as lts
-use Rattle.json_numbers.proofs.is_digit.Reads as is-digit-reads
-use Rattle.text.proofs.look.Reads as look-reads
 
 abbrev Inv-loop : tie.InvT-loop
-Inv-loop s at i₀ i = ?
+Inv-loop s at i₀ i = Passing isDigit s i₀ i
 
 abbrev μ-loop : tie.MeasureT-loop
-μ-loop s at i₀ i = ?
+μ-loop s at i₀ i = length s - i
 
--- src/lib.rt:25:5
 loop-holds : tie.Need-loop-holds Inv-loop μ-loop
-loop-holds c = ?
+loop-holds c = passing-from isDigit (now (c .before .args .s)) (c .before .args .at) (c .before .pre)
 
--- src/lib.rt:25:20
 look-requires : tie.Need-look-requires Inv-loop μ-loop
-look-requires c κs = ?
+look-requires c κs = c .loop .inv .to
 
--- src/lib.rt:25:11
 is-digit-requires : tie.Need-is-digit-requires Inv-loop μ-loop
-is-digit-requires c κs = ?
+is-digit-requires c κs = search needs
 
--- src/lib.rt:26:9
 add-i : tie.Need-add-i Inv-loop μ-loop
-add-i c = ?
+add-i c = search needs
 
--- src/lib.rt:25:5
 loop-less : tie.Need-loop-less Inv-loop μ-loop
-loop-less c = ?
+loop-less c = let h = passing-in (c .before .before .before .loop .inv) (c .before .before .look .result) (c .before .before .look .ensures .0) digit-256 (sym (c .before .is-digit .ensures) ∙ (c .if1 .taken)) in omega arith
 
--- src/lib.rt:25:5
 loop-again : tie.Need-loop-again Inv-loop μ-loop
-loop-again c = ?
+loop-again c = passing-on (c .before .before .before .loop .inv) (c .before .before .look .result) (c .before .before .look .ensures .0) digit-256 (sym (c .before .is-digit .ensures) ∙ (c .if1 .taken))
 
--- src/lib.rt:20:1
 returns : tie.Need-returns Inv-loop μ-loop
-returns c = ?
+returns c = passing-end (c .before .before .before .loop .inv) (c .before .before .look .result) (c .before .before .look .ensures .0) (sym (c .before .is-digit .ensures) ∙ (c .if1 .left))
 
 pub past-digits-spec : {M : Type 1} → statement M
 past-digits-spec =
