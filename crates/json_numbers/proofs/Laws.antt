@@ -11,7 +11,7 @@ use Rattle.text.specs.declared.Read.the-variants.{Next, Bad}
 use Rattle.text.specs.Bytes.{Bytes, is, isDigit}
 use Rattle.text.specs.Reader.{Got, got, bad, bind, under, on, when, taken, past, some-of}
 use Rattle.text.specs.Places.{byteAt, Gives, Passes}
-use Rattle.text.proofs.Places.{same-as, up, here, bad-here, by-under, by-on, not-on, by-when, not-when}
+use Rattle.text.proofs.Places.{same-as, up, here, bad-here, by-under, by-on, not-on, by-when, not-when, bind-under}
 use Rattle.json.specs.Grammar.{isE}
 use Rattle.json.specs.Syntax.{digits, sign, exp}
 use Rattle.json_numbers.specs.Power.{power}
@@ -25,16 +25,6 @@ module _ (s : Bytes) (i b : ℕ) (e : b ≡ byteAt s i) where
   pub digits-none : isDigit b ≡ false → i ≤ length s → Gives s i (digits (drop i s)) (Bad i)
   unfolding digits some-of
   digits-none h l = not-when isDigit _ bad e h (bad-here i l)
-
--- an exponent's first byte does not matter to where it ends
-tagged-one : (c : ℕ) (g : Bytes) (y : Got Bytes) → bind y (λ ds t. got (c ∷ (g ++ ds)) t) ≡ under (λ x. c ∷ x) (bind y (λ ds t. got (g ++ ds) t))
-tagged-one c g (got ds t) = refl
-tagged-one c g (bad t) = refl
-
-tagged : (c : ℕ) (x : Got Bytes) (y : Bytes → Got Bytes)
-    → bind x (λ g t. bind (y t) λ ds t. got (c ∷ (g ++ ds)) t) ≡ under (λ z. c ∷ z) (bind x (λ g t. bind (y t) λ ds t. got (g ++ ds) t))
-tagged c (got g t) y = tagged-one c g (y t)
-tagged c (bad t) y = refl
 
 pub e-is : (b : ℕ) → (b ≡ 101) → isE b ≡ true
 unfolding isE
@@ -51,7 +41,7 @@ no-e b n m = rw (ne-eqb _ _ n, ne-eqb _ _ m)
 module _ (s : Bytes) (i b : ℕ) (e : b ≡ byteAt s i) where
   pub exp-power : isE b ≡ true → {r : Read} → Gives s (i + 1) (power (drop (i + 1) s)) r → Gives s i (exp (drop i s)) r
   unfolding exp power
-  exp-power h x = by-on isE _ _ e h (same-as (tagged b (sign (drop (i + 1) s)) digits) (by-under _ x))
+  exp-power h x = by-on isE _ _ e h (same-as (bind-under (λ x. b ∷ x) (sign (drop (i + 1) s)) _ _ λ g t. bind-under (λ x. b ∷ x) (digits t) _ _ λ ds u. refl) (by-under _ x))
 
   pub exp-none : isE b ≡ false → i ≤ length s → Gives s i (exp (drop i s)) (Next i)
   unfolding exp

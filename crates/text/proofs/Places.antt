@@ -206,6 +206,12 @@ module _ {A C : Type 0} {s : Bytes} where
   then-bad k {at} {b} {want} h =
       same-as (ap (λ (x : Got A). bind x k) (at-bad want h)) (record { is = refl; within = h .within })
 
+-- a row of readers whose last differs by a function from another's
+pub bind-under : {A B C : Type 0} (f : B → C) (x : Got A) (k : A → Bytes → Got C) (l : A → Bytes → Got B)
+    → ((a : A) (t : Bytes) → k a t ≡ under f (l a t)) → bind x k ≡ under f (bind x l)
+bind-under f (got a t) k l h = h a t
+bind-under f (bad t) k l h = refl
+
 -- ---- the same where a turn of a loop is what is read
 module _ {B : Type 0} {s : Bytes} where
   pub turn-as : {at : ℕ} {want : Got (Step B)} {r q : Turn} → GivesT s at want r → r ≡ q → GivesT s at want q

@@ -1,3 +1,12 @@
+use borrow.Author.Needs.{needs}
+use native.Mathlib.Omega.{arith}
+use denote.Ref.{now}
+use Prim.Native.Nat.{_+_, _-_}
+use lib.ListN.{length}
+use Rattle.text.proofs.Places.{gives-as, turn-as, up, turn-bad, turn-next}
+use Rattle.text.proofs.Runs.{Run, begin, onward, ended}
+use Rattle.json.specs.Syntax.{item, pair, value}
+use Rattle.json_scan.proofs.Laws.{elements-none, elements-from, pairs-none, pairs-from, item-sep, pair-sep, value-flat, value-array, value-object, value-scalar}
 use Prim.Native.Nat.{ℕ, _<_}
 use borrow.Fn.Kinds.{In}
 use borrow.Fn.PlainCycle.{Measures, is, falls, and}
@@ -19,13 +28,13 @@ use Rattle.json_scan.proofs.+array_end+object_end+value_end.{statement}
 use Rattle.json_scan.proofs.+array_end+object_end+value_end.Tie.{close}
 
 abbrev μ-array-end : Measures 1 array-end-kinds.ps ℕ
-μ-array-end κs a = ?
+μ-array-end κs a = a .1 .1 .0 + a .1 .1 .0 + 1
 
 abbrev μ-object-end : Measures 1 object-end-kinds.ps ℕ
-μ-object-end κs a = ?
+μ-object-end κs a = a .1 .1 .0 + a .1 .1 .0 + 1
 
 abbrev μ-value-end : Measures 1 value-end-kinds.ps ℕ
-μ-value-end κs a = ?
+μ-value-end κs a = a .1 .1 .0 + a .1 .1 .0
 
 abbrev array-end-at : ℕ → In 1 array-end-kinds.ps
 array-end-at t = and 1 array-end-kinds.ps (is 1 array-end-kinds.ps μ-array-end t) array-end.Pre
@@ -50,708 +59,19 @@ value-end-below t =
     and 1 value-end-kinds.ps (falls 1 value-end-kinds.ps _<_ μ-value-end t) value-end.Pre
 
 abbrev array-end-Inv-loop : array-end-lts.InvT-loop
-array-end-Inv-loop s at depth from i₀ i = ?
+array-end-Inv-loop s at depth from i₀ i = Run (item (value depth)) s i₀ i
 
 abbrev array-end-μ-loop : array-end-lts.MeasureT-loop
-array-end-μ-loop s at depth from i₀ i = ?
-
--- src/lib.rt:75:9
-array-end-skip-space-requires : (t : ℕ) → array-end-lts.Need-skip-space-requires (
-  skip-space-reads.Asked,
-  skip-space-reads.Learnt,
-  look-reads.Asked,
-  look-reads.Learnt,
-  value-end-below t,
-  value-end.Post,
-  separator-reads.Asked,
-  separator-reads.Learnt,
-) (array-end-at t) array-end.Post array-end-Inv-loop array-end-μ-loop
-array-end-skip-space-requires t c κs = ?
-
--- src/lib.rt:76:8
-array-end-look-requires : (t : ℕ) → array-end-lts.Need-look-requires (
-  skip-space-reads.Asked,
-  skip-space-reads.Learnt,
-  look-reads.Asked,
-  look-reads.Learnt,
-  value-end-below t,
-  value-end.Post,
-  separator-reads.Asked,
-  separator-reads.Learnt,
-) (array-end-at t) array-end.Post array-end-Inv-loop array-end-μ-loop
-array-end-look-requires t c κs = ?
-
--- src/lib.rt:77:27
-array-end-add-t12 : (t : ℕ) → array-end-lts.Need-add-t12 (
-  skip-space-reads.Asked,
-  skip-space-reads.Learnt,
-  look-reads.Asked,
-  look-reads.Learnt,
-  value-end-below t,
-  value-end.Post,
-  separator-reads.Asked,
-  separator-reads.Learnt,
-) (array-end-at t) array-end.Post array-end-Inv-loop array-end-μ-loop
-array-end-add-t12 t c = ?
-
--- src/lib.rt:77:9
-array-end-returns : (t : ℕ) → array-end-lts.Need-returns (
-  skip-space-reads.Asked,
-  skip-space-reads.Learnt,
-  look-reads.Asked,
-  look-reads.Learnt,
-  value-end-below t,
-  value-end.Post,
-  separator-reads.Asked,
-  separator-reads.Learnt,
-) (array-end-at t) array-end.Post array-end-Inv-loop array-end-μ-loop
-array-end-returns t c = ?
-
--- src/lib.rt:80:5
-array-end-loop-holds : (t : ℕ) → array-end-lts.Need-loop-holds (
-  skip-space-reads.Asked,
-  skip-space-reads.Learnt,
-  look-reads.Asked,
-  look-reads.Learnt,
-  value-end-below t,
-  value-end.Post,
-  separator-reads.Asked,
-  separator-reads.Learnt,
-) (array-end-at t) array-end.Post array-end-Inv-loop array-end-μ-loop
-array-end-loop-holds t c = ?
-
--- src/lib.rt:81:15
-array-end-value-end-requires : (t : ℕ) → array-end-lts.Need-value-end-requires (
-  skip-space-reads.Asked,
-  skip-space-reads.Learnt,
-  look-reads.Asked,
-  look-reads.Learnt,
-  value-end-below t,
-  value-end.Post,
-  separator-reads.Asked,
-  separator-reads.Learnt,
-) (array-end-at t) array-end.Post array-end-Inv-loop array-end-μ-loop
-array-end-value-end-requires t c κs = ?
-
--- src/lib.rt:82:23
-array-end-enum-known-b : (t : ℕ) → array-end-lts.Need-enum-known-b (
-  skip-space-reads.Asked,
-  skip-space-reads.Learnt,
-  look-reads.Asked,
-  look-reads.Learnt,
-  value-end-below t,
-  value-end.Post,
-  separator-reads.Asked,
-  separator-reads.Learnt,
-) (array-end-at t) array-end.Post array-end-Inv-loop array-end-μ-loop
-array-end-enum-known-b t c = ?
-
--- src/lib.rt:83:17
-array-end-returns-2 : (t : ℕ) → array-end-lts.Need-returns-2 (
-  skip-space-reads.Asked,
-  skip-space-reads.Learnt,
-  look-reads.Asked,
-  look-reads.Learnt,
-  value-end-below t,
-  value-end.Post,
-  separator-reads.Asked,
-  separator-reads.Learnt,
-) (array-end-at t) array-end.Post array-end-Inv-loop array-end-μ-loop
-array-end-returns-2 t c = ?
-
--- src/lib.rt:85:24
-array-end-enum-known-e : (t : ℕ) → array-end-lts.Need-enum-known-e (
-  skip-space-reads.Asked,
-  skip-space-reads.Learnt,
-  look-reads.Asked,
-  look-reads.Learnt,
-  value-end-below t,
-  value-end.Post,
-  separator-reads.Asked,
-  separator-reads.Learnt,
-) (array-end-at t) array-end.Post array-end-Inv-loop array-end-μ-loop
-array-end-enum-known-e t c = ?
-
--- src/lib.rt:85:36
-array-end-separator-requires : (t : ℕ) → array-end-lts.Need-separator-requires (
-  skip-space-reads.Asked,
-  skip-space-reads.Learnt,
-  look-reads.Asked,
-  look-reads.Learnt,
-  value-end-below t,
-  value-end.Post,
-  separator-reads.Asked,
-  separator-reads.Learnt,
-) (array-end-at t) array-end.Post array-end-Inv-loop array-end-μ-loop
-array-end-separator-requires t c κs = ?
-
--- src/lib.rt:86:26
-array-end-enum-known-j : (t : ℕ) → array-end-lts.Need-enum-known-j (
-  skip-space-reads.Asked,
-  skip-space-reads.Learnt,
-  look-reads.Asked,
-  look-reads.Learnt,
-  value-end-below t,
-  value-end.Post,
-  separator-reads.Asked,
-  separator-reads.Learnt,
-) (array-end-at t) array-end.Post array-end-Inv-loop array-end-μ-loop
-array-end-enum-known-j t c = ?
-
--- src/lib.rt:80:5
-array-end-loop-less : (t : ℕ) → array-end-lts.Need-loop-less (
-  skip-space-reads.Asked,
-  skip-space-reads.Learnt,
-  look-reads.Asked,
-  look-reads.Learnt,
-  value-end-below t,
-  value-end.Post,
-  separator-reads.Asked,
-  separator-reads.Learnt,
-) (array-end-at t) array-end.Post array-end-Inv-loop array-end-μ-loop
-array-end-loop-less t c = ?
-
--- src/lib.rt:80:5
-array-end-loop-again : (t : ℕ) → array-end-lts.Need-loop-again (
-  skip-space-reads.Asked,
-  skip-space-reads.Learnt,
-  look-reads.Asked,
-  look-reads.Learnt,
-  value-end-below t,
-  value-end.Post,
-  separator-reads.Asked,
-  separator-reads.Learnt,
-) (array-end-at t) array-end.Post array-end-Inv-loop array-end-μ-loop
-array-end-loop-again t c = ?
-
--- src/lib.rt:89:28
-array-end-enum-known-r : (t : ℕ) → array-end-lts.Need-enum-known-r (
-  skip-space-reads.Asked,
-  skip-space-reads.Learnt,
-  look-reads.Asked,
-  look-reads.Learnt,
-  value-end-below t,
-  value-end.Post,
-  separator-reads.Asked,
-  separator-reads.Learnt,
-) (array-end-at t) array-end.Post array-end-Inv-loop array-end-μ-loop
-array-end-enum-known-r t c = ?
-
--- src/lib.rt:90:21
-array-end-returns-3 : (t : ℕ) → array-end-lts.Need-returns-3 (
-  skip-space-reads.Asked,
-  skip-space-reads.Learnt,
-  look-reads.Asked,
-  look-reads.Learnt,
-  value-end-below t,
-  value-end.Post,
-  separator-reads.Asked,
-  separator-reads.Learnt,
-) (array-end-at t) array-end.Post array-end-Inv-loop array-end-μ-loop
-array-end-returns-3 t c = ?
+array-end-μ-loop s at depth from i₀ i = length s - i
 
 abbrev object-end-Inv-loop : object-end-lts.InvT-loop
-object-end-Inv-loop s at depth from i₀ i = ?
+object-end-Inv-loop s at depth from i₀ i = Run (pair (value depth)) s i₀ i
 
 abbrev object-end-μ-loop : object-end-lts.MeasureT-loop
-object-end-μ-loop s at depth from i₀ i = ?
-
--- src/lib.rt:102:9
-object-end-skip-space-requires : (t : ℕ) → object-end-lts.Need-skip-space-requires (
-  skip-space-reads.Asked,
-  skip-space-reads.Learnt,
-  look-reads.Asked,
-  look-reads.Learnt,
-  name-end-reads.Asked,
-  name-end-reads.Learnt,
-  value-end-below t,
-  value-end.Post,
-  separator-reads.Asked,
-  separator-reads.Learnt,
-) (object-end-at t) object-end.Post object-end-Inv-loop object-end-μ-loop
-object-end-skip-space-requires t c κs = ?
-
--- src/lib.rt:103:8
-object-end-look-requires : (t : ℕ) → object-end-lts.Need-look-requires (
-  skip-space-reads.Asked,
-  skip-space-reads.Learnt,
-  look-reads.Asked,
-  look-reads.Learnt,
-  name-end-reads.Asked,
-  name-end-reads.Learnt,
-  value-end-below t,
-  value-end.Post,
-  separator-reads.Asked,
-  separator-reads.Learnt,
-) (object-end-at t) object-end.Post object-end-Inv-loop object-end-μ-loop
-object-end-look-requires t c κs = ?
-
--- src/lib.rt:104:27
-object-end-add-t14 : (t : ℕ) → object-end-lts.Need-add-t14 (
-  skip-space-reads.Asked,
-  skip-space-reads.Learnt,
-  look-reads.Asked,
-  look-reads.Learnt,
-  name-end-reads.Asked,
-  name-end-reads.Learnt,
-  value-end-below t,
-  value-end.Post,
-  separator-reads.Asked,
-  separator-reads.Learnt,
-) (object-end-at t) object-end.Post object-end-Inv-loop object-end-μ-loop
-object-end-add-t14 t c = ?
-
--- src/lib.rt:104:9
-object-end-returns : (t : ℕ) → object-end-lts.Need-returns (
-  skip-space-reads.Asked,
-  skip-space-reads.Learnt,
-  look-reads.Asked,
-  look-reads.Learnt,
-  name-end-reads.Asked,
-  name-end-reads.Learnt,
-  value-end-below t,
-  value-end.Post,
-  separator-reads.Asked,
-  separator-reads.Learnt,
-) (object-end-at t) object-end.Post object-end-Inv-loop object-end-μ-loop
-object-end-returns t c = ?
-
--- src/lib.rt:107:5
-object-end-loop-holds : (t : ℕ) → object-end-lts.Need-loop-holds (
-  skip-space-reads.Asked,
-  skip-space-reads.Learnt,
-  look-reads.Asked,
-  look-reads.Learnt,
-  name-end-reads.Asked,
-  name-end-reads.Learnt,
-  value-end-below t,
-  value-end.Post,
-  separator-reads.Asked,
-  separator-reads.Learnt,
-) (object-end-at t) object-end.Post object-end-Inv-loop object-end-μ-loop
-object-end-loop-holds t c = ?
-
--- src/lib.rt:108:15
-object-end-name-end-requires : (t : ℕ) → object-end-lts.Need-name-end-requires (
-  skip-space-reads.Asked,
-  skip-space-reads.Learnt,
-  look-reads.Asked,
-  look-reads.Learnt,
-  name-end-reads.Asked,
-  name-end-reads.Learnt,
-  value-end-below t,
-  value-end.Post,
-  separator-reads.Asked,
-  separator-reads.Learnt,
-) (object-end-at t) object-end.Post object-end-Inv-loop object-end-μ-loop
-object-end-name-end-requires t c κs = ?
-
--- src/lib.rt:109:23
-object-end-enum-known-b : (t : ℕ) → object-end-lts.Need-enum-known-b (
-  skip-space-reads.Asked,
-  skip-space-reads.Learnt,
-  look-reads.Asked,
-  look-reads.Learnt,
-  name-end-reads.Asked,
-  name-end-reads.Learnt,
-  value-end-below t,
-  value-end.Post,
-  separator-reads.Asked,
-  separator-reads.Learnt,
-) (object-end-at t) object-end.Post object-end-Inv-loop object-end-μ-loop
-object-end-enum-known-b t c = ?
-
--- src/lib.rt:110:17
-object-end-returns-2 : (t : ℕ) → object-end-lts.Need-returns-2 (
-  skip-space-reads.Asked,
-  skip-space-reads.Learnt,
-  look-reads.Asked,
-  look-reads.Learnt,
-  name-end-reads.Asked,
-  name-end-reads.Learnt,
-  value-end-below t,
-  value-end.Post,
-  separator-reads.Asked,
-  separator-reads.Learnt,
-) (object-end-at t) object-end.Post object-end-Inv-loop object-end-μ-loop
-object-end-returns-2 t c = ?
-
--- src/lib.rt:112:24
-object-end-enum-known-v : (t : ℕ) → object-end-lts.Need-enum-known-v (
-  skip-space-reads.Asked,
-  skip-space-reads.Learnt,
-  look-reads.Asked,
-  look-reads.Learnt,
-  name-end-reads.Asked,
-  name-end-reads.Learnt,
-  value-end-below t,
-  value-end.Post,
-  separator-reads.Asked,
-  separator-reads.Learnt,
-) (object-end-at t) object-end.Post object-end-Inv-loop object-end-μ-loop
-object-end-enum-known-v t c = ?
-
--- src/lib.rt:112:36
-object-end-value-end-requires : (t : ℕ) → object-end-lts.Need-value-end-requires (
-  skip-space-reads.Asked,
-  skip-space-reads.Learnt,
-  look-reads.Asked,
-  look-reads.Learnt,
-  name-end-reads.Asked,
-  name-end-reads.Learnt,
-  value-end-below t,
-  value-end.Post,
-  separator-reads.Asked,
-  separator-reads.Learnt,
-) (object-end-at t) object-end.Post object-end-Inv-loop object-end-μ-loop
-object-end-value-end-requires t c κs = ?
-
--- src/lib.rt:113:27
-object-end-enum-known-b-2 : (t : ℕ) → object-end-lts.Need-enum-known-b-2 (
-  skip-space-reads.Asked,
-  skip-space-reads.Learnt,
-  look-reads.Asked,
-  look-reads.Learnt,
-  name-end-reads.Asked,
-  name-end-reads.Learnt,
-  value-end-below t,
-  value-end.Post,
-  separator-reads.Asked,
-  separator-reads.Learnt,
-) (object-end-at t) object-end.Post object-end-Inv-loop object-end-μ-loop
-object-end-enum-known-b-2 t c = ?
-
--- src/lib.rt:114:21
-object-end-returns-3 : (t : ℕ) → object-end-lts.Need-returns-3 (
-  skip-space-reads.Asked,
-  skip-space-reads.Learnt,
-  look-reads.Asked,
-  look-reads.Learnt,
-  name-end-reads.Asked,
-  name-end-reads.Learnt,
-  value-end-below t,
-  value-end.Post,
-  separator-reads.Asked,
-  separator-reads.Learnt,
-) (object-end-at t) object-end.Post object-end-Inv-loop object-end-μ-loop
-object-end-returns-3 t c = ?
-
--- src/lib.rt:116:28
-object-end-enum-known-e : (t : ℕ) → object-end-lts.Need-enum-known-e (
-  skip-space-reads.Asked,
-  skip-space-reads.Learnt,
-  look-reads.Asked,
-  look-reads.Learnt,
-  name-end-reads.Asked,
-  name-end-reads.Learnt,
-  value-end-below t,
-  value-end.Post,
-  separator-reads.Asked,
-  separator-reads.Learnt,
-) (object-end-at t) object-end.Post object-end-Inv-loop object-end-μ-loop
-object-end-enum-known-e t c = ?
-
--- src/lib.rt:116:40
-object-end-separator-requires : (t : ℕ) → object-end-lts.Need-separator-requires (
-  skip-space-reads.Asked,
-  skip-space-reads.Learnt,
-  look-reads.Asked,
-  look-reads.Learnt,
-  name-end-reads.Asked,
-  name-end-reads.Learnt,
-  value-end-below t,
-  value-end.Post,
-  separator-reads.Asked,
-  separator-reads.Learnt,
-) (object-end-at t) object-end.Post object-end-Inv-loop object-end-μ-loop
-object-end-separator-requires t c κs = ?
-
--- src/lib.rt:117:30
-object-end-enum-known-j : (t : ℕ) → object-end-lts.Need-enum-known-j (
-  skip-space-reads.Asked,
-  skip-space-reads.Learnt,
-  look-reads.Asked,
-  look-reads.Learnt,
-  name-end-reads.Asked,
-  name-end-reads.Learnt,
-  value-end-below t,
-  value-end.Post,
-  separator-reads.Asked,
-  separator-reads.Learnt,
-) (object-end-at t) object-end.Post object-end-Inv-loop object-end-μ-loop
-object-end-enum-known-j t c = ?
-
--- src/lib.rt:107:5
-object-end-loop-less : (t : ℕ) → object-end-lts.Need-loop-less (
-  skip-space-reads.Asked,
-  skip-space-reads.Learnt,
-  look-reads.Asked,
-  look-reads.Learnt,
-  name-end-reads.Asked,
-  name-end-reads.Learnt,
-  value-end-below t,
-  value-end.Post,
-  separator-reads.Asked,
-  separator-reads.Learnt,
-) (object-end-at t) object-end.Post object-end-Inv-loop object-end-μ-loop
-object-end-loop-less t c = ?
-
--- src/lib.rt:107:5
-object-end-loop-again : (t : ℕ) → object-end-lts.Need-loop-again (
-  skip-space-reads.Asked,
-  skip-space-reads.Learnt,
-  look-reads.Asked,
-  look-reads.Learnt,
-  name-end-reads.Asked,
-  name-end-reads.Learnt,
-  value-end-below t,
-  value-end.Post,
-  separator-reads.Asked,
-  separator-reads.Learnt,
-) (object-end-at t) object-end.Post object-end-Inv-loop object-end-μ-loop
-object-end-loop-again t c = ?
-
--- src/lib.rt:120:32
-object-end-enum-known-r : (t : ℕ) → object-end-lts.Need-enum-known-r (
-  skip-space-reads.Asked,
-  skip-space-reads.Learnt,
-  look-reads.Asked,
-  look-reads.Learnt,
-  name-end-reads.Asked,
-  name-end-reads.Learnt,
-  value-end-below t,
-  value-end.Post,
-  separator-reads.Asked,
-  separator-reads.Learnt,
-) (object-end-at t) object-end.Post object-end-Inv-loop object-end-μ-loop
-object-end-enum-known-r t c = ?
-
--- src/lib.rt:121:25
-object-end-returns-4 : (t : ℕ) → object-end-lts.Need-returns-4 (
-  skip-space-reads.Asked,
-  skip-space-reads.Learnt,
-  look-reads.Asked,
-  look-reads.Learnt,
-  name-end-reads.Asked,
-  name-end-reads.Learnt,
-  value-end-below t,
-  value-end.Post,
-  separator-reads.Asked,
-  separator-reads.Learnt,
-) (object-end-at t) object-end.Post object-end-Inv-loop object-end-μ-loop
-object-end-returns-4 t c = ?
-
--- src/lib.rt:134:9
-value-end-skip-space-requires : (t : ℕ) → value-end-lts.Need-skip-space-requires (
-  skip-space-reads.Asked,
-  skip-space-reads.Learnt,
-  scalar-end-reads.Asked,
-  scalar-end-reads.Learnt,
-  look-reads.Asked,
-  look-reads.Learnt,
-  array-end-below t,
-  array-end.Post,
-  object-end-below t,
-  object-end.Post,
-) (value-end-at t) value-end.Post
-value-end-skip-space-requires t c κs = ?
-
--- src/lib.rt:136:9
-value-end-scalar-end-requires : (t : ℕ) → value-end-lts.Need-scalar-end-requires (
-  skip-space-reads.Asked,
-  skip-space-reads.Learnt,
-  scalar-end-reads.Asked,
-  scalar-end-reads.Learnt,
-  look-reads.Asked,
-  look-reads.Learnt,
-  array-end-below t,
-  array-end.Post,
-  object-end-below t,
-  object-end.Post,
-) (value-end-at t) value-end.Post
-value-end-scalar-end-requires t c κs = ?
-
--- src/lib.rt:136:9
-value-end-returns : (t : ℕ) → value-end-lts.Need-returns (
-  skip-space-reads.Asked,
-  skip-space-reads.Learnt,
-  scalar-end-reads.Asked,
-  scalar-end-reads.Learnt,
-  look-reads.Asked,
-  look-reads.Learnt,
-  array-end-below t,
-  array-end.Post,
-  object-end-below t,
-  object-end.Post,
-) (value-end-at t) value-end.Post
-value-end-returns t c = ?
-
--- src/lib.rt:138:9
-value-end-look-requires : (t : ℕ) → value-end-lts.Need-look-requires (
-  skip-space-reads.Asked,
-  skip-space-reads.Learnt,
-  scalar-end-reads.Asked,
-  scalar-end-reads.Learnt,
-  look-reads.Asked,
-  look-reads.Learnt,
-  array-end-below t,
-  array-end.Post,
-  object-end-below t,
-  object-end.Post,
-) (value-end-at t) value-end.Post
-value-end-look-requires t c κs = ?
-
--- src/lib.rt:140:29
-value-end-add-array-end : (t : ℕ) → value-end-lts.Need-add-array-end (
-  skip-space-reads.Asked,
-  skip-space-reads.Learnt,
-  scalar-end-reads.Asked,
-  scalar-end-reads.Learnt,
-  look-reads.Asked,
-  look-reads.Learnt,
-  array-end-below t,
-  array-end.Post,
-  object-end-below t,
-  object-end.Post,
-) (value-end-at t) value-end.Post
-value-end-add-array-end t c = ?
-
--- src/lib.rt:140:36
-value-end-sub-array-end : (t : ℕ) → value-end-lts.Need-sub-array-end (
-  skip-space-reads.Asked,
-  skip-space-reads.Learnt,
-  scalar-end-reads.Asked,
-  scalar-end-reads.Learnt,
-  look-reads.Asked,
-  look-reads.Learnt,
-  array-end-below t,
-  array-end.Post,
-  object-end-below t,
-  object-end.Post,
-) (value-end-at t) value-end.Post
-value-end-sub-array-end t c = ?
-
--- src/lib.rt:140:9
-value-end-array-end-requires : (t : ℕ) → value-end-lts.Need-array-end-requires (
-  skip-space-reads.Asked,
-  skip-space-reads.Learnt,
-  scalar-end-reads.Asked,
-  scalar-end-reads.Learnt,
-  look-reads.Asked,
-  look-reads.Learnt,
-  array-end-below t,
-  array-end.Post,
-  object-end-below t,
-  object-end.Post,
-) (value-end-at t) value-end.Post
-value-end-array-end-requires t c κs = ?
-
--- src/lib.rt:140:9
-value-end-returns-2 : (t : ℕ) → value-end-lts.Need-returns-2 (
-  skip-space-reads.Asked,
-  skip-space-reads.Learnt,
-  scalar-end-reads.Asked,
-  scalar-end-reads.Learnt,
-  look-reads.Asked,
-  look-reads.Learnt,
-  array-end-below t,
-  array-end.Post,
-  object-end-below t,
-  object-end.Post,
-) (value-end-at t) value-end.Post
-value-end-returns-2 t c = ?
-
--- src/lib.rt:143:30
-value-end-add-object-end : (t : ℕ) → value-end-lts.Need-add-object-end (
-  skip-space-reads.Asked,
-  skip-space-reads.Learnt,
-  scalar-end-reads.Asked,
-  scalar-end-reads.Learnt,
-  look-reads.Asked,
-  look-reads.Learnt,
-  array-end-below t,
-  array-end.Post,
-  object-end-below t,
-  object-end.Post,
-) (value-end-at t) value-end.Post
-value-end-add-object-end t c = ?
-
--- src/lib.rt:143:37
-value-end-sub-object-end : (t : ℕ) → value-end-lts.Need-sub-object-end (
-  skip-space-reads.Asked,
-  skip-space-reads.Learnt,
-  scalar-end-reads.Asked,
-  scalar-end-reads.Learnt,
-  look-reads.Asked,
-  look-reads.Learnt,
-  array-end-below t,
-  array-end.Post,
-  object-end-below t,
-  object-end.Post,
-) (value-end-at t) value-end.Post
-value-end-sub-object-end t c = ?
-
--- src/lib.rt:143:9
-value-end-object-end-requires : (t : ℕ) → value-end-lts.Need-object-end-requires (
-  skip-space-reads.Asked,
-  skip-space-reads.Learnt,
-  scalar-end-reads.Asked,
-  scalar-end-reads.Learnt,
-  look-reads.Asked,
-  look-reads.Learnt,
-  array-end-below t,
-  array-end.Post,
-  object-end-below t,
-  object-end.Post,
-) (value-end-at t) value-end.Post
-value-end-object-end-requires t c κs = ?
-
--- src/lib.rt:143:9
-value-end-returns-3 : (t : ℕ) → value-end-lts.Need-returns-3 (
-  skip-space-reads.Asked,
-  skip-space-reads.Learnt,
-  scalar-end-reads.Asked,
-  scalar-end-reads.Learnt,
-  look-reads.Asked,
-  look-reads.Learnt,
-  array-end-below t,
-  array-end.Post,
-  object-end-below t,
-  object-end.Post,
-) (value-end-at t) value-end.Post
-value-end-returns-3 t c = ?
-
--- src/lib.rt:145:5
-value-end-scalar-end-requires-2 : (t : ℕ) → value-end-lts.Need-scalar-end-requires-2 (
-  skip-space-reads.Asked,
-  skip-space-reads.Learnt,
-  scalar-end-reads.Asked,
-  scalar-end-reads.Learnt,
-  look-reads.Asked,
-  look-reads.Learnt,
-  array-end-below t,
-  array-end.Post,
-  object-end-below t,
-  object-end.Post,
-) (value-end-at t) value-end.Post
-value-end-scalar-end-requires-2 t c κs = ?
-
--- src/lib.rt:130:1
-value-end-returns-4 : (t : ℕ) → value-end-lts.Need-returns-4 (
-  skip-space-reads.Asked,
-  skip-space-reads.Learnt,
-  scalar-end-reads.Asked,
-  scalar-end-reads.Learnt,
-  look-reads.Asked,
-  look-reads.Learnt,
-  array-end-below t,
-  array-end.Post,
-  object-end-below t,
-  object-end.Post,
-) (value-end-at t) value-end.Post
-value-end-returns-4 t c = ?
+object-end-μ-loop s at depth from i₀ i = length s - i
 
 pub +array-end+object-end+value-end-spec : {M : Type 1} → statement M
+unfolding item pair
 +array-end+object-end+value-end-spec =
     close μ-array-end μ-object-end μ-value-end (λ t. array-end-lts.spec (
       skip-space-reads.Asked,
@@ -767,21 +87,21 @@ pub +array-end+object-end+value-end-spec : {M : Type 1} → statement M
     array-end.Post
     array-end-Inv-loop
     array-end-μ-loop
-    (array-end-skip-space-requires t)
-    (array-end-look-requires t)
-    (array-end-add-t12 t)
-    (array-end-returns t)
-    (array-end-loop-holds t)
-    (array-end-value-end-requires t)
-    (array-end-enum-known-b t)
-    (array-end-returns-2 t)
-    (array-end-enum-known-e t)
-    (array-end-separator-requires t)
-    (array-end-enum-known-j t)
-    (array-end-loop-less t)
-    (array-end-loop-again t)
-    (array-end-enum-known-r t)
-    (array-end-returns-3 t))
+    (λ c κs. omega arith)
+    (λ c κs. c .skip-space .ensures .to)
+    (λ c. omega (arith, c .before .before .skip-space .ensures .to))
+    (λ c. elements-none (value (c .before .before .before .before .args .depth)) (c .before .before .skip-space .ensures) (c .before .look .result) (c .before .look .ensures .0) (c .if1 .taken) (omega arith))
+    (λ c. begin (item (value (c .before .before .before .before .args .depth))) (now (c .before .before .before .before .args .s)) (c .before .before .skip-space .result) (c .before .before .skip-space .ensures .to))
+    (λ c κs. omega (arith, c .loop .inv .to, c .before .before .before .before .before .pre .0))
+    (λ c. search needs)
+    (λ c. elements-from (value (c .before .before .before .before .before .before .before .before .before .args .depth)) (c .before .before .before .before .before .before .before .skip-space .ensures) (c .before .before .before .before .before .before .look .result) (c .before .before .before .before .before .before .look .ensures .0) (c .before .before .before .before .before .if1 .left) (ended (c .before .before .before .before .loop .inv) (turn-bad _ (gives-as (c .before .before .before .value-end .ensures) (c .before .b .given .1)))))
+    (λ c. search needs)
+    (λ c κs. (gives-as (c .before .before .before .value-end .ensures) (c .before .e .given .1) .within .1, omega arith))
+    (λ c. search needs)
+    (λ c. let g = gives-as (c .before .before .before .before .before .before .before .value-end .ensures) (c .before .before .before .before .before .e .given .1) in let h = turn-as (c .before .before .before .separator .ensures) (c .before .j .given .1) in omega (arith, g .within .0, h .within .0, h .within .1))
+    (λ c. onward (c .before .before .before .before .before .before .before .before .loop .inv) (item-sep (value (c .before .before .before .before .before .before .before .before .before .before .before .before .before .args .depth)) (gives-as (c .before .before .before .before .before .before .before .value-end .ensures) (c .before .before .before .before .before .e .given .1)) (turn-as (c .before .before .before .separator .ensures) (c .before .j .given .1))))
+    (λ c. search needs)
+    (λ c. elements-from (value (c .before .before .before .before .before .before .before .before .before .before .before .before .before .args .depth)) (c .before .before .before .before .before .before .before .before .before .before .before .skip-space .ensures) (c .before .before .before .before .before .before .before .before .before .before .look .result) (c .before .before .before .before .before .before .before .before .before .before .look .ensures .0) (c .before .before .before .before .before .before .before .before .before .if1 .left) (ended (c .before .before .before .before .before .before .before .before .loop .inv) (item-sep (value (c .before .before .before .before .before .before .before .before .before .before .before .before .before .args .depth)) (gives-as (c .before .before .before .before .before .before .before .value-end .ensures) (c .before .before .before .before .before .e .given .1)) (turn-as (c .before .before .before .separator .ensures) (c .before .r .given .1))))))
     (λ t. object-end-lts.spec (
       skip-space-reads.Asked,
       skip-space-reads.Learnt,
@@ -798,25 +118,25 @@ pub +array-end+object-end+value-end-spec : {M : Type 1} → statement M
     object-end.Post
     object-end-Inv-loop
     object-end-μ-loop
-    (object-end-skip-space-requires t)
-    (object-end-look-requires t)
-    (object-end-add-t14 t)
-    (object-end-returns t)
-    (object-end-loop-holds t)
-    (object-end-name-end-requires t)
-    (object-end-enum-known-b t)
-    (object-end-returns-2 t)
-    (object-end-enum-known-v t)
-    (object-end-value-end-requires t)
-    (object-end-enum-known-b-2 t)
-    (object-end-returns-3 t)
-    (object-end-enum-known-e t)
-    (object-end-separator-requires t)
-    (object-end-enum-known-j t)
-    (object-end-loop-less t)
-    (object-end-loop-again t)
-    (object-end-enum-known-r t)
-    (object-end-returns-4 t))
+    (λ c κs. omega arith)
+    (λ c κs. c .skip-space .ensures .to)
+    (λ c. omega (arith, c .before .before .skip-space .ensures .to))
+    (λ c. pairs-none (value (c .before .before .before .before .args .depth)) (c .before .before .skip-space .ensures) (c .before .look .result) (c .before .look .ensures .0) (c .if1 .taken) (omega arith))
+    (λ c. begin (pair (value (c .before .before .before .before .args .depth))) (now (c .before .before .before .before .args .s)) (c .before .before .skip-space .result) (c .before .before .skip-space .ensures .to))
+    (λ c κs. c .loop .inv .to)
+    (λ c. search needs)
+    (λ c. pairs-from (value (c .before .before .before .before .before .before .before .before .before .args .depth)) (c .before .before .before .before .before .before .before .skip-space .ensures) (c .before .before .before .before .before .before .look .result) (c .before .before .before .before .before .before .look .ensures .0) (c .before .before .before .before .before .if1 .left) (ended (c .before .before .before .before .loop .inv) (turn-bad _ (gives-as (c .before .before .before .name-end .ensures) (c .before .b .given .1)))))
+    (λ c. search needs)
+    (λ c κs. omega (arith, gives-as (c .before .before .before .name-end .ensures) (c .before .v .given .1) .within .1, c .before .before .before .before .before .before .before .before .before .pre .0))
+    (λ c. search needs)
+    (λ c. pairs-from (value (c .before .before .before .before .before .before .before .before .before .before .before .before .before .args .depth)) (c .before .before .before .before .before .before .before .before .before .before .before .skip-space .ensures) (c .before .before .before .before .before .before .before .before .before .before .look .result) (c .before .before .before .before .before .before .before .before .before .before .look .ensures .0) (c .before .before .before .before .before .before .before .before .before .if1 .left) (ended (c .before .before .before .before .before .before .before .before .loop .inv) (turn-next _ (gives-as (c .before .before .before .before .before .before .before .name-end .ensures) (c .before .before .before .before .before .v .given .1)) λ k. turn-bad _ (gives-as (c .before .before .before .value-end .ensures) (c .before .b2 .given .1)))))
+    (λ c. search needs)
+    (λ c κs. (gives-as (c .before .before .before .value-end .ensures) (c .before .e .given .1) .within .1, omega arith))
+    (λ c. search needs)
+    (λ c. let f = gives-as (c .before .before .before .before .before .before .before .before .before .before .before .name-end .ensures) (c .before .before .before .before .before .before .before .before .before .v .given .1) in let g = gives-as (c .before .before .before .before .before .before .before .value-end .ensures) (c .before .before .before .before .before .e .given .1) in let h = turn-as (c .before .before .before .separator .ensures) (c .before .j .given .1) in omega (arith, f .within .0, g .within .0, h .within .0, h .within .1))
+    (λ c. onward (c .before .before .before .before .before .before .before .before .before .before .before .before .loop .inv) (pair-sep (value (c .before .before .before .before .before .before .before .before .before .before .before .before .before .before .before .before .before .args .depth)) (gives-as (c .before .before .before .before .before .before .before .before .before .before .before .name-end .ensures) (c .before .before .before .before .before .before .before .before .before .v .given .1)) (gives-as (c .before .before .before .before .before .before .before .value-end .ensures) (c .before .before .before .before .before .e .given .1)) (turn-as (c .before .before .before .separator .ensures) (c .before .j .given .1))))
+    (λ c. search needs)
+    (λ c. pairs-from (value (c .before .before .before .before .before .before .before .before .before .before .before .before .before .before .before .before .before .args .depth)) (c .before .before .before .before .before .before .before .before .before .before .before .before .before .before .before .skip-space .ensures) (c .before .before .before .before .before .before .before .before .before .before .before .before .before .before .look .result) (c .before .before .before .before .before .before .before .before .before .before .before .before .before .before .look .ensures .0) (c .before .before .before .before .before .before .before .before .before .before .before .before .before .if1 .left) (ended (c .before .before .before .before .before .before .before .before .before .before .before .before .loop .inv) (pair-sep (value (c .before .before .before .before .before .before .before .before .before .before .before .before .before .before .before .before .before .args .depth)) (gives-as (c .before .before .before .before .before .before .before .before .before .before .before .name-end .ensures) (c .before .before .before .before .before .before .before .before .before .v .given .1)) (gives-as (c .before .before .before .before .before .before .before .value-end .ensures) (c .before .before .before .before .before .e .given .1)) (turn-as (c .before .before .before .separator .ensures) (c .before .r .given .1))))))
     λ t. value-end-lts.spec (
       skip-space-reads.Asked,
       skip-space-reads.Learnt,
@@ -831,17 +151,17 @@ pub +array-end+object-end+value-end-spec : {M : Type 1} → statement M
     )
     (value-end-at t)
     value-end.Post
-    (value-end-skip-space-requires t)
-    (value-end-scalar-end-requires t)
-    (value-end-returns t)
-    (value-end-look-requires t)
-    (value-end-add-array-end t)
-    (value-end-sub-array-end t)
-    (value-end-array-end-requires t)
-    (value-end-returns-2 t)
-    (value-end-add-object-end t)
-    (value-end-sub-object-end t)
-    (value-end-object-end-requires t)
-    (value-end-returns-3 t)
-    (value-end-scalar-end-requires-2 t)
-    (value-end-returns-4 t)
+    (λ c κs. omega arith)
+    (λ c κs. c .before .skip-space .ensures .to)
+    (λ c. value-flat (c .before .before .skip-space .ensures) (c .before .before .before .before .args .depth) (c .before .if1 .taken) (c .scalar-end .ensures))
+    (λ c κs. c .before .skip-space .ensures .to)
+    (λ c. omega (arith, c .before .before .before .skip-space .ensures .to))
+    (λ c. omega (arith, c .before .before .if1 .left))
+    (λ c κs. omega (arith, c .before .before .before .before .before .pre .0, c .before .before .if1 .left))
+    (λ c. value-array (c .before .before .before .before .skip-space .ensures) (c .before .before .look .result) (c .before .before .look .ensures .0) (c .before .before .before .before .before .before .args .depth) (c .before .before .before .if1 .left) (c .before .if2 .taken) (c .array-end .ensures))
+    (λ c. omega (arith, c .before .before .before .before .skip-space .ensures .to))
+    (λ c. omega (arith, c .before .before .before .if1 .left))
+    (λ c κs. omega (arith, c .before .before .before .before .before .before .pre .0, c .before .before .before .if1 .left))
+    (λ c. value-object (c .before .before .before .before .before .skip-space .ensures) (c .before .before .before .look .result) (c .before .before .before .look .ensures .0) (c .before .before .before .before .before .before .before .args .depth) (c .before .before .before .before .if1 .left) (c .before .before .if2 .left) (c .before .if3 .taken) (c .object-end .ensures))
+    (λ c κs. c .before .before .before .before .skip-space .ensures .to)
+    (λ c. value-scalar (c .before .before .before .before .before .skip-space .ensures) (c .before .before .before .look .result) (c .before .before .before .look .ensures .0) (c .before .before .before .before .before .before .before .args .depth) (c .before .before .before .before .if1 .left) (c .before .before .if2 .left) (c .before .if3 .left) (c .scalar-end2 .ensures))
