@@ -157,6 +157,32 @@ module _ {B : Type 0} (f : Bytes → Got (Step B)) (h : Fine 1 f) where
         (c .0, c .1, enough (suc (length (u ++ z))) (suc (length u)) u b (c .0) (c .2) (omega arith));
   }
 
+  -- also where they read nothing: so a loop is its first turn, and the loop again
+  enough-next : (n m : ℕ) (w : Got (Step B)) → ((t : Bytes) (v : Step B) → w ≡ got v t → turns f n t ≡ turns f m t)
+      → bind w (λ v t. after v t (turns f n)) ≡ bind w (λ v t. after v t (turns f m))
+  enough-next n m (got (more g) t) r = ap (under g) (r t (more g) refl)
+  enough-next n m (got (last b) t) r = refl
+  enough-next n m (bad t) r = refl
+
+  pub enough-same : (n m : ℕ) (s : Bytes) → length s < n → length s < m → turns f n s ≡ turns f m s
+  unfolding turns
+  enough-same zero m s k l = absurd (omega arith)
+  enough-same (suc n) zero s k l = absurd (omega arith)
+  enough-same (suc n) (suc m) s k l =
+      enough-next n m (f s) (λ t v e. enough-same n m t (omega (arith, h .less s v t e)) (omega (arith, h .less s v t e)))
+
+  pub loop-more : (s t : Bytes) (g : B → B) → f s ≡ got (more g) t → loop f s ≡ under g (loop f t)
+  unfolding loop turns
+  loop-more s t g e = rw e (ap (under g) (enough-same (length s) (suc (length t)) t (omega (arith, h .less s (more g) t e)) (omega arith)))
+
+  pub loop-last : (s t : Bytes) (b : B) → f s ≡ got (last b) t → loop f s ≡ got b t
+  unfolding loop turns
+  loop-last s t b e = rw e
+
+  pub loop-bad : (s t : Bytes) → f s ≡ bad t → loop f s ≡ bad t
+  unfolding loop turns
+  loop-bad s t e = rw e
+
 -- ---- runs and single bytes
 taken-none : (p : ℕ → Bool) (s : Bytes) → length s ≤ length (past p s) → taken p s ≡ []
 unfolding past taken
