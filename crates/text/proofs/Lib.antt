@@ -1,1 +1,4 @@
 pub mod Opened
+pub mod Places
+pub mod Runs
+pub mod Fine
