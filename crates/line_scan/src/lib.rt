@@ -1,10 +1,13 @@
 // The line grammar, by place: group, name, parameters, value.
+ghost use mathlib.Core.Path.{_≡_};
 ghost use Prim.Native.Nat.{_≤_};
 ghost use lib.ListN.{length};
 ghost use Rattle.line_scan.specs.Places.{ValueAt, ValuesAt, ParamAt, ParamsAt};
-
+ghost use Rattle.line.specs.Grammar.{isFrameName};
+ghost use Rattle.line_scan.specs.Lines.{RestAt, LineAt};
 use line_class::Class;
 use line_class::run_end;
+use line_name::is_named;
 use text::look;
 
 // A parameter value: where its bytes begin and end, quotes left out, and the place after it.
@@ -104,4 +107,71 @@ pub fn params_at(s: &[u8], at: usize) -> Params
         m += k;
         i = next;
     }
+}
+
+// Lines named BEGIN or END are refused wherever they stand.
+fn is_frame_name(name: &[u8]) -> bool
+    ensures { λ r. ⌜ r ≡ isFrameName (now (name .entry)) ⌝ }
+{
+    if is_named(name, b"begin") {
+        return true;
+    }
+    is_named(name, b"end")
+}
+
+// The places of a line: its group ends, its name begins and ends (parameters follow), its value begins. No group: 0 and 0.
+pub struct Head {
+    pub group: usize,
+    pub name: usize,
+    pub end: usize,
+    pub value: usize,
+}
+
+pub enum Parsed {
+    Line(Head),
+    Bad,
+}
+
+// From after the name on.
+fn rest_of_line(s: &[u8], group: usize, name: usize, end: usize) -> Parsed
+    requires { ⌜ (name ≤ end) × (end ≤ length (now s)) ⌝ }
+    ensures { λ r. ⌜ RestAt (now (s .entry)) group name end r ⌝ }
+{
+    let Params::Upto(value, n, m) = params_at(s, end) else {
+        return Parsed::Bad;
+    };
+    if n > 32 {
+        return Parsed::Bad;
+    }
+    if m > 64 {
+        return Parsed::Bad;
+    }
+    if is_frame_name(&s[name..end]) {
+        return Parsed::Bad;
+    }
+    Parsed::Line(Head {
+        group,
+        name,
+        end,
+        value,
+    })
+}
+
+// A line of the grammar, within its counts.
+pub fn parse_line(s: &[u8]) -> Parsed
+    ensures { λ r. ⌜ LineAt (now (s .entry)) r ⌝ }
+{
+    let e = run_end(s, 0, Class::Name);
+    if e == 0 {
+        return Parsed::Bad;
+    }
+    if look(s, e) == 46 {
+        let a = e + 1;
+        let b = run_end(s, a, Class::Name);
+        if b == a {
+            return Parsed::Bad;
+        }
+        return rest_of_line(s, e, a, b);
+    }
+    rest_of_line(s, 0, 0, e)
 }

@@ -1,19 +1,10 @@
-use Prim.Native.Nat.{ℕ, suc, zero, _+_, _-_, _≤_, _<_}
-use mathlib.Core.Path.{_≡_, refl, sym, ap, _∙_}
-use mathlib.Core.List.{List, [], _∷_, _++_}
+use Prim.Native.Nat.{_-_}
 use native.Mathlib.Omega.{arith}
-use native.Mathlib.Nat.{le-refl}
-use borrow.Author.Needs.{needs}
-use borrow.Author.Tests.{not-true, not-false, eq-eqb, ne-eqb, lt-ltb, le-ltb, le-leb, lt-leb, eqb-true, eqb-false, leb-true, leb-false, ltb-true, ltb-false}
 use denote.Ref.{now}
-use lib.ListN.{length, take, drop, getD, set}
+use lib.ListN.{length}
 use Rattle.line_scan.proofs.ValueTurns.{ValuesSofar, values-start, values-bad, values-on, values-end, value-within}
 use Rattle.line_scan.proofs.values_at.Statement.{statement}
 use Rattle.line_scan.proofs.values_at.Tie as tie
-use Rattle.line_scan.proofs.values_at.Reads as reads
-use Rattle.line_scan.proofs.values_at.Lts as lts
-use Rattle.line_scan.proofs.value_at.Reads as value-at-reads
-use Rattle.text.proofs.look.Reads as look-reads
 
 abbrev Inv-loop : tie.InvT-loop
 Inv-loop s at i₀ n₀ i n = ValuesSofar s at i n
@@ -21,47 +12,36 @@ Inv-loop s at i₀ n₀ i n = ValuesSofar s at i n
 abbrev μ-loop : tie.MeasureT-loop
 μ-loop s at i₀ n₀ i n = length s - i
 
--- src/lib.rt:44:5
 loop-holds : tie.Need-loop-holds Inv-loop μ-loop
 loop-holds c = values-start (now (c .before .args .s)) (c .before .args .at) (c .before .pre)
 
--- src/lib.rt:45:37
 value-at-requires : tie.Need-value-at-requires Inv-loop μ-loop
 value-at-requires c κs = c .loop .inv .reading .to
 
--- src/lib.rt:45:29
 enum-known-next : tie.Need-enum-known-next Inv-loop μ-loop
 enum-known-next c = c .match .keys1
 
--- src/lib.rt:46:13
 enum-told : tie.Need-enum-told Inv-loop μ-loop
 enum-told c = c .match .keys2
 
--- src/lib.rt:46:13
 returns : tie.Need-returns Inv-loop μ-loop
 returns c = values-bad (c .before .before .before .loop .inv) (c .before .before .value-at .ensures) (c .enum-told .given .1)
 
--- src/lib.rt:48:9
 add-n : tie.Need-add-n Inv-loop μ-loop
 add-n c = omega (arith, c .before .before .before .before .loop .inv .few, c .before .before .before .before .loop .inv .reading .to, c .before .before .before .before .before .before .good .0)
 
--- src/lib.rt:49:12
 look-requires : tie.Need-look-requires Inv-loop μ-loop
 look-requires c κs = value-within (c .before .before .before .before .loop .inv) (c .before .before .before .value-at .ensures) (c .before .next .given .1) .1
 
--- src/lib.rt:50:13
 returns-2 : tie.Need-returns-2 Inv-loop μ-loop
 returns-2 c = values-end (c .before .before .before .before .before .before .loop .inv) (c .before .before .before .before .before .value-at .ensures) (c .before .before .before .next .given .1) (c .before .look .ensures .0) (c .if1 .taken)
 
--- src/lib.rt:52:13
 add-i : tie.Need-add-i Inv-loop μ-loop
 add-i c = omega (arith, c .before .look .ensures .1, c .if1 .left)
 
--- src/lib.rt:44:5
 loop-less : tie.Need-loop-less Inv-loop μ-loop
 loop-less c = omega (arith, c .before .look .ensures .1, c .if1 .left, value-within (c .before .before .before .before .before .before .loop .inv) (c .before .before .before .before .before .value-at .ensures) (c .before .before .before .next .given .1))
 
--- src/lib.rt:44:5
 loop-again : tie.Need-loop-again Inv-loop μ-loop
 loop-again c = values-on (c .before .before .before .before .before .before .loop .inv) (c .before .before .before .before .before .value-at .ensures) (c .before .before .before .next .given .1) (c .before .look .ensures .0) (c .if1 .left) (omega (arith, c .before .look .ensures .1, c .if1 .left))
 
