@@ -11,3 +11,4 @@ pub mod Decoded
 pub mod Scalars
 pub mod Given
 pub mod Listed
+pub mod Fine

@@ -10,3 +10,4 @@ pub mod Cards
 pub mod Merging
 pub mod Uppered
 pub mod Named
+pub mod Cases

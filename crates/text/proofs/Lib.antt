@@ -9,3 +9,6 @@ pub mod Decimals
 pub mod Characters
 pub mod Encoding
 pub mod Readers
+pub mod Places
+pub mod Runs
+pub mod Fine

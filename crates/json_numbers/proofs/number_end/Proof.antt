@@ -1,0 +1,71 @@
+use Rattle.text.proofs.Places.{gives-as, then-next, then-bad, then-end}
+use Rattle.json.specs.Syntax.{number}
+use borrow.Author.Needs.{needs}
+use Rattle.json_numbers.proofs.number_end.Statement.{statement}
+use Rattle.json_numbers.proofs.number_end.Tie as tie
+
+opt-end-requires : tie.Need-opt-end-requires
+opt-end-requires c κs = search needs
+
+enum-known-b : tie.Need-enum-known-b
+enum-known-b c = search needs
+
+enum-known-k : tie.Need-enum-known-k
+enum-known-k c = search needs
+
+int-end-requires : tie.Need-int-end-requires
+int-end-requires c κs = gives-as (c .before .before .before .opt-end .ensures) (c .before .k .given .1) .within .1
+
+enum-known-b-2 : tie.Need-enum-known-b-2
+enum-known-b-2 c = search needs
+
+enum-known-j : tie.Need-enum-known-j
+enum-known-j c = search needs
+
+frac-end-requires : tie.Need-frac-end-requires
+frac-end-requires c κs = gives-as (c .before .before .before .int-end .ensures) (c .before .j .given .1) .within .1
+
+enum-known-b-3 : tie.Need-enum-known-b-3
+enum-known-b-3 c = search needs
+
+enum-known-i : tie.Need-enum-known-i
+enum-known-i c = search needs
+
+exp-end-requires : tie.Need-exp-end-requires
+exp-end-requires c κs = gives-as (c .before .before .before .frac-end .ensures) (c .before .i .given .1) .within .1
+
+returns : tie.Need-returns
+unfolding number
+returns c = then-bad _ (gives-as (c .before .before .before .opt-end .ensures) (c .before .b .given .1))
+
+returns-2 : tie.Need-returns-2
+unfolding number
+returns-2 c = then-next _ (gives-as (c .before .before .before .before .before .before .before .opt-end .ensures) (c .before .before .before .before .before .k .given .1)) λ x. then-bad _ (gives-as (c .before .before .before .int-end .ensures) (c .before .b2 .given .1))
+
+returns-3 : tie.Need-returns-3
+unfolding number
+returns-3 c = then-next _ (gives-as (c .before .before .before .before .before .before .before .before .before .before .before .opt-end .ensures) (c .before .before .before .before .before .before .before .before .before .k .given .1)) λ x. then-next _ (gives-as (c .before .before .before .before .before .before .before .int-end .ensures) (c .before .before .before .before .before .j .given .1)) λ y. then-bad _ (gives-as (c .before .before .before .frac-end .ensures) (c .before .b3 .given .1))
+
+returns-4 : tie.Need-returns-4
+unfolding number
+returns-4 c = then-next _ (gives-as (c .before .before .before .before .before .before .before .before .before .before .before .before .opt-end .ensures) (c .before .before .before .before .before .before .before .before .before .before .k .given .1)) λ x. then-next _ (gives-as (c .before .before .before .before .before .before .before .before .int-end .ensures) (c .before .before .before .before .before .before .j .given .1)) λ y.
+    then-next _ (gives-as (c .before .before .before .before .frac-end .ensures) (c .before .before .i .given .1)) λ z. then-end _ (c .exp-end .ensures)
+
+pub number-end-spec : {M : Type 1} → statement M
+number-end-spec =
+    tie.close
+    (tie.spec
+    opt-end-requires
+    enum-known-b
+    enum-known-k
+    int-end-requires
+    enum-known-b-2
+    enum-known-j
+    frac-end-requires
+    enum-known-b-3
+    enum-known-i
+    exp-end-requires
+    returns
+    returns-2
+    returns-3
+    returns-4)

@@ -1,0 +1,71 @@
+use Rattle.text.proofs.Places.{gives-as, then-next, then-bad, then-end}
+use Rattle.json.specs.Syntax.{four}
+use borrow.Author.Needs.{needs}
+use Rattle.json_scan.proofs.four_end.Statement.{statement}
+use Rattle.json_scan.proofs.four_end.Tie as tie
+
+byte-requires : tie.Need-byte-requires
+byte-requires c κs = search needs
+
+enum-known-x : tie.Need-enum-known-x
+enum-known-x c = search needs
+
+enum-known-k : tie.Need-enum-known-k
+enum-known-k c = search needs
+
+byte-requires-2 : tie.Need-byte-requires-2
+byte-requires-2 c κs = (gives-as (c .before .before .before .byte .ensures) (c .before .k .given .1) .within .1, c .before .before .before .before .before .pre .1 .1 .0)
+
+enum-known-x-2 : tie.Need-enum-known-x-2
+enum-known-x-2 c = search needs
+
+enum-known-j : tie.Need-enum-known-j
+enum-known-j c = search needs
+
+byte-requires-3 : tie.Need-byte-requires-3
+byte-requires-3 c κs = (gives-as (c .before .before .before .byte2 .ensures) (c .before .j .given .1) .within .1, c .before .before .before .before .before .before .before .before .before .pre .1 .1 .1 .0)
+
+enum-known-x-3 : tie.Need-enum-known-x-3
+enum-known-x-3 c = search needs
+
+enum-known-i : tie.Need-enum-known-i
+enum-known-i c = search needs
+
+byte-requires-4 : tie.Need-byte-requires-4
+byte-requires-4 c κs = (gives-as (c .before .before .before .byte3 .ensures) (c .before .i .given .1) .within .1, c .before .before .before .before .before .before .before .before .before .before .before .before .before .pre .1 .1 .1 .1)
+
+returns : tie.Need-returns
+unfolding four
+returns c = then-bad _ (gives-as (c .before .before .before .byte .ensures) (c .before .x .given .1))
+
+returns-2 : tie.Need-returns-2
+unfolding four
+returns-2 c = then-next _ (gives-as (c .before .before .before .before .before .before .before .byte .ensures) (c .before .before .before .before .before .k .given .1)) λ p. then-bad _ (gives-as (c .before .before .before .byte2 .ensures) (c .before .x2 .given .1))
+
+returns-3 : tie.Need-returns-3
+unfolding four
+returns-3 c = then-next _ (gives-as (c .before .before .before .before .before .before .before .before .before .before .before .byte .ensures) (c .before .before .before .before .before .before .before .before .before .k .given .1)) λ p. then-next _ (gives-as (c .before .before .before .before .before .before .before .byte2 .ensures) (c .before .before .before .before .before .j .given .1)) λ q. then-bad _ (gives-as (c .before .before .before .byte3 .ensures) (c .before .x3 .given .1))
+
+returns-4 : tie.Need-returns-4
+unfolding four
+returns-4 c = then-next _ (gives-as (c .before .before .before .before .before .before .before .before .before .before .before .before .byte .ensures) (c .before .before .before .before .before .before .before .before .before .before .k .given .1)) λ p. then-next _ (gives-as (c .before .before .before .before .before .before .before .before .byte2 .ensures) (c .before .before .before .before .before .before .j .given .1)) λ q.
+    then-next _ (gives-as (c .before .before .before .before .byte3 .ensures) (c .before .before .i .given .1)) λ r. then-end _ (c .byte4 .ensures)
+
+pub four-end-spec : {M : Type 1} → statement M
+four-end-spec =
+    tie.close
+    (tie.spec
+    byte-requires
+    enum-known-x
+    enum-known-k
+    byte-requires-2
+    enum-known-x-2
+    enum-known-j
+    byte-requires-3
+    enum-known-x-3
+    enum-known-i
+    byte-requires-4
+    returns
+    returns-2
+    returns-3
+    returns-4)

@@ -1,0 +1,162 @@
+// The JSON grammar by place: where a value ends, or the first byte that does not fit.
+use json_chars::string_end;
+use json_marks::byte;
+use json_marks::mark;
+use json_marks::separator;
+use json_marks::skip_space;
+use json_numbers::number_end;
+use text::Read;
+use text::Turn;
+use text::look;
+ghost use Prim.Native.Nat.{_≤_, _<_};
+ghost use lib.ListN.{length, drop};
+ghost use Rattle.text.specs.Places.{Gives};
+ghost use Rattle.json.specs.Tree.{jnull};
+ghost use Rattle.json.specs.Syntax.{four, scalar, name, elements, pairs, value, text};
+
+// Four bytes. (The value that they spell plays no part in where they end.)
+fn four_end(s: &[u8], at: usize, a: u16, b: u16, c: u16, d: u16) -> Read
+    requires { ⌜ at ≤ length (now s) ⌝ }
+    requires { ⌜ (a < 256) × ((b < 256) × ((c < 256) × (d < 256))) ⌝ }
+    ensures { λ r. ⌜ Gives (now (s .entry)) at (four a b c d jnull (drop at (now (s .entry)))) r ⌝ }
+{
+    match byte(s, at, a) {
+        Read::Bad(x) => Read::Bad(x),
+        Read::Next(k) => match byte(s, k, b) {
+            Read::Bad(x) => Read::Bad(x),
+            Read::Next(j) => match byte(s, j, c) {
+                Read::Bad(x) => Read::Bad(x),
+                Read::Next(i) => byte(s, i, d),
+            },
+        },
+    }
+}
+
+// A string, a literal or a number.
+pub fn scalar_end(s: &[u8], at: usize) -> Read
+    requires { ⌜ at ≤ length (now s) ⌝ }
+    ensures { λ r. ⌜ Gives (now (s .entry)) at (scalar (drop at (now (s .entry)))) r ⌝ }
+{
+    let b = look(s, at);
+    if b == 34 {
+        return string_end(s, at + 1);
+    }
+    if b == 116 {
+        return four_end(s, at, 116, 114, 117, 101);
+    }
+    if b == 102 {
+        return four_end(s, at + 1, 97, 108, 115, 101);
+    }
+    if b == 110 {
+        return four_end(s, at, 110, 117, 108, 108);
+    }
+    number_end(s, at)
+}
+
+// A member's name, with the colon.
+pub fn name_end(s: &[u8], at: usize) -> Read
+    requires { ⌜ at ≤ length (now s) ⌝ }
+    ensures { λ r. ⌜ Gives (now (s .entry)) at (name (drop at (now (s .entry)))) r ⌝ }
+{
+    match mark(s, at, 34) {
+        Read::Bad(b) => Read::Bad(b),
+        Read::Next(j) => match string_end(s, j) {
+            Read::Bad(b) => Read::Bad(b),
+            Read::Next(i) => mark(s, i, 58),
+        },
+    }
+}
+
+// The elements of an array, from after the byte that opens it.
+fn array_end(s: &[u8], at: usize, depth: usize) -> Read
+    requires { ⌜ at ≤ length (now s) ⌝ }
+    ensures { λ r. ⌜ Gives (now (s .entry)) at (elements (value depth) (drop at (now (s .entry)))) r ⌝ }
+{
+    let from = skip_space(s, at);
+    if look(s, from) == 93 {
+        return Read::Next(from + 1);
+    }
+    let mut i = from;
+    loop {
+        match value_end(s, i, depth) {
+            Read::Bad(b) => {
+                return Read::Bad(b);
+            }
+            Read::Next(e) => match separator(s, e, 93) {
+                Turn::Go(j) => {
+                    i = j;
+                }
+                Turn::Stop(r) => {
+                    return r;
+                }
+            },
+        }
+    }
+}
+
+// The members of an object, from after the byte that opens it.
+fn object_end(s: &[u8], at: usize, depth: usize) -> Read
+    requires { ⌜ at ≤ length (now s) ⌝ }
+    ensures { λ r. ⌜ Gives (now (s .entry)) at (pairs (value depth) (drop at (now (s .entry)))) r ⌝ }
+{
+    let from = skip_space(s, at);
+    if look(s, from) == 125 {
+        return Read::Next(from + 1);
+    }
+    let mut i = from;
+    loop {
+        match name_end(s, i) {
+            Read::Bad(b) => {
+                return Read::Bad(b);
+            }
+            Read::Next(v) => match value_end(s, v, depth) {
+                Read::Bad(b) => {
+                    return Read::Bad(b);
+                }
+                Read::Next(e) => match separator(s, e, 125) {
+                    Turn::Go(j) => {
+                        i = j;
+                    }
+                    Turn::Stop(r) => {
+                        return r;
+                    }
+                },
+            },
+        }
+    }
+}
+
+// White space and a value, with `depth` arrays and objects at most around what is inside it.
+pub fn value_end(s: &[u8], at: usize, depth: usize) -> Read
+    requires { ⌜ at ≤ length (now s) ⌝ }
+    ensures { λ r. ⌜ Gives (now (s .entry)) at (value depth (drop at (now (s .entry)))) r ⌝ }
+{
+    let i = skip_space(s, at);
+    if depth == 0 {
+        return scalar_end(s, i);
+    }
+    let b = look(s, i);
+    if b == 91 {
+        return array_end(s, i + 1, depth - 1);
+    }
+    if b == 123 {
+        return object_end(s, i + 1, depth - 1);
+    }
+    scalar_end(s, i)
+}
+
+// A JSON text: a value, and nothing but white space around it.
+pub fn text_end(s: &[u8], depth: usize) -> Read
+    ensures { λ r. ⌜ Gives (now (s .entry)) 0 (text depth (now (s .entry))) r ⌝ }
+{
+    match value_end(s, 0, depth) {
+        Read::Bad(b) => Read::Bad(b),
+        Read::Next(e) => {
+            let i = skip_space(s, e);
+            if look(s, i) == 256 {
+                return Read::Next(i);
+            }
+            Read::Bad(i)
+        }
+    }
+}

@@ -1,0 +1,68 @@
+-- What a string of a text stands for, from a place on: what the contracts of this crate cite.
+use mathlib.Core.Path.{_≡_}
+use mathlib.Core.Bool.{Bool, true, false}
+use mathlib.Core.List.{List, [], _∷_, _++_}
+use mathlib.Core.Option.{Option, none, some}
+use Prim.Native.Nat.{ℕ, zero, suc, _+_, _-_, _*_, _/_, _%_, _≤_, _<_}
+use lib.ListN.{length, drop}
+use lib.Dec.{eqb}
+use Rattle.text.specs.Choice.{pick}
+use Rattle.text.specs.Bytes.{Bytes, is, between}
+use Rattle.text.specs.Utf8.{encode}
+use Rattle.text.specs.Reader.{Got, got, bad, under, on, Step, more, last, loop}
+use Rattle.json.specs.Strings.{before, decodeAfter}
+use Rattle.json_units.specs.Units.{units}
+use Rattle.json_strings.specs.declared.Letter.{Letter}
+use Rattle.json_strings.specs.declared.Letter.the-variants.{Raw, Code, End as LEnd, Alone as LAlone}
+use Rattle.json_strings.specs.declared.Byte.{Byte}
+use Rattle.json_strings.specs.declared.Byte.the-variants.{One, End as BEnd, Alone as BAlone}
+
+-- the bytes that units stand for, after the high surrogate h (0: none); none where a surrogate is alone, or no string is read
+abbrev pub told : ℕ → Got Bytes → Option Bytes
+told h (got us t) = decodeAfter h us
+told h (bad t) = none
+
+-- the bytes that the string from a place on stands for
+unfoldable pub spelled : Bytes → ℕ → Option Bytes
+spelled s at = told 0 (units (drop at s))
+
+abbrev pub pairOf : ℕ → Bytes → ℕ → Option Bytes
+pairOf high s at = told high (units (drop at s))
+
+abbrev pub letterOf : Bytes → Letter → Option Bytes
+letterOf s (Raw b e) = before (b ∷ []) (spelled s e)
+letterOf s (Code v e) = before (encode v) (spelled s e)
+letterOf s LEnd = some []
+letterOf s LAlone = none
+
+abbrev pub LetterIn : ℕ → ℕ → Letter → Type 0
+LetterIn at n (Raw b e) = (at < e) × (e ≤ n)
+LetterIn at n (Code v e) = (at < e) × (e ≤ n) × (v < 0x110000)
+LetterIn at n LEnd = at < n
+LetterIn at n LAlone = Unit {0}
+
+-- the bytes that a number holds, the first in its lowest eight bits
+unfoldable pub heldIn : ℕ → ℕ → Bytes
+heldIn zero h = []
+heldIn (suc n) h = pick (eqb h 0) [] (h % 256 ∷ heldIn n (h / 256))
+
+unfoldable pub held : ℕ → Bytes
+held h = heldIn 4 h
+
+-- what is still to come: held bytes, then the string from a place on
+unfoldable pub left : Bytes → ℕ → ℕ → Option Bytes
+left s at h = before (held h) (spelled s at)
+
+-- how much that is at most: it falls with each byte
+abbrev pub weight : Bytes → ℕ → ℕ → ℕ
+weight s at h = (length s - at) * 4 + length (held h)
+
+abbrev pub byteOf : Bytes → Byte → Option Bytes
+byteOf s (One b i h) = before (b ∷ []) (left s i h)
+byteOf s BEnd = some []
+byteOf s BAlone = none
+
+abbrev pub ByteIn : Bytes → ℕ → ℕ → Byte → Type 0
+ByteIn s at h (One b i k) = (i ≤ length s) × (weight s i k < weight s at h)
+ByteIn s at h BEnd = Unit {0}
+ByteIn s at h BAlone = Unit {0}

@@ -1,0 +1,364 @@
+// The classes of a byte: one table of 256 entries, whose agreement with the ranges is computed once over all of them.
+// Callers know only the ranges: the table may go without their noticing.
+ghost use mathlib.Core.Path.{_≡_};
+ghost use Prim.Native.Nat.{_+_};
+ghost use lib.ListN.{length, drop, getD};
+ghost use Rattle.text.specs.Bytes.{any, all};
+ghost use Rattle.text.specs.Reader.{taken};
+ghost use Rattle.line_class.specs.Classes.{inClass, bitOf, hasBit, Agrees};
+
+pub enum Class {
+    Name,
+    LowerName,
+    Bare,
+    Quotable,
+    Control,
+    Blank,
+    Key,
+    Stem,
+}
+
+// The constant is copied wherever it is named: this is the one place.
+fn classes() -> [u8; 256]
+    ensures { λ r. ⌜ Agrees r ⌝ }
+{
+    CLASSES
+}
+
+fn bit(class: Class) -> u8
+    ensures { λ r. ⌜ r ≡ bitOf class ⌝ }
+{
+    match class {
+        Class::Name => 1,
+        Class::LowerName => 2,
+        Class::Bare => 4,
+        Class::Quotable => 8,
+        Class::Control => 16,
+        Class::Blank => 32,
+        Class::Key => 64,
+        Class::Stem => 128,
+    }
+}
+
+fn marked(table: &[u8; 256], b: u8, mask: u8) -> bool
+    ensures { λ r. ⌜ r ≡ hasBit (getD (now (table .entry)) b 0) mask ⌝ }
+{
+    table[b as usize] & mask != 0
+}
+
+// Whether b is of the class. For many bytes use run_end, which lays out the table once.
+pub fn in_class(b: u8, class: Class) -> bool
+    ensures { λ r. ⌜ r ≡ inClass class b ⌝ }
+{
+    let table = classes();
+    let mask = bit(class);
+    marked(&table, b, mask)
+}
+
+// Where the bytes of the class that start at `at` end.
+pub fn run_end(s: &[u8], at: usize, class: Class) -> usize
+    ensures { λ r. ⌜ r ≡ at + length (taken (inClass class) (drop at (now (s .entry)))) ⌝ }
+{
+    let table = classes();
+    let mask = bit(class);
+    let mut i = at;
+    while i < s.len() {
+        if !marked(&table, s[i], mask) {
+            return i;
+        }
+        i += 1;
+    }
+    i
+}
+
+// Whether a byte of s is of the class.
+pub fn any_of(s: &[u8], class: Class) -> bool
+    ensures { λ r. ⌜ r ≡ any (inClass class) (now (s .entry)) ⌝ }
+{
+    let table = classes();
+    let mask = bit(class);
+    let mut i = 0;
+    while i < s.len() {
+        if marked(&table, s[i], mask) {
+            return true;
+        }
+        i += 1;
+    }
+    false
+}
+
+// Whether all bytes of s are of the class.
+pub fn all_of(s: &[u8], class: Class) -> bool
+    ensures { λ r. ⌜ r ≡ all (inClass class) (now (s .entry)) ⌝ }
+{
+    let table = classes();
+    let mask = bit(class);
+    let mut i = 0;
+    while i < s.len() {
+        if !marked(&table, s[i], mask) {
+            return false;
+        }
+        i += 1;
+    }
+    true
+}
+
+// A bit for each class, by `bit`.
+const CLASSES: [u8; 256] = [
+    28,
+    28,
+    28,
+    28,
+    28,
+    28,
+    28,
+    28,
+    28,
+    44,
+    28,
+    28,
+    28,
+    28,
+    28,
+    28,
+    28,
+    28,
+    28,
+    28,
+    28,
+    28,
+    28,
+    28,
+    28,
+    28,
+    28,
+    28,
+    28,
+    28,
+    28,
+    28,
+    44,
+    12,
+    0,
+    12,
+    12,
+    12,
+    12,
+    12,
+    12,
+    12,
+    12,
+    12,
+    8,
+    207,
+    12,
+    12,
+    207,
+    207,
+    207,
+    207,
+    207,
+    207,
+    207,
+    207,
+    207,
+    207,
+    136,
+    8,
+    12,
+    12,
+    12,
+    12,
+    12,
+    205,
+    205,
+    205,
+    205,
+    205,
+    205,
+    205,
+    205,
+    205,
+    205,
+    205,
+    205,
+    205,
+    205,
+    205,
+    205,
+    205,
+    205,
+    205,
+    205,
+    205,
+    205,
+    205,
+    205,
+    205,
+    205,
+    12,
+    12,
+    12,
+    12,
+    204,
+    12,
+    207,
+    207,
+    207,
+    207,
+    207,
+    207,
+    207,
+    207,
+    207,
+    207,
+    207,
+    207,
+    207,
+    207,
+    207,
+    207,
+    207,
+    207,
+    207,
+    207,
+    207,
+    207,
+    207,
+    207,
+    207,
+    207,
+    12,
+    12,
+    12,
+    12,
+    28,
+    12,
+    12,
+    12,
+    12,
+    12,
+    12,
+    12,
+    12,
+    12,
+    12,
+    12,
+    12,
+    12,
+    12,
+    12,
+    12,
+    12,
+    12,
+    12,
+    12,
+    12,
+    12,
+    12,
+    12,
+    12,
+    12,
+    12,
+    12,
+    12,
+    12,
+    12,
+    12,
+    12,
+    12,
+    12,
+    12,
+    12,
+    12,
+    12,
+    12,
+    12,
+    12,
+    12,
+    12,
+    12,
+    12,
+    12,
+    12,
+    12,
+    12,
+    12,
+    12,
+    12,
+    12,
+    12,
+    12,
+    12,
+    12,
+    12,
+    12,
+    12,
+    12,
+    12,
+    12,
+    12,
+    12,
+    12,
+    12,
+    12,
+    12,
+    12,
+    12,
+    12,
+    12,
+    12,
+    12,
+    12,
+    12,
+    12,
+    12,
+    12,
+    12,
+    12,
+    12,
+    12,
+    12,
+    12,
+    12,
+    12,
+    12,
+    12,
+    12,
+    12,
+    12,
+    12,
+    12,
+    12,
+    12,
+    12,
+    12,
+    12,
+    12,
+    12,
+    12,
+    12,
+    12,
+    12,
+    12,
+    12,
+    12,
+    12,
+    12,
+    12,
+    12,
+    12,
+    12,
+    12,
+    12,
+    12,
+    12,
+    12,
+    12,
+    12,
+    12,
+    12,
+    12,
+    12,
+    12,
+];

@@ -1,0 +1,4 @@
+pub mod Reading
+pub mod ValueTurns
+pub mod ParamTurns
+pub mod WholeLines

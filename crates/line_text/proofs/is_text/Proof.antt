@@ -1,0 +1,59 @@
+use Prim.Native.Nat.{_-_, _≤_}
+use mathlib.Core.Path.{_≡_, refl, sym, _∙_}
+use native.Mathlib.Omega.{arith}
+use borrow.Author.Needs.{needs}
+use lib.ListN.{length, drop}
+use Rattle.text.specs.Choice.{is-some}
+use Rattle.line.specs.Text.{readText}
+use Rattle.line_text.proofs.Reading.{onward, byte-good, bad-good, end-good}
+use Rattle.line_text.proofs.is_text.Statement.{statement}
+use Rattle.line_text.proofs.is_text.Tie as tie
+
+abbrev Inv-loop : tie.InvT-loop
+Inv-loop s i₀ i = (i ≤ length s) × (is-some (readText (drop i s)) ≡ is-some (readText s))
+
+abbrev μ-loop : tie.MeasureT-loop
+μ-loop s i₀ i = length s - i
+
+loop-holds : tie.Need-loop-holds Inv-loop μ-loop
+loop-holds c = (omega arith, refl)
+
+next-char-requires : tie.Need-next-char-requires Inv-loop μ-loop
+next-char-requires c κs = search needs
+
+enum-known-e : tie.Need-enum-known-e Inv-loop μ-loop
+enum-known-e c = search needs
+
+loop-less : tie.Need-loop-less Inv-loop μ-loop
+loop-less c = omega (arith, onward _ _ _ (c .before .before .before .next-char .ensures) _ _ (c .before .e .given .1))
+
+loop-again : tie.Need-loop-again Inv-loop μ-loop
+loop-again c = (onward _ _ _ (c .before .before .before .next-char .ensures) _ _ (c .before .e .given .1) .1, sym (byte-good _ _ _ (c .before .before .before .next-char .ensures) _ _ (c .before .e .given .1)) ∙ (c .before .before .before .before .loop .inv .1))
+
+enum-told : tie.Need-enum-told Inv-loop μ-loop
+enum-told c = search needs
+
+returns : tie.Need-returns Inv-loop μ-loop
+returns c = sym (bad-good _ _ _ (c .before .before .next-char .ensures) (c .enum-told .given .1)) ∙ (c .before .before .before .loop .inv .1)
+
+enum-told-2 : tie.Need-enum-told-2 Inv-loop μ-loop
+enum-told-2 c = search needs
+
+returns-2 : tie.Need-returns-2 Inv-loop μ-loop
+returns-2 c = sym (end-good _ _ _ (c .before .before .next-char .ensures) (c .enum-told2 .given .1)) ∙ (c .before .before .before .loop .inv .1)
+
+pub is-text-spec : {M : Type 1} → statement M
+is-text-spec =
+    tie.close
+    (tie.spec
+    Inv-loop
+    μ-loop
+    loop-holds
+    next-char-requires
+    enum-known-e
+    loop-less
+    loop-again
+    enum-told
+    returns
+    enum-told-2
+    returns-2)

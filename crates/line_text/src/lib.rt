@@ -1,0 +1,174 @@
+// TEXT values: reading with their escapes, splitting at bare separators, writing.
+ghost use Rattle.output.specs.Put.{Puts};
+ghost use mathlib.Core.Path.{_≡_};
+ghost use mathlib.Core.Bool.{true};
+ghost use Prim.Native.Nat.{_<_};
+ghost use lib.ListN.{length, drop};
+ghost use Rattle.text.specs.Choice.{is-some};
+ghost use Rattle.line.specs.Text.{readText, textFrom, escape, writeText};
+ghost use Rattle.line_text.specs.Read.{OneChar, plainText};
+ghost use Rattle.line_text.specs.Split.{PartEnds, charEnd};
+use output::Wrote;
+use output::put_byte;
+use output::put_text;
+
+// What stands at a place of a TEXT: a byte and where the next stands, or a bad escape, or nothing more.
+pub enum Char {
+    Byte(u8, usize),
+    Bad,
+    End,
+}
+
+// The same just after a backslash.
+fn escaped_char(s: &[u8], at: usize) -> Char
+    ensures { λ r. ⌜ OneChar (textFrom true (drop at (now (s .entry)))) (now (s .entry)) at r ⌝ }
+{
+    if at >= s.len() {
+        return Char::Bad;
+    }
+    let c = s[at];
+    let e = at + 1;
+    if c == b'\\' {
+        return Char::Byte(c, e);
+    }
+    if c == b',' {
+        return Char::Byte(c, e);
+    }
+    if c == b';' {
+        return Char::Byte(c, e);
+    }
+    if c == b'n' {
+        return Char::Byte(10, e);
+    }
+    if c == b'N' {
+        return Char::Byte(10, e);
+    }
+    Char::Bad
+}
+
+pub fn next_char(s: &[u8], at: usize) -> Char
+    ensures { λ r. ⌜ OneChar (readText (drop at (now (s .entry)))) (now (s .entry)) at r ⌝ }
+{
+    if at >= s.len() {
+        return Char::End;
+    }
+    let c = s[at];
+    let e = at + 1;
+    if c == b'\\' {
+        return escaped_char(s, e);
+    }
+    Char::Byte(c, e)
+}
+
+// Whether every escape is good.
+pub fn is_text(s: &[u8]) -> bool
+    ensures { λ r. ⌜ r ≡ is-some (readText (now (s .entry))) ⌝ }
+{
+    let mut i = 0;
+    loop {
+        match next_char(s, i) {
+            Char::Byte(_, e) => {
+                i = e;
+            }
+            Char::Bad => {
+                return false;
+            }
+            Char::End => {
+                return true;
+            }
+        }
+    }
+}
+
+// What the TEXT stands for; nothing where an escape is bad.
+pub fn read_text(out: &mut [u8], s: &[u8]) -> Wrote
+    ensures { λ r. ⌜ Puts (now (out .entry)) (plainText (now (s .entry))) r (now (out .exit)) ⌝ }
+{
+    if !is_text(s) {
+        return Wrote::Bytes(0);
+    }
+    let mut at = 0;
+    let mut i = 0;
+    loop {
+        match next_char(s, i) {
+            Char::Byte(c, e) => {
+                if at >= out.len() {
+                    return Wrote::Full;
+                }
+                out[at] = c;
+                at += 1;
+                i = e;
+            }
+            Char::Bad => {
+                return Wrote::Bytes(at);
+            }
+            Char::End => {
+                return Wrote::Bytes(at);
+            }
+        }
+    }
+}
+
+// One byte of a TEXT; a semicolon is escaped where semi says so.
+fn put_escape(out: &mut [u8], c: u8, semi: bool) -> Wrote
+    ensures { λ r. ⌜ Puts (now (out .entry)) (escape semi c) r (now (out .exit)) ⌝ }
+{
+    if c == b'\\' {
+        return put_text(out, b"\\\\");
+    }
+    if c == 10 {
+        return put_text(out, b"\\n");
+    }
+    if c == b',' {
+        return put_text(out, b"\\,");
+    }
+    if semi & (c == b';') {
+        return put_text(out, b"\\;");
+    }
+    put_byte(out, c)
+}
+
+pub fn write_text(out: &mut [u8], s: &[u8], semi: bool) -> Wrote
+    ensures { λ r. ⌜ Puts (now (out .entry)) (writeText semi (now (s .entry))) r (now (out .exit)) ⌝ }
+{
+    let mut at = 0;
+    let mut i = 0;
+    while i < s.len() {
+        let Wrote::Bytes(n) = put_escape(&mut out[at..], s[i], semi) else {
+            return Wrote::Full;
+        };
+        at += n;
+        i += 1;
+    }
+    Wrote::Bytes(at)
+}
+
+// Where the byte at i, or the escape that begins there, ends.
+fn char_end(s: &[u8], i: usize) -> usize
+    requires { ⌜ i < length (now s) ⌝ }
+    ensures { λ r. ⌜ r ≡ charEnd (now (s .entry)) i ⌝ }
+{
+    let e = i + 1;
+    if e >= s.len() {
+        return e;
+    }
+    if s[i] == b'\\' {
+        return e + 1;
+    }
+    e
+}
+
+// Where the part that begins at `at` ends: at a bare separator d, or at the end.
+pub fn part_end(s: &[u8], at: usize, d: u8) -> usize
+    ensures { λ r. ⌜ PartEnds d (now (s .entry)) at r ⌝ }
+{
+    let mut i = at;
+    while i < s.len() {
+        let c = s[i];
+        if (c != b'\\') & (c == d) {
+            return i;
+        }
+        i = char_end(s, i);
+    }
+    i
+}

@@ -1,0 +1,4 @@
+pub mod Adding
+pub mod Turns
+pub mod Unfolding
+pub mod Lookup

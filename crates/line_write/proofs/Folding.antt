@@ -1,0 +1,88 @@
+-- The folding writer, byte by byte.
+use mathlib.Core.Path.{_≡_, refl, sym, ap, _∙_}
+use mathlib.Core.Bool.{Bool, true, false, _&&_, not}
+use mathlib.Core.List.{List, [], _∷_, _++_}
+use Prim.Native.Nat.{ℕ, suc, _+_, _-_, _≤_, _<_}
+use native.Mathlib.Omega.{arith}
+use native.Mathlib.Numerals.{add-one}
+use lib.Dec.{eqb, ltb}
+use lib.ListN.{length, drop, getD, drop-of-length-le}
+use lib.Seq.{drop-cons}
+use borrow.Author.Tests.{eq-eqb, ne-eqb, lt-ltb, le-ltb}
+use Rattle.text.specs.Bytes.{Bytes}
+use Rattle.line.specs.Write.{width, breaks, foldFrom, fold}
+use Rattle.line.proofs.Cases.{byBool, split}
+use Rattle.line_write.specs.Fold.{piece, columnAfter}
+
+-- ---- one character's width
+
+pub width-1 : (c : ℕ) → c < 128 → width c ≡ 1
+unfolding width
+width-1 c h = rw (lt-ltb c 128 h)
+
+pub width-0 : (c : ℕ) → 128 ≤ c → c < 192 → width c ≡ 0
+unfolding width
+width-0 c a h = rw (le-ltb c 128 a, lt-ltb c 192 h)
+
+pub width-2 : (c : ℕ) → 192 ≤ c → c < 224 → width c ≡ 2
+unfolding width
+width-2 c b h =
+    let a : 128 ≤ c = omega arith in
+    rw (le-ltb c 128 a, le-ltb c 192 b, lt-ltb c 224 h)
+
+pub width-3 : (c : ℕ) → 224 ≤ c → c < 240 → width c ≡ 3
+unfolding width
+width-3 c d h =
+    let a : 128 ≤ c = omega arith in
+    let b : 192 ≤ c = omega arith in
+    rw (le-ltb c 128 a, le-ltb c 192 b, le-ltb c 224 d, lt-ltb c 240 h)
+
+pub width-4 : (c : ℕ) → 240 ≤ c → width c ≡ 4
+unfolding width
+width-4 c h =
+    let a : 128 ≤ c = omega arith in
+    let b : 192 ≤ c = omega arith in
+    let d : 224 ≤ c = omega arith in
+    rw (le-ltb c 128 a, le-ltb c 192 b, le-ltb c 224 d, le-ltb c 240 h)
+
+-- ---- whether a fold comes before it
+
+pub breaks-not : (column w : ℕ) → w ≡ 0 → breaks column w ≡ false
+unfolding breaks
+breaks-not column w e = rw e
+
+pub breaks-wide : (column w : ℕ) → (w ≡ 0 → ⊥) → 75 < w → breaks column w ≡ true
+unfolding breaks
+breaks-wide column w n h =
+    let l : 75 < column + w = omega arith in
+    rw (ne-eqb w 0 n, lt-ltb 75 (column + w) l)
+
+pub breaks-late : (column w : ℕ) → (w ≡ 0 → ⊥) → w ≤ 75 → ltb (75 - w) column ≡ breaks column w
+unfolding breaks
+breaks-late column w n h =
+    split column (75 - w)
+    (λ l. let m : column + w ≤ 75 = omega arith in rw (ne-eqb w 0 n, le-ltb (75 - w) column l, le-ltb 75 (column + w) m))
+    (λ l. let m : 75 < column + w = omega arith in rw (ne-eqb w 0 n, lt-ltb (75 - w) column l, lt-ltb 75 (column + w) m))
+
+-- ---- one turn
+
+pub fold-one : (column : ℕ) (s : Bytes) (i : ℕ) (b : Bool) → i < length s → b ≡ breaks column (width (getD s i 0))
+    → foldFrom column (drop i s) ≡ piece b (getD s i 0) ++ foldFrom (columnAfter b column) (drop (i + 1) s)
+unfolding foldFrom piece columnAfter
+fold-one column s i b h e =
+    byBool (breaks column (width (getD s i 0)))
+    (λ t. rw (e, drop-cons s i 0, t, add-one))
+    (λ t. rw (e, drop-cons s i 0, t, add-one))
+
+pub fold-out : (column : ℕ) (s : Bytes) (i : ℕ) → length s ≤ i → foldFrom column (drop i s) ≡ []
+unfolding foldFrom
+fold-out column s i h = rw (drop-of-length-le s h)
+
+pub fold-all : (s : Bytes) → fold s ≡ foldFrom 0 s
+unfolding fold
+fold-all s = refl
+
+pub column-few : (b : Bool) (column i : ℕ) → column ≤ i + 2 → columnAfter b column ≤ i + 1 + 2
+unfolding columnAfter
+column-few true column i h = omega arith
+column-few false column i h = omega arith
