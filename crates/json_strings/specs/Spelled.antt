@@ -5,11 +5,11 @@ use mathlib.Core.List.{List, [], _∷_, _++_}
 use mathlib.Core.Option.{Option, none, some}
 use Prim.Native.Nat.{ℕ, zero, suc, _+_, _-_, _*_, _/_, _%_, _≤_, _<_}
 use lib.ListN.{length, drop}
-use lib.Dec.{eqb}
+use lib.Dec.{eqb, ltb}
 use Rattle.text.specs.Choice.{pick}
-use Rattle.text.specs.Bytes.{Bytes, is, between}
+use Rattle.text.specs.Bytes.{Bytes, same}
 use Rattle.text.specs.Utf8.{encode}
-use Rattle.text.specs.Reader.{Got, got, bad, under, on, Step, more, last, loop}
+use Rattle.text.specs.Reader.{Got, got, bad}
 use Rattle.json.specs.Strings.{before, decodeAfter}
 use Rattle.json_units.specs.Units.{units}
 use Rattle.json_strings.specs.declared.Letter.{Letter}
@@ -46,16 +46,27 @@ unfoldable pub heldIn : ℕ → ℕ → Bytes
 heldIn zero h = []
 heldIn (suc n) h = pick (eqb h 0) [] (h % 256 ∷ heldIn n (h / 256))
 
-unfoldable pub held : ℕ → Bytes
+abbrev pub held : ℕ → Bytes
 held h = heldIn 4 h
+
+-- the first byte of a code point's UTF-8, and a number that holds the others
+unfoldable pub leadOf : ℕ → ℕ
+leadOf v = pick (ltb v 0x80) v (pick (ltb v 0x800) (0xc0 + v / 64) (pick (ltb v 0x10000) (0xe0 + v / 4096) (0xf0 + v / 262144)))
+
+unfoldable pub restOf : ℕ → ℕ
+restOf v =
+    pick (ltb v 0x80) 0
+    (pick (ltb v 0x800) (0x80 + v % 64)
+    (pick (ltb v 0x10000) (0x80 + v / 64 % 64 + 256 * (0x80 + v % 64))
+    (0x80 + v / 4096 % 64 + 256 * (0x80 + v / 64 % 64 + 256 * (0x80 + v % 64)))))
 
 -- what is still to come: held bytes, then the string from a place on
 unfoldable pub left : Bytes → ℕ → ℕ → Option Bytes
 left s at h = before (held h) (spelled s at)
 
 -- how much that is at most: it falls with each byte
-abbrev pub weight : Bytes → ℕ → ℕ → ℕ
-weight s at h = (length s - at) * 4 + length (held h)
+unfoldable pub weight : Bytes → ℕ → ℕ → ℕ
+weight s at h = (length s - at) * 5 + length (held h)
 
 abbrev pub byteOf : Bytes → Byte → Option Bytes
 byteOf s (One b i h) = before (b ∷ []) (left s i h)
@@ -66,3 +77,13 @@ abbrev pub ByteIn : Bytes → ℕ → ℕ → Byte → Type 0
 ByteIn s at h (One b i k) = (i ≤ length s) × (weight s i k < weight s at h)
 ByteIn s at h BEnd = Unit {0}
 ByteIn s at h BAlone = Unit {0}
+
+-- whether the string stands for these bytes, and whether two strings stand for the same
+abbrev pub spells : Option Bytes → Bytes → Bool
+spells none bs = false
+spells (some x) bs = same bs x
+
+abbrev pub agree : Option Bytes → Option Bytes → Bool
+agree none b = false
+agree (some x) none = false
+agree (some x) (some y) = same x y

@@ -1,0 +1,115 @@
+// Whether strings of a JSON text stand for anything, for given bytes, for the same. A string is given by the place after its first quote.
+use json_strings::Byte;
+use json_strings::next_byte;
+ghost use mathlib.Core.Path.{_≡_};
+ghost use mathlib.Core.List.{[]};
+ghost use mathlib.Core.Option.{some};
+ghost use Prim.Native.Nat.{_≤_};
+ghost use lib.ListN.{length};
+ghost use Rattle.text.specs.Choice.{is-some};
+ghost use Rattle.json_strings.specs.Spelled.{spelled, left, spells, agree};
+
+// No surrogate stands alone.
+pub fn is_paired(s: &[u8], at: usize) -> bool
+    requires { ⌜ at ≤ length (now s) ⌝ }
+    ensures { λ r. ⌜ r ≡ is-some (spelled (now (s .entry)) at) ⌝ }
+{
+    let mut i = at;
+    let mut h = 0;
+    loop {
+        match next_byte(s, i, h) {
+            Byte::Alone => {
+                return false;
+            }
+            Byte::End => {
+                return true;
+            }
+            Byte::One(b, j, g) => {
+                i = j;
+                h = g;
+            }
+        }
+    }
+}
+
+// The string stands for these bytes.
+pub fn equals<'a, 'b>(s: &'a [u8], at: usize, bytes: &'b [u8]) -> bool
+    requires { ⌜ at ≤ length (now s) ⌝ }
+    ensures { λ r. ⌜ r ≡ spells (spelled (now (s .entry)) at) (now (bytes .entry)) ⌝ }
+{
+    let mut i = at;
+    let mut h = 0;
+    let mut k = 0;
+    loop {
+        match next_byte(s, i, h) {
+            Byte::Alone => {
+                return false;
+            }
+            Byte::End => {
+                return k == bytes.len();
+            }
+            Byte::One(b, j, g) => {
+                if k == bytes.len() {
+                    return false;
+                }
+                if bytes[k] != b {
+                    return false;
+                }
+                k += 1;
+                i = j;
+                h = g;
+            }
+        }
+    }
+}
+
+// Nothing is left of a string.
+fn ends(s: &[u8], at: usize, hold: u32) -> bool
+    requires { ⌜ at ≤ length (now s) ⌝ }
+    ensures { λ r. ⌜ r ≡ agree (some []) (left (now (s .entry)) at hold) ⌝ }
+{
+    match next_byte(s, at, hold) {
+        Byte::Alone => false,
+        Byte::End => true,
+        Byte::One(b, j, g) => false,
+    }
+}
+
+// Two strings stand for the same bytes.
+pub fn same_text(s: &[u8], a: usize, b: usize) -> bool
+    requires { ⌜ a ≤ length (now s) ⌝ }
+    requires { ⌜ b ≤ length (now s) ⌝ }
+    ensures { λ r. ⌜ r ≡ agree (spelled (now (s .entry)) a) (spelled (now (s .entry)) b) ⌝ }
+{
+    let mut i = a;
+    let mut g = 0;
+    let mut j = b;
+    let mut h = 0;
+    loop {
+        match next_byte(s, i, g) {
+            Byte::Alone => {
+                return false;
+            }
+            Byte::End => {
+                return ends(s, j, h);
+            }
+            Byte::One(x, k, u) => match next_byte(s, j, h) {
+                Byte::Alone => {
+                    return false;
+                }
+                Byte::End => {
+                    return false;
+                }
+                Byte::One(y, l, v) => {
+                    if x != y {
+                        return false;
+                    }
+                    i = k;
+                    g = u;
+                    j = l;
+                    h = v;
+                }
+            },
+        }
+    }
+}

@@ -1,0 +1,71 @@
+use native.Mathlib.Omega.{arith}
+use denote.Ref.{now}
+use mathlib.Core.Path.{sym, ap, _∙_}
+use mathlib.Core.List.{List, [], _∷_}
+use Prim.Native.Nat.{ℕ}
+use lib.ListN.{length}
+use Rattle.json.specs.Strings.{before}
+use Rattle.json_strings.specs.Spelled.{left, letterOf}
+use Rattle.json_strings.proofs.Laws.{letter-in, left-none, left-held, left-raw, left-code, weight-falls}
+use borrow.Author.Needs.{needs}
+use Rattle.json_strings.proofs.next_byte.Statement.{statement}
+use Rattle.json_strings.proofs.next_byte.Tie as tie
+
+cast-t10 : tie.Need-cast-t10
+cast-t10 c = search needs
+
+returns : tie.Need-returns
+returns c = let h = left-held (now (c .before .before .args .s)) (c .before .before .args .at) (c .before .before .args .hold) (omega arith) (c .if1 .taken) in (h .0, (c .before .before .pre, h .1))
+
+letter-at-requires : tie.Need-letter-at-requires
+letter-at-requires c κs = search needs
+
+enum-told : tie.Need-enum-told
+enum-told c = search needs
+
+enum-told-2 : tie.Need-enum-told-2
+enum-told-2 c = search needs
+
+enum-known-b : tie.Need-enum-known-b
+enum-known-b c = search needs
+
+enum-known-v : tie.Need-enum-known-v
+enum-known-v c = search needs
+
+lead-of-requires : tie.Need-lead-of-requires
+lead-of-requires c κs = letter-in (c .before .before .before .before .before .before .args .at) (length (now (c .before .before .before .before .before .before .args .s))) (c .before .before .before .letter-at .ensures .1) (c .before .v .given .1) .2
+
+rest-of-requires : tie.Need-rest-of-requires
+rest-of-requires c κs = letter-in (c .before .before .before .before .before .before .before .args .at) (length (now (c .before .before .before .before .before .before .before .args .s))) (c .before .before .before .before .letter-at .ensures .1) (c .before .before .v .given .1) .2
+
+returns-2 : tie.Need-returns-2
+returns-2 c = (ap (left (now (c .before .before .before .before .before .args .s)) (c .before .before .before .before .before .args .at)) (c .before .before .before .if1 .left) ∙ left-none (now (c .before .before .before .before .before .args .s)) (c .before .before .before .before .before .args .at) ∙ (c .before .before .letter-at .ensures .0) ∙ ap (letterOf (now (c .before .before .before .before .before .args .s))) (c .enum-told .given .1), tt)
+
+returns-3 : tie.Need-returns-3
+returns-3 c = (ap (left (now (c .before .before .before .before .before .args .s)) (c .before .before .before .before .before .args .at)) (c .before .before .before .if1 .left) ∙ left-none (now (c .before .before .before .before .before .args .s)) (c .before .before .before .before .before .args .at) ∙ (c .before .before .letter-at .ensures .0) ∙ ap (letterOf (now (c .before .before .before .before .before .args .s))) (c .enum-told2 .given .1), tt)
+
+returns-4 : tie.Need-returns-4
+returns-4 c = let w = letter-in (c .before .before .before .before .before .before .args .at) (length (now (c .before .before .before .before .before .before .args .s))) (c .before .before .before .letter-at .ensures .1) (c .before .b .given .1) in
+    (ap (left (now (c .before .before .before .before .before .before .args .s)) (c .before .before .before .before .before .before .args .at)) (c .before .before .before .before .if1 .left) ∙ left-raw (now (c .before .before .before .before .before .before .args .s)) (c .before .before .before .before .before .before .args .at) _ _ ((c .before .before .before .letter-at .ensures .0) ∙ ap (letterOf (now (c .before .before .before .before .before .before .args .s))) (c .before .b .given .1)), (w .1, weight-falls (now (c .before .before .before .before .before .before .args .s)) (c .before .before .before .before .before .before .args .at) _ (c .before .before .before .before .before .before .args .hold) 0 (w .0) (w .1)))
+
+returns-5 : tie.Need-returns-5
+returns-5 c = let w = letter-in (c .before .before .before .before .before .before .before .before .args .at) (length (now (c .before .before .before .before .before .before .before .before .args .s))) (c .before .before .before .before .before .letter-at .ensures .1) (c .before .before .before .v .given .1) in
+    (ap (left (now (c .before .before .before .before .before .before .before .before .args .s)) (c .before .before .before .before .before .before .before .before .args .at)) (c .before .before .before .before .before .before .if1 .left) ∙ rw (c .before .lead-of .ensures, c .rest-of .ensures) (left-code (now (c .before .before .before .before .before .before .before .before .args .s)) (c .before .before .before .before .before .before .before .before .args .at) _ _ ((c .before .before .before .before .before .letter-at .ensures .0) ∙ ap (letterOf (now (c .before .before .before .before .before .before .before .before .args .s))) (c .before .before .before .v .given .1))), (w .1, weight-falls (now (c .before .before .before .before .before .before .before .before .args .s)) (c .before .before .before .before .before .before .before .before .args .at) _ (c .before .before .before .before .before .before .before .before .args .hold) (c .rest-of .result) (w .0) (w .1)))
+
+pub next-byte-spec : {M : Type 1} → statement M
+next-byte-spec =
+    tie.close
+    (tie.spec
+    cast-t10
+    returns
+    letter-at-requires
+    enum-told
+    enum-told-2
+    enum-known-b
+    enum-known-v
+    lead-of-requires
+    rest-of-requires
+    returns-2
+    returns-3
+    returns-4
+    returns-5)

@@ -1,0 +1,77 @@
+use native.Mathlib.Omega.{arith}
+use denote.Ref.{now}
+use mathlib.Core.Path.{sym, _∙_}
+use lib.ListN.{length}
+use Rattle.text.proofs.Places.{between-in}
+use Rattle.json_strings.proofs.Laws.{pair-wrong, pair-ends, pair-raw, pair-other, pair-is, unit-in}
+use borrow.Author.Needs.{needs}
+use Rattle.json_strings.proofs.pair_at.Statement.{statement}
+use Rattle.json_strings.proofs.pair_at.Tie as tie
+
+unit-at-requires : tie.Need-unit-at-requires
+unit-at-requires c κs = search needs
+
+enum-known-b : tie.Need-enum-known-b
+enum-known-b c = search needs
+
+enum-known-e : tie.Need-enum-known-e
+enum-known-e c = search needs
+
+enum-known-u : tie.Need-enum-known-u
+enum-known-u c = search needs
+
+returns : tie.Need-returns
+returns c = (pair-raw (now (c .before .before .before .before .before .before .args .s)) (c .before .before .before .before .before .before .args .at) (c .before .before .before .before .unit-at .ensures .0) (c .before .before .before .before .before .before .args .high) (λ e. let h = between-in 0xd800 0xdbff (c .before .before .before .before .before .before .args .high) (c .before .before .before .before .before .before .pre .1) in omega arith) _ _ (c .before .before .u .given .1) (c .if1 .taken), tt)
+
+within-requires : tie.Need-within-requires
+within-requires c κs = search needs
+
+sub-t13 : tie.Need-sub-t13
+sub-t13 c = let h = between-in 0xd800 0xdbff (c .before .before .before .before .before .before .before .before .args .high) (c .before .before .before .before .before .before .before .before .pre .1) in h .0
+
+mul-t14 : tie.Need-mul-t14
+mul-t14 c = let h = between-in 0xd800 0xdbff (c .before .before .before .before .before .before .before .before .args .high) (c .before .before .before .before .before .before .before .before .pre .1) in omega arith
+
+add-t15 : tie.Need-add-t15
+add-t15 c = let h = between-in 0xd800 0xdbff (c .before .before .before .before .before .before .before .before .args .high) (c .before .before .before .before .before .before .before .before .pre .1) in omega arith
+
+sub-t16 : tie.Need-sub-t16
+sub-t16 c = let k = between-in 0xdc00 0xdfff _ (sym (c .before .within .ensures) ∙ (c .if2 .taken)) in k .0
+
+add-t17 : tie.Need-add-t17
+add-t17 c = let h = between-in 0xd800 0xdbff (c .before .before .before .before .before .before .before .before .args .high) (c .before .before .before .before .before .before .before .before .pre .1) in let k = between-in 0xdc00 0xdfff _ (sym (c .before .within .ensures) ∙ (c .if2 .taken)) in omega arith
+
+returns-2 : tie.Need-returns-2
+returns-2 c = let w = unit-in (c .before .before .before .before .before .before .before .before .args .at) (length (now (c .before .before .before .before .before .before .before .before .args .s))) (c .before .before .before .before .before .before .unit-at .ensures .1) (c .before .before .before .before .u .given .1) in
+    let h = between-in 0xd800 0xdbff (c .before .before .before .before .before .before .before .before .args .high) (c .before .before .before .before .before .before .before .before .pre .1) in
+    let k = between-in 0xdc00 0xdfff _ (sym (c .before .within .ensures) ∙ (c .if2 .taken)) in
+    (pair-is (now (c .before .before .before .before .before .before .before .before .args .s)) (c .before .before .before .before .before .before .before .before .args .at) (c .before .before .before .before .before .before .unit-at .ensures .0) (c .before .before .before .before .before .before .before .before .args .high) (λ e. let h = between-in 0xd800 0xdbff (c .before .before .before .before .before .before .before .before .args .high) (c .before .before .before .before .before .before .before .before .pre .1) in omega arith) _ _ (c .before .before .before .before .u .given .1) (c .before .before .if1 .left) (sym (c .before .within .ensures) ∙ (c .if2 .taken)), omega (arith, w))
+
+returns-3 : tie.Need-returns-3
+returns-3 c = (pair-wrong (now (c .before .before .before .before .before .args .s)) (c .before .before .before .before .before .args .at) (c .before .before .before .unit-at .ensures .0) (c .before .before .before .before .before .args .high) (λ e. let h = between-in 0xd800 0xdbff (c .before .before .before .before .before .args .high) (c .before .before .before .before .before .pre .1) in omega arith) (c .before .b .given .1), tt)
+
+returns-4 : tie.Need-returns-4
+returns-4 c = (pair-ends (now (c .before .before .before .before .before .args .s)) (c .before .before .before .before .before .args .at) (c .before .before .before .unit-at .ensures .0) (c .before .before .before .before .before .args .high) (λ e. let h = between-in 0xd800 0xdbff (c .before .before .before .before .before .args .high) (c .before .before .before .before .before .pre .1) in omega arith) (c .before .e .given .1), tt)
+
+returns-5 : tie.Need-returns-5
+returns-5 c = (pair-other (now (c .before .before .before .before .before .before .before .before .args .s)) (c .before .before .before .before .before .before .before .before .args .at) (c .before .before .before .before .before .before .unit-at .ensures .0) (c .before .before .before .before .before .before .before .before .args .high) (λ e. let h = between-in 0xd800 0xdbff (c .before .before .before .before .before .before .before .before .args .high) (c .before .before .before .before .before .before .before .before .pre .1) in omega arith) _ _ (c .before .before .before .before .u .given .1) (c .before .before .if1 .left) (sym (c .before .within .ensures) ∙ (c .if2 .left)), tt)
+
+pub pair-at-spec : {M : Type 1} → statement M
+pair-at-spec =
+    tie.close
+    (tie.spec
+    unit-at-requires
+    enum-known-b
+    enum-known-e
+    enum-known-u
+    returns
+    within-requires
+    sub-t13
+    mul-t14
+    add-t15
+    sub-t16
+    add-t17
+    returns-2
+    returns-3
+    returns-4
+    returns-5)
