@@ -18,3 +18,7 @@ pub mod Proper
 pub mod MapsJson
 pub mod CardParts
 pub mod CardJson
+pub mod Gains
+pub mod SameSeen
+pub mod EntryLines
+pub mod CardLines
