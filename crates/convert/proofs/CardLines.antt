@@ -8,19 +8,21 @@ use native.Mathlib.Omega.{arith}
 use lib.Dec.{eqb}
 use borrow.Author.Tests.{eq-eqb, ne-eqb}
 use Rattle.text.specs.Choice.{pick, with-some, is-some}
-use Rattle.text.specs.Bytes.{Bytes, ascii, any, all, empty, same, among, lowered, distinct, flat}
-use Rattle.text.proofs.Cases.{byBool, and-left, and-right, or-left, or-right, not-true, not-both}
+use Rattle.text.specs.Bytes.{Bytes, ascii, any, all, empty, same, among, lower, lowered, between, distinct, flat}
+use Rattle.text.proofs.Cases.{byBool, byBelow, and-left, and-right, or-left, or-right, not-true, not-both}
+use Rattle.text.proofs.Letters.{high-lower}
 use Rattle.text.proofs.Same.{same-swap, OfAll}
 use Rattle.text.proofs.Lists.{all-head, all-tail, any-append}
 use Rattle.json.specs.Tree.{Json, Member, member, nameOf}
 use Rattle.line.specs.Grammar.{Line}
+use Rattle.line.specs.Class.{isLowerName}
 use Rattle.line.specs.Text.{writeText}
 use Rattle.convert.specs.Table.{Map, maps, reserved}
 use Rattle.convert.specs.Model.{Entry, Kept, Card, hasParts, noParts}
-use Rattle.convert.specs.Value.{writeName}
-use Rattle.convert.specs.Classify.{Class, as-version, as-uid, as-kind, as-dropped, as-full, as-parts, as-entry, as-member, as-kept, Id, id, isId, Seen, nothing, see, memberClass, classify}
+use Rattle.convert.specs.Value.{readName, writeName}
+use Rattle.convert.specs.Classify.{Class, as-version, as-uid, as-kind, as-dropped, as-full, as-parts, as-entry, as-member, as-kept, Id, id, isId, Seen, nothing, see, fullClass, classify}
 use Rattle.convert.specs.FromCard.{Placed, placed, Gives, gives}
-use Rattle.convert.specs.FromJson.{keptAsLine, isKept, keptStands, idsFrom, seenIn}
+use Rattle.convert.specs.FromJson.{isLowerWord, keptAsLine, isKept, keptStands, idsFrom, seenIn}
 use Rattle.convert.specs.ToCard.{property, whereFilled, lineWhere, derivedLine, fullLine, mapsLines, memberLine, cardLines}
 use Rattle.convert.proofs.Written.{full-written, parts-written, derived-written, member-written, version-class, uid-class, kind-class, full-class, parts-class, member-class}
 use Rattle.convert.proofs.KeptLines.{kept-line}
@@ -29,61 +31,68 @@ use Rattle.convert.proofs.Proper.{Seven, GoodMembers, AllKept, ProperCa
 use Rattle.convert.proofs.Gains.{gains, seenAfter, gains-append, seen-append, gains-one, seen-one, no-gain, none-seen}
 use Rattle.convert.proofs.SameSeen.{SameSeen, same-class}
 use Rattle.convert.proofs.EntryLines.{seen, entriesGiven, idsAfter, idsAll, all-places, maps-gain, maps-seen}
+use Rattle.convert.proofs.Sections.{nil, uidGiven, kindGiven, fullGiven, partsGiven, memberGiven, keptGiven, namesAfter, New, members-gain, members-seen, kept-gain, seen-card}
 
--- ---- what each section gives
+-- ---- KIND, FN and N
 
-abbrev pub nil : Gives
-nil = record { uid = []; kind = []; full = []; parts = []; entry = []; member = []; kept = [] }
+lower-byte : (c : ℕ) → isLowerName c ≡ true → lower c ≡ c
+unfolding isLowerName lower between
+lower-byte c h =
+    byBelow lower (λ c. pick (isLowerName c) c (lower c)) c 128 refl (λ l. byBool (isLowerName c) (λ e. rw e (high-lower c l)) (λ e. rw e)) ∙ rw h
 
-abbrev pub uidGiven : Bytes → Gives
-uidGiven v = record { uid = v ∷ []; kind = []; full = []; parts = []; entry = []; member = []; kept = [] }
+lower-names : (s : Bytes) → all isLowerName s ≡ true → lowered s ≡ s
+unfolding lowered
+lower-names [] h = refl
+lower-names (c ∷ s) h = ap₂ _∷_ (lower-byte c (all-head isLowerName c s h)) (lower-names s (all-tail isLowerName c s h))
 
-abbrev pub kindGiven : Bytes → List Gives
-kindGiven v = pick (empty v) [] (record { uid = []; kind = v ∷ []; full = []; parts = []; entry = []; member = []; kept = [] } ∷ [])
+kind-lowered : (v : Bytes) → empty v || isLowerWord v ≡ true → lowered v ≡ v
+unfolding all
+kind-lowered [] h = lower-names [] refl
+kind-lowered (c ∷ v) h = lower-names (c ∷ v) h
 
-abbrev pub fullGiven : Option Bytes → Gives
-fullGiven (some v) = record { uid = []; kind = []; full = v ∷ []; parts = []; entry = []; member = []; kept = [] }
-fullGiven none = nil
+kind-gain : (v : Bytes) → lowered v ≡ v → gains nothing (whereFilled v (property (ascii "kind") [] v)) ≡ kindGiven v
+kind-gain v h = byBool (empty v) (λ e. rw e (no-gain nothing)) (λ e. rw e (gains-one nothing (property (ascii "kind") [] v) (as-kind v) [] (kind-class nothing [] v h) ∙ ap (λ (x : List Gives). gives (property (ascii "kind") [] v) (as-kind v) ∷ x) (no-gain nothing)))
 
-abbrev pub partsGiven : List (List Bytes) → List Gives
-partsGiven ps = pick (hasParts ps) (record { uid = []; kind = []; full = []; parts = ps ∷ []; entry = []; member = []; kept = [] } ∷ []) []
+kind-seen : (v : Bytes) → lowered v ≡ v → seenAfter nothing (whereFilled v (property (ascii "kind") [] v)) ≡ nothing
+kind-seen v h = byBool (empty v) (λ e. rw e (none-seen nothing)) (λ e. rw e (seen-one nothing (property (ascii "kind") [] v) (as-kind v) [] (kind-class nothing [] v h) ∙ none-seen nothing))
 
-abbrev pub memberGiven : Member → Gives
-memberGiven m = record { uid = []; kind = []; full = []; parts = []; entry = []; member = m ∷ []; kept = [] }
+derived-class : (s : Seen) (ps : List (List Bytes)) → classify s (derivedLine ps) ≡ fullClass s (derivedLine ps)
+unfolding derivedLine
+derived-class s ps = full-class s _ _
 
-abbrev pub keptGiven : Kept → Gives
-keptGiven k = record { uid = []; kind = []; full = []; parts = []; entry = []; member = []; kept = k ∷ [] }
+read-seven : (ps : List (List Bytes)) → Seven ps → hasParts ps ≡ true → readName (writeName ps) ≡ some ps
+read-seven ps s h =
+    rw (s .7) (read-name (s .0) (s .1) (s .2) (s .3) (s .4) (s .5) (s .6) (s .8) (s .9) (s .10) (rw (s .7) at h))
 
--- ---- JSPROP lines
+full-of : (c : Card) → classify nothing (fullLine c) ≡ with-some (c .full) as-full as-dropped
+unfolding fullLine
+full-of c = by (c .full)
+  where
+    by : (f : Option Bytes) → classify nothing (with-some f (λ v. property (ascii "fn") [] (writeText false v)) (derivedLine (c .parts))) ≡ with-some f as-full as-dropped
+    by (some v) = full-class nothing [] (writeText false v) ∙ full-written nothing v refl
+    by none = derived-class nothing (c .parts) ∙ derived-written nothing (c .parts)
 
-unfoldable namesAfter : List Member → List Bytes → List Bytes
-namesAfter [] ns = ns
-namesAfter (m ∷ ms) ns = namesAfter ms (nameOf m ∷ ns)
+derived-gives : (l : Line) (f : Option Bytes) → gives l (with-some f as-full as-dropped) ≡ fullGiven f
+derived-gives l (some v) = refl
+derived-gives l none = refl
 
-line-of-member : (s : Seen) (n : Bytes) (j : Json) → classify s (memberLine (member n j)) ≡ memberClass s (memberLine (member n j))
-unfolding memberLine
-line-of-member s n j = member-class s _ _
+full-sees : (f : Option Bytes) → see nothing (with-some f as-full as-dropped) ≡ seen (is-some f) false [] []
+full-sees (some v) = refl
+full-sees none = refl
 
--- none of the names is made yet
-abbrev New : List Member → List Bytes → Type 0
-New ms ns = OfAll (λ n. among n ns ≡ false) (map nameOf ms)
+parts-of : (f : Bool) (ps : List (List Bytes)) → Seven ps → hasParts ps ≡ true → classify (seen f false [] []) (property (ascii "n") [] (writeName ps)) ≡ as-parts ps
+parts-of f ps s h =
+    parts-class (seen f false [] []) [] (writeName ps)
+    ∙ parts-written (seen f false [] []) ps refl (read-seven ps s h)
 
-new-more : (m : Bytes) (ns ks : List Bytes) → OfAll (λ n. among n ns ≡ false) ks → among m ks ≡ false → OfAll (λ n. among n (m ∷ ns) ≡ false) ks
-unfolding among any
-new-more m ns [] h q = tt
-new-more m ns (k ∷ ks) h q = (rw (same-swap k m ∙ or-left (same m k) _ q) (h .0), new-more m ns ks (h .1) (or-right (same m k) _ q))
+names-gain : (f : Bool) (ps : List (List Bytes)) → Seven ps → gains (seen f false [] []) (lineWhere (hasParts ps) (property (ascii "n") [] (writeName ps))) ≡ partsGiven ps
+names-gain f ps s =
+    byBool (hasParts ps)
+    (λ h. rw h (gains-one (seen f false [] []) (property (ascii "n") [] (writeName ps)) (as-parts ps) [] (parts-of f ps s h) ∙ ap (λ (x : List Gives). gives (property (ascii "n") [] (writeName ps)) (as-parts ps) ∷ x) (no-gain (see (seen f false [] []) (as-parts ps)))))
+    (λ h. rw h (no-gain (seen f false [] [])))
 
-module _ (f p : Bool) (ids : List Id) where
-  members-gain : (ms : List Member) (ns : List Bytes) → GoodMembers ms → New ms ns → distinct (map nameOf ms) ≡ true → gains (seen f p ids ns) (map memberLine ms) ≡ map memberGiven ms
-  unfolding distinct
-  members-gain [] ns g h d = no-gain (seen f p ids ns)
-  members-gain (member n j ∷ ms) ns g h d =
-      gains-one (seen f p ids ns) (memberLine (member n j)) (as-member n j) (map memberLine ms) (line-of-member (seen f p ids ns) n j ∙ member-written (seen f p ids ns) n j (g .0) (g .1) (h .0) (g .2))
-      ∙ ap (λ (x : List Gives). memberGiven (member n j) ∷ x) (members-gain ms (n ∷ ns) (g .3) (new-more n ns (map nameOf ms) (h .1) (not-true (among n (map nameOf ms)) (and-left _ _ d))) (and-right (not (among n (map nameOf ms))) _ d))
-
-  members-seen : (ms : List Member) (ns : List Bytes) → GoodMembers ms → New ms ns → distinct (map nameOf ms) ≡ true → seenAfter (seen f p ids ns) (map memberLine ms) ≡ seen f p ids (namesAfter ms ns)
-  unfolding distinct namesAfter
-  members-seen [] ns g h d = none-seen (seen f p ids ns)
-  members-seen (member n j ∷ ms) ns g h d =
-      seen-one (seen f p ids ns) (memberLine (member n j)) (as-member n j) (map memberLine ms) (line-of-member (seen f p ids ns) n j ∙ member-written (seen f p ids ns) n j (g .0) (g .1) (h .0) (g .2))
-      ∙ members-seen ms (n ∷ ns) (g .3) (new-more n ns (map nameOf ms) (h .1) (not-true (among n (map nameOf ms)) (and-left _ _ d))) (and-right (not (among n (map nameOf ms))) _ d)
+names-seen : (f : Bool) (ps : List (List Bytes)) → Seven ps → seenAfter (seen f false [] []) (lineWhere (hasParts ps) (property (ascii "n") [] (writeName ps))) ≡ seen f (hasParts ps) [] []
+names-seen f ps s =
+    byBool (hasParts ps)
+    (λ h. rw h (seen-one (seen f false [] []) (property (ascii "n") [] (writeName ps)) (as-parts ps) [] (parts-of f ps s h) ∙ none-seen (see (seen f false [] []) (as-parts ps))))
+    (λ h. rw h (none-seen (seen f false [] [])))

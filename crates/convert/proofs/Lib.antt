@@ -21,4 +21,5 @@ pub mod CardJson
 pub mod Gains
 pub mod SameSeen
 pub mod EntryLines
+pub mod Sections
 pub mod CardLines
