@@ -1,18 +1,18 @@
 -- Which line converts does not depend on the letter case of its name and of its parameters' names.
-use mathlib.Core.Path.{_≡_, refl, sym, ap, ap₂, _∙_}
-use mathlib.Core.Bool.{Bool, true, false, _&&_, not}
-use mathlib.Core.List.{List, [], _∷_, _++_, map}
+use mathlib.Core.Path.{_≡_, refl}
+use mathlib.Core.Bool.{not}
+use mathlib.Core.List.{List, [], _∷_, map}
 use mathlib.Core.Option.{Option, none, some}
-use Rattle.text.specs.Choice.{pick, with-some, chain, provided}
-use Rattle.text.specs.Bytes.{Bytes, ascii, empty, same, lowered, uppered}
+use Rattle.text.specs.Choice.{with-some}
+use Rattle.text.specs.Bytes.{ascii, empty, lowered}
 use Rattle.text.proofs.Letters.{lowered-uppered}
 use Rattle.line.specs.Grammar.{Param, param, Line}
-use Rattle.line.specs.Params.{valuesNamed, onlyNamed, valueType, besidesValue, merged}
+use Rattle.line.specs.Params.{besidesValue}
 use Rattle.line.proofs.Parameters.{upperParam}
 use Rattle.line.proofs.Lines.{upperLine}
 use Rattle.line.proofs.Uppered.{valuesNamed-upper, besidesValue-upper, valueType-upper, onlyNamed-upper, merged-upper}
 use Rattle.convert.specs.Table.{Slot, slotOf}
-use Rattle.convert.specs.Classify.{Class, as-kept, Seen, bare, isDerived, fullClass, partsClass, memberName, memberClass, entryOf, entryClass, classify}
+use Rattle.convert.specs.Classify.{as-kept, Seen, isDerived, fullClass, partsClass, memberName, memberClass, entryOf, entryClass, classify}
 use Rattle.convert.specs.FromCard.{keptLine}
 
 derived-upper : (ps : List Param) → isDerived (map upperParam ps) ≡ isDerived ps

@@ -1,24 +1,23 @@
 -- The line of an entry is read back as that entry.
-use mathlib.Core.Path.{_≡_, refl, sym, ap, ap₂, subst, _∙_}
+use mathlib.Core.Path.{_≡_, refl, ap, _∙_}
 use mathlib.Core.Bool.{Bool, true, false, _&&_, _||_, not}
 use mathlib.Core.List.{List, [], _∷_, _++_, map, append-nil}
-use mathlib.Core.Option.{Option, none, some}
+use mathlib.Core.Option.{some}
 use Prim.Native.Nat.{ℕ}
-use lib.ListN.{getD}
 use lib.Dec.{eqb, ltb}
 use borrow.Author.Tests.{eqb-true, ltb-true}
 use native.Mathlib.Omega.{arith}
 use Rattle.text.proofs.Lists.{all-head}
-use Rattle.text.specs.Choice.{pick, chain, provided}
+use Rattle.text.specs.Choice.{pick}
 use Rattle.text.specs.Bytes.{Bytes, ascii, any, all, empty, same, among, lower, lowered, between}
-use Rattle.text.proofs.Cases.{byBool, and-left, and-right, or-left, not-true, not-both}
-use Rattle.line.specs.Grammar.{Param, param, Line}
-use Rattle.line.specs.Params.{valuesNamed, lacking, onlyNamed, firstOr, valueType, besidesValue}
+use Rattle.text.proofs.Cases.{byBool, and-right, not-both}
+use Rattle.line.specs.Grammar.{Param, param}
+use Rattle.line.specs.Params.{valuesNamed, lacking, onlyNamed, valueType, besidesValue}
 use Rattle.line.proofs.Named.{valuesNamed-append, lacking-append, onlyNamed-append, valuesNamed-one, valuesNamed-other, lacking-one, lacking-other, onlyNamed-one, valuesNamed-none, lacking-none, onlyNamed-none}
 use Rattle.convert.specs.Table.{Map, Slot, inOrder}
 use Rattle.convert.specs.Model.{Entry}
-use Rattle.convert.specs.Value.{isKeyText, isPref, readAs, takesType, writeAs, writtenType}
-use Rattle.convert.specs.Classify.{Id, isId, Seen, keyFrom, prefFrom, typesFrom, allowed, entryOf}
+use Rattle.convert.specs.Value.{isKeyText, isPref, writeAs, writtenType}
+use Rattle.convert.specs.Classify.{isId, Seen, prefFrom, allowed, entryOf}
 use Rattle.convert.specs.ToCard.{paramOf, entryLine}
 use Rattle.convert.proofs.Forms.{formed, typeOf, read-form, takes-written, type-lowered}
 use Rattle.convert.proofs.Types.{typeText, below, types-read}

@@ -32,7 +32,7 @@ typeOf f vs = firstOr (ascii "unknown") (writtenType f vs)
 
 -- ---- one string
 
-one-string : (P : List Bytes → Type 0) → ((v : Bytes) → P (v ∷ [])) → (vs : List Bytes) → eqb (length vs) 1 ≡ true → P vs
+pub one-string : (P : List Bytes → Type 0) → ((v : Bytes) → P (v ∷ [])) → (vs : List Bytes) → eqb (length vs) 1 ≡ true → P vs
 one-string P f [] h = not-both refl (sym h)
 one-string P f (v ∷ []) h = f v
 one-string P f (v ∷ (w ∷ ws)) h = let k = eqb-true (length (v ∷ w ∷ ws)) 1 h in absurd (omega arith)

@@ -1,25 +1,23 @@
 -- A kept entry is the line it stands for, and its JSON.
-use mathlib.Core.Path.{_≡_, refl, sym, ap, ap₂, _∙_}
-use mathlib.Core.Bool.{Bool, true, false, _&&_, _||_, not}
+use mathlib.Core.Path.{_≡_, refl, sym, ap, _∙_}
+use mathlib.Core.Bool.{true, false, _||_, not}
 use mathlib.Core.List.{List, [], _∷_, _++_, map, append-nil}
-use mathlib.Core.Option.{Option, none, some, Option·map}
-use Prim.Native.Nat.{ℕ}
-use lib.Dec.{eqb}
-use Rattle.text.specs.Choice.{pick, chain, provided, both}
+use mathlib.Core.Option.{some}
+use Rattle.text.specs.Choice.{pick}
 use Rattle.text.specs.Bytes.{Bytes, ascii, any, all, empty, same, lower, lowered, between, keep, each, flat}
-use Rattle.text.proofs.Cases.{byBool, byBelow, implied, and-left, and-right, not-true, not-both}
+use Rattle.text.proofs.Cases.{byBool, not-both}
 use Rattle.text.proofs.Same.{same-true}
-use Rattle.text.proofs.Lists.{all-head, all-tail, keep-all, keep-none, keep-append, all-not, each-map}
-use Rattle.json.specs.Tree.{Json, jnull, jtrue, jfalse, jnum, jstr, jarr, jobj, Member, member, object, array, asString, asArray, asObject, membersOf, elemsOf, fromElems, fromMembers}
+use Rattle.text.proofs.Lists.{all-head, all-tail, keep-all, keep-none, all-not, each-map}
+use Rattle.json.specs.Tree.{jstr, Member, member, object, asString}
 use Rattle.json.proofs.Listed.{members-listed, elems-listed}
-use Rattle.line.specs.Grammar.{Param, param, paramName, paramValues, Line}
+use Rattle.line.specs.Grammar.{Param, param, paramValues}
 use Rattle.line.specs.Params.{named, valuesNamed, lacking, firstOr, valueType, besidesValue, merged}
 use Rattle.line.proofs.Merging.{Settled, settled-merged}
 use Rattle.line.proofs.Named.{valuesNamed-append, lacking-append, valuesNamed-one, lacking-one, valuesNamed-none, lacking-none}
 use Rattle.convert.specs.Model.{Kept}
 use Rattle.convert.specs.Value.{filled}
 use Rattle.convert.specs.FromCard.{keptLine}
-use Rattle.convert.specs.FromJson.{isLowerWord, strings, paramFrom, isGroup, groupFrom, keptFromFour, keptFrom, keptAsLine}
+use Rattle.convert.specs.FromJson.{isLowerWord, strings, paramFrom, isGroup, groupFrom, keptFrom, keptAsLine}
 use Rattle.convert.specs.ToJson.{where′, valuesJson, paramJson, keptJson}
 
 pub record ProperKept (k : Kept) : Type 0 where

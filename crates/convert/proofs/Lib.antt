@@ -11,3 +11,15 @@ pub mod Entries
 pub mod Written
 pub mod KeptLines
 pub mod NameJson
+pub mod Flags
+pub mod EntryParts
+pub mod EntryJson
+pub mod Proper
+pub mod MapsJson
+pub mod CardParts
+pub mod CardJson
+pub mod Gains
+pub mod SameSeen
+pub mod EntryLines
+pub mod Sections
+pub mod CardLines

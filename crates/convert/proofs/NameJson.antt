@@ -1,23 +1,23 @@
 -- A name is read back from its JSON.
-use mathlib.Core.Path.{_≡_, refl, sym, ap, ap₂, _∙_}
-use mathlib.Core.Bool.{Bool, true, false, _&&_, _||_, not}
-use mathlib.Core.List.{List, [], _∷_, _++_, map, append-nil, append-assoc}
-use mathlib.Core.Option.{Option, none, some, Option·map}
-use Prim.Native.Nat.{ℕ, zero, suc}
+use mathlib.Core.Path.{_≡_, refl, sym, ap, _∙_}
+use mathlib.Core.Bool.{true, false, _||_, not}
+use mathlib.Core.List.{List, [], _∷_, _++_, map, append-nil}
+use mathlib.Core.Option.{Option, none, some}
+use Prim.Native.Nat.{ℕ, suc}
 use lib.Dec.{eqb, ltb}
 use borrow.Author.Tests.{eq-eqb, eqb-true}
 use lib.ListN.{getD}
-use Rattle.text.specs.Choice.{pick, chain, provided, both, is-some, with-some}
-use Rattle.text.specs.Bytes.{Bytes, ascii, any, all, empty, same, among, keep, each, flat}
-use Rattle.text.proofs.Cases.{byBool, byBelow, tests, or-left, or-right, not-both}
+use Rattle.text.specs.Choice.{pick, chain, is-some}
+use Rattle.text.specs.Bytes.{Bytes, ascii, any, all, empty, same, among, each, flat}
+use Rattle.text.proofs.Cases.{byBool, byBelow, or-left, or-right, not-both}
 use Rattle.text.proofs.Lists.{all-head, all-tail, flat-append, map-both, each-both}
-use Rattle.json.specs.Tree.{Json, jstr, jarr, Member, member, nameOf, object, array, field, asString, asArray, asObject}
+use Rattle.json.specs.Tree.{Json, jstr, member, object, array, field, asArray}
 use Rattle.json.proofs.Listed.{members-listed, elems-listed}
 use Rattle.convert.specs.Table.{componentKinds, position}
 use Rattle.convert.specs.Model.{hasParts, noParts}
 use Rattle.convert.specs.Value.{filled}
-use Rattle.convert.specs.FromJson.{onlyMembers, required, optional, Component, component, componentOf, ofKind, byKind, Name, isFalse, nameFrom}
-use Rattle.convert.specs.ToJson.{where′, whereSome, componentsOf, nameJson}
+use Rattle.convert.specs.FromJson.{onlyMembers, Component, component, componentOf, ofKind, byKind, nameFrom}
+use Rattle.convert.specs.ToJson.{componentsOf, nameJson}
 
 -- ---- components
 
@@ -132,7 +132,7 @@ module _ (a b c d e f g : List Bytes) where
   none-empty [] q = refl
   none-empty (v ∷ vs) q = not-both refl q
 
-  no-parts : hasParts seven ≡ false → seven ≡ noParts
+  pub no-parts : hasParts seven ≡ false → seven ≡ noParts
   unfolding hasParts any
   no-parts q =
       let qb = or-right (not (empty a)) _ q in

@@ -13,7 +13,7 @@ use Rattle.convert.specs.Table.{contextCodes, featureCodes, inOrder}
 -- ---- codes
 
 -- a code is kept exactly where it is there and passes
-any-keep : (p : ℕ → Bool) (c : ℕ) (xs : List ℕ) → any (eqb c) (keep p xs) ≡ p c && any (eqb c) xs
+pub any-keep : (p : ℕ → Bool) (c : ℕ) (xs : List ℕ) → any (eqb c) (keep p xs) ≡ p c && any (eqb c) xs
 unfolding any keep
 any-keep p c [] = byBool (p c) (λ e. rw e) (λ e. rw e)
 any-keep p c (x ∷ xs) =
@@ -29,7 +29,7 @@ keep-both p q [] h = refl
 keep-both p q (x ∷ xs) h =
     byBool (p x) (λ e. rw (e, all-head q x xs h, keep-both p q xs (all-tail q x xs h))) (λ e. rw (e, keep-both p q xs (all-tail q x xs h)))
 
-abbrev codes : List ℕ
+abbrev pub codes : List ℕ
 codes = contextCodes ++ featureCodes
 
 in-table : all (λ c. any (eqb c) codes) codes ≡ true

@@ -1,17 +1,16 @@
 -- TYPE: codes of the table are written as their names and read back.
-use mathlib.Core.Path.{_≡_, refl, sym, ap, ap₂, _∙_}
-use mathlib.Core.Bool.{Bool, true, false, _&&_}
-use mathlib.Core.List.{List, [], _∷_, _++_, map}
-use mathlib.Core.Option.{Option, none, some, Option·map}
-use Prim.Native.Nat.{ℕ, suc, _<_}
-use native.Mathlib.Omega.{arith}
+use mathlib.Core.Path.{_≡_, refl}
+use mathlib.Core.Bool.{Bool, true}
+use mathlib.Core.List.{List, [], _∷_, map}
+use mathlib.Core.Option.{Option, none, some}
+use Prim.Native.Nat.{ℕ}
 use lib.ListN.{getD, take}
-use lib.Dec.{eqb, ltb}
-use Rattle.text.specs.Choice.{pick, both, with-some}
-use Rattle.text.specs.Bytes.{Bytes, ascii, all, same, lower, lowered, between, onHead, parts, flat, each}
-use Rattle.text.proofs.Cases.{byBool, byBelow, upTo, tests, not-both}
+use lib.Dec.{ltb}
+use Rattle.text.specs.Choice.{pick}
+use Rattle.text.specs.Bytes.{Bytes, all, same, lower, lowered, between, onHead, parts, flat, each}
+use Rattle.text.proofs.Cases.{byBelow, upTo, tests, not-both}
 use Rattle.text.proofs.Lists.{all-head, all-tail}
-use Rattle.convert.specs.Table.{TypeName, type-name, typeNames, vcardType, jsonType, position, inOrder}
+use Rattle.convert.specs.Table.{type-name, typeNames, vcardType, position, inOrder}
 use Rattle.convert.specs.Classify.{typesFrom}
 
 abbrev pub typeText : ℕ → Bytes

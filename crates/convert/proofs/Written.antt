@@ -1,26 +1,21 @@
 -- What written lines are classed as: FN, N, JSPROP.
-use mathlib.Core.Path.{_≡_, refl, sym, ap, ap₂, _∙_}
-use mathlib.Core.Bool.{Bool, true, false, _&&_, _||_, not}
-use mathlib.Core.List.{List, [], _∷_, _++_, map}
-use mathlib.Core.Option.{Option, none, some}
-use Rattle.text.specs.Choice.{pick, chain, provided, with-some}
-use Rattle.text.specs.Bytes.{Bytes, ascii, any, all, empty, same, among, lower, lowered, between, joined, flat, keep}
-use Rattle.text.proofs.Cases.{byBool, not-both}
-use Rattle.json.specs.Tree.{Json, Member, member}
+use mathlib.Core.Path.{_≡_, refl, ap, _∙_}
+use mathlib.Core.Bool.{true, false}
+use mathlib.Core.List.{List, [], _∷_}
+use mathlib.Core.Option.{some}
+use Rattle.text.specs.Bytes.{Bytes, ascii, any, all, empty, same, among, lower, lowered, between, flat, keep}
+use Rattle.json.specs.Tree.{Json, member}
 use Rattle.json.specs.Compact.{compact}
-use Rattle.json.specs.Read.{reading, tree}
 use Rattle.json.proofs.Sound.{Sound}
 use Rattle.json.proofs.Trees.{reading-compact}
-use Rattle.line.specs.Grammar.{Param, param, Line}
+use Rattle.line.specs.Grammar.{Param, param}
 use Rattle.line.specs.Params.{named, valuesNamed, lacking, onlyNamed, valueType, besidesValue}
-use Rattle.line.specs.Text.{readText, writeText}
+use Rattle.line.specs.Text.{writeText}
 use Rattle.line.proofs.Texts.{read-write}
-use Rattle.convert.specs.Table.{reserved, slotOf}
-use Rattle.convert.specs.Model.{hasParts}
-use Rattle.convert.specs.Value.{filled, readName, writeName}
-use Rattle.convert.specs.Carry.{apart}
-use Rattle.convert.specs.Pointer.{pointed, pointer}
-use Rattle.convert.specs.Classify.{Class, as-version, as-uid, as-kind, as-dropped, as-full, as-parts, as-member, as-kept, Seen, isDerived, fullClass, partsClass, memberName, memberValue, memberClass, classify}
+use Rattle.convert.specs.Table.{reserved}
+use Rattle.convert.specs.Value.{readName, writeName}
+use Rattle.convert.specs.Pointer.{pointer}
+use Rattle.convert.specs.Classify.{as-version, as-uid, as-kind, as-dropped, as-full, as-parts, as-member, Seen, isDerived, fullClass, partsClass, memberName, memberValue, memberClass, classify}
 use Rattle.convert.specs.ToCard.{property, derivedLine, memberLine}
 use Rattle.convert.proofs.Pointers.{pointed-pointer}
 

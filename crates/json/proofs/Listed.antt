@@ -1,9 +1,8 @@
 -- Members and elements as lists, and members by name.
-use mathlib.Core.Path.{_≡_, refl, sym, ap, ap₂, _∙_}
-use mathlib.Core.Bool.{Bool, true, false, _||_}
+use mathlib.Core.Path.{_≡_, refl, ap}
+use mathlib.Core.Bool.{true, false}
 use mathlib.Core.List.{List, [], _∷_, _++_, map}
 use mathlib.Core.Option.{Option, none, some}
-use Rattle.text.specs.Choice.{pick}
 use Rattle.text.specs.Bytes.{Bytes, any, same, among}
 use Rattle.text.proofs.Cases.{byBool, or-left, or-right}
 use Rattle.text.proofs.Same.{same-swap}

@@ -1,11 +1,8 @@
 -- Parameters by name in a list that is put together of parts.
-use mathlib.Core.Path.{_≡_, refl, sym, ap, ap₂, _∙_}
-use mathlib.Core.Bool.{Bool, true, false, _&&_, not}
-use mathlib.Core.List.{List, [], _∷_, _++_, map, append-nil, append-assoc}
-use Rattle.text.specs.Choice.{pick}
+use mathlib.Core.Path.{_≡_, refl, ap}
+use mathlib.Core.Bool.{true, false, _&&_, not}
+use mathlib.Core.List.{List, [], _∷_, _++_, map, append-nil}
 use Rattle.text.specs.Bytes.{Bytes, all, same, lowered, among, flat, keep}
-use Rattle.text.proofs.Cases.{byBool}
-use Rattle.text.proofs.Same.{same-eq}
 use Rattle.text.proofs.Lists.{keep-append, all-append, flat-append}
 use Rattle.line.specs.Grammar.{Param, param, paramName, paramValues}
 use Rattle.line.specs.Params.{named, valuesNamed, lacking, onlyNamed}

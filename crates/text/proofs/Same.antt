@@ -1,5 +1,5 @@
 -- Equal bytes: `same` decides equality; membership by it.
-use mathlib.Core.Path.{_≡_, refl, sym, ap₂, _∙_}
+use mathlib.Core.Path.{_≡_, refl, sym, ap₂, _∙_, subst}
 use mathlib.Core.Bool.{true, false, _||_}
 use mathlib.Core.List.{List, [], _∷_, _++_}
 use lib.Dec.{eqb}
@@ -55,3 +55,13 @@ pub among-all : (ss ts : List Bytes) → ((s : Bytes) → among s ss ≡ true �
 unfolding all
 among-all [] ts h = refl
 among-all (s ∷ ss) ts h = rw (h s (among-head s ss)) (among-all ss ts (λ u q. h u (among-later u s ss q)))
+
+-- what holds of each holds of one among them
+abbrev pub OfAll : (Bytes → Type 0) → List Bytes → Type 0
+OfAll P [] = Unit {0}
+OfAll P (s ∷ ss) = P s × OfAll P ss
+
+pub among-of : (P : Bytes → Type 0) (ss : List Bytes) → OfAll P ss → (s : Bytes) → among s ss ≡ true → P s
+unfolding among any
+among-of P [] h s e = not-both refl (sym e)
+among-of P (t ∷ ss) h s e = byBool (same s t) (λ q. subst P (sym (same-true s t q)) (h .0)) (λ q. among-of P ss (h .1) s (rw q at e))
