@@ -9,3 +9,5 @@ pub mod Cases
 pub mod Types
 pub mod Entries
 pub mod Written
+pub mod KeptLines
+pub mod NameJson

@@ -9,3 +9,4 @@ pub mod Whole
 pub mod Decoded
 pub mod Scalars
 pub mod Given
+pub mod Listed

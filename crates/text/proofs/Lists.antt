@@ -1,9 +1,10 @@
 -- any, all, keep and each over lists.
-use mathlib.Core.Path.{_≡_, refl, ap}
+use mathlib.Core.Path.{_≡_, refl, ap, _∙_}
 use mathlib.Core.Bool.{Bool, true, false, _&&_, _||_, not}
 use mathlib.Core.List.{List, [], _∷_, _++_, map, append-assoc}
 use mathlib.Core.Option.{Option, none, some}
 use Rattle.text.specs.Bytes.{any, all, keep, flat, each}
+use Rattle.text.proofs.Choices.{some-same, both-inv}
 use Rattle.text.proofs.Cases.{byBool, and-left, and-right, or-left, or-right}
 
 module _ {A : Type 0} (p : A → Bool) where
@@ -124,3 +125,14 @@ pub each-map : {A B : Type 0} (f : A → B) (g : B → Option A) → ((a : A) �
 unfolding each
 each-map f g h [] = refl
 each-map f g h (x ∷ xs) = rw (h x, each-map f g h xs)
+
+pub map-both : {A B : Type 0} (f : A → B) (xs ys : List A) → map f (xs ++ ys) ≡ map f xs ++ map f ys
+map-both f [] ys = refl
+map-both f (x ∷ xs) ys = ap (λ (l : List _). f x ∷ l) (map-both f xs ys)
+
+pub each-both : {A B : Type 0} (f : A → Option B) (xs ys : List A) (us vs : List B) → each f xs ≡ some us → each f ys ≡ some vs → each f (xs ++ ys) ≡ some (us ++ vs)
+unfolding each
+each-both f [] ys us vs p q = q ∙ ap (λ l. some (l ++ vs)) (some-same p)
+each-both f (x ∷ xs) ys us vs p q =
+    let i = both-inv _∷_ (f x) (each f xs) p in
+    rw (i .2, each-both f xs ys (i .1) vs (i .3) q) (ap (λ l. some (l ++ vs)) (i .4))
