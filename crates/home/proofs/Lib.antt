@@ -1,2 +1,4 @@
 pub mod Alls
 pub mod SoundLists
+pub mod Places
+pub mod JsonTexts
