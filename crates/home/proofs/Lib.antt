@@ -2,3 +2,4 @@ pub mod Alls
 pub mod SoundLists
 pub mod Places
 pub mod JsonTexts
+pub mod JsonEntries
