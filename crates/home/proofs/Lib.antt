@@ -5,3 +5,5 @@ pub mod JsonTexts
 pub mod JsonEntries
 pub mod Words
 pub mod Stands
+pub mod JsonKept
+pub mod JsonProper

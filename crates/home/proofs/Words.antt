@@ -40,6 +40,10 @@ lower-names (c ∷ s) h = ap₂ _∷_ (lower-name c (all-head isLowerName c s h)
 pub word-lowered : (s : Bytes) → isLowerWord s ≡ true → lowered s ≡ s
 word-lowered s h = lower-names s (and-right (not (empty s)) _ h)
 
+pub or-word : (s : Bytes) → isLowerWord s ≡ true → empty s || isLowerWord s ≡ true
+or-word [] h = refl
+or-word (c ∷ s) h = h
+
 -- ---- settled parameters
 
 abbrev Lowered : Param → Type 0
