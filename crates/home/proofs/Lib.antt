@@ -7,3 +7,4 @@ pub mod Words
 pub mod Stands
 pub mod JsonKept
 pub mod JsonProper
+pub mod Clean
