@@ -8,3 +8,4 @@ pub mod Stands
 pub mod JsonKept
 pub mod JsonProper
 pub mod Clean
+pub mod CleanLines
