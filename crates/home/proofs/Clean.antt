@@ -17,7 +17,7 @@ use Rattle.line.specs.Class.{isControl}
 
 -- ---- what is due after some bytes
 
-later-next : (d : Due) (c : ℕ) → later d ≡ true → later (next d c) ≡ true
+pub later-next : (d : Due) (c : ℕ) → later d ≡ true → later (next d c) ≡ true
 unfolding next
 later-next start c l = later-lead c
 later-next (due low high k) c l =

@@ -9,3 +9,4 @@ pub mod JsonKept
 pub mod JsonProper
 pub mod Clean
 pub mod CleanLines
+pub mod CleanTexts
