@@ -1,0 +1,12 @@
+pub mod Alls
+pub mod SoundLists
+pub mod Places
+pub mod JsonTexts
+pub mod JsonEntries
+pub mod Words
+pub mod Stands
+pub mod JsonKept
+pub mod JsonProper
+pub mod Clean
+pub mod CleanLines
+pub mod CleanTexts
