@@ -10,3 +10,4 @@ pub mod JsonProper
 pub mod Clean
 pub mod CleanLines
 pub mod CleanTexts
+pub mod Bridge
