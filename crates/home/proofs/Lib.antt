@@ -11,3 +11,9 @@ pub mod Clean
 pub mod CleanLines
 pub mod CleanTexts
 pub mod Bridge
+pub mod Sublists
+pub mod SoundCard
+pub mod SoundEntries
+pub mod SoundTree
+pub mod SoundWhole
+pub mod JsonHome

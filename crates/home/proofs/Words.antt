@@ -6,15 +6,17 @@ use Prim.Native.Nat.{ℕ, _+_}
 use lib.Dec.{eqb, ltb}
 use Rattle.text.specs.Choice.{pick}
 use Rattle.text.specs.Bytes.{Bytes, any, all, empty, same, among, distinct, between, isLower, isDigit, lower, lowered}
-use Rattle.text.proofs.Cases.{byBool, byBelow, tests, beyond, and-left, and-right, or-left, or-right, not-true}
+use Rattle.text.proofs.Cases.{byBool, byBelow, tests, beyond, and-left, and-right, or-left, or-right, not-true, not-both}
 use Rattle.text.proofs.Same.{same-swap}
-use Rattle.text.proofs.Lists.{all-head, all-tail}
+use Rattle.text.proofs.Lists.{all-head, all-tail, all-imply}
 use Rattle.line.specs.Class.{isLowerName}
 use Rattle.line.specs.Grammar.{Param, param, paramName}
 use Rattle.line.specs.Params.{named}
 use Rattle.line.proofs.Merging.{Settled}
 use Rattle.convert.specs.FromJson.{isLowerWord}
+use Rattle.text.specs.Utf8.{utf8}
 use Rattle.home.proofs.Alls.{All}
+use Rattle.home.proofs.Clean.{isAscii, ascii-utf8}
 
 -- ---- lower case
 
@@ -60,3 +62,11 @@ unfolding distinct
 distinct-settled [] h e = tt
 distinct-settled (param n vs ∷ ps) h e =
     (h .0, none-named n ps (h .1) (not-true (among n (map paramName ps)) (and-left _ _ e)), distinct-settled ps (h .1) (and-right (not (among n (map paramName ps))) _ e))
+
+-- ---- words are ASCII
+
+lower-ascii : (c : ℕ) → isLowerName c ≡ true → isAscii c ≡ true
+lower-ascii c h = byBool (isAscii c) (λ e. e) (λ e. not-both h (no-name c e))
+
+pub name-utf8 : (s : Bytes) → isLowerWord s ≡ true → utf8 s ≡ true
+name-utf8 s h = ascii-utf8 s (all-imply isLowerName isAscii lower-ascii s (and-right (not (empty s)) _ h))
