@@ -17,3 +17,5 @@ pub mod SoundEntries
 pub mod SoundTree
 pub mod SoundWhole
 pub mod JsonHome
+pub mod Seeking
+pub mod Accepted
