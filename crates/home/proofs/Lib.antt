@@ -1,0 +1,5 @@
+pub mod Known
+pub mod Images
+pub mod Places
+pub mod Shapes
+pub mod NormalJsonName
