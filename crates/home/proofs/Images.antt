@@ -42,3 +42,7 @@ all-anything (x ∷ xs) = all-anything xs
 pub empty-map : {A B : Type 0} (f : A → B) (xs : List A) → empty (map f xs) ≡ empty xs
 empty-map f [] = refl
 empty-map f (x ∷ xs) = refl
+
+pub map-append : {A B : Type 0} (f : A → B) (xs ys : List A) → map f (xs ++ ys) ≡ map f xs ++ map f ys
+map-append f [] ys = refl
+map-append {A} {B} f (x ∷ xs) ys = ap (λ (l : List B). f x ∷ l) (map-append f xs ys)

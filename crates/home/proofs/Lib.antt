@@ -3,3 +3,7 @@ pub mod Images
 pub mod Places
 pub mod Shapes
 pub mod NormalJsonName
+pub mod NormalJsonFlags
+pub mod NormalJsonEntries
+pub mod NormalJsonKept
+pub mod NormalJson

@@ -9,7 +9,7 @@ use lib.Dec.{eqb, ltb}
 use borrow.Author.Tests.{eqb-true}
 use Rattle.text.specs.Choice.{pick, with-some, is-some, both, chain, provided}
 use Rattle.text.specs.Bytes.{Bytes, ascii, any, empty, same, flat, keep, each}
-use Rattle.text.proofs.Cases.{byBool, byBelow, not-both, and-left}
+use Rattle.text.proofs.Cases.{byBool, byBelow, upTo, not-both, and-left}
 use Rattle.json.specs.Tree.{Json, jstr, Member, member, field, object, array, asString, asArray, asObject}
 use Rattle.convert.specs.Table.{componentKinds, position}
 use Rattle.convert.specs.Model.{hasParts, noParts}
@@ -33,10 +33,7 @@ component-json k v = object (member (ascii "kind") (jstr k) ∷ member (ascii "v
 same-kind : (i k : ℕ) → ltb i 7 ≡ true → ltb k 7 ≡ true → same (kindAt i) (kindAt k) ≡ eqb i k
 unfolding same
 same-kind i k h l =
-    byBelow (λ i. same (kindAt i) (kindAt k)) (λ i. eqb i k) i 7 (byBelow (λ k. map (λ i. same (kindAt i) (kindAt k)) upSeven) (λ k. map (λ i. eqb i k) upSeven) k 7 refl (λ n. not-both l n)) (λ n. not-both h n)
-  where
-    upSeven : List ℕ
-    upSeven = 6 ∷ 5 ∷ 4 ∷ 3 ∷ 2 ∷ 1 ∷ 0 ∷ []
+    byBelow (λ i. same (kindAt i) (kindAt k)) (λ i. eqb i k) i 7 (byBelow (λ k. map (λ i. same (kindAt i) (kindAt k)) (upTo 7)) (λ k. map (λ i. eqb i k) (upTo 7)) k 7 refl (λ n. not-both l n)) (λ n. not-both h n)
 
 -- the object that a component is, seen through its members
 abbrev Shown : Json → ℕ → Bytes → Type 0

@@ -11,7 +11,8 @@ use Rattle.json.specs.Tree.{Json, jnull, jtrue, jfalse, jnum, jstr, jarr, jobj,
 use Rattle.json.specs.Strings.{names, distinctNames, distinctElems, distinctMembers}
 use Rattle.convert.specs.FromJson.{isTrue}
 use Rattle.convert.specs.ToJson.{where′}
-use Rattle.convert.specs.NormalJson.{unlessGone}
+use Rattle.convert.specs.NormalJson.{unlessGone, fieldsOf, itemsOf}
+use Rattle.home.proofs.Known.{onSome}
 
 -- ---- by kind
 
@@ -110,3 +111,43 @@ pub from-elems : (es : Elems) → fromElems (elemsOf es) ≡ es
 unfolding fromElems elemsOf
 from-elems enil = refl
 from-elems (econs j es) = ap (econs j) (from-elems es)
+
+-- ---- distinct names below
+
+pub items-distinct : (j : Json) → distinctNames j ≡ true → all distinctNames (itemsOf j) ≡ true
+unfolding all
+items-distinct jnull h = refl
+items-distinct jtrue h = refl
+items-distinct jfalse h = refl
+items-distinct (jnum x) h = refl
+items-distinct (jstr s) h = refl
+items-distinct (jarr es) h = array-distinct es h
+items-distinct (jobj ms) h = refl
+
+pub fields-distinct : (j : Json) → distinctNames j ≡ true → all (λ m. distinctNames (valueOf m)) (fieldsOf j) ≡ true
+unfolding all
+fields-distinct jnull h = refl
+fields-distinct jtrue h = refl
+fields-distinct jfalse h = refl
+fields-distinct (jnum x) h = refl
+fields-distinct (jstr s) h = refl
+fields-distinct (jarr es) h = refl
+fields-distinct (jobj ms) h = object-distinct ms h .1
+
+pub field-items : (n : Bytes) (ms : List Member) → all (λ m. distinctNames (valueOf m)) ms ≡ true → all distinctNames (with-some (field n ms) itemsOf []) ≡ true
+unfolding all
+field-items n ms h = onSome (field n ms) (λ e. rw e) (λ j e. rw e (items-distinct j (field-passes distinctNames n ms j h e)))
+
+pub field-fields : (n : Bytes) (ms : List Member) → all (λ m. distinctNames (valueOf m)) ms ≡ true → all (λ m. distinctNames (valueOf m)) (with-some (field n ms) fieldsOf []) ≡ true
+unfolding all
+field-fields n ms h = onSome (field n ms) (λ e. rw e) (λ j e. rw e (fields-distinct j (field-passes distinctNames n ms j h e)))
+
+pub fields-names : (j : Json) → distinctNames j ≡ true → distinct (map nameOf (fieldsOf j)) ≡ true
+unfolding distinct
+fields-names jnull h = refl
+fields-names jtrue h = refl
+fields-names jfalse h = refl
+fields-names (jnum x) h = refl
+fields-names (jstr s) h = refl
+fields-names (jarr es) h = refl
+fields-names (jobj ms) h = object-distinct ms h .0
