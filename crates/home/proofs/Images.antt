@@ -30,6 +30,11 @@ module _ {A B C : Type 0} (f : A → Option B) (q : A → Bool) (g : B → C) (h
       step : (z : B) (zs : List B) → (p z ≡ r x) × (g z ≡ h x) → map g (keep p zs) ≡ map h (keep r xs) → map g (keep p (z ∷ zs)) ≡ map h (keep r (x ∷ xs))
       step z zs w k = rw (w .0) (byBool (r x) (λ t. rw t (ap₂ _∷_ (w .1) k)) (λ t. rw t k))
 
+abbrev pub AtMostOne : {A : Type 0} → List A → Type 0
+AtMostOne [] = Unit {0}
+AtMostOne (x ∷ []) = Unit {0}
+AtMostOne (x ∷ (y ∷ ys)) = ⊥
+
 pub map-id : {A : Type 0} (xs : List A) → map (λ x. x) xs ≡ xs
 map-id [] = refl
 map-id {A} (x ∷ xs) = ap (λ (l : List A). x ∷ l) (map-id xs)

@@ -7,3 +7,4 @@ pub mod NormalJsonFlags
 pub mod NormalJsonEntries
 pub mod NormalJsonKept
 pub mod NormalJson
+pub mod Classes

@@ -18,7 +18,7 @@ use Rattle.convert.specs.FromJson.{isLowerWord, strings, paramFrom, isGroup, gr
 use Rattle.convert.specs.ToJson.{where′, valuesJson, paramJson, keptJson}
 use Rattle.convert.specs.NormalJson.{fieldsOf, itemsOf, unlessGone, oneAsString, paramForm, isGroupMember, paramsForm, keptTree}
 use Rattle.home.proofs.Known.{onProvided, onChain, onMap, onNone, onEach, onOptional}
-use Rattle.home.proofs.Images.{each-same, each-keep, map-append, all-anything, empty-map}
+use Rattle.home.proofs.Images.{AtMostOne, each-same, each-keep, map-append, all-anything, empty-map}
 use Rattle.home.proofs.Shapes.{string-inv, gone, items-distinct, field-items, fields-names}
 
 -- ---- one parameter
@@ -49,11 +49,6 @@ param-form : (x : Member) (p : Param) → paramFrom x ≡ some p → (paramName 
 param-form (member n j) p e = onMap (λ vs. param n vs) (strings j) e λ vs q r. rw (← r) (refl, ap (member n) (string-form j vs q))
 
 -- ---- the group
-
-abbrev AtMostOne : {A : Type 0} → List A → Type 0
-AtMostOne [] = Unit {0}
-AtMostOne (x ∷ []) = Unit {0}
-AtMostOne (x ∷ (y ∷ ys)) = ⊥
 
 module _ {A : Type 0} (f : A → Bytes) (k : Bytes) where
   none-named : (xs : List A) → among k (map f xs) ≡ false → any (λ x. same (f x) k) xs ≡ false
