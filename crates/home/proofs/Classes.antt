@@ -3,11 +3,11 @@ use mathlib.Core.Path.{_≡_, refl, sym, ap, ap₂, _∙_}
 use mathlib.Core.Bool.{Bool, true, false, _&&_, not}
 use mathlib.Core.List.{List, [], _∷_, _++_, map}
 use mathlib.Core.Option.{Option, none, some}
-use Prim.Native.Nat.{ℕ}
-use lib.Dec.{eqb}
+use Prim.Native.Nat.{ℕ, _+_}
+use lib.Dec.{eqb, ltb}
 use Rattle.text.specs.Choice.{pick, with-some, provided}
 use Rattle.text.specs.Bytes.{Bytes, ascii, empty, same, lowered, flat, keep}
-use Rattle.text.proofs.Cases.{byBool, and-right, not-true}
+use Rattle.text.proofs.Cases.{byBool, and-right, not-true, testing}
 use Rattle.json.specs.Tree.{Json}
 use Rattle.line.specs.Grammar.{Line}
 use Rattle.line.specs.Params.{besidesValue}
@@ -92,3 +92,7 @@ module _ {A C : Type 0} (f : Gives → List A) (n : Section) (G : A → C) (F : 
   unfolding gathered section classedAfter flat keep
   gathered-section h s [] = refl
   gathered-section h s (l ∷ ls) = step l (classify s l) (classedAfter (see s (classify s l)) ls) (h s l (classify s l) (class-fact s l)) (gathered-section h (see s (classify s l)) ls)
+
+-- the section of a map is none of the six others
+pub elsewhere : (i k : ℕ) → ltb k 7 ≡ true → eqb (7 + i) k ≡ false
+elsewhere i k h = omega testing

@@ -8,3 +8,5 @@ pub mod NormalJsonEntries
 pub mod NormalJsonKept
 pub mod NormalJson
 pub mod Classes
+pub mod Once
+pub mod NormalCardHead
