@@ -10,3 +10,4 @@ pub mod NormalJson
 pub mod Classes
 pub mod Once
 pub mod NormalCardHead
+pub mod NormalCardName

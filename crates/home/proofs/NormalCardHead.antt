@@ -20,7 +20,7 @@ use Rattle.convert.specs.Answers.{secondFrom, emptied, isNamed}
 use Rattle.convert.specs.NormalCard.{plainLine, uids, kinds, sectionNumber, sectionOf, section, orMade}
 use Rattle.home.proofs.Images.{AtMostOne, empty-map}
 use Rattle.home.proofs.Classes.{Fact, Agrees, gathered-section, elsewhere}
-use Rattle.home.proofs.Once.{Few, ByName, one-named, gathered-all}
+use Rattle.home.proofs.Once.{ByName, few, one-named, gathered-all}
 
 -- one value, or a made one
 pub one-or-made : {A : Type 0} (G : A → Line) (xs : List A) (d : A) → AtMostOne xs → orMade (map G xs) (G d) ≡ G (orElse (firstOf xs) d) ∷ []
@@ -55,23 +55,12 @@ uid-named s l (as-entry i e) h n = refl
 uid-named s l (as-member m j) h n = refl
 uid-named s l as-kept h n = refl
 
-uid-few : Few (λ (g : Gives). g .uid)
-uid-few l as-version = tt
-uid-few l (as-uid v) = tt
-uid-few l (as-kind v) = tt
-uid-few l as-dropped = tt
-uid-few l (as-full v) = tt
-uid-few l (as-parts ps) = tt
-uid-few l (as-entry i e) = tt
-uid-few l (as-member m j) = tt
-uid-few l as-kept = tt
-
 pub uid-part : (stem : Bytes) (n : ℕ) (s : Seen) (ls : List Line) → secondFrom 1 [] ls ≡ none
     → uid-line (orElse (firstOf (gathered (λ (g : Gives). g .uid) (classedAfter s ls))) (madeUid stem n)) ∷ []
     ≡ orMade (map (λ (l : Line). plainLine (ascii "uid") [] (l .value)) (section uids (classedAfter s ls))) (plainLine (ascii "uid") [] (stem ++ 45 ∷ decimal n))
 unfolding madeUid same among any
 uid-part stem n s ls h =
-    sym (one-or-made uid-line (gathered (λ (g : Gives). g .uid) (classedAfter s ls)) (madeUid stem n) (one-named (λ (g : Gives). g .uid) (ascii "uid") uid-named uid-few refl 1 [] s ls h))
+    sym (one-or-made uid-line (gathered (λ (g : Gives). g .uid) (classedAfter s ls)) (madeUid stem n) (one-named (λ (g : Gives). g .uid) (ascii "uid") uid-named (λ l c. few l c .0) refl 1 [] s ls h))
     ∙ ap (λ (x : List Line). orMade x (uid-line (stem ++ 45 ∷ decimal n))) (gathered-section (λ (g : Gives). g .uid) uids uid-line (λ (l : Line). uid-line (l .value)) uid-agrees s ls)
 
 -- ---- KIND
@@ -100,17 +89,6 @@ kind-named s l (as-parts ps) h n = refl
 kind-named s l (as-entry i e) h n = refl
 kind-named s l (as-member m j) h n = refl
 kind-named s l as-kept h n = refl
-
-kind-few : Few (λ (g : Gives). g .kind)
-kind-few l as-version = tt
-kind-few l (as-uid v) = tt
-kind-few l (as-kind v) = tt
-kind-few l as-dropped = tt
-kind-few l (as-full v) = tt
-kind-few l (as-parts ps) = tt
-kind-few l (as-entry i e) = tt
-kind-few l (as-member m j) = tt
-kind-few l as-kept = tt
 
 -- KIND has a value
 valued : (l : Line) → isNamed (ascii "kind") l ≡ true → emptied l ≡ false → filled (lowered (l .value)) ≡ true
@@ -142,5 +120,5 @@ pub kind-part : (s : Seen) (ls : List Line) → secondFrom 1 [] ls ≡ none → 
     ≡ map (λ (l : Line). plainLine (ascii "kind") [] (lowered (l .value))) (section kinds (classedAfter s ls))
 unfolding same among any
 kind-part s ls h e =
-    kind-there (gathered (λ (g : Gives). g .kind) (classedAfter s ls)) (one-named (λ (g : Gives). g .kind) (ascii "kind") kind-named kind-few refl 1 [] s ls h) (gathered-all (λ (g : Gives). g .kind) filled emptied kind-filled s ls e)
+    kind-there (gathered (λ (g : Gives). g .kind) (classedAfter s ls)) (one-named (λ (g : Gives). g .kind) (ascii "kind") kind-named (λ l c. few l c .1) refl 1 [] s ls h) (gathered-all (λ (g : Gives). g .kind) filled emptied kind-filled s ls e)
     ∙ gathered-section (λ (g : Gives). g .kind) kinds kind-line (λ (l : Line). kind-line (lowered (l .value))) kind-agrees s ls

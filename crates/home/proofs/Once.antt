@@ -11,7 +11,7 @@ use Rattle.text.proofs.Choices.{none-some}
 use Rattle.text.proofs.Lists.{all-both, any-head, any-tail}
 use Rattle.text.proofs.Same.{same-true, same-eq, among-head, among-later}
 use Rattle.line.specs.Grammar.{Line}
-use Rattle.convert.specs.Classify.{Class, Seen, see, classify, Classed, classedAfter}
+use Rattle.convert.specs.Classify.{Class, as-version, as-uid, as-kind, as-dropped, as-full, as-parts, as-entry, as-member, as-kept, Seen, see, classify, Classed, classedAfter}
 use Rattle.convert.specs.FromCard.{Gives, gives, gathered}
 use Rattle.convert.specs.Answers.{secondFrom}
 use Rattle.home.proofs.Images.{AtMostOne}
@@ -19,6 +19,18 @@ use Rattle.home.proofs.Classes.{Fact, class-fact}
 
 few-append : {A : Type 0} (xs ys : List A) → AtMostOne xs → ys ≡ [] → AtMostOne (xs ++ ys)
 few-append xs ys h e = rw (e, append-nil xs) h
+
+-- a line gives one thing at most
+pub few : (l : Line) (c : Class) → AtMostOne (gives l c .uid) × AtMostOne (gives l c .kind) × AtMostOne (gives l c .full) × AtMostOne (gives l c .parts)
+few l as-version = (tt, tt, tt, tt)
+few l (as-uid v) = (tt, tt, tt, tt)
+few l (as-kind v) = (tt, tt, tt, tt)
+few l as-dropped = (tt, tt, tt, tt)
+few l (as-full v) = (tt, tt, tt, tt)
+few l (as-parts ps) = (tt, tt, tt, tt)
+few l (as-entry i e) = (tt, tt, tt, tt)
+few l (as-member m j) = (tt, tt, tt, tt)
+few l as-kept = (tt, tt, tt, tt)
 
 -- ---- no second line of that name
 
