@@ -93,6 +93,14 @@ module _ {A C : Type 0} (f : Gives → List A) (n : Section) (G : A → C) (F : 
   gathered-section h s [] = refl
   gathered-section h s (l ∷ ls) = step l (classify s l) (classedAfter (see s (classify s l)) ls) (h s l (classify s l) (class-fact s l)) (gathered-section h (see s (classify s l)) ls)
 
+-- what lines give, by a form of each line
+pub gathered-forms : {A C : Type 0} (f : Gives → List A) (G : A → C) (K : Classed → List C) → ((s : Seen) (l : Line) (c : Class) → Fact s l c → map G (f (gives l c)) ≡ K (record { line = l; class = c }))
+    → (s : Seen) (ls : List Line) → map G (gathered f (classedAfter s ls)) ≡ flat (map K (classedAfter s ls))
+unfolding gathered classedAfter flat
+gathered-forms f G K h s [] = refl
+gathered-forms f G K h s (l ∷ ls) =
+    map-append G (f (gives l (classify s l))) _ ∙ ap₂ _++_ (h s l (classify s l) (class-fact s l)) (gathered-forms f G K h (see s (classify s l)) ls)
+
 -- the section of a map is none of the six others
 pub elsewhere : (i k : ℕ) → ltb k 7 ≡ true → eqb (7 + i) k ≡ false
 elsewhere i k h = omega testing

@@ -51,3 +51,28 @@ empty-map f (x ∷ xs) = refl
 pub map-append : {A B : Type 0} (f : A → B) (xs ys : List A) → map f (xs ++ ys) ≡ map f xs ++ map f ys
 map-append f [] ys = refl
 map-append {A} {B} f (x ∷ xs) ys = ap (λ (l : List B). f x ∷ l) (map-append f xs ys)
+
+pub map-map : {A B C : Type 0} (g : B → C) (f : A → B) (xs : List A) → map g (map f xs) ≡ map (λ x. g (f x)) xs
+map-map g f [] = refl
+map-map {A} {B} {C} g f (x ∷ xs) = ap (λ (l : List C). g (f x) ∷ l) (map-map g f xs)
+
+-- what is kept of images
+pub keep-map : {A B : Type 0} (p : B → Bool) (f : A → B) (xs : List A) → keep p (map f xs) ≡ map f (keep (λ x. p (f x)) xs)
+unfolding keep
+keep-map p f [] = refl
+keep-map {A} {B} p f (x ∷ xs) = byBool (p (f x)) (λ e. rw e (ap (λ (l : List B). f x ∷ l) (keep-map p f xs))) (λ e. rw e (keep-map p f xs))
+
+-- two tests that agree where a third holds
+pub keep-agree : {A : Type 0} (r p q : A → Bool) → ((x : A) → r x ≡ true → p x ≡ q x) → (xs : List A) → all r xs ≡ true → keep p xs ≡ keep q xs
+unfolding keep
+keep-agree r p q h [] a = refl
+keep-agree r p q h (x ∷ xs) a = rw (h x (all-head r x xs a), keep-agree r p q h xs (all-tail r x xs a))
+
+-- the weaker test first changes nothing
+pub keep-weaker : {A : Type 0} (p q : A → Bool) → ((x : A) → p x ≡ true → q x ≡ true) → (xs : List A) → keep p (keep q xs) ≡ keep p xs
+unfolding keep
+keep-weaker p q h [] = refl
+keep-weaker {A} p q h (x ∷ xs) =
+    byBool (p x)
+    (λ e. rw (h x e, e) (ap (λ (l : List A). x ∷ l) (keep-weaker p q h xs)))
+    (λ e. byBool (q x) (λ f. rw (f, e, keep-weaker p q h xs)) (λ f. rw (f, e, keep-weaker p q h xs)))

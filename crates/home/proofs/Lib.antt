@@ -11,3 +11,6 @@ pub mod Classes
 pub mod Once
 pub mod NormalCardHead
 pub mod NormalCardName
+pub mod NormalCardRest
+pub mod NormalCardTypes
+pub mod NormalCardValues
