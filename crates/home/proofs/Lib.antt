@@ -14,3 +14,6 @@ pub mod NormalCardName
 pub mod NormalCardRest
 pub mod NormalCardTypes
 pub mod NormalCardValues
+pub mod NormalCardEntries
+pub mod NormalCardMaps
+pub mod NormalCard

@@ -164,7 +164,7 @@ full-there [] d h = refl
 full-there (v ∷ []) d h = refl
 full-there (v ∷ (w ∷ vs)) d h = absurd h
 
-pub full-part : (s : Seen) (ls : List Line) (d : Line)
+full-part : (s : Seen) (ls : List Line) (d : Line)
     → with-some (firstOf (gathered (λ (g : Gives). g .full) (classedAfter s ls))) full-line d ∷ []
     ≡ orMade (map (λ (l : Line). plainLine (ascii "fn") [] (renewed false (l .value))) (section fulls (classedAfter s ls))) d
 full-part s ls d =
@@ -263,8 +263,14 @@ name-lines [] o h = rw no-parts
 name-lines (l ∷ []) o h = rw (all-head hasParts (nameValues (l .value)) [] h, written-name (nameValues (l .value)))
 name-lines (l ∷ (k ∷ ls)) o h = absurd o
 
-pub derived-part : (s : Seen) (ls : List Line) → derivedLine (orElse (firstOf (gathered (λ (g : Gives). g .parts) (classedAfter s ls))) noParts) ≡ derivedForm (section names (classedAfter s ls))
+derived-part : (s : Seen) (ls : List Line) → derivedLine (orElse (firstOf (gathered (λ (g : Gives). g .parts) (classedAfter s ls))) noParts) ≡ derivedForm (section names (classedAfter s ls))
 derived-part s ls = rw (parts-form s ls) (derived-lines (section names (classedAfter s ls)))
+
+-- FN, or one made of N
+pub fn-part : (s : Seen) (ls : List Line)
+    → with-some (firstOf (gathered (λ (g : Gives). g .full) (classedAfter s ls))) full-line (derivedLine (orElse (firstOf (gathered (λ (g : Gives). g .parts) (classedAfter s ls))) noParts)) ∷ []
+    ≡ orMade (map (λ (l : Line). plainLine (ascii "fn") [] (renewed false (l .value))) (section fulls (classedAfter s ls))) (derivedForm (section names (classedAfter s ls)))
+fn-part s ls = rw (derived-part s ls) (full-part s ls (derivedForm (section names (classedAfter s ls))))
 
 pub name-part : (s : Seen) (ls : List Line)
     → lineWhere (hasParts (orElse (firstOf (gathered (λ (g : Gives). g .parts) (classedAfter s ls))) noParts)) (property (ascii "n") [] (writeName (orElse (firstOf (gathered (λ (g : Gives). g .parts) (classedAfter s ls))) noParts)))

@@ -21,7 +21,7 @@ use Rattle.convert.specs.ToJson.{where′, contentJson, flagsJson, entryJson, m
 use Rattle.convert.specs.NormalJson.{fieldsOf, itemsOf, isEmptyText, as-is, unlessGone, kindForm, isOrganization, isUnit, contentForm, flagsForm, entryTree, mapTree}
 use Rattle.home.proofs.Known.{onProvided, onChain, onMap, onNone, onEach, onOptional}
 use Rattle.home.proofs.Images.{each-keep, each-same, each-empty, map-id, empty-map}
-use Rattle.home.proofs.Places.{position-name}
+use Rattle.home.proofs.Places.{position-name, pref-filled}
 use Rattle.home.proofs.Shapes.{string-inv, number-inv, gone, object-distinct, fields-distinct, field-items, field-fields}
 use Rattle.home.proofs.NormalJsonFlags.{flags-read, Given, contexts-form, features-form}
 
@@ -172,11 +172,6 @@ content-part m r ms vs d e = rw (r .form) (by (m .form) (m .content) (r .content
     by organization n h e = unfold contentFrom in organization-part n ms vs (same-true n (ascii "name") h) d e
 
 -- ---- pref
-
-pref-filled : (p : Bytes) → isPref p ≡ true → filled p ≡ true
-unfolding isPref
-pref-filled [] h = h
-pref-filled (c ∷ p) h = refl
 
 pref-part : (ms : List Member) (p : Bytes) → with-some (field (ascii "pref") ms) (λ v. chain (asNumber v) λ p. provided (isPref p) (some p)) (some []) ≡ some p
     → where′ (filled p) (member (ascii "pref") (jnum p)) ≡ as-is (ascii "pref") ms

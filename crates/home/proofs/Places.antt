@@ -12,6 +12,7 @@ use Rattle.text.proofs.Cases.{byBool, testing}
 use Rattle.text.proofs.Choices.{none-some, some-same}
 use Rattle.text.proofs.Same.{same-true}
 use Rattle.convert.specs.Table.{position}
+use Rattle.convert.specs.Value.{filled, isPref}
 
 next-inv : (x : Option ℕ) (k : ℕ) → with-some x (λ n. some (suc n)) none ≡ some k → (n : ℕ) × (x ≡ some n) × (k ≡ suc n)
 next-inv (some n) k e = (n, refl, sym (some-same e))
@@ -47,3 +48,9 @@ module _ {A : Type 0} (p : A → Bool) where
 -- the name at a place where a name was found
 pub position-name : (s : Bytes) (ns : List Bytes) (k : ℕ) → position (same s) ns ≡ some k → s ≡ getD ns k []
 position-name s ns k e = same-true s (getD ns k []) (position-passes (same s) [] ns k e)
+
+-- a preference is no empty string
+pub pref-filled : (p : Bytes) → isPref p ≡ true → filled p ≡ true
+unfolding isPref
+pref-filled [] h = h
+pref-filled (c ∷ p) h = refl
