@@ -10,6 +10,7 @@ pub mod NormalJson
 pub mod Classes
 pub mod Once
 pub mod NormalCardHead
+pub mod NormalCardParts
 pub mod NormalCardName
 pub mod NormalCardRest
 pub mod NormalCardTypes

@@ -74,15 +74,15 @@ module _ {A : Type 0} (f : Gives → List A) where
   -- ---- not again once it was seen
 
   module _ (flag : Seen → Bool) where
-    pub record ByFlag : Type 0 where
-      pub stays : (s : Seen) (c : Class) → flag s ≡ true → flag (see s c) ≡ true
-      pub stops : (s : Seen) (l : Line) (c : Class) → Fact s l c → flag s ≡ true → f (gives l c) ≡ []
-      pub sets : (s : Seen) (l : Line) (c : Class) → flag (see s c) ≡ false → f (gives l c) ≡ []
+    -- the flag stays, nothing is given after it, and what is given sets it
+    abbrev pub ByFlag : Type 0
+    ByFlag =
+        (s : Seen) (l : Line) (c : Class) → Fact s l c → (flag s ≡ true → (flag (see s c) ≡ true) × (f (gives l c) ≡ [])) × (flag (see s c) ≡ false → f (gives l c) ≡ [])
 
     none-seen : ByFlag → (s : Seen) (ls : List Line) → flag s ≡ true → gathered f (classedAfter s ls) ≡ []
     unfolding gathered classedAfter flat
     none-seen h s [] e = refl
-    none-seen h s (l ∷ ls) e = rw (h .stops s l (classify s l) (class-fact s l) e) (none-seen h (see s (classify s l)) ls (h .stays s (classify s l) e))
+    none-seen h s (l ∷ ls) e = let v = h s l (classify s l) (class-fact s l) .0 e in rw (v .1) (none-seen h (see s (classify s l)) ls (v .0))
 
     pub one-seen : ByFlag → Few → (s : Seen) (ls : List Line) → AtMostOne (gathered f (classedAfter s ls))
     unfolding gathered classedAfter flat
@@ -90,7 +90,7 @@ module _ {A : Type 0} (f : Gives → List A) where
     one-seen h w s (l ∷ ls) =
         byBool (flag (see s (classify s l)))
         (λ t. few-append (f (gives l (classify s l))) _ (w l (classify s l)) (none-seen h (see s (classify s l)) ls t))
-        (λ t. rw (h .sets s l (classify s l) t) (one-seen h w (see s (classify s l)) ls))
+        (λ t. rw (h s l (classify s l) (class-fact s l) .1 t) (one-seen h w (see s (classify s l)) ls))
 
   -- ---- what is given passes a test, where no line is bad
 
