@@ -1,19 +1,17 @@
 -- What is known of a line by its class, and the lines of a section by what they give to the model.
-use mathlib.Core.Path.{_≡_, refl, sym, ap, ap₂, _∙_}
-use mathlib.Core.Bool.{Bool, true, false, _&&_, not}
+use mathlib.Core.Path.{_≡_, refl, ap₂, _∙_}
+use mathlib.Core.Bool.{true, false, _&&_, not}
 use mathlib.Core.List.{List, [], _∷_, _++_, map}
-use mathlib.Core.Option.{Option, none, some}
+use mathlib.Core.Option.{some}
 use Prim.Native.Nat.{ℕ, _+_}
 use lib.Dec.{eqb, ltb}
 use Rattle.text.specs.Choice.{pick, with-some, provided}
-use Rattle.text.specs.Bytes.{Bytes, ascii, empty, same, lowered, flat, keep}
+use Rattle.text.specs.Bytes.{ascii, empty, same, lowered, flat, keep}
 use Rattle.text.proofs.Cases.{byBool, and-right, not-true, testing}
-use Rattle.json.specs.Tree.{Json}
 use Rattle.line.specs.Grammar.{Line}
 use Rattle.line.specs.Params.{besidesValue}
 use Rattle.line.specs.Text.{readText}
 use Rattle.convert.specs.Table.{Slot, slotOf}
-use Rattle.convert.specs.Model.{Entry}
 use Rattle.convert.specs.Value.{readName}
 use Rattle.convert.specs.Classify.{Class, as-version, as-uid, as-kind, as-dropped, as-full, as-parts, as-entry, as-member, as-kept, Seen, see, bare, isDerived, fullClass, partsClass, memberName, memberValue, memberClass, entryOf, entryClass, classify, Classed, classedAfter}
 use Rattle.convert.specs.FromCard.{Gives, gives, gathered}

@@ -1,16 +1,12 @@
 -- each: what holds of every element and its image holds of the lists.
-use mathlib.Core.Path.{_≡_, refl, sym, ap, ap₂, _∙_}
-use mathlib.Core.Bool.{Bool, true, false, not}
+use mathlib.Core.Path.{_≡_, refl, ap, ap₂}
+use mathlib.Core.Bool.{Bool, true}
 use mathlib.Core.List.{List, [], _∷_, _++_, map}
-use mathlib.Core.Option.{Option, none, some}
+use mathlib.Core.Option.{Option, some}
 use Rattle.text.specs.Bytes.{all, empty, keep, each}
 use Rattle.text.proofs.Cases.{byBool}
 use Rattle.text.proofs.Lists.{all-head, all-tail}
 use Rattle.home.proofs.Known.{onNone, onEach}
-
-pub each-empty : {A B : Type 0} (f : A → Option B) (xs : List A) (ys : List B) → each f xs ≡ some ys → empty ys ≡ empty xs
-each-empty f [] ys i = onNone f i (λ n. rw (← n))
-each-empty f (x ∷ xs) ys i = onEach f x xs i (λ z zs p q r. rw (← r))
 
 module _ {A B C : Type 0} (f : A → Option B) (q : A → Bool) (g : B → C) (h : A → C) where
   -- images and sources go to the same things, where the sources pass a test

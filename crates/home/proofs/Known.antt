@@ -1,11 +1,11 @@
 -- What is known where there is a value, handed to a proof as variables, so that the proof can rewrite by it.
-use mathlib.Core.Path.{_≡_, refl, sym}
-use mathlib.Core.Bool.{Bool, true, false}
+use mathlib.Core.Path.{_≡_, refl}
+use mathlib.Core.Bool.{Bool, true}
 use mathlib.Core.List.{List, [], _∷_}
 use mathlib.Core.Option.{Option, none, some, Option·map}
 use Rattle.text.specs.Choice.{both, provided, chain, with-some}
 use Rattle.text.specs.Bytes.{each}
-use Rattle.text.proofs.Choices.{none-some, some-same, provided-inv, chain-inv, map-inv, both-inv}
+use Rattle.text.proofs.Choices.{some-same, provided-inv, chain-inv, map-inv, both-inv}
 
 module _ {ℓ} {P : Type ℓ} where
   pub onProvided : {A : Type 0} (t : Bool) (x : Option A) {a : A} → provided t x ≡ some a → (t ≡ true → x ≡ some a → P) → P

@@ -1,21 +1,16 @@
 -- What the converter prints of an accepted card's lines is that card's normal form.
-use mathlib.Core.Path.{_≡_, refl, sym, ap, ap₂, _∙_}
-use mathlib.Core.Bool.{Bool, true, false}
-use mathlib.Core.List.{List, [], _∷_, _++_, map, append-assoc}
-use mathlib.Core.Option.{Option, none, some}
+use mathlib.Core.Path.{_≡_, ap}
+use mathlib.Core.Bool.{false}
+use mathlib.Core.List.{List, [], _∷_, _++_, append-assoc}
+use mathlib.Core.Option.{none, some}
 use Prim.Native.Nat.{ℕ}
-use Rattle.text.specs.Bytes.{Bytes, ascii, any, each, flat}
-use Rattle.text.specs.Decimal.{decimal}
+use Rattle.text.specs.Bytes.{Bytes, ascii, any, each}
 use Rattle.line.specs.Grammar.{Line, readLine}
 use Rattle.line.specs.Write.{writeCard}
-use Rattle.convert.specs.Table.{maps}
-use Rattle.convert.specs.Model.{Card, hasParts, noParts}
-use Rattle.convert.specs.Value.{writeName}
-use Rattle.convert.specs.Classify.{nothing, classed, classedAfter}
-use Rattle.convert.specs.FromJson.{keptAsLine}
-use Rattle.convert.specs.FromCard.{Gives, gathered, firstOf, orElse, mapsFrom, madeUid, cardOfClassed, cardOfLines}
-use Rattle.convert.specs.ToCard.{property, lineWhere, whereFilled, derivedLine, fullLine, mapsLines, memberLine, cardLines, printCard}
-use Rattle.convert.specs.Answers.{secondFrom, emptied, rawLines, linesOf, orNone}
+use Rattle.convert.specs.Classify.{nothing, classed}
+use Rattle.convert.specs.FromCard.{cardOfClassed, cardOfLines}
+use Rattle.convert.specs.ToCard.{property, fullLine, cardLines, printCard}
+use Rattle.convert.specs.Answers.{secondFrom, emptied, rawLines, linesOf}
 use Rattle.convert.specs.NormalCard.{normalLines, normalCard}
 use Rattle.home.proofs.NormalCardHead.{uid-part, kind-part}
 use Rattle.home.proofs.NormalCardName.{fn-part, name-part}

@@ -1,11 +1,11 @@
 -- A line of a map: the entry that it gives is written as the line's normal form.
 use mathlib.Core.Path.{_≡_, refl, sym, ap, ap₂, _∙_}
-use mathlib.Core.Bool.{Bool, true, false, _&&_, not}
+use mathlib.Core.Bool.{_&&_, not}
 use mathlib.Core.List.{List, [], _∷_, _++_, map}
-use mathlib.Core.Option.{Option, none, some}
-use Prim.Native.Nat.{ℕ, zero, suc}
+use mathlib.Core.Option.{some}
+use Prim.Native.Nat.{ℕ, suc}
 use lib.ListN.{getD}
-use Rattle.text.specs.Choice.{pick, with-some, chain, provided}
+use Rattle.text.specs.Choice.{pick}
 use Rattle.text.specs.Bytes.{Bytes, ascii, any, empty, same, lowered, joined}
 use Rattle.text.proofs.Cases.{not-true}
 use Rattle.text.proofs.Choices.{none-some, some-same}
@@ -16,7 +16,7 @@ use Rattle.convert.specs.Model.{Entry}
 use Rattle.convert.specs.Value.{isKeyText, isPref, readAs, takesType, writeAs, writtenType}
 use Rattle.convert.specs.Classify.{Seen, isId, keyFrom, prefFrom, typesFrom, allowed, entryOf}
 use Rattle.convert.specs.ToCard.{property, paramOf, entryLine}
-use Rattle.convert.specs.NormalCard.{plainLine, whereAny, typeForm, valueForm, entryValue, entryForm, propId}
+use Rattle.convert.specs.NormalCard.{whereAny, typeForm, valueForm, entryValue, entryForm, propId}
 use Rattle.convert.proofs.Types.{typeText}
 use Rattle.home.proofs.Known.{onProvided, onChain, onSome}
 use Rattle.home.proofs.Places.{position-name, pref-filled}

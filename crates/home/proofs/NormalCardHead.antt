@@ -1,14 +1,12 @@
 -- UID and KIND: the line that is there, or made.
 use mathlib.Core.Path.{_≡_, refl, sym, ap, _∙_}
-use mathlib.Core.Bool.{Bool, true, false, _&&_, _||_, not}
+use mathlib.Core.Bool.{true, false, _&&_, _||_, not}
 use mathlib.Core.List.{List, [], _∷_, _++_, map}
-use mathlib.Core.Option.{Option, none, some}
-use Prim.Native.Nat.{ℕ, _+_}
-use lib.Dec.{eqb}
-use Rattle.text.specs.Choice.{pick}
+use mathlib.Core.Option.{none}
+use Prim.Native.Nat.{ℕ}
 use Rattle.text.specs.Bytes.{Bytes, ascii, any, all, empty, same, among, lower, lowered}
 use Rattle.text.specs.Decimal.{decimal}
-use Rattle.text.proofs.Cases.{byBool, not-both, or-left, or-right, not-true}
+use Rattle.text.proofs.Cases.{not-both, or-left, or-right, not-true}
 use Rattle.text.proofs.Lists.{all-head}
 use Rattle.line.specs.Class.{isName}
 use Rattle.line.specs.Grammar.{Line}
@@ -17,7 +15,7 @@ use Rattle.convert.specs.Classify.{Class, as-version, as-uid, as-kind, as-dropp
 use Rattle.convert.specs.FromCard.{Gives, gives, gathered, firstOf, orElse, madeUid}
 use Rattle.convert.specs.ToCard.{property, whereFilled}
 use Rattle.convert.specs.Answers.{secondFrom, emptied, isNamed}
-use Rattle.convert.specs.NormalCard.{plainLine, uids, kinds, sectionNumber, sectionOf, section, orMade}
+use Rattle.convert.specs.NormalCard.{plainLine, uids, kinds, section, orMade}
 use Rattle.home.proofs.Images.{AtMostOne, empty-map}
 use Rattle.home.proofs.Classes.{Fact, Agrees, gathered-section, elsewhere}
 use Rattle.home.proofs.Once.{ByName, few, one-named, gathered-all}

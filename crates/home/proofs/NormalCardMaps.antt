@@ -1,22 +1,21 @@
 -- The seven maps: the lines of each section with their keys.
 use mathlib.Core.Path.{_≡_, refl, sym, ap, ap₂, _∙_, fun-ext}
-use mathlib.Core.Bool.{Bool, true, false}
+use mathlib.Core.Bool.{true, false}
 use mathlib.Core.List.{List, [], _∷_, _++_, map}
-use mathlib.Core.Option.{Option, none, some}
-use Prim.Native.Nat.{ℕ, zero, suc, _+_}
+use mathlib.Core.Option.{some}
+use Prim.Native.Nat.{ℕ, suc, _+_}
 use native.Mathlib.Omega.{arith}
 use lib.ListN.{getD}
 use lib.Dec.{eqb, ltb}
-use borrow.Author.Tests.{eqb-true, eqb-false, eq-eqb}
-use Rattle.text.specs.Choice.{pick, with-some}
-use Rattle.text.specs.Bytes.{Bytes, ascii, same, lowered, flat}
+use borrow.Author.Tests.{eqb-true, eq-eqb}
+use Rattle.text.specs.Bytes.{Bytes, same, lowered, flat}
 use Rattle.text.proofs.Cases.{byBool, testing}
 use Rattle.text.proofs.Choices.{none-some, some-same}
 use Rattle.line.specs.Grammar.{Line}
 use Rattle.convert.specs.Table.{Map, text, Slot, slotFrom, slotOf, position, maps}
 use Rattle.convert.specs.Model.{Entry}
 use Rattle.convert.specs.Keys.{keys}
-use Rattle.convert.specs.Classify.{Class, as-version, as-uid, as-kind, as-dropped, as-full, as-parts, as-entry, as-member, as-kept, Seen, entryOf, Classed, classedAfter}
+use Rattle.convert.specs.Classify.{Class, as-version, as-uid, as-kind, as-dropped, as-full, as-parts, as-entry, as-member, as-kept, Seen, Classed, classedAfter}
 use Rattle.convert.specs.FromCard.{Placed, placed, Gives, gives, gathered, inMap, withKeys, keyedEntries, mapsFrom}
 use Rattle.convert.specs.ToCard.{entryLine, mapsLines}
 use Rattle.convert.specs.NormalCard.{map-at, section, propId, entryForm, entryForms, mapForms}

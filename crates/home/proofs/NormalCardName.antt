@@ -1,27 +1,20 @@
 -- FN and N: the first that converts, and what is made where there is no FN.
-use mathlib.Core.Path.{_≡_, refl, sym, ap, ap₂, _∙_}
-use mathlib.Core.Bool.{Bool, true, false, _&&_, _||_, not}
-use mathlib.Core.List.{List, [], _∷_, _++_, map}
-use mathlib.Core.Option.{Option, none, some, Option·map}
-use Prim.Native.Nat.{ℕ, zero, suc, _+_}
-use native.Mathlib.Omega.{arith}
-use lib.ListN.{length, getD}
-use lib.Dec.{eqb, leb}
-use Rattle.text.specs.Choice.{pick, with-some, chain, provided}
-use Rattle.text.specs.Bytes.{Bytes, ascii, any, all, empty, among, joined, flat, keep, each}
-use Rattle.text.proofs.Cases.{byBool, not-both, tests}
-use Rattle.text.proofs.Choices.{some-same}
-use Rattle.text.proofs.Lists.{all-head, keep-all}
+use mathlib.Core.Path.{_≡_, refl, sym, ap, _∙_}
+use mathlib.Core.Bool.{true, false}
+use mathlib.Core.List.{List, [], _∷_, map}
+use Rattle.text.specs.Choice.{with-some}
+use Rattle.text.specs.Bytes.{Bytes, ascii, any, all, flat}
+use Rattle.text.proofs.Cases.{not-both}
+use Rattle.text.proofs.Lists.{all-head}
 use Rattle.line.specs.Grammar.{Line}
-use Rattle.line.specs.Text.{readText, splitText, writeText}
-use Rattle.convert.specs.Model.{hasParts, noParts, part}
-use Rattle.convert.specs.Value.{filled, partValues, without, ownParts, readName, writtenParts, writeName}
-use Rattle.convert.specs.Classify.{Class, as-version, as-uid, as-kind, as-dropped, as-full, as-parts, as-entry, as-member, as-kept, Seen, see, classedAfter}
+use Rattle.line.specs.Text.{writeText}
+use Rattle.convert.specs.Model.{hasParts, noParts}
+use Rattle.convert.specs.Value.{writtenParts, writeName}
+use Rattle.convert.specs.Classify.{Class, as-version, as-uid, as-kind, as-dropped, as-full, as-parts, as-entry, as-member, as-kept, Seen, classedAfter}
 use Rattle.convert.specs.FromCard.{Gives, gives, gathered, firstOf, orElse}
 use Rattle.convert.specs.ToCard.{property, lineWhere, derivedLine}
-use Rattle.convert.specs.NormalCard.{plainLine, renewed, textOf, partTexts, partAt, less, nameValues, nameText, fulls, names, section, orMade, nameStrings, derivedForm}
-use Rattle.home.proofs.Known.{onProvided, onChain, onMap, onNone, onEach}
-use Rattle.home.proofs.Images.{AtMostOne, each-same, map-id, all-anything}
+use Rattle.convert.specs.NormalCard.{plainLine, renewed, nameValues, nameText, fulls, names, section, orMade, nameStrings, derivedForm}
+use Rattle.home.proofs.Images.{AtMostOne, map-id}
 use Rattle.home.proofs.Classes.{Fact, Agrees, gathered-section, elsewhere}
 use Rattle.home.proofs.NormalCardParts.{name-read}
 use Rattle.home.proofs.Once.{ByFlag, few, one-seen, gathered-all}

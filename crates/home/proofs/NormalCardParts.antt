@@ -1,29 +1,21 @@
 -- N's value: the components that are read, as the normal form has them.
-use mathlib.Core.Path.{_≡_, refl, sym, ap, ap₂, _∙_}
-use mathlib.Core.Bool.{Bool, true, false, _&&_, _||_, not}
-use mathlib.Core.List.{List, [], _∷_, _++_, map}
-use mathlib.Core.Option.{Option, none, some, Option·map}
-use Prim.Native.Nat.{ℕ, zero, suc, _+_}
-use native.Mathlib.Omega.{arith}
-use lib.ListN.{length, getD}
-use lib.Dec.{eqb, leb}
-use Rattle.text.specs.Choice.{pick, with-some, chain, provided}
-use Rattle.text.specs.Bytes.{Bytes, ascii, any, all, empty, among, joined, flat, keep, each}
-use Rattle.text.proofs.Cases.{byBool, not-both, tests}
+use mathlib.Core.Path.{_≡_, refl, sym, ap, _∙_}
+use mathlib.Core.Bool.{Bool, true, false, _||_, not}
+use mathlib.Core.List.{List, [], _∷_, map}
+use mathlib.Core.Option.{Option, some}
+use Prim.Native.Nat.{suc}
+use lib.ListN.{length}
+use lib.Dec.{leb}
+use Rattle.text.specs.Bytes.{Bytes, any, all, empty, among, keep, each}
+use Rattle.text.proofs.Cases.{tests}
 use Rattle.text.proofs.Choices.{some-same}
-use Rattle.text.proofs.Lists.{all-head, keep-all}
-use Rattle.line.specs.Grammar.{Line}
-use Rattle.line.specs.Text.{readText, splitText, writeText}
-use Rattle.convert.specs.Model.{hasParts, noParts, part}
-use Rattle.convert.specs.Value.{filled, partValues, without, ownParts, readName, writtenParts, writeName}
-use Rattle.convert.specs.Classify.{Class, as-version, as-uid, as-kind, as-dropped, as-full, as-parts, as-entry, as-member, as-kept, Seen, see, classedAfter}
-use Rattle.convert.specs.FromCard.{Gives, gives, gathered, firstOf, orElse}
-use Rattle.convert.specs.ToCard.{property, lineWhere, derivedLine}
-use Rattle.convert.specs.NormalCard.{plainLine, renewed, textOf, partTexts, partAt, less, nameValues, nameText, fulls, names, section, orMade, nameStrings, derivedForm}
+use Rattle.text.proofs.Lists.{keep-all}
+use Rattle.line.specs.Text.{readText, splitText}
+use Rattle.convert.specs.Model.{hasParts, part}
+use Rattle.convert.specs.Value.{filled, partValues, without, ownParts, readName}
+use Rattle.convert.specs.NormalCard.{textOf, partTexts, nameValues}
 use Rattle.home.proofs.Known.{onProvided, onChain, onMap, onNone, onEach}
-use Rattle.home.proofs.Images.{AtMostOne, each-same, map-id, all-anything}
-use Rattle.home.proofs.Classes.{Fact, Agrees, gathered-section, elsewhere}
-use Rattle.home.proofs.Once.{ByFlag, few, one-seen, gathered-all}
+use Rattle.home.proofs.Images.{each-same, map-id, all-anything}
 
 -- ---- the strings
 

@@ -1,25 +1,24 @@
 -- JSPROP lines and kept lines.
 use mathlib.Core.Path.{_≡_, refl, sym, ap, _∙_}
-use mathlib.Core.Bool.{Bool, true, false, _&&_, not}
-use mathlib.Core.List.{List, [], _∷_, _++_, map}
-use mathlib.Core.Option.{Option, none, some}
-use Prim.Native.Nat.{ℕ, _+_}
-use Rattle.text.specs.Choice.{chain, provided}
-use Rattle.text.specs.Bytes.{Bytes, ascii, same, among, lowered, flat, keep}
+use mathlib.Core.Bool.{true, false, _&&_, not}
+use mathlib.Core.List.{List, [], _∷_, map}
+use mathlib.Core.Option.{some}
+use Rattle.text.specs.Choice.{provided}
+use Rattle.text.specs.Bytes.{Bytes, ascii, same, among, lowered, flat}
 use Rattle.text.proofs.Choices.{none-some, some-same}
 use Rattle.text.proofs.Same.{same-true}
-use Rattle.json.specs.Tree.{Member, member}
+use Rattle.json.specs.Tree.{member}
 use Rattle.json.specs.Compact.{compact}
-use Rattle.line.specs.Grammar.{Param, param, paramName, paramValues, Line}
+use Rattle.line.specs.Grammar.{Param, param, paramName, Line}
 use Rattle.line.specs.Params.{named, valuesNamed, lacking, onlyNamed, besidesValue}
 use Rattle.line.specs.Text.{writeText}
 use Rattle.convert.specs.Table.{reserved}
 use Rattle.convert.specs.Pointer.{pointed, pointer}
-use Rattle.convert.specs.Classify.{Class, as-version, as-uid, as-kind, as-dropped, as-full, as-parts, as-entry, as-member, as-kept, Seen, sole, memberName, Classed, classedAfter}
+use Rattle.convert.specs.Classify.{Class, as-version, as-uid, as-kind, as-dropped, as-full, as-parts, as-entry, as-member, as-kept, Seen, sole, memberName, classedAfter}
 use Rattle.convert.specs.FromJson.{keptAsLine}
 use Rattle.convert.specs.FromCard.{Gives, gives, gathered, keptLine}
 use Rattle.convert.specs.ToCard.{property, memberLine}
-use Rattle.convert.specs.NormalCard.{plainLine, kepts, section, memberForm, keptForm}
+use Rattle.convert.specs.NormalCard.{kepts, section, memberForm, keptForm}
 use Rattle.convert.proofs.Pointers.{pointer-pointed}
 use Rattle.home.proofs.Known.{onProvided, onChain}
 use Rattle.home.proofs.Images.{keep-weaker}

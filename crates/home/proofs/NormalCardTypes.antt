@@ -1,15 +1,15 @@
 -- TYPE: codes in the table's order are the table's values that are given.
 use mathlib.Core.Path.{_≡_, refl, sym, ap, ap₂, _∙_}
-use mathlib.Core.Bool.{Bool, true, false, _||_}
+use mathlib.Core.Bool.{true, _||_}
 use mathlib.Core.List.{List, [], _∷_, _++_, map}
-use mathlib.Core.Option.{Option, none, some}
+use mathlib.Core.Option.{Option, some}
 use Prim.Native.Nat.{ℕ}
-use lib.ListN.{length, getD, take}
+use lib.ListN.{take}
 use lib.Dec.{eqb, ltb}
-use Rattle.text.specs.Bytes.{Bytes, any, all, same, among, lowered, parts, flat, keep, each}
+use Rattle.text.specs.Bytes.{Bytes, any, all, same, among, lowered, parts, flat, each}
 use Rattle.text.proofs.Cases.{byBelow, upTo, not-both}
 use Rattle.text.proofs.Same.{same-true}
-use Rattle.convert.specs.Table.{TypeName, type-name, typeNames, vcardType, contextCodes, featureCodes, inOrder, position}
+use Rattle.convert.specs.Table.{type-name, typeNames, vcardType, contextCodes, featureCodes, inOrder, position}
 use Rattle.convert.specs.Classify.{typesFrom}
 use Rattle.convert.specs.NormalCard.{typeForm}
 use Rattle.convert.proofs.Types.{typeText}

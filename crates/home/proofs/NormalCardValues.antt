@@ -1,20 +1,19 @@
 -- The value of a map's line, and its VALUE, by the map's form.
-use mathlib.Core.Path.{_≡_, refl, sym, ap, ap₂, _∙_}
-use mathlib.Core.Bool.{Bool, true, false, _&&_, _||_, not}
-use mathlib.Core.List.{List, [], _∷_, _++_, map, tail}
-use mathlib.Core.Option.{Option, none, some, Option·map}
+use mathlib.Core.Path.{_≡_, refl, sym, ap, _∙_}
+use mathlib.Core.Bool.{Bool, true, false, _&&_, not}
+use mathlib.Core.List.{List, [], _∷_, _++_, map}
+use mathlib.Core.Option.{some, Option·map}
 use Prim.Native.Nat.{ℕ}
 use lib.ListN.{length}
 use lib.Dec.{eqb}
-use Rattle.text.specs.Choice.{pick, with-some, chain, provided}
-use Rattle.text.specs.Bytes.{Bytes, ascii, any, all, empty, same, begins, joined, keep, each}
+use Rattle.text.specs.Bytes.{Bytes, ascii, any, empty, same, begins, joined, each}
 use Rattle.text.proofs.Cases.{byBool, not-both}
 use Rattle.text.proofs.Choices.{some-same}
 use Rattle.text.proofs.Lists.{keep-same}
 use Rattle.line.specs.Text.{readText, splitText, escape, writeText}
 use Rattle.convert.specs.Table.{Form, text, single, uri, phone, organization}
 use Rattle.convert.specs.Value.{filled, organized, readAs, isTelUri, writeAs, writtenType}
-use Rattle.convert.specs.NormalCard.{renewed, textOf, unitsGone, orgText, telNumber, isTelUriForm, entryValue, valueForm}
+use Rattle.convert.specs.NormalCard.{renewed, unitsGone, orgText, telNumber, isTelUriForm, entryValue, valueForm}
 use Rattle.home.proofs.Known.{onProvided, onChain, onMap}
 use Rattle.home.proofs.Images.{each-same, all-anything, keep-map}
 

@@ -1,26 +1,25 @@
 -- Entries of the maps: kind, content, contexts, features, pref, as the normal form has them.
 use mathlib.Core.Path.{_≡_, refl, sym, ap, ap₂, _∙_}
-use mathlib.Core.Bool.{Bool, true, false, _&&_, _||_, not}
+use mathlib.Core.Bool.{Bool, true, false, _||_, not}
 use mathlib.Core.List.{List, [], _∷_, _++_, map}
-use mathlib.Core.Option.{Option, none, some, Option·map}
-use Prim.Native.Nat.{ℕ, zero, suc}
+use mathlib.Core.Option.{some, Option·map}
+use Prim.Native.Nat.{ℕ}
 use lib.ListN.{getD, take, drop}
 use Rattle.text.specs.Choice.{pick, with-some, is-some, chain, provided}
 use Rattle.text.specs.Bytes.{Bytes, ascii, any, all, empty, same, among, distinct, flat, keep, each}
 use Rattle.text.proofs.Cases.{byBool, not-both, and-left, and-right, not-true}
-use Rattle.text.proofs.Lists.{all-head, all-tail}
 use Rattle.text.proofs.Same.{same-true, same-eq}
 use Rattle.text.proofs.Choices.{none-some, some-same}
-use Rattle.json.specs.Tree.{Json, jnull, jtrue, jfalse, jnum, jstr, jobj, jarr, Elems, Members, mnil, mcons, Member, member, nameOf, valueOf, field, object, array, asString, asNumber, asArray, asObject, elemsOf, membersOf, fromMembers}
+use Rattle.json.specs.Tree.{Json, jnull, jtrue, jfalse, jnum, jstr, jobj, jarr, Members, mnil, mcons, Member, member, nameOf, valueOf, field, object, array, asString, asNumber, asArray, asObject, membersOf, fromMembers}
 use Rattle.json.specs.Strings.{distinctNames}
-use Rattle.convert.specs.Table.{Form, text, single, uri, phone, organization, Map, maps, typeNames, position, inOrder, contextCodes, featureCodes}
+use Rattle.convert.specs.Table.{Form, text, single, uri, phone, organization, Map, maps, typeNames, position}
 use Rattle.convert.specs.Model.{Entry}
 use Rattle.convert.specs.Value.{filled, headOr, isKeyText, isPref}
 use Rattle.convert.specs.FromJson.{onlyMembers, flagsFrom, unitFrom, organizationFrom, contentFrom, entryMembers, entryFrom, mapFrom}
-use Rattle.convert.specs.ToJson.{where′, contentJson, flagsJson, entryJson, mapsJson}
-use Rattle.convert.specs.NormalJson.{fieldsOf, itemsOf, isEmptyText, as-is, unlessGone, kindForm, isOrganization, isUnit, contentForm, flagsForm, entryTree, mapTree}
-use Rattle.home.proofs.Known.{onProvided, onChain, onMap, onNone, onEach, onOptional}
-use Rattle.home.proofs.Images.{each-keep, each-same, each-empty, map-id, empty-map}
+use Rattle.convert.specs.ToJson.{where′, contentJson, entryJson, mapsJson}
+use Rattle.convert.specs.NormalJson.{fieldsOf, itemsOf, isEmptyText, as-is, unlessGone, isOrganization, isUnit, contentForm, entryTree, mapTree}
+use Rattle.home.proofs.Known.{onProvided, onChain, onMap, onEach, onOptional}
+use Rattle.home.proofs.Images.{each-keep, each-same, map-id, empty-map}
 use Rattle.home.proofs.Places.{position-name, pref-filled}
 use Rattle.home.proofs.Shapes.{string-inv, number-inv, gone, object-distinct, fields-distinct, field-items, field-fields}
 use Rattle.home.proofs.NormalJsonFlags.{flags-read, Given, contexts-form, features-form}

@@ -1,12 +1,12 @@
 -- contexts and features: given in any order, printed in the table's.
-use mathlib.Core.Path.{_≡_, refl, sym, ap, ap₂, _∙_}
-use mathlib.Core.Bool.{Bool, true, false, _&&_, _||_, not}
+use mathlib.Core.Path.{_≡_, refl, sym, ap, _∙_}
+use mathlib.Core.Bool.{Bool, true, false, _||_, not}
 use mathlib.Core.List.{List, [], _∷_, _++_, map}
-use mathlib.Core.Option.{Option, none, some, Option·map}
-use Prim.Native.Nat.{ℕ, zero, suc, _+_}
+use mathlib.Core.Option.{some}
+use Prim.Native.Nat.{ℕ, _+_}
 use lib.ListN.{length, getD, take, drop}
 use lib.Dec.{eqb, ltb}
-use Rattle.text.specs.Choice.{pick, with-some, chain, provided}
+use Rattle.text.specs.Choice.{pick, with-some}
 use Rattle.text.specs.Bytes.{Bytes, ascii, any, empty, same, flat, keep, each}
 use Rattle.text.proofs.Cases.{byBool, byBelow, upTo, not-both}
 use Rattle.text.proofs.Lists.{any-append, keep-swap}
@@ -14,7 +14,7 @@ use Rattle.text.proofs.Same.{same-true}
 use Rattle.json.specs.Tree.{Json, jtrue, Member, member, field, object, asObject}
 use Rattle.convert.specs.Table.{TypeName, type-name, typeNames, jsonType, contextCodes, featureCodes, inOrder, position}
 use Rattle.convert.specs.FromJson.{isTrue, flagOf, flagsFrom}
-use Rattle.convert.specs.ToJson.{where′, flagsJson}
+use Rattle.convert.specs.ToJson.{flagsJson}
 use Rattle.convert.specs.NormalJson.{fieldsOf, as-is, unlessGone, flagsForm}
 use Rattle.home.proofs.Known.{onProvided, onChain, onMap, onNone, onEach, onOptional}
 use Rattle.home.proofs.Images.{empty-map}

@@ -3,20 +3,20 @@ use mathlib.Core.Path.{_≡_, refl, sym, ap, ap₂, _∙_}
 use mathlib.Core.Bool.{Bool, true, false, _&&_, _||_, not}
 use mathlib.Core.List.{List, [], _∷_, _++_, map}
 use mathlib.Core.Option.{Option, none, some, Option·map}
-use Prim.Native.Nat.{ℕ, zero, suc}
-use lib.ListN.{length, getD}
+use Prim.Native.Nat.{ℕ}
+use lib.ListN.{getD}
 use lib.Dec.{eqb, ltb}
 use borrow.Author.Tests.{eqb-true}
-use Rattle.text.specs.Choice.{pick, with-some, is-some, both, chain, provided}
+use Rattle.text.specs.Choice.{with-some, is-some, chain}
 use Rattle.text.specs.Bytes.{Bytes, ascii, any, empty, same, flat, keep, each}
 use Rattle.text.proofs.Cases.{byBool, byBelow, upTo, not-both, and-left}
 use Rattle.json.specs.Tree.{Json, jstr, Member, member, field, object, array, asString, asArray, asObject}
 use Rattle.convert.specs.Table.{componentKinds, position}
-use Rattle.convert.specs.Model.{hasParts, noParts}
+use Rattle.convert.specs.Model.{hasParts}
 use Rattle.convert.specs.Value.{filled}
-use Rattle.convert.specs.FromJson.{onlyMembers, Component, component, componentOf, ofKind, byKind, Name, nameless, isFalse, nameFrom}
+use Rattle.convert.specs.FromJson.{onlyMembers, Component, component, componentOf, ofKind, byKind, Name, isFalse, nameFrom}
 use Rattle.convert.specs.ToJson.{where′, whereSome, componentsOf, nameJson}
-use Rattle.convert.specs.NormalJson.{fieldsOf, itemsOf, as-is, unlessGone, isComponent, componentTree, componentsForm, nameForm}
+use Rattle.convert.specs.NormalJson.{itemsOf, as-is, unlessGone, isComponent, componentTree, componentsForm, nameForm}
 use Rattle.home.proofs.Known.{onProvided, onChain, onMap, onBoth, onNone, onEach, onOptional}
 use Rattle.home.proofs.Places.{position-inside, position-name}
 use Rattle.home.proofs.Shapes.{string-inv, gone}

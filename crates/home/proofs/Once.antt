@@ -1,17 +1,16 @@
 -- What one line at most gives to the model: by the names of the lines (UID, KIND), or by what was seen before (FN, N).
-use mathlib.Core.Path.{_≡_, refl, sym, ap, _∙_}
-use mathlib.Core.Bool.{Bool, true, false, _&&_, _||_, not}
-use mathlib.Core.List.{List, [], _∷_, _++_, map, append-nil}
-use mathlib.Core.Option.{Option, none, some}
+use mathlib.Core.Path.{_≡_, refl, sym}
+use mathlib.Core.Bool.{Bool, true, false, _&&_}
+use mathlib.Core.List.{List, [], _∷_, _++_, append-nil}
+use mathlib.Core.Option.{none}
 use Prim.Native.Nat.{ℕ, suc}
-use Rattle.text.specs.Choice.{pick}
-use Rattle.text.specs.Bytes.{Bytes, ascii, any, all, empty, same, among, lowered, flat}
+use Rattle.text.specs.Bytes.{Bytes, ascii, any, all, same, among, lowered, flat}
 use Rattle.text.proofs.Cases.{byBool, not-both, and-true}
 use Rattle.text.proofs.Choices.{none-some}
 use Rattle.text.proofs.Lists.{all-both, any-head, any-tail}
-use Rattle.text.proofs.Same.{same-true, same-eq, among-head, among-later}
+use Rattle.text.proofs.Same.{same-true, among-head, among-later}
 use Rattle.line.specs.Grammar.{Line}
-use Rattle.convert.specs.Classify.{Class, as-version, as-uid, as-kind, as-dropped, as-full, as-parts, as-entry, as-member, as-kept, Seen, see, classify, Classed, classedAfter}
+use Rattle.convert.specs.Classify.{Class, as-version, as-uid, as-kind, as-dropped, as-full, as-parts, as-entry, as-member, as-kept, Seen, see, classify, classedAfter}
 use Rattle.convert.specs.FromCard.{Gives, gives, gathered}
 use Rattle.convert.specs.Answers.{secondFrom}
 use Rattle.home.proofs.Images.{AtMostOne}

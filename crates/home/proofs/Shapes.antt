@@ -1,13 +1,13 @@
 -- JSON values by their kind, members that may be absent, and lists that vanish where they are empty.
-use mathlib.Core.Path.{_≡_, refl, sym, ap, _∙_}
-use mathlib.Core.Bool.{Bool, true, false, _&&_, _||_, not}
-use mathlib.Core.List.{List, [], _∷_, _++_, map}
-use mathlib.Core.Option.{Option, none, some}
-use Rattle.text.specs.Choice.{pick, with-some}
+use mathlib.Core.Path.{_≡_, refl, ap}
+use mathlib.Core.Bool.{Bool, true, not}
+use mathlib.Core.List.{List, [], _∷_, map}
+use mathlib.Core.Option.{some}
+use Rattle.text.specs.Choice.{with-some}
 use Rattle.text.specs.Bytes.{Bytes, all, empty, same, distinct}
 use Rattle.text.proofs.Cases.{byBool, not-both, and-left, and-right}
 use Rattle.text.proofs.Choices.{none-some, some-same}
-use Rattle.json.specs.Tree.{Json, jnull, jtrue, jfalse, jnum, jstr, jarr, jobj, Elems, enil, econs, Members, mnil, mcons, Member, member, nameOf, valueOf, field, membersOf, elemsOf, fromMembers, fromElems, asString, asNumber, asArray, asObject}
+use Rattle.json.specs.Tree.{Json, jnull, jtrue, jfalse, jnum, jstr, jarr, jobj, Elems, enil, econs, Members, mnil, mcons, Member, member, nameOf, valueOf, field, membersOf, elemsOf, asString, asNumber}
 use Rattle.json.specs.Strings.{names, distinctNames, distinctElems, distinctMembers}
 use Rattle.convert.specs.FromJson.{isTrue}
 use Rattle.convert.specs.ToJson.{where′}
@@ -33,24 +33,6 @@ number-inv (jnum x) s e = ap jnum (some-same e)
 number-inv (jstr t) s e = none-some e
 number-inv (jarr es) s e = none-some e
 number-inv (jobj ms) s e = none-some e
-
-pub array-inv : (j : Json) (js : List Json) → asArray j ≡ some js → (es : Elems) × (j ≡ jarr es) × (js ≡ elemsOf es)
-array-inv jnull s e = none-some e
-array-inv jtrue s e = none-some e
-array-inv jfalse s e = none-some e
-array-inv (jnum x) s e = none-some e
-array-inv (jstr t) s e = none-some e
-array-inv (jarr es) s e = (es, refl, sym (some-same e))
-array-inv (jobj ms) s e = none-some e
-
-pub object-inv : (j : Json) (ms : List Member) → asObject j ≡ some ms → (os : Members) × (j ≡ jobj os) × (ms ≡ membersOf os)
-object-inv jnull s e = none-some e
-object-inv jtrue s e = none-some e
-object-inv jfalse s e = none-some e
-object-inv (jnum x) s e = none-some e
-object-inv (jstr t) s e = none-some e
-object-inv (jarr es) s e = none-some e
-object-inv (jobj ms) s e = (ms, refl, sym (some-same e))
 
 pub true-inv : (j : Json) → isTrue j ≡ true → j ≡ jtrue
 true-inv jnull e = not-both e refl
@@ -100,17 +82,6 @@ field-passes p n (member m v ∷ ms) j h e =
     byBool (same m n)
     (λ t. rw (← some-same (rw t at e)) (and-left (p v) _ h))
     (λ t. field-passes p n ms j (and-right (p v) _ h) (rw t at e))
-
--- trees from lists, and back
-pub from-members : (ms : Members) → fromMembers (membersOf ms) ≡ ms
-unfolding fromMembers membersOf
-from-members mnil = refl
-from-members (mcons n j ms) = ap (mcons n j) (from-members ms)
-
-pub from-elems : (es : Elems) → fromElems (elemsOf es) ≡ es
-unfolding fromElems elemsOf
-from-elems enil = refl
-from-elems (econs j es) = ap (econs j) (from-elems es)
 
 -- ---- distinct names below
 
