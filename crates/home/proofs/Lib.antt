@@ -1,6 +1,6 @@
 pub mod Known
 pub mod Images
-pub mod Places
+pub mod Positions
 pub mod Shapes
 pub mod NormalJsonName
 pub mod NormalJsonFlags

@@ -19,7 +19,7 @@ use Rattle.convert.specs.ToCard.{property, paramOf, entryLine}
 use Rattle.convert.specs.NormalCard.{whereAny, typeForm, valueForm, entryValue, entryForm, propId}
 use Rattle.convert.proofs.Types.{typeText}
 use Rattle.home.proofs.Known.{onProvided, onChain, onSome}
-use Rattle.home.proofs.Places.{position-name, pref-filled}
+use Rattle.home.proofs.Positions.{position-name, pref-filled}
 use Rattle.home.proofs.NormalCardRest.{values-besides}
 use Rattle.home.proofs.NormalCardTypes.{types-form}
 use Rattle.home.proofs.NormalCardValues.{form-written}

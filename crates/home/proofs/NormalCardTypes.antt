@@ -15,7 +15,7 @@ use Rattle.convert.specs.NormalCard.{typeForm}
 use Rattle.convert.proofs.Types.{typeText}
 use Rattle.home.proofs.Known.{onMap, onNone, onEach}
 use Rattle.home.proofs.Images.{keep-map, keep-agree}
-use Rattle.home.proofs.Places.{position-passes, position-inside, position-take}
+use Rattle.home.proofs.Positions.{position-passes, position-inside, position-take}
 
 abbrev codeOf : ℕ → Bytes → Option ℕ
 codeOf n v = position (λ t. same (lowered v) (vcardType t)) (take n typeNames)

@@ -20,7 +20,7 @@ use Rattle.convert.specs.ToJson.{where′, contentJson, entryJson, mapsJson}
 use Rattle.convert.specs.NormalJson.{fieldsOf, itemsOf, isEmptyText, as-is, unlessGone, isOrganization, isUnit, contentForm, entryTree, mapTree}
 use Rattle.home.proofs.Known.{onProvided, onChain, onMap, onEach, onOptional}
 use Rattle.home.proofs.Images.{each-keep, each-same, map-id, empty-map}
-use Rattle.home.proofs.Places.{position-name, pref-filled}
+use Rattle.home.proofs.Positions.{position-name, pref-filled}
 use Rattle.home.proofs.Shapes.{string-inv, number-inv, gone, object-distinct, fields-distinct, field-items, field-fields}
 use Rattle.home.proofs.NormalJsonFlags.{flags-read, Given, contexts-form, features-form}
 

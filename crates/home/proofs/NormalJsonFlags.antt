@@ -18,7 +18,7 @@ use Rattle.convert.specs.ToJson.{flagsJson}
 use Rattle.convert.specs.NormalJson.{fieldsOf, as-is, unlessGone, flagsForm}
 use Rattle.home.proofs.Known.{onProvided, onChain, onMap, onNone, onEach, onOptional}
 use Rattle.home.proofs.Images.{empty-map}
-use Rattle.home.proofs.Places.{position-passes, position-inside}
+use Rattle.home.proofs.Positions.{position-passes, position-inside}
 use Rattle.home.proofs.Shapes.{true-inv, gone}
 
 abbrev nowhere : TypeName

@@ -18,7 +18,7 @@ use Rattle.convert.specs.FromJson.{onlyMembers, Component, component, component
 use Rattle.convert.specs.ToJson.{where′, whereSome, componentsOf, nameJson}
 use Rattle.convert.specs.NormalJson.{itemsOf, as-is, unlessGone, isComponent, componentTree, componentsForm, nameForm}
 use Rattle.home.proofs.Known.{onProvided, onChain, onMap, onBoth, onNone, onEach, onOptional}
-use Rattle.home.proofs.Places.{position-inside, position-name}
+use Rattle.home.proofs.Positions.{position-inside, position-name}
 use Rattle.home.proofs.Shapes.{string-inv, gone}
 
 abbrev kindAt : ℕ → Bytes
