@@ -102,6 +102,9 @@ both-sections {s} {t} {u} {ls} {ms} {g} {h} a b =
       leaves = after-append s ls ms ∙ ap (λ x. after x ms) (a .leaves) ∙ b .leaves;
     }
 
+pub section-to : {s t u : Seen} {ls : List Line} {g h : Gives} → Section s ls g t → g ≡ h → t ≡ u → Section s ls h u
+section-to a e f = record { gives = a .gives ∙ e; leaves = a .leaves ∙ f }
+
 -- ---- upper-case names change nothing
 
 gives-upper : (l : Line) (c : Class) → gives (upperLine l) c ≡ gives l c

@@ -1,3 +1,4 @@
 pub mod Given
 pub mod Alike
 pub mod Rows
+pub mod MapLines
