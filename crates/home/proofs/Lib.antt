@@ -1,4 +1,10 @@
 pub mod Given
 pub mod Alike
 pub mod Rows
+pub mod Words
+pub mod Carried
 pub mod MapLines
+pub mod KeptFacts
+pub mod MemberLines
+pub mod CardClasses
+pub mod CardHome

@@ -76,7 +76,7 @@ idsOnto i (e ∷ es) ids = idsOnto i es (id i (e .key) ∷ ids)
 abbrev keyOf : Entry → Bytes
 keyOf e = e .key
 
-key-filled : (k : Bytes) → isKeyText k ≡ true → empty k ≡ false
+pub key-filled : (k : Bytes) → isKeyText k ≡ true → empty k ≡ false
 unfolding isKeyText
 key-filled [] h = not-both refl (sym h)
 key-filled (c ∷ k) h = refl
@@ -115,7 +115,7 @@ unfoldable pub idsAll : ℕ → List (List Entry) → List Id → List Id
 idsAll i [] ids = ids
 idsAll i (es ∷ ess) ids = idsAll (suc i) ess (idsOnto i es ids)
 
-or-shift : (a b c : Bool) → b || (a || c) ≡ (a || b) || c
+pub or-shift : (a b c : Bool) → b || (a || c) ≡ (a || b) || c
 or-shift true true c = refl
 or-shift true false c = refl
 or-shift false true c = refl
