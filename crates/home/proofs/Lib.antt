@@ -8,3 +8,6 @@ pub mod KeptFacts
 pub mod MemberLines
 pub mod CardClasses
 pub mod CardHome
+pub mod Expanded
+pub mod NumberBytes
+pub mod Clean
