@@ -11,3 +11,4 @@ pub mod CardHome
 pub mod Expanded
 pub mod NumberBytes
 pub mod Clean
+pub mod Fair
