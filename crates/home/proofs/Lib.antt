@@ -12,3 +12,4 @@ pub mod Expanded
 pub mod NumberBytes
 pub mod Clean
 pub mod Fair
+pub mod FairValues
