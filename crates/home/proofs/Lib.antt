@@ -13,3 +13,4 @@ pub mod NumberBytes
 pub mod Clean
 pub mod Fair
 pub mod FairValues
+pub mod FairEntries
