@@ -103,7 +103,7 @@ high-name : (c : ℕ) → ltb c 128 ≡ false → isName c ≡ false
 unfolding isName
 high-name c l = rw (beyond 65 90 c (omega tests), beyond 97 122 c (omega tests), beyond 48 57 c (omega tests), ne-eqb c 45 (omega tests))
 
-name-printed : (c : ℕ) → isName c ≡ true → isPrinted c ≡ true
+pub name-printed : (c : ℕ) → isName c ≡ true → isPrinted c ≡ true
 unfolding isName isControl between
 name-printed c h = implied isName isPrinted 128 c refl (high-name c) h
 

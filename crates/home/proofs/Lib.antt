@@ -14,3 +14,6 @@ pub mod Clean
 pub mod Fair
 pub mod FairValues
 pub mod FairEntries
+pub mod FairKept
+pub mod Parted
+pub mod CardLines
