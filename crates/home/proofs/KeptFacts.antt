@@ -54,7 +54,7 @@ stands s k h =
       class = is-kept _ (and-right (isLowerWord (k .name) && not (among (k .name) neverKept) && isLowerWord (k .type) && all paramStands (k .params) && fits (keptAsLine k .params)) _ h);
     }
 
-no-value : (ps : List Param) → all paramStands ps ≡ true → any (named (ascii "value")) ps ≡ false
+pub no-value : (ps : List Param) → all paramStands ps ≡ true → any (named (ascii "value")) ps ≡ false
 unfolding any named
 no-value [] h = refl
 no-value (param n vs ∷ ps) h =

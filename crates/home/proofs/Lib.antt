@@ -17,3 +17,4 @@ pub mod FairEntries
 pub mod FairKept
 pub mod Parted
 pub mod CardLines
+pub mod PlainLines
