@@ -18,3 +18,4 @@ pub mod FairKept
 pub mod Parted
 pub mod CardLines
 pub mod PlainLines
+pub mod CardTests
