@@ -19,3 +19,4 @@ pub mod Parted
 pub mod CardLines
 pub mod PlainLines
 pub mod CardTests
+pub mod CardSize
