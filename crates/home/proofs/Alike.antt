@@ -1,16 +1,16 @@
 -- Which line converts depends on what is seen only by its tests: the flags, which ids and which members are there.
-use mathlib.Core.Path.{_≡_, refl, sym, ap, ap₂, _∙_}
-use mathlib.Core.Bool.{Bool, true, false, _&&_, not}
-use mathlib.Core.List.{List, [], _∷_, _++_, map}
+use mathlib.Core.Path.{_≡_, refl}
+use mathlib.Core.Bool.{_&&_, not}
+use mathlib.Core.List.{List, [], _∷_}
 use mathlib.Core.Option.{Option, none, some}
 use Prim.Native.Nat.{ℕ}
-use Rattle.text.specs.Choice.{pick, with-some, chain, provided}
-use Rattle.text.specs.Bytes.{Bytes, ascii, any, empty, same, among, lowered}
+use Rattle.text.specs.Choice.{with-some, chain, provided}
+use Rattle.text.specs.Bytes.{Bytes, ascii, any, among, lowered}
 use Rattle.line.specs.Grammar.{Param, Line}
-use Rattle.line.specs.Params.{valuesNamed, onlyNamed, valueType, besidesValue}
+use Rattle.line.specs.Params.{valuesNamed, onlyNamed, besidesValue}
 use Rattle.convert.specs.Table.{Slot, slotOf, reserved}
 use Rattle.convert.specs.Pointer.{pointed}
-use Rattle.convert.specs.Classify.{Class, as-kept, Id, isId, Seen, bare, sole, fullClass, partsClass, memberName, memberClass, keyFrom, entryOf, entryClass, classify}
+use Rattle.convert.specs.Classify.{as-kept, isId, Seen, sole, fullClass, partsClass, memberName, memberClass, keyFrom, entryOf, entryClass, classify}
 
 pub record Alike (s t : Seen) : Type 0 where
   pub full : s .full ≡ t .full

@@ -1,28 +1,27 @@
 -- A proper card's written lines, section by section: what each gives to the model, and what is seen after it.
-use mathlib.Core.Path.{_≡_, refl, sym, ap, ap₂, _∙_}
-use mathlib.Core.Bool.{Bool, true, false, _&&_, _||_, not}
-use mathlib.Core.List.{List, [], _∷_, _++_, map, append-nil}
+use mathlib.Core.Path.{_≡_, refl, ap, _∙_}
+use mathlib.Core.Bool.{Bool, true, false, _&&_, _||_}
+use mathlib.Core.List.{List, [], _∷_, map, append-nil}
 use mathlib.Core.Option.{Option, none, some}
-use Prim.Native.Nat.{ℕ, suc}
 use native.Mathlib.Omega.{arith}
 use lib.ListN.{length}
 use Rattle.text.specs.Choice.{pick, with-some, is-some}
-use Rattle.text.specs.Bytes.{Bytes, ascii, any, all, empty, same, among}
+use Rattle.text.specs.Bytes.{Bytes, ascii, any, all, empty, among}
 use Rattle.text.specs.Utf8.{utf8}
-use Rattle.text.proofs.Cases.{byBool, and-left, and-right, not-both}
+use Rattle.text.proofs.Cases.{byBool, and-left}
 use Rattle.text.proofs.Same.{among-none}
 use Rattle.text.proofs.Lists.{all-imply}
-use Rattle.json.specs.Tree.{Member, nameOf}
+use Rattle.json.specs.Tree.{nameOf}
 use Rattle.line.specs.Grammar.{Line}
 use Rattle.line.specs.Text.{writeText}
 use Rattle.convert.specs.Table.{maps}
-use Rattle.convert.specs.Model.{Entry, Kept, Card, hasParts, part, noParts}
+use Rattle.convert.specs.Model.{Card, hasParts, part}
 use Rattle.convert.specs.Value.{filled, readName, writeName}
-use Rattle.convert.specs.Classify.{Class, as-version, as-uid, as-kind, as-dropped, as-full, as-parts, Id, isId, Seen, nothing, see, fullClass, partsClass, classify}
-use Rattle.convert.specs.FromCard.{Placed, Gives, gives}
-use Rattle.convert.specs.FromJson.{isLowerWord, keptAsLine, keptStands, idsFrom, seenIn}
-use Rattle.convert.specs.ToCard.{property, whereFilled, lineWhere, derivedLine, fullLine, mapsLines, memberLine, cardLines}
-use Rattle.convert.specs.Carry.{carriedRaw, carriedText, carriedParam, carriedMaps, carriedKept, apart, carried}
+use Rattle.convert.specs.Classify.{as-version, as-uid, as-kind, as-dropped, as-full, as-parts, Id, isId, Seen, nothing, fullClass, classify}
+use Rattle.convert.specs.FromCard.{Gives}
+use Rattle.convert.specs.FromJson.{isLowerWord, idsFrom, seenIn}
+use Rattle.convert.specs.ToCard.{property, whereFilled, lineWhere, derivedLine, fullLine, cardLines}
+use Rattle.convert.specs.Carry.{apart}
 use Rattle.convert.proofs.Names.{read-name}
 use Rattle.convert.proofs.Written.{version-class, uid-class, kind-class, full-class, parts-class, full-written, parts-written, derived-written}
 use Rattle.home.specs.Proper.{ProperCard}

@@ -1,6 +1,6 @@
 -- The law: a written card reads back as its model, whole.
 use mathlib.Core.Path.{_≡_, refl, sym, ap, ap₂, _∙_}
-use mathlib.Core.Bool.{Bool, true, false, _&&_, _||_, not}
+use mathlib.Core.Bool.{Bool, true, false, not}
 use mathlib.Core.List.{List, [], _∷_, _++_, map, append-nil}
 use mathlib.Core.Option.{Option, none, some}
 use Prim.Native.Nat.{ℕ, suc, _≤_}
@@ -12,19 +12,15 @@ use Rattle.text.specs.Choice.{pick}
 use Rattle.text.specs.Bytes.{Bytes, any, all, empty}
 use Rattle.text.proofs.Cases.{byBool, not-both}
 use Rattle.text.proofs.Lists.{any-head, any-tail}
-use Rattle.json.specs.Tree.{Member}
-use Rattle.line.specs.Grammar.{Line}
 use Rattle.line.proofs.Lines.{upperLine}
 use Rattle.convert.specs.Table.{Map, maps}
-use Rattle.convert.specs.Model.{Entry, Kept, Card, hasParts, noParts}
-use Rattle.convert.specs.Value.{isKeyText}
-use Rattle.convert.specs.Keys.{keys}
+use Rattle.convert.specs.Model.{Entry, Card, hasParts, noParts}
 use Rattle.convert.specs.Classify.{nothing, classedAfter, classed}
-use Rattle.convert.specs.FromCard.{Placed, placed, Gives, gathered, firstOf, orElse, inMap, withKeys, keyedEntries, mapsFrom, madeUid, cardOfClassed, cardOfLines}
+use Rattle.convert.specs.FromCard.{Placed, placed, Gives, gathered, firstOf, orElse, inMap, withKeys, keyedEntries, mapsFrom, cardOfClassed, cardOfLines}
 use Rattle.convert.specs.ToCard.{cardLines}
 use Rattle.convert.proofs.Keyed.{keys-given}
 use Rattle.home.specs.Proper.{ProperEntries, ProperMaps, ProperCard}
-use Rattle.home.proofs.Given.{noGives, plus, given, gathered-given}
+use Rattle.home.proofs.Given.{noGives, plus, gathered-given}
 use Rattle.home.proofs.MapLines.{placedFrom, key-filled}
 use Rattle.home.proofs.CardClasses.{optional, cardGives, card-classed}
 
@@ -75,7 +71,7 @@ maps-back i (m ∷ ms) [] ps h g = absurd g
 maps-back i (m ∷ ms) (es ∷ ess) ps h g =
     let own : inMap i ps ≡ es = h i (omega arith) ∙ in-append i (map (placed i) es) (placedFrom (suc i) ess) ∙ ap₂ _++_ (in-own i es) (in-later (suc i) i ess (omega arith)) ∙ append-nil es in
     let next : (j : ℕ) → suc i ≤ j → inMap j ps ≡ inMap j (placedFrom (suc i) ess) =
-      λ j l. h j (omega arith) ∙ in-append j (map (placed i) es) (placedFrom (suc i) ess) ∙ ap (λ (l : List Entry). l ++ inMap j (placedFrom (suc i) ess)) (in-other i j es (ne-eqb j i (omega arith))) in
+    λ j l. h j (omega arith) ∙ in-append j (map (placed i) es) (placedFrom (suc i) ess) ∙ ap (λ (l : List Entry). l ++ inMap j (placedFrom (suc i) ess)) (in-other i j es (ne-eqb j i (omega arith))) in
     rw own (ap₂ _∷_ (keyed-back m es (g .0)) (maps-back (suc i) ms ess ps next (g .2)))
 
 -- ---- what may be absent

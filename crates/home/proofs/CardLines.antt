@@ -1,19 +1,19 @@
 -- Every written line of a proper card can be sent, so the written card is unfolded and read as those lines.
-use mathlib.Core.Path.{_≡_, refl, sym, ap, subst, _∙_}
-use mathlib.Core.Bool.{Bool, true, false, _&&_, _||_, not}
+use mathlib.Core.Path.{_≡_, refl, sym, subst}
+use mathlib.Core.Bool.{Bool, true, false, _&&_, _||_}
 use mathlib.Core.List.{List, [], _∷_, _++_, map}
 use mathlib.Core.Option.{Option, none, some}
 use Prim.Native.Nat.{ℕ, suc}
 use lib.ListN.{length}
 use lib.Dec.{ltb}
-use Rattle.text.specs.Choice.{pick, with-some}
-use Rattle.text.specs.Bytes.{Bytes, ascii, any, all, empty, same, among, lowered, lower, between, joined, flat}
+use Rattle.text.specs.Choice.{with-some}
+use Rattle.text.specs.Bytes.{Bytes, ascii, any, all, empty, same, among, lowered, lower, between}
 use Rattle.text.specs.Utf8.{utf8}
-use Rattle.text.proofs.Cases.{byBool, and-left, and-right, and-true}
-use Rattle.text.proofs.Lists.{all-head, all-tail, all-cons, all-imply}
+use Rattle.text.proofs.Cases.{and-left, and-right, and-true}
+use Rattle.text.proofs.Lists.{all-head, all-tail, all-imply}
 use Rattle.json.specs.Tree.{Member, nameOf}
 use Rattle.line.specs.Class.{isName, isLowerName, isControl}
-use Rattle.line.specs.Grammar.{Param, param, Line, valueCount, fits, isFrameName}
+use Rattle.line.specs.Grammar.{param, Line, valueCount, fits, isFrameName}
 use Rattle.line.specs.Text.{writeText}
 use Rattle.line.specs.Write.{writeLine}
 use Rattle.line.proofs.Lines.{upperLine}
@@ -22,17 +22,17 @@ use Rattle.convert.specs.Table.{Map, maps}
 use Rattle.convert.specs.Model.{Entry, Kept, Card, hasParts}
 use Rattle.convert.specs.Value.{filled, writeName}
 use Rattle.convert.specs.Classify.{Seen}
-use Rattle.convert.specs.Carry.{carriedRaw, carriedText, carriedParam, carriedAs, carriedMaps, carriedKept}
+use Rattle.convert.specs.Carry.{carriedText, carriedParam, carriedAs, carriedMaps, carriedKept}
 use Rattle.convert.specs.FromJson.{isLowerWord, keptAsLine, keptStands, seenIn}
 use Rattle.convert.specs.ToCard.{property, whereFilled, lineWhere, derivedLine, fullLine, entryLine, mapsLines, memberLine, cardLines, printCard}
 use Rattle.convert.specs.Answers.{rawLines, linesOf}
-use Rattle.home.specs.Proper.{ProperEntries, ProperMaps, ProperMember, ProperMembers, AllKeptFine, ProperCard}
+use Rattle.home.specs.Proper.{ProperEntries, ProperMaps, ProperMembers, AllKeptFine, ProperCard}
 use Rattle.home.proofs.Words.{names-lower}
 use Rattle.home.proofs.Rows.{Row, Rows, rows}
 use Rattle.home.proofs.Carried.{Carried, is-carried}
 use Rattle.home.proofs.Clean.{Clean, isPrinted, clean-printed, raw-clean}
-use Rattle.home.proofs.Fair.{Fair, fairValue, fairParam, fair-sendable, name-printed}
-use Rattle.home.proofs.FairValues.{isSafe, safe-fair, textual, textual-clean, name-clean, made-clean}
+use Rattle.home.proofs.Fair.{Fair, fairParam, fair-sendable, name-printed}
+use Rattle.home.proofs.FairValues.{safe-fair, textual, textual-clean, name-clean, made-clean}
 use Rattle.home.proofs.FairEntries.{entry-fair}
 use Rattle.home.proofs.FairKept.{member-fair, kept-fair}
 use Rattle.home.proofs.KeptFacts.{stands}
@@ -132,8 +132,8 @@ parted-fair c p =
     let r : Carried c = is-carried c (p .carries) in
     let t : all (all textual) (c .parts) ≡ true = parts-textual (c .parts) (p .parts) (r .parts) in
     let later : AllFair (laterLines c) =
-      later-each Fair c (full-fair (c .full) (c .parts) (p .full) (r .full) t) (name-fair (c .parts) (hasParts (c .parts)) t) (maps-fair 0 maps (c .maps) rows (p .entries) (r .maps))
-      (members-fair (c .members) (p .members) (r .members)) (kepts-fair (seenIn c) (c .kept) (p .kept) (p .stand) (r .kept)) in
+    later-each Fair c (full-fair (c .full) (c .parts) (p .full) (r .full) t) (name-fair (c .parts) (hasParts (c .parts)) t) (maps-fair 0 maps (c .maps) rows (p .entries) (r .maps))
+    (members-fair (c .members) (p .members) (r .members)) (kepts-fair (seenIn c) (c .kept) (p .kept) (p .stand) (r .kept)) in
     (version-fair, (uid-fair (c .uid) (raw-clean (c .uid) (and-right (filled (c .uid)) _ (p .uid)) (r .uid)), each-append Fair (kindLines c) (laterLines c) (kind-fair (c .kind) (p .kind)) later))
 
 pub card-fair : (c : Card) → ProperCard c → AllFair (cardLines c)

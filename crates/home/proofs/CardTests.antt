@@ -1,19 +1,19 @@
 -- A proper card's written lines pass every test of a card but the count of lines.
 use mathlib.Core.Path.{_≡_, refl, sym, ap, subst, _∙_}
-use mathlib.Core.Bool.{Bool, true, false, _&&_, _||_, not}
+use mathlib.Core.Bool.{Bool, true, false, _&&_, _||_}
 use mathlib.Core.List.{List, [], _∷_, _++_, map}
 use mathlib.Core.Option.{Option, none, some}
 use Prim.Native.Nat.{ℕ, suc}
 use lib.ListN.{length}
 use lib.Dec.{ltb}
-use Rattle.text.specs.Choice.{pick, with-some}
+use Rattle.text.specs.Choice.{with-some}
 use Rattle.text.specs.Bytes.{Bytes, ascii, any, all, empty, same, among, lower, lowered, upper, uppered, between, keep, flat}
-use Rattle.text.proofs.Cases.{byBool, and-left, and-right, not-true}
+use Rattle.text.proofs.Cases.{byBool, and-left, not-true}
 use Rattle.text.proofs.Lists.{any-head, any-tail, map-both}
 use Rattle.text.proofs.Letters.{lowered-uppered}
 use Rattle.line.specs.Class.{isName}
 use Rattle.line.specs.Grammar.{Param, param, Line}
-use Rattle.line.specs.Params.{named, valuesNamed, besidesValue, valueType}
+use Rattle.line.specs.Params.{named, valuesNamed, besidesValue}
 use Rattle.line.specs.Text.{writeText}
 use Rattle.line.specs.Write.{writeLine}
 use Rattle.line.proofs.Parameters.{upperParam}
@@ -24,7 +24,7 @@ use Rattle.convert.specs.Model.{Card, hasParts}
 use Rattle.convert.specs.Value.{filled, writeName}
 use Rattle.convert.specs.FromJson.{isLowerWord, seenIn}
 use Rattle.convert.specs.ToCard.{property, whereFilled, derivedLine, fullLine, cardLines}
-use Rattle.convert.specs.Answers.{Answer, Test, fine, lineRoom, seek, given, firstFrom, givenAt, atLine, garbled, ungrammatical, isNamed, isVersionLine, versionFirst, onlyUri, valueFits, misused, secondFrom, emptied, lineTests}
+use Rattle.convert.specs.Answers.{Answer, fine, lineRoom, seek, given, firstFrom, atLine, garbled, ungrammatical, isNamed, isVersionLine, versionFirst, onlyUri, misused, secondFrom, emptied, lineTests}
 use Rattle.home.specs.Proper.{ProperCard}
 use Rattle.home.proofs.Words.{names-lower}
 use Rattle.home.proofs.Rows.{rows}
@@ -133,10 +133,13 @@ kind-passes [] h = tt
 kind-passes (c ∷ k) h = (passes (property (ascii "kind") [] (c ∷ k)) (kind-used (c ∷ k)) (kind-filled (c ∷ k) refl (names-lower (c ∷ k) h)), tt)
 
 parted-passes : (c : Card) → ProperCard c → Each Passes (versionLine ∷ uidLine c ∷ (kindLines c ++ laterLines c))
-parted-passes c p =
-    (passes versionLine (version-passes .0) (version-passes .1),
-    (passes (uidLine c) (uid-used (c .uid)) (uid-filled (c .uid) (not-true (empty (c .uid)) (and-left (filled (c .uid)) _ (p .uid)))),
-    each-append Passes (kindLines c) (laterLines c) (kind-passes (c .kind) (p .kind)) (each-imply Plain Passes (λ l q. passes l (plain-misused l q) (plain-emptied l q)) (laterLines c) (later-plain c p))))
+parted-passes c p = (
+  passes versionLine (version-passes .0) (version-passes .1),
+  (
+    passes (uidLine c) (uid-used (c .uid)) (uid-filled (c .uid) (not-true (empty (c .uid)) (and-left (filled (c .uid)) _ (p .uid)))),
+    each-append Passes (kindLines c) (laterLines c) (kind-passes (c .kind) (p .kind)) (each-imply Plain Passes (λ l q. passes l (plain-misused l q) (plain-emptied l q)) (laterLines c) (later-plain c p)),
+  ),
+)
 
 card-passes : (c : Card) → ProperCard c → Each Passes (cardLines c)
 card-passes c p = subst (Each Passes) (sym (card-parted c)) (parted-passes c p)

@@ -1,11 +1,10 @@
 -- What a carried card says of each of its strings.
-use mathlib.Core.Path.{_≡_, refl}
-use mathlib.Core.Bool.{Bool, true, false, _&&_}
-use mathlib.Core.List.{List}
+use mathlib.Core.Path.{_≡_}
+use mathlib.Core.Bool.{Bool, true, _&&_}
 use Rattle.text.specs.Choice.{with-some}
-use Rattle.text.specs.Bytes.{Bytes, all}
+use Rattle.text.specs.Bytes.{all}
 use Rattle.text.proofs.Cases.{and-left, and-right}
-use Rattle.json.specs.Tree.{Member, nameOf}
+use Rattle.json.specs.Tree.{nameOf}
 use Rattle.convert.specs.Table.{maps}
 use Rattle.convert.specs.Model.{Card, part}
 use Rattle.convert.specs.Carry.{carriedRaw, carriedText, carriedParam, carriedMaps, carriedKept, apart, carried}
@@ -29,9 +28,16 @@ eight a b c d e f g h q =
     let q₅ = and-left (a && b && c && d && e) f q₆ in
     let q₄ = and-left (a && b && c && d) e q₅ in
     let q₃ = and-left (a && b && c) d q₄ in
-    let q₂ = and-left (a && b) c q₃ in
-    (and-left a b q₂, and-right a b q₂, and-right (a && b) c q₃, and-right (a && b && c) d q₄, and-right (a && b && c && d) e q₅, and-right (a && b && c && d && e) f q₆, and-right (a && b && c && d && e && f) g q₇,
-    and-right (a && b && c && d && e && f && g) h q)
+    let q₂ = and-left (a && b) c q₃ in (
+      and-left a b q₂,
+      and-right a b q₂,
+      and-right (a && b) c q₃,
+      and-right (a && b && c) d q₄,
+      and-right (a && b && c && d) e q₅,
+      and-right (a && b && c && d && e) f q₆,
+      and-right (a && b && c && d && e && f) g q₇,
+      and-right (a && b && c && d && e && f && g) h q,
+    )
 
 pub is-carried : (c : Card) → carried c ≡ true → Carried c
 unfolding carried

@@ -1,19 +1,19 @@
 -- Clean bytes: UTF-8 without a control but tab. What is put together of clean bytes is clean; compact JSON is.
 use mathlib.Core.Path.{_≡_, refl, sym, ap, _∙_}
-use mathlib.Core.Bool.{Bool, true, false, _&&_, _||_, not}
-use mathlib.Core.List.{List, [], _∷_, _++_, map}
-use Prim.Native.Nat.{ℕ, suc}
+use mathlib.Core.Bool.{Bool, true, false, _&&_, not}
+use mathlib.Core.List.{List, [], _∷_, _++_}
+use Prim.Native.Nat.{ℕ}
 use native.Mathlib.Omega.{arith}
-use lib.Dec.{eqb, ltb}
+use lib.Dec.{ltb}
 use borrow.Author.Tests.{ltb-false, le-ltb, ne-eqb}
 use Rattle.text.specs.Choice.{pick}
 use Rattle.text.specs.Bytes.{Bytes, ascii, is, any, all, between, joined}
-use Rattle.text.specs.Utf8.{run, next, lead, utf8}
+use Rattle.text.specs.Utf8.{run, utf8}
 use Rattle.text.proofs.Cases.{byBelow, implied, beyond, and-left, and-right, not-true}
-use Rattle.text.proofs.Lists.{all-head, all-tail, all-not, all-imply, any-imply, any-neither}
+use Rattle.text.proofs.Lists.{all-not, all-imply, any-imply, any-neither}
 use Rattle.text.proofs.Characters.{utf8-append}
 use Rattle.json.specs.Tree.{Json, jnull, jtrue, jfalse, jnum, jstr, jarr, jobj, Elems, enil, econs, Members, mnil, mcons}
-use Rattle.json.specs.Compact.{hexDigit, spelled, spelledAll, quoted, written, writtenElems, elemsAfter, writtenMembers, membersAfter, compact}
+use Rattle.json.specs.Compact.{spelled, spelledAll, quoted, written, writtenElems, elemsAfter, writtenMembers, membersAfter, compact}
 use Rattle.json.specs.Grammar.{isE}
 use Rattle.json.proofs.Numbers.{Spelled}
 use Rattle.json.proofs.Sound.{Sound, SoundElems, SoundMembers}

@@ -1,19 +1,18 @@
 -- Texts that are written byte by byte, each byte as some bytes: they stay in UTF-8 where only ASCII bytes change, and pass tests byte by byte.
 use mathlib.Core.Path.{_≡_, refl, sym, ap, _∙_}
-use mathlib.Core.Bool.{Bool, true, false, _&&_, _||_, not}
-use mathlib.Core.List.{List, [], _∷_, _++_, map}
+use mathlib.Core.Bool.{Bool, true, false, _&&_}
+use mathlib.Core.List.{[], _∷_, _++_}
 use Prim.Native.Nat.{ℕ, _+_}
 use native.Mathlib.Omega.{arith}
 use lib.Dec.{eqb, ltb}
 use borrow.Author.Tests.{ltb-false, le-ltb, ne-eqb}
 use Rattle.text.specs.Choice.{pick}
-use Rattle.text.specs.Bytes.{Bytes, ascii, all, between, upper, uppered}
+use Rattle.text.specs.Bytes.{Bytes, all, between}
 use Rattle.text.specs.Utf8.{Due, start, due, broken, lead, tails, next, run, utf8}
-use Rattle.text.proofs.Cases.{byBool, byBelow, upTo, tests, between-true, not-both}
+use Rattle.text.proofs.Cases.{byBool, byBelow, between-true, not-both}
 use Rattle.text.proofs.Lists.{all-head, all-tail, all-both}
-use Rattle.text.proofs.Letters.{no-lower}
 use Rattle.text.proofs.Characters.{run-append, utf8-run, run-utf8, not-start, later, later-lead, later-tails, later-bounds}
-use Rattle.json.specs.Compact.{hexDigit, spelled, spelledAll}
+use Rattle.json.specs.Compact.{spelled, spelledAll}
 use Rattle.line.specs.Text.{escape, writeText}
 use Rattle.convert.specs.Pointer.{pointer}
 

@@ -1,20 +1,19 @@
 -- Fair lines, as every written line is: they can be sent, and are clean when written.
-use mathlib.Core.Path.{_≡_, refl, sym, ap, _∙_}
+use mathlib.Core.Path.{_≡_, refl, ap, _∙_}
 use mathlib.Core.Bool.{Bool, true, false, _&&_, _||_, not}
-use mathlib.Core.List.{List, [], _∷_, _++_, map}
+use mathlib.Core.List.{List, [], _∷_}
 use Prim.Native.Nat.{ℕ}
 use lib.Dec.{eqb, ltb}
-use borrow.Author.Tests.{eqb-true, ltb-false, ne-eqb}
-use Rattle.text.specs.Choice.{pick, is-some}
-use Rattle.text.specs.Bytes.{Bytes, ascii, is, any, all, empty, between, same, uppered}
+use borrow.Author.Tests.{eqb-true, ne-eqb}
+use Rattle.text.specs.Bytes.{Bytes, ascii, is, all, empty, between, uppered}
 use Rattle.text.specs.Utf8.{utf8}
-use Rattle.text.proofs.Cases.{byBool, implied, beyond, tests, and-left, and-right, and-true, not-true, not-both}
+use Rattle.text.proofs.Cases.{byBool, implied, beyond, tests, and-left, and-right, not-both}
 use Rattle.text.proofs.Lists.{all-head, all-tail, all-not, all-imply, any-imply}
 use Rattle.text.proofs.Characters.{isByte, utf8-bytes}
 use Rattle.line.specs.Class.{isName, isBare, isControl, isQuotable}
-use Rattle.line.specs.Grammar.{Param, param, paramName, paramValues, Line, fits, isFrameName, accepted, readLine}
+use Rattle.line.specs.Grammar.{Param, param, paramName, paramValues, Line, fits, isFrameName, accepted}
 use Rattle.line.specs.Write.{writeValue, writeValues, writeParams, writeGroup, writeLine}
-use Rattle.line.proofs.Parameters.{isWord, writableParam, uppered-names}
+use Rattle.line.proofs.Parameters.{writableParam, uppered-names}
 use Rattle.line.proofs.Lines.{writable, read-line}
 use Rattle.line.proofs.Cards.{lfFree, lfFreeLine, sendable}
 use Rattle.convert.specs.Carry.{carriedRaw, carriedParam}

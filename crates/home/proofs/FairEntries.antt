@@ -1,5 +1,5 @@
 -- The lines of the maps are fair.
-use mathlib.Core.Path.{_≡_, refl, sym, ap, _∙_}
+use mathlib.Core.Path.{_≡_, refl, ap}
 use mathlib.Core.Bool.{Bool, true, false, _&&_, _||_, not}
 use mathlib.Core.List.{List, [], _∷_, _++_, map}
 use Prim.Native.Nat.{ℕ, suc, _+_, _≤_}
@@ -8,13 +8,12 @@ use lib.ListN.{length}
 use lib.Dec.{eqb, ltb, leb}
 use borrow.Author.Tests.{le-leb}
 use Rattle.text.specs.Choice.{pick}
-use Rattle.text.specs.Bytes.{Bytes, ascii, any, all, empty, same, among, between, lower, lowered, isDigit, keep}
-use Rattle.text.specs.Utf8.{utf8}
-use Rattle.text.proofs.Cases.{byBool, byBelow, tests, and-left, and-right, and-true, not-both}
+use Rattle.text.specs.Bytes.{Bytes, ascii, any, all, empty, same, among, between, lowered, isDigit, keep}
+use Rattle.text.proofs.Cases.{byBool, byBelow, tests, and-left, and-right, and-true}
 use Rattle.text.proofs.Lists.{all-head, all-tail, all-both, all-imply, any-tail}
-use Rattle.line.specs.Class.{isName, isLowerName, isKey}
-use Rattle.line.specs.Grammar.{Param, param, Line, valueCount, fits, isFrameName}
-use Rattle.convert.specs.Table.{Form, text, single, uri, phone, organization, Map, typeNames, inOrder, contextCodes, featureCodes}
+use Rattle.line.specs.Class.{isName, isLowerName}
+use Rattle.line.specs.Grammar.{Param, param, valueCount, fits, isFrameName}
+use Rattle.convert.specs.Table.{Form, text, single, uri, phone, organization, Map, inOrder, contextCodes, featureCodes}
 use Rattle.convert.specs.Model.{Entry}
 use Rattle.convert.specs.Value.{headOr, isKeyText, isPref, isTelUri, writtenType}
 use Rattle.convert.specs.Carry.{carriedAs}

@@ -1,23 +1,22 @@
 -- JSPROP lines and kept lines are fair.
-use mathlib.Core.Path.{_≡_, refl, sym, ap, _∙_}
-use mathlib.Core.Bool.{Bool, true, false, _&&_, _||_, not}
-use mathlib.Core.List.{List, [], _∷_, _++_, map}
-use lib.Dec.{leb}
+use mathlib.Core.Path.{_≡_, refl}
+use mathlib.Core.Bool.{Bool, true, false, _&&_, not}
+use mathlib.Core.List.{List, [], _∷_}
 use Rattle.text.specs.Choice.{pick}
 use Rattle.text.specs.Bytes.{Bytes, ascii, any, all, empty, same, among, lowered, lower, between}
 use Rattle.text.specs.Utf8.{utf8}
-use Rattle.text.proofs.Cases.{byBool, and-left, and-right, and-true, not-true, or-left, or-right}
-use Rattle.text.proofs.Lists.{all-head, all-tail, all-both, any-head, any-tail, any-none}
-use Rattle.json.specs.Tree.{Json, Member, member, nameOf, valueOf}
+use Rattle.text.proofs.Cases.{byBool, and-left, and-right, and-true}
+use Rattle.text.proofs.Lists.{all-head, all-tail, all-both, any-head, any-tail}
+use Rattle.json.specs.Tree.{Member, member, nameOf}
 use Rattle.json.specs.Compact.{compact}
 use Rattle.line.specs.Class.{isLowerName}
-use Rattle.line.specs.Grammar.{Param, param, paramName, paramValues, Line, valueCount, fits, isFrameName}
+use Rattle.line.specs.Grammar.{Param, param, paramName, paramValues, valueCount, fits, isFrameName}
 use Rattle.convert.specs.Table.{reserved}
 use Rattle.convert.specs.Model.{Kept}
 use Rattle.convert.specs.Value.{filled}
 use Rattle.convert.specs.Pointer.{pointer}
 use Rattle.convert.specs.Classify.{Seen}
-use Rattle.convert.specs.Carry.{carriedRaw, carriedParam, carriedKept}
+use Rattle.convert.specs.Carry.{carriedParam, carriedKept}
 use Rattle.convert.specs.FromJson.{isLowerWord, neverKept, keptAsLine}
 use Rattle.convert.specs.ToCard.{memberLine}
 use Rattle.home.specs.Proper.{ProperMember, KeptFine}

@@ -1,15 +1,13 @@
 -- The written values of a proper card are clean, and its parameter values fair.
-use mathlib.Core.Path.{_≡_, refl, sym, ap, ap₂, _∙_}
-use mathlib.Core.Bool.{Bool, true, false, _&&_, _||_, not}
+use mathlib.Core.Path.{_≡_, refl, sym, _∙_}
+use mathlib.Core.Bool.{Bool, true, false, _&&_, not}
 use mathlib.Core.List.{List, [], _∷_, _++_, map}
 use Prim.Native.Nat.{ℕ, zero, suc}
-use lib.ListN.{length, getD}
 use lib.Dec.{eqb, ltb}
 use borrow.Author.Tests.{ne-eqb}
-use Rattle.text.specs.Choice.{pick}
-use Rattle.text.specs.Bytes.{Bytes, ascii, is, any, all, empty, between, begins, joined, flat}
+use Rattle.text.specs.Bytes.{Bytes, ascii, is, any, all, between, begins, joined, flat}
 use Rattle.text.specs.Utf8.{utf8, run}
-use Rattle.text.proofs.Cases.{byBool, implied, beyond, tests, and-left, and-right, and-true, not-true}
+use Rattle.text.proofs.Cases.{byBool, implied, beyond, tests, and-left, and-right, and-true}
 use Rattle.text.proofs.Lists.{all-head, all-tail, all-not, all-both, all-imply}
 use Rattle.line.specs.Class.{isName, isKey, isControl}
 use Rattle.line.specs.Text.{escape, writeText}
@@ -20,7 +18,7 @@ use Rattle.convert.specs.Value.{headOr, isTelUri, writeAs, writtenParts, writeN
 use Rattle.convert.specs.Carry.{carriedRaw, carriedText, carriedParam, carriedAs}
 use Rattle.convert.specs.Pointer.{pointer}
 use Rattle.home.proofs.Expanded.{isAscii, ascii-utf8, pointer-utf8, pointer-all}
-use Rattle.home.proofs.Clean.{Clean, AllClean, isPrinted, clean-none, clean-joined, raw-clean, text-clean}
+use Rattle.home.proofs.Clean.{Clean, AllClean, isPrinted, clean-joined, raw-clean, text-clean}
 use Rattle.home.proofs.Fair.{fairValue}
 
 -- ---- parameter values

@@ -1,10 +1,10 @@
 -- What lines give to the model and leave behind, for lists put together of sections.
 use mathlib.Core.Path.{_≡_, refl, sym, ap, ap₂, _∙_}
 use mathlib.Core.List.{List, [], _∷_, _++_, map, append-assoc, append-nil}
-use Rattle.text.specs.Bytes.{Bytes, flat}
+use Rattle.text.specs.Bytes.{flat}
 use Rattle.line.specs.Grammar.{Line}
 use Rattle.line.proofs.Lines.{upperLine}
-use Rattle.convert.specs.Classify.{Class, as-version, as-uid, as-kind, as-dropped, as-full, as-parts, as-entry, as-member, as-kept, Seen, see, Classed, classify, classedAfter}
+use Rattle.convert.specs.Classify.{Class, as-version, as-uid, as-kind, as-dropped, as-full, as-parts, as-entry, as-member, as-kept, Seen, see, classify, classedAfter}
 use Rattle.convert.specs.FromCard.{Gives, gives, gathered}
 use Rattle.convert.proofs.Cases.{classify-upper, kept-upper}
 

@@ -1,15 +1,14 @@
 -- The written lines of the maps: each is read as its entry, whatever came before from other maps.
-use mathlib.Core.Path.{_≡_, refl, sym, ap, ap₂, _∙_}
+use mathlib.Core.Path.{_≡_, refl, sym, ap, _∙_}
 use mathlib.Core.Bool.{Bool, true, false, _&&_, _||_, not}
 use mathlib.Core.List.{List, [], _∷_, _++_, map}
-use mathlib.Core.Option.{Option, none, some}
+use mathlib.Core.Option.{some}
 use Prim.Native.Nat.{ℕ, suc, _≤_}
 use native.Mathlib.Omega.{arith}
 use lib.ListN.{length}
 use lib.Dec.{eqb, ltb}
 use borrow.Author.Tests.{ne-eqb}
-use Rattle.text.specs.Choice.{pick, with-some}
-use Rattle.text.specs.Bytes.{Bytes, ascii, any, all, empty, same, among, distinct, lowered}
+use Rattle.text.specs.Bytes.{Bytes, ascii, any, empty, same, among, distinct, lowered}
 use Rattle.text.proofs.Cases.{byBool, and-left, and-right, not-true, not-both}
 use Rattle.text.proofs.Same.{same-true, among-head, among-later}
 use Rattle.text.proofs.Lists.{any-head, any-tail, any-append}
@@ -17,12 +16,12 @@ use Rattle.line.specs.Grammar.{Line}
 use Rattle.convert.specs.Table.{Map, Slot, slotOf}
 use Rattle.convert.specs.Model.{Entry}
 use Rattle.convert.specs.Value.{isKeyText}
-use Rattle.convert.specs.Classify.{Class, as-entry, as-kept, Id, id, isId, Seen, see, entryClass, classify}
-use Rattle.convert.specs.FromCard.{Placed, placed, Gives, gives}
+use Rattle.convert.specs.Classify.{as-entry, Id, id, isId, Seen, see, entryClass, classify}
+use Rattle.convert.specs.FromCard.{Placed, placed, Gives}
 use Rattle.convert.specs.FromJson.{idsFrom}
 use Rattle.convert.specs.ToCard.{entryLine, mapsLines}
 use Rattle.convert.proofs.Entries.{Proper, entry-read}
-use Rattle.home.specs.Proper.{ProperEntry, ProperEntries, ProperMaps}
+use Rattle.home.specs.Proper.{ProperEntries, ProperMaps}
 use Rattle.home.proofs.Given.{plus, Section, no-lines, one-line, both-sections, section-to}
 use Rattle.home.proofs.Rows.{others, Row, Rows}
 

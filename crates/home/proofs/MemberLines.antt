@@ -1,19 +1,19 @@
 -- The written JSPROP lines: each is read as its member.
-use mathlib.Core.Path.{_≡_, refl, sym, ap, _∙_}
-use mathlib.Core.Bool.{Bool, true, false, _&&_, _||_, not}
-use mathlib.Core.List.{List, [], _∷_, _++_, map}
-use Rattle.text.specs.Bytes.{Bytes, ascii, any, all, empty, same, among, distinct}
+use mathlib.Core.Path.{_≡_, refl, _∙_}
+use mathlib.Core.Bool.{true, false, _&&_, _||_, not}
+use mathlib.Core.List.{List, [], _∷_, map}
+use Rattle.text.specs.Bytes.{Bytes, ascii, any, empty, same, among, distinct}
 use Rattle.text.specs.Utf8.{utf8}
 use Rattle.text.proofs.Cases.{byBool, and-left, and-right, not-true, not-both}
 use Rattle.text.proofs.Same.{same-true, among-head, among-later}
-use Rattle.json.specs.Tree.{Json, Member, member, nameOf, valueOf}
+use Rattle.json.specs.Tree.{Member, member, nameOf, valueOf}
 use Rattle.json.specs.Compact.{compact}
 use Rattle.line.specs.Text.{writeText}
 use Rattle.line.specs.Grammar.{param}
 use Rattle.convert.specs.Table.{reserved}
 use Rattle.convert.specs.Value.{filled}
 use Rattle.convert.specs.Pointer.{pointer}
-use Rattle.convert.specs.Classify.{Class, as-member, Seen, see, memberClass, classify}
+use Rattle.convert.specs.Classify.{as-member, Seen, memberClass, classify}
 use Rattle.convert.specs.FromCard.{Gives, gives}
 use Rattle.convert.specs.ToCard.{memberLine}
 use Rattle.convert.proofs.Written.{member-class, member-written}

@@ -1,13 +1,13 @@
 -- The bytes of a JSON number's spelling: digits, signs, a point, e or E.
-use mathlib.Core.Path.{_≡_, refl, sym, ap, subst, _∙_}
+use mathlib.Core.Path.{_≡_, refl, subst}
 use mathlib.Core.Bool.{Bool, true, false, _||_}
-use mathlib.Core.List.{List, [], _∷_, _++_, tail}
+use mathlib.Core.List.{[], _∷_, _++_, tail}
 use mathlib.Core.Logic.{_⊎_, inl, inr}
 use Prim.Native.Nat.{ℕ}
 use lib.Dec.{eqb}
 use borrow.Author.Tests.{eqb-true}
 use Rattle.text.specs.Bytes.{Bytes, is, all, between, isDigit}
-use Rattle.text.specs.Reader.{got, bind, under, first, on, some-of}
+use Rattle.text.specs.Reader.{got, bind, under, first}
 use Rattle.text.proofs.Lists.{all-cons, all-both, all-imply}
 use Rattle.text.proofs.Readers.{got-what, bind-inv, under-inv, on-inv, some-of-inv}
 use Rattle.json.specs.Grammar.{isE}

@@ -1,9 +1,9 @@
 -- A card's written lines: VERSION, UID, KIND, and the later ones; what holds of each section's lines holds of them all.
-use mathlib.Core.Path.{_≡_, refl, sym, ap, _∙_}
+use mathlib.Core.Path.{_≡_}
 use mathlib.Core.List.{List, [], _∷_, _++_, map, append-assoc}
-use Rattle.text.specs.Bytes.{Bytes, ascii}
+use Rattle.text.specs.Bytes.{ascii}
 use Rattle.line.specs.Grammar.{Line}
-use Rattle.convert.specs.Table.{Map, maps}
+use Rattle.convert.specs.Table.{maps}
 use Rattle.convert.specs.Model.{Card, hasParts}
 use Rattle.convert.specs.Value.{writeName}
 use Rattle.convert.specs.FromJson.{keptAsLine}

@@ -1,6 +1,6 @@
 -- Plain lines, as all but VERSION, UID and KIND are: not misused, not emptied, no second of those three.
-use mathlib.Core.Path.{_≡_, refl, sym, ap, _∙_}
-use mathlib.Core.Bool.{Bool, true, false, _&&_, _||_, not}
+use mathlib.Core.Path.{_≡_, refl}
+use mathlib.Core.Bool.{Bool, true, false, not}
 use mathlib.Core.List.{List, [], _∷_, _++_, map}
 use mathlib.Core.Option.{Option, none, some}
 use Prim.Native.Nat.{ℕ, suc}
@@ -8,17 +8,17 @@ use lib.ListN.{length}
 use lib.Dec.{ltb}
 use Rattle.text.specs.Choice.{pick, with-some}
 use Rattle.text.specs.Bytes.{Bytes, ascii, any, all, empty, same, among, lower, lowered, between, keep, flat}
-use Rattle.text.proofs.Cases.{byBool, and-left, and-right, and-true, not-true}
-use Rattle.text.proofs.Lists.{all-head, all-tail, any-head, any-tail, any-none, any-neither, keep-none}
+use Rattle.text.proofs.Cases.{byBool, and-left, and-right, and-true}
+use Rattle.text.proofs.Lists.{all-head, all-tail, any-head, any-tail, any-neither, keep-none}
 use Rattle.json.specs.Tree.{Member, member}
 use Rattle.line.specs.Class.{isName}
-use Rattle.line.specs.Grammar.{Param, param, paramName, paramValues, Line}
+use Rattle.line.specs.Grammar.{Param, param, Line}
 use Rattle.line.specs.Params.{named, valuesNamed}
 use Rattle.line.specs.Text.{writeText}
 use Rattle.line.proofs.Named.{valuesNamed-append, valuesNamed-one, valuesNamed-other, valuesNamed-none}
-use Rattle.convert.specs.Table.{Form, text, single, uri, phone, organization, Map, maps}
-use Rattle.convert.specs.Model.{Entry, Kept, Card, hasParts}
-use Rattle.convert.specs.Value.{headOr, isTelUri, writtenType, writeName}
+use Rattle.convert.specs.Table.{Form, text, single, uri, phone, organization, Map}
+use Rattle.convert.specs.Model.{Entry, Kept}
+use Rattle.convert.specs.Value.{headOr, isTelUri, writtenType}
 use Rattle.convert.specs.Classify.{Seen}
 use Rattle.convert.specs.FromJson.{isLowerWord, isGroup, neverKept, keptAsLine, keptStands}
 use Rattle.convert.specs.ToCard.{property, paramOf, lineWhere, derivedLine, entryLine, mapsLines, memberLine}

@@ -1,15 +1,15 @@
 -- What the table of converted lines has for every property: its slot, and a lower-case name of its own.
-use mathlib.Core.Path.{_≡_, refl, ap}
-use mathlib.Core.Bool.{Bool, true, false, _||_, _&&_, not}
+use mathlib.Core.Path.{_≡_, refl}
+use mathlib.Core.Bool.{true, false, _&&_, not}
 use mathlib.Core.List.{List, [], _∷_, map}
-use mathlib.Core.Option.{Option, none, some}
+use mathlib.Core.Option.{some}
 use Prim.Native.Nat.{ℕ, suc}
 use lib.ListN.{length, getD}
 use lib.Dec.{ltb}
 use Rattle.text.specs.Bytes.{Bytes, ascii, any, all, empty, same, among, lower, lowered, between}
 use Rattle.text.proofs.Cases.{byBelow, upTo, not-both}
 use Rattle.line.specs.Class.{isLowerName}
-use Rattle.convert.specs.Table.{Map, maps, Slot, position, slotFrom, slotOf}
+use Rattle.convert.specs.Table.{Map, maps, position, slotFrom, slotOf}
 
 -- names that lines of the maps do not have
 abbrev pub others : List Bytes
@@ -43,12 +43,25 @@ row i m n q a b c w h =
 
 pub rows : Rows 0 maps
 unfolding slotOf slotFrom position same lowered lower between among any all isLowerName
-rows =
-    (row 0 _ 1 refl refl refl refl,
-    (row 1 _ 1 refl refl refl refl,
-    (row 2 _ 1 refl refl refl refl,
-    (row 3 _ 1 refl refl refl refl,
-    (row 4 _ 1 refl refl refl refl,
-    (row 5 _ 2 refl refl refl refl,
-    (row 6 _ 1 refl refl refl refl,
-    tt)))))))
+rows = (
+  row 0 _ 1 refl refl refl refl,
+  (
+    row 1 _ 1 refl refl refl refl,
+    (
+      row 2 _ 1 refl refl refl refl,
+      (
+        row 3 _ 1 refl refl refl refl,
+        (
+          row 4 _ 1 refl refl refl refl,
+          (
+            row 5 _ 2 refl refl refl refl,
+            (
+              row 6 _ 1 refl refl refl refl,
+              tt,
+            ),
+          ),
+        ),
+      ),
+    ),
+  ),
+)

@@ -1,12 +1,12 @@
 -- Lower-case words: letters, digits and hyphens, which lowering does not change.
-use mathlib.Core.Path.{_≡_, refl, sym, ap₂}
-use mathlib.Core.Bool.{Bool, true, false, _&&_, _||_, not}
-use mathlib.Core.List.{List, [], _∷_}
+use mathlib.Core.Path.{_≡_, refl, ap₂}
+use mathlib.Core.Bool.{Bool, true, false, _||_, not}
+use mathlib.Core.List.{[], _∷_}
 use Prim.Native.Nat.{ℕ}
 use lib.Dec.{ltb}
 use Rattle.text.specs.Choice.{pick}
 use Rattle.text.specs.Bytes.{Bytes, all, empty, between, lower, lowered}
-use Rattle.text.proofs.Cases.{byBool, byBelow, and-left, and-right, or-left, or-right, not-both}
+use Rattle.text.proofs.Cases.{byBelow, and-right}
 use Rattle.text.proofs.Letters.{no-upper}
 use Rattle.text.proofs.Lists.{all-head, all-tail, all-imply}
 use Rattle.line.specs.Class.{isName, isLowerName}
