@@ -28,7 +28,7 @@ use Rattle.home.specs.Proper.{ProperCard}
 use Rattle.home.proofs.Given.{noGives, plus, Section, no-lines, one-line, both-sections, section-to}
 use Rattle.home.proofs.Alike.{Alike, classify-alike}
 use Rattle.home.proofs.Rows.{rows}
-use Rattle.home.proofs.Words.{lower-word}
+use Rattle.home.proofs.LowerWords.{lower-word}
 use Rattle.home.proofs.Carried.{Carried, is-carried}
 use Rattle.home.proofs.MapLines.{placedFrom, idsAll, placedGives, any-all, maps-section}
 use Rattle.home.proofs.MemberLines.{namesOnto, memberGives, among-onto, members-section}

@@ -13,7 +13,7 @@ use Rattle.convert.specs.FromCard.{Gives, gives}
 use Rattle.convert.specs.FromJson.{isLowerWord, isKept, neverKept, keptAsLine, keptStands}
 use Rattle.convert.proofs.KeptLines.{ProperKept, kept-line}
 use Rattle.home.specs.Proper.{KeptFine, AllKeptFine}
-use Rattle.home.proofs.Words.{lower-word, lower-group}
+use Rattle.home.proofs.LowerWords.{lower-word, lower-group}
 use Rattle.home.proofs.Given.{plus, Section, no-lines, one-line, both-sections, section-to}
 
 abbrev pub paramStands : Param → Bool

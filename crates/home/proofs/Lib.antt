@@ -1,7 +1,7 @@
 pub mod Given
 pub mod Alike
 pub mod Rows
-pub mod Words
+pub mod LowerWords
 pub mod Carried
 pub mod MapLines
 pub mod KeptFacts

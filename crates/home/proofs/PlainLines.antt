@@ -25,7 +25,7 @@ use Rattle.convert.specs.ToCard.{property, paramOf, lineWhere, derivedLine, ent
 use Rattle.convert.specs.Answers.{valueFits}
 use Rattle.convert.proofs.Types.{typeText}
 use Rattle.home.specs.Proper.{ProperEntries, ProperMaps, KeptFine, AllKeptFine}
-use Rattle.home.proofs.Words.{lower-word, names-lower}
+use Rattle.home.proofs.LowerWords.{lower-word, names-lower}
 use Rattle.home.proofs.Rows.{others, Row, Rows}
 use Rattle.home.proofs.KeptFacts.{Stands, stands, paramStands, no-value}
 use Rattle.home.proofs.Parted.{Each, each-append}
