@@ -30,7 +30,7 @@ use Rattle.home.specs.Proper.{ProperEntries, ProperMaps, ProperMembers, 
 use Rattle.home.proofs.LowerWords.{names-lower}
 use Rattle.home.proofs.Rows.{Row, Rows, rows}
 use Rattle.home.proofs.Carried.{Carried, is-carried}
-use Rattle.home.proofs.Clean.{Clean, isPrinted, clean-printed, raw-clean}
+use Rattle.home.proofs.WrittenClean.{Clean, isPrinted, clean-printed, raw-clean}
 use Rattle.home.proofs.Fair.{Fair, fairParam, fair-sendable, name-printed}
 use Rattle.home.proofs.FairValues.{safe-fair, textual, textual-clean, name-clean, made-clean}
 use Rattle.home.proofs.FairEntries.{entry-fair}

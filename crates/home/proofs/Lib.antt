@@ -10,7 +10,7 @@ pub mod CardClasses
 pub mod CardHome
 pub mod Expanded
 pub mod NumberBytes
-pub mod Clean
+pub mod WrittenClean
 pub mod Fair
 pub mod FairValues
 pub mod FairEntries
