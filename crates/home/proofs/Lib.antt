@@ -61,3 +61,4 @@ pub mod CardLines
 pub mod PlainLines
 pub mod CardTests
 pub mod CardSize
+pub mod WayHome
