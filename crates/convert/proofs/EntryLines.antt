@@ -162,8 +162,11 @@ module _ (f p : Bool) (ns : List Bytes) where
   maps-gain i (m ∷ ms) [] ids at g u = absurd g
   maps-gain i (m ∷ ms) (es ∷ ess) ids at g u =
       gains-append (seen f p ids ns) (map (entryLine m) es) (mapsLines ms ess)
-      ∙ rw (entries-gain i m (at .0) f p ns es ids (g .0) (unused-fresh i (keysOf es) ids u) (g .1), entries-seen i m (at .0) f p ns es ids (g .0) (unused-fresh i (keysOf es) ids u) (g .1),
-          maps-gain (suc i) ms ess (idsAfter i es ids) (at .1) (g .2) (unused-after i es ids u))
+      ∙ rw (
+        entries-gain i m (at .0) f p ns es ids (g .0) (unused-fresh i (keysOf es) ids u) (g .1),
+        entries-seen i m (at .0) f p ns es ids (g .0) (unused-fresh i (keysOf es) ids u) (g .1),
+        maps-gain (suc i) ms ess (idsAfter i es ids) (at .1) (g .2) (unused-after i es ids u),
+      )
 
   pub maps-seen : (i : ℕ) (ms : List Map) (ess : List (List Entry)) (ids : List Id) → Places i ms → GoodMaps ms ess → Unused i ids → seenAfter (seen f p ids ns) (mapsLines ms ess) ≡ seen f p (idsAll i ess ids) ns
   unfolding mapsLines idsAll

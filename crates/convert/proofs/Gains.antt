@@ -99,8 +99,15 @@ cardOf stem n gs =
 pub card-of-lines : (stem : Bytes) (n : ℕ) (ls : List Line) → cardOfLines stem n ls ≡ cardOf stem n (gains nothing ls)
 unfolding cardOfLines classed cardOfClassed cardOf
 card-of-lines stem n ls =
-    rw (gathered-gains (λ (g : Gives). g .uid) nothing ls, gathered-gains (λ (g : Gives). g .kind) nothing ls, gathered-gains (λ (g : Gives). g .full) nothing ls, gathered-gains (λ (g : Gives). g .parts) nothing ls,
-        gathered-gains (λ (g : Gives). g .entry) nothing ls, gathered-gains (λ (g : Gives). g .member) nothing ls, gathered-gains (λ (g : Gives). g .kept) nothing ls)
+    rw (
+      gathered-gains (λ (g : Gives). g .uid) nothing ls,
+      gathered-gains (λ (g : Gives). g .kind) nothing ls,
+      gathered-gains (λ (g : Gives). g .full) nothing ls,
+      gathered-gains (λ (g : Gives). g .parts) nothing ls,
+      gathered-gains (λ (g : Gives). g .entry) nothing ls,
+      gathered-gains (λ (g : Gives). g .member) nothing ls,
+      gathered-gains (λ (g : Gives). g .kept) nothing ls,
+    )
 
 pub card-upper : (stem : Bytes) (n : ℕ) (ls : List Line) → cardOfLines stem n (map upperLine ls) ≡ cardOfLines stem n ls
 card-upper stem n ls = card-of-lines stem n (map upperLine ls) ∙ ap (cardOf stem n) (gains-upper nothing ls) ∙ sym (card-of-lines stem n ls)

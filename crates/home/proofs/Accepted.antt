@@ -85,17 +85,19 @@ lines-good stem n lent raw j e =
     let i7 = seek-fine (atLine 7 misused ls) t8 a j (i6 .1) in
     let i8 = seek-fine (givenAt 8 (secondFrom 1 [] ls)) t9 a j (i7 .1) in
     let i9 = seek-fine (atLine 9 emptied ls) t10 a j (i8 .1) in
-    let i10 = seek-fine (given 10 (not (any (isNamed (ascii "fn")) ls))) [] a j (i9 .1) in
-    (record {
-      few = given-false 3 (ltb lineRoom (length raw)) (i3 .0);
-      clean = at-line-none 4 garbled raw (i4 .0);
-      read = all-read raw (at-line-none 5 ungrammatical raw (i5 .0));
-      version = not-false (versionFirst ls) (given-false 6 (not (versionFirst ls)) (i6 .0));
-      used = at-line-none 7 misused ls (i7 .0);
-      once = given-none 8 (secondFrom 1 [] ls) (i8 .0);
-      filled = at-line-none 9 emptied ls (i9 .0);
-      named = not-false (any (isNamed (ascii "fn")) ls) (given-false 10 (not (any (isNamed (ascii "fn")) ls)) (i10 .0));
-    }, i10 .1)
+    let i10 = seek-fine (given 10 (not (any (isNamed (ascii "fn")) ls))) [] a j (i9 .1) in (
+      record {
+        few = given-false 3 (ltb lineRoom (length raw)) (i3 .0);
+        clean = at-line-none 4 garbled raw (i4 .0);
+        read = all-read raw (at-line-none 5 ungrammatical raw (i5 .0));
+        version = not-false (versionFirst ls) (given-false 6 (not (versionFirst ls)) (i6 .0));
+        used = at-line-none 7 misused ls (i7 .0);
+        once = given-none 8 (secondFrom 1 [] ls) (i8 .0);
+        filled = at-line-none 9 emptied ls (i9 .0);
+        named = not-false (any (isNamed (ascii "fn")) ls) (given-false 10 (not (any (isNamed (ascii "fn")) ls)) (i10 .0));
+      },
+      i10 .1,
+    )
 
 pick-no : (b : Bool) (n p : ℕ) (a : Answer) (j : Bytes) → pick b (no n p) a ≡ yes j → (b ≡ false) × (a ≡ yes j)
 pick-no true n p a j e = no-yes e

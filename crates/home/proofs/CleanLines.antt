@@ -78,8 +78,8 @@ word-clean s n t h e =
     let i = some-of-inv isName refl s n t e in
     let w : not (empty n) && all isName n ≡ true = rw (i .2) (i .3) in
     elim (when-inv isName (λ t. got (taken isName t) (past isName t)) bad s e) [
-      inl q ↦ (w, subst Clean (got-rest (q .1)) (clean-right (taken isName s) (past isName s) (ascii-utf8 (taken isName s) (all-imply isName isAscii name-ascii (taken isName s) (taken-all isName s))) (subst Clean (sym (taken-past isName s)) h)))
-    | inr q ↦ absurd (not-bad (q .1))
+      | inl q ↦ (w, subst Clean (got-rest (q .1)) (clean-right (taken isName s) (past isName s) (ascii-utf8 (taken isName s) (all-imply isName isAscii name-ascii (taken isName s) (taken-all isName s))) (subst Clean (sym (taken-past isName s)) h)))
+      | inr q ↦ absurd (not-bad (q .1))
     ]
 
 -- a value of a parameter
@@ -97,8 +97,8 @@ value-clean : (s v t : Bytes) → Clean s → paramValue s ≡ got v t → Clean
 unfolding paramValue
 value-clean s v t h e =
     elim (on-clean 34 refl (λ q t. bind (run-of isQuotable t) λ v t. bind (one 34 t) λ q t. got v t) (run-of isBare) s (got v t) h e) [
-      inl q ↦ quoted (tail s) (q .0) (q .1)
-    | inr q ↦ run-clean isBare bare-ends bare-quote s v t h q
+      | inl q ↦ quoted (tail s) (q .0) (q .1)
+      | inr q ↦ run-clean isBare bare-ends bare-quote s v t h q
     ]
   where
     quoted : (u : Bytes) → Clean u → bind (run-of isQuotable u) (λ v t. bind (one 34 t) λ q t. got v t) ≡ got v t → CleanValue v × Clean t
@@ -139,8 +139,8 @@ value-turn s w t h e =
     let k = value-clean s (i .0) (i .1) h (i .2) in
     let v : Bytes = i .0 in
     elim (on-clean 44 refl (λ c t. got (more (λ vs. v ∷ vs)) t) (got (last (v ∷ []))) (i .1) (got w t) (k .1) (i .3)) [
-      inl q ↦ (subst (Keeps CleanValues) (got-what (q .1)) (λ vs g. (refl, (k .0, g .1))), subst Clean (got-rest (q .1)) (q .0))
-    | inr q ↦ (subst (Keeps CleanValues) (got-what q) (refl, (k .0, tt)), subst Clean (got-rest q) (k .1))
+      | inl q ↦ (subst (Keeps CleanValues) (got-what (q .1)) (λ vs g. (refl, (k .0, g .1))), subst Clean (got-rest (q .1)) (q .0))
+      | inr q ↦ (subst (Keeps CleanValues) (got-what q) (refl, (k .0, tt)), subst Clean (got-rest q) (k .1))
     ]
 
 abbrev pub CleanParam : Param → Type 0
@@ -160,8 +160,8 @@ param-turn : (s : Bytes) (w : Step (List Param)) (t : Bytes) → Clean s → par
 unfolding paramTurn
 param-turn s w t h e =
     elim (on-clean 58 refl (λ c t. got (last []) t) (on (is 59) (λ c t. bind (parameter t) λ p t. got (more (λ ps. p ∷ ps)) t) bad) s (got w t) h e) [
-      inl q ↦ (subst (Keeps (All CleanParam)) (got-what (q .1)) tt, subst Clean (got-rest (q .1)) (q .0))
-    | inr q ↦ semicolon q
+      | inl q ↦ (subst (Keeps (All CleanParam)) (got-what (q .1)) tt, subst Clean (got-rest (q .1)) (q .0))
+      | inr q ↦ semicolon q
     ]
   where
     one-more : (u : Bytes) → Clean u → bind (parameter u) (λ p t. got (more (λ ps. p ∷ ps)) t) ≡ got w t → Keeps (All CleanParam) w × Clean t
@@ -173,8 +173,8 @@ param-turn s w t h e =
     semicolon : on (is 59) (λ c t. bind (parameter t) λ p t. got (more (λ ps. p ∷ ps)) t) bad s ≡ got w t → Keeps (All CleanParam) w × Clean t
     semicolon e =
         elim (on-clean 59 refl (λ c t. bind (parameter t) λ p t. got (more (λ ps. p ∷ ps)) t) bad s (got w t) h e) [
-          inl q ↦ one-more (tail s) (q .0) (q .1)
-        | inr q ↦ absurd (not-bad q)
+          | inl q ↦ one-more (tail s) (q .0) (q .1)
+          | inr q ↦ absurd (not-bad q)
         ]
 
 -- ---- lines
@@ -202,8 +202,8 @@ line-clean s l t h e =
     let i = bind-inv (word s) _ e in
     let w = word-clean s (i .0) (i .1) h (i .2) in
     elim (on-clean 46 refl (λ c t. bind (word t) λ n t. afterName (i .0) n t) (afterName [] (i .0)) (i .1) (got l t) (w .1) (i .3)) [
-      inl q ↦ grouped (i .0) (tail (i .1)) (w .0) (q .0) (q .1)
-    | inr q ↦ after-name [] (i .0) (i .1) l t refl (w .0) (w .1) q
+      | inl q ↦ grouped (i .0) (tail (i .1)) (w .0) (q .0) (q .1)
+      | inr q ↦ after-name [] (i .0) (i .1) l t refl (w .0) (w .1) q
     ]
   where
     grouped : (g u : Bytes) → isWord g ≡ true → Clean u → bind (word u) (λ n t. afterName g n t) ≡ got l t → CleanLine l

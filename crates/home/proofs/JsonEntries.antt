@@ -105,15 +105,15 @@ module _ (m : Map) (r : Row m) (ms : List Member) (o : onlyMembers (entryMembers
   unfolding all
   flags-fit n i k ts cs l u e =
       elim (optional-inv n [] (flagsFrom i ts) ms cs e) [
-        inl q ↦ rw (← q .1)
-      | inr q ↦ weaker (m .types) k cs (allowed n (leb k (m .types)) m ms (q .0) o u (q .1)) (flags-below i k ts l (q .0) cs (q .2))
+        | inl q ↦ rw (← q .1)
+        | inr q ↦ weaker (m .types) k cs (allowed n (leb k (m .types)) m ms (q .0) o u (q .1)) (flags-below i k ts l (q .0) cs (q .2))
       ]
 
   pref-fits : (p : Bytes) → optional (ascii "pref") [] (λ v. chain (asNumber v) λ p. provided (isPref p) (some p)) ms ≡ some p → empty p || (not (eqb (m .types) 0) && isPref p) ≡ true
   pref-fits p e =
       elim (optional-inv (ascii "pref") [] (λ v. chain (asNumber v) λ p. provided (isPref p) (some p)) ms p e) [
-        inl q ↦ rw (← q .1)
-      | inr q ↦ there (q .0) (q .1) (q .2)
+        | inl q ↦ rw (← q .1)
+        | inr q ↦ there (q .0) (q .1) (q .2)
       ]
     where
       there : (j : Json) → field (ascii "pref") ms ≡ some j → chain (asNumber j) (λ p. provided (isPref p) (some p)) ≡ some p → empty p || (not (eqb (m .types) 0) && isPref p) ≡ true
@@ -126,8 +126,8 @@ module _ (m : Map) (r : Row m) (ms : List Member) (o : onlyMembers (entryMembers
   kind-fits : (w : ℕ) → optional (ascii "kind") 0 (λ v. chain (asString v) λ s. position (same s) (m .kinds)) ms ≡ some w → ltb w (length (m .properties)) ≡ true
   kind-fits w e =
       elim (optional-inv (ascii "kind") 0 (λ v. chain (asString v) λ s. position (same s) (m .kinds)) ms w e) [
-        inl q ↦ lt-ltb w (length (m .properties)) (omega (tests, r .some-property, q .1))
-      | inr q ↦ there (q .0) (q .2)
+        | inl q ↦ lt-ltb w (length (m .properties)) (omega (tests, r .some-property, q .1))
+        | inr q ↦ there (q .0) (q .2)
       ]
     where
       there : (j : Json) → chain (asString j) (λ s. position (same s) (m .kinds)) ≡ some w → ltb w (length (m .properties)) ≡ true
@@ -152,7 +152,7 @@ entry-proper d m r (member k j) e h q =
     let p = chain-inv (optional (ascii "pref") [] (λ v. chain (asNumber v) λ p. provided (isPref p) (some p)) ms) _ (fs .2) in
     let t = content-formed (s .0) (m .form) (m .content) ms (vs .0) (s .3) (vs .1) in
     let u : all (below (m .types)) (xs .0 ++ fs .0) ≡ true =
-        all-both (below (m .types)) (xs .0) (fs .0) (flags-fit m r ms (c .0) (ascii "contexts") 0 2 (take 2 typeNames) (xs .0) refl (r .contexts) (xs .1)) (flags-fit m r ms (c .0) (ascii "features") 2 9 (drop 2 typeNames) (fs .0) refl (r .features) (fs .1)) in
+    all-both (below (m .types)) (xs .0) (fs .0) (flags-fit m r ms (c .0) (ascii "contexts") 0 2 (take 2 typeNames) (xs .0) refl (r .contexts) (xs .1)) (flags-fit m r ms (c .0) (ascii "features") 2 9 (drop 2 typeNames) (fs .0) refl (r .features) (fs .1)) in
     subst (ProperEntry m) (some-same (p .2)) (record {
       proper = record {
         key = b .0;
@@ -194,9 +194,10 @@ MapFine m es = ProperEntries m es × (distinct (map keyOf es) ≡ true)
 object-fine : (d : ℕ) (m : Map) → Row m → (es : List Entry) (j : Json) → Sound d j → chain (asObject j) (each (entryFrom m)) ≡ some es → MapFine m es
 object-fine d m r es j h e =
     let i = chain-inv (asObject j) (each (entryFrom m)) e in
-    let s = object-sound d j (i .0) h (i .1) in
-    (entries-all m es (each-gives (entryFrom m) (SoundMember (s .0)) (ProperEntry m) (entry-proper (s .0) m r) (i .0) es (s .3) (i .2)),
-     ap distinct (each-called (entryFrom m) nameOf keyOf (entry-key m) (i .0) es (i .2)) ∙ s .2)
+    let s = object-sound d j (i .0) h (i .1) in (
+      entries-all m es (each-gives (entryFrom m) (SoundMember (s .0)) (ProperEntry m) (entry-proper (s .0) m r) (i .0) es (s .3) (i .2)),
+      ap distinct (each-called (entryFrom m) nameOf keyOf (entry-key m) (i .0) es (i .2)) ∙ s .2,
+    )
 
 nothing-twice : distinct [] ≡ true
 unfolding distinct

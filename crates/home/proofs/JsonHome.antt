@@ -170,13 +170,20 @@ module _ (c : Card) (g : ProperCard c) where
   S = SoundMember 15
 
   front-sound : All S front
-  front-sound =
-      ((words .0, words .5), ((words .1, words .6), ((words .2, and-right (filled (c .uid)) _ (g .uid)),
-      all-joined S (where′ (filled (c .kind)) kindMember ++ where′ named nameMember) (mapsJson maps (c .maps))
-      (all-joined S (where′ (filled (c .kind)) kindMember) (where′ named nameMember)
-      (all-where S (filled (c .kind)) kindMember (λ b. (words .3, kind-utf8 (c .kind) (g .kind))))
-      (all-where S named nameMember (λ b. (words .4, name-sound 12 (c .full) (c .parts) (g .full) (g .parts)))))
-      (maps-sound 11 maps rows (c .maps) (g .entries)))))
+  front-sound = (
+    (words .0, words .5),
+    (
+      (words .1, words .6),
+      (
+        (words .2, and-right (filled (c .uid)) _ (g .uid)),
+        all-joined S (where′ (filled (c .kind)) kindMember ++ where′ named nameMember) (mapsJson maps (c .maps))
+            (all-joined S (where′ (filled (c .kind)) kindMember) (where′ named nameMember)
+            (all-where S (filled (c .kind)) kindMember (λ b. (words .3, kind-utf8 (c .kind) (g .kind))))
+            (all-where S named nameMember (λ b. (words .4, name-sound 12 (c .full) (c .parts) (g .full) (g .parts)))))
+            (maps-sound 11 maps rows (c .maps) (g .entries)),
+      ),
+    ),
+  )
 
   members-sound : (ms : List Member) → ProperMembers ms → All S ms
   members-sound [] h = tt

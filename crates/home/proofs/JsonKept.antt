@@ -83,9 +83,9 @@ four-fine d (n ∷ (ps ∷ (t ∷ (v ∷ [])))) k s h e w =
     let l = object-sound d ps (o .0) (h .1 .0) (o .1) in
     let q : others (b .0) ≡ k .params = ap (λ (k : Kept). k .params) (some-same (f .2)) in
     let fine : All FineParam (others (b .0)) =
-        all-kept FineParam (λ p. not (isGroup p)) (b .0) (each-gives paramFrom (SoundMember (l .0)) FineParam (param-fine (l .0)) (o .0) (b .0) (l .3) (o .2)) in
+    all-kept FineParam (λ p. not (isGroup p)) (b .0) (each-gives paramFrom (SoundMember (l .0)) FineParam (param-fine (l .0)) (o .0) (b .0) (l .3) (o .2)) in
     let called : distinct (map paramName (others (b .0))) ≡ true =
-        kept-distinct paramName (λ p. not (isGroup p)) (b .0) (ap distinct (each-called paramFrom nameOf paramName param-called (o .0) (b .0) (o .2)) ∙ l .2) in
+    kept-distinct paramName (λ p. not (isGroup p)) (b .0) (ap distinct (each-called paramFrom nameOf paramName param-called (o .0) (b .0) (o .2)) ∙ l .2) in
     let low = all-mono (λ p. lowerParam p ≡ true) (λ p. lowered (paramName p) ≡ paramName p) (λ p r. word-lowered (paramName p) (and-left (isLowerWord (paramName p)) _ r)) (k .params) (test-all lowerParam (k .params) (w .params)) in
     record {
       group = ap (λ (k : Kept). empty (k .group) || isLowerWord (k .group)) (sym (some-same (f .2))) ∙ group-fine (keep isGroup (b .0)) (g .0) (g .1);

@@ -62,3 +62,4 @@ pub mod PlainLines
 pub mod CardTests
 pub mod CardSize
 pub mod WayHome
+pub mod Respelled

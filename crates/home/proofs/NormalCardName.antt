@@ -143,6 +143,6 @@ pub name-part : (s : Seen) (ls : List Line)
     ≡ map (λ (l : Line). plainLine (ascii "n") [] (nameText (nameValues (l .value)))) (section names (classedAfter s ls))
 name-part s ls =
     let o : AtMostOne (gathered (λ (g : Gives). g .parts) (classedAfter s ls)) =
-        one-seen (λ (g : Gives). g .parts) (λ (t : Seen). t .parts) parts-once (λ l c. few l c .3) s ls in
+    one-seen (λ (g : Gives). g .parts) (λ (t : Seen). t .parts) parts-once (λ l c. few l c .3) s ls in
     let h : all hasParts (gathered (λ (g : Gives). g .parts) (classedAfter s ls)) ≡ true = gathered-all (λ (g : Gives). g .parts) hasParts (λ l. false) parts-left s ls (any-nothing ls) in
     rw (parts-form s ls) (name-lines (section names (classedAfter s ls)) (rw (parts-form s ls) at o) (rw (parts-form s ls) at h))

@@ -44,10 +44,25 @@ Rows (m ∷ ms) = Row m × Rows ms
 
 pub rows : Rows maps
 unfolding same
-rows =
-    (record { kinds = refl; form = refl; content = refl }, (record { kinds = refl; form = refl; content = refl }, (record { kinds = refl; form = refl; content = refl },
-    (record { kinds = refl; form = refl; content = refl }, (record { kinds = refl; form = refl; content = refl }, (record { kinds = refl; form = refl; content = refl },
-    (record { kinds = refl; form = refl; content = refl }, tt)))))))
+rows = (
+  record { kinds = refl; form = refl; content = refl },
+  (
+    record { kinds = refl; form = refl; content = refl },
+    (
+      record { kinds = refl; form = refl; content = refl },
+      (
+        record { kinds = refl; form = refl; content = refl },
+        (
+          record { kinds = refl; form = refl; content = refl },
+          (
+            record { kinds = refl; form = refl; content = refl },
+            (record { kinds = refl; form = refl; content = refl }, tt),
+          ),
+        ),
+      ),
+    ),
+  ),
+)
 
 -- ---- kind
 

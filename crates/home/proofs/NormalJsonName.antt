@@ -43,9 +43,10 @@ shown : (j : Json) (ms : List Member) (kj vj : Json) (s v : Bytes) (k : ℕ) →
     → field (ascii "value") ms ≡ some vj → asString vj ≡ some v → Shown j k v
 unfolding isComponent
 shown j ms kj vj s v k o f g p h e =
-    let n : s ≡ kindAt k = position-name s componentKinds k p in
-    (λ i l. rw (o, f, g, h, e, n, same-kind i k l (position-inside (same s) componentKinds k p)),
-    rw (o, f, h, string-inv kj s g, string-inv vj v e, n))
+    let n : s ≡ kindAt k = position-name s componentKinds k p in (
+      λ i l. rw (o, f, g, h, e, n, same-kind i k l (position-inside (same s) componentKinds k p)),
+      rw (o, f, h, string-inv kj s g, string-inv vj v e, n),
+    )
 
 onComponent {ℓ} : {P : Type ℓ} (j : Json) (c : Component) → componentOf j ≡ some c → ((k : ℕ) (v : Bytes) → component k v ≡ c → Shown j k v → P) → P
 unfolding componentOf

@@ -49,6 +49,7 @@ no-key c l =
   where
     hyphen : eqb c 45 ≡ false
     hyphen = byBool (eqb c 45) (λ e. absurd (omega tests)) (λ e. e)
+
     low-line : eqb c 95 ≡ false
     low-line = byBool (eqb c 95) (λ e. absurd (omega tests)) (λ e. e)
 
@@ -113,12 +114,22 @@ pub rows : All Row maps
 unfolding text-opened
 rows = (
   record { differ = refl; content = refl; kinds = refl; member = refl },
-  (record { differ = refl; content = refl; kinds = refl; member = refl },
-  (record { differ = refl; content = refl; kinds = refl; member = refl },
-  (record { differ = refl; content = refl; kinds = refl; member = refl },
-  (record { differ = refl; content = refl; kinds = refl; member = refl },
-  (record { differ = refl; content = refl; kinds = refl; member = refl },
-  (record { differ = refl; content = refl; kinds = refl; member = refl }, tt))))))
+  (
+    record { differ = refl; content = refl; kinds = refl; member = refl },
+    (
+      record { differ = refl; content = refl; kinds = refl; member = refl },
+      (
+        record { differ = refl; content = refl; kinds = refl; member = refl },
+        (
+          record { differ = refl; content = refl; kinds = refl; member = refl },
+          (
+            record { differ = refl; content = refl; kinds = refl; member = refl },
+            (record { differ = refl; content = refl; kinds = refl; member = refl }, tt),
+          ),
+        ),
+      ),
+    ),
+  ),
 )
 
 pub group-names : (distinct (map typeJson contextCodes) ≡ true) × (distinct (map typeJson featureCodes) ≡ true)

@@ -89,14 +89,15 @@ module _ (m : Map) (e : Entry) where
 
     pub entry-sound : SoundMember (suc (suc (suc d))) (entryJson m e)
     unfolding entryJson flagsJson
-    entry-sound =
-        (key-utf8 (e .key) (g .proper .key),
-        object-of (suc (suc d)) (kindPart ++ contentPart ++ flagsPart (ascii "contexts") contextCodes ++ flagsPart (ascii "features") featureCodes ++ prefPart)
-        (sub-distinct parts-sub (r .differ))
-        (all-joined S (kindPart ++ contentPart ++ flagsPart (ascii "contexts") contextCodes ++ flagsPart (ascii "features") featureCodes) prefPart
-        (all-joined S (kindPart ++ contentPart ++ flagsPart (ascii "contexts") contextCodes) (flagsPart (ascii "features") featureCodes)
-        (all-joined S (kindPart ++ contentPart) (flagsPart (ascii "contexts") contextCodes)
-        (all-joined S kindPart contentPart kind-sound (content-sound d (m .form) (m .content) (e .texts) (r .content) (g .texts-utf8))) contexts-sound) features-sound) pref-sound))
+    entry-sound = (
+      key-utf8 (e .key) (g .proper .key),
+      object-of (suc (suc d)) (kindPart ++ contentPart ++ flagsPart (ascii "contexts") contextCodes ++ flagsPart (ascii "features") featureCodes ++ prefPart)
+          (sub-distinct parts-sub (r .differ))
+          (all-joined S (kindPart ++ contentPart ++ flagsPart (ascii "contexts") contextCodes ++ flagsPart (ascii "features") featureCodes) prefPart
+          (all-joined S (kindPart ++ contentPart ++ flagsPart (ascii "contexts") contextCodes) (flagsPart (ascii "features") featureCodes)
+          (all-joined S (kindPart ++ contentPart) (flagsPart (ascii "contexts") contextCodes)
+          (all-joined S kindPart contentPart kind-sound (content-sound d (m .form) (m .content) (e .texts) (r .content) (g .texts-utf8))) contexts-sound) features-sound) pref-sound),
+    )
 
 -- ---- the maps
 

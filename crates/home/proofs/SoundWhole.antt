@@ -89,9 +89,10 @@ values-sound d (v ∷ (w ∷ ws)) h = array-of d (map jstr (v ∷ w ∷ ws)) (st
 
 params-sound : (d : ℕ) (ps : List Param) → all lowerParam ps ≡ true → all (λ p. all utf8 (paramValues p)) ps ≡ true → All (SoundMember (suc d)) (map paramJson ps)
 params-sound d [] a h = tt
-params-sound d (param n vs ∷ ps) a h =
-    ((name-utf8 n (and-left (isLowerWord n) _ (all-head lowerParam (param n vs) ps a)), values-sound d vs (all-head (λ p. all utf8 (paramValues p)) (param n vs) ps h)),
-    params-sound d ps (all-tail lowerParam (param n vs) ps a) (all-tail (λ p. all utf8 (paramValues p)) (param n vs) ps h))
+params-sound d (param n vs ∷ ps) a h = (
+  (name-utf8 n (and-left (isLowerWord n) _ (all-head lowerParam (param n vs) ps a)), values-sound d vs (all-head (λ p. all utf8 (paramValues p)) (param n vs) ps h)),
+  params-sound d ps (all-tail lowerParam (param n vs) ps a) (all-tail (λ p. all utf8 (paramValues p)) (param n vs) ps h),
+)
 
 param-names : (ps : List Param) → map nameOf (map paramJson ps) ≡ map paramName ps
 param-names [] = refl
@@ -132,12 +133,15 @@ unfolding keptJson
 kept-sound d s k g h =
     let t = stands-inv s k h in
     let group : Member = member (ascii "group") (jstr (k .group)) in
-    array-of (suc (suc d)) (jstr (k .name) ∷ object (where′ (filled (k .group)) group ++ map paramJson (k .params)) ∷ jstr (k .type) ∷ jstr (k .value) ∷ [])
-    (name-utf8 (k .name) (t .name),
-    (object-of (suc d) (where′ (filled (k .group)) group ++ map paramJson (k .params)) (group-distinct (filled (k .group)) (k .group) (k .params) (g .params) (g .no-group))
-    (all-joined (SoundMember (suc d)) (where′ (filled (k .group)) group) (map paramJson (k .params)) (all-where (SoundMember (suc d)) (filled (k .group)) group (λ b. (group-word, group-utf8 (k .group) (g .group))))
-    (params-sound d (k .params) (t .params) (g .params-utf8))),
-    (name-utf8 (k .type) (t .type), (g .value-utf8, tt))))
+    array-of (suc (suc d)) (jstr (k .name) ∷ object (where′ (filled (k .group)) group ++ map paramJson (k .params)) ∷ jstr (k .type) ∷ jstr (k .value) ∷ []) (
+      name-utf8 (k .name) (t .name),
+      (
+        object-of (suc d) (where′ (filled (k .group)) group ++ map paramJson (k .params)) (group-distinct (filled (k .group)) (k .group) (k .params) (g .params) (g .no-group))
+            (all-joined (SoundMember (suc d)) (where′ (filled (k .group)) group) (map paramJson (k .params)) (all-where (SoundMember (suc d)) (filled (k .group)) group (λ b. (group-word, group-utf8 (k .group) (g .group))))
+            (params-sound d (k .params) (t .params) (g .params-utf8))),
+        (name-utf8 (k .type) (t .type), (g .value-utf8, tt)),
+      ),
+    )
 
 pub all-kept-sound : (d : ℕ) (s : Seen) (ks : List Kept) → AllKeptFine ks → all (keptStands s) ks ≡ true → All (Sound (suc (suc (suc d)))) (map keptJson ks)
 all-kept-sound d s [] g h = tt

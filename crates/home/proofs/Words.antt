@@ -31,7 +31,7 @@ lower-name : (c : ℕ) → isLowerName c ≡ true → lower c ≡ c
 unfolding isLowerName lower between
 lower-name c h =
     let e : pick (isLowerName c) (lower c) 0 ≡ pick (isLowerName c) c 0 =
-        byBelow (λ c. pick (isLowerName c) (lower c) 0) (λ c. pick (isLowerName c) c 0) c 128 refl (λ l. rw (no-name c l)) in
+    byBelow (λ c. pick (isLowerName c) (lower c) 0) (λ c. pick (isLowerName c) c 0) c 128 refl (λ l. rw (no-name c l)) in
     rw h at e
 
 pub lower-names : (s : Bytes) → all isLowerName s ≡ true → lowered s ≡ s

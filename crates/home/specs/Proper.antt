@@ -69,5 +69,5 @@ pub record ProperCard (c : Card) : Type 0 where
   pub members : ProperMembers (c .members)
   pub names : distinct (map nameOf (c .members)) ≡ true
   pub kept : AllKeptFine (c .kept)
-  pub stand : all (keptStands (seenIn c)) (c .kept) ≡ true      -- names, types and parameter names are lower-case words; each stays kept
+  pub stand : all (keptStands (seenIn c)) (c .kept) ≡ true  -- names, types and parameter names are lower-case words; each stays kept
   pub carries : carried c ≡ true
