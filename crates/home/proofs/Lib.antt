@@ -63,3 +63,5 @@ pub mod CardTests
 pub mod CardSize
 pub mod WayHome
 pub mod Respelled
+pub mod CardAnswer
+pub mod Example

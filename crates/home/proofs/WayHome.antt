@@ -8,7 +8,8 @@ use Prim.Native.Nat.{ℕ}
 use lib.ListN.{length}
 use lib.Dec.{ltb}
 use Rattle.text.specs.Choice.{pick, with-some}
-use Rattle.text.specs.Bytes.{Bytes, any}
+use Rattle.text.specs.Bytes.{Bytes}
+use Rattle.text.proofs.Cases.{and-true}
 use Rattle.json.specs.Tree.{object}
 use Rattle.json.specs.Read.{tree, reading}
 use Rattle.line.specs.Physical.{sizeOf}
@@ -29,21 +30,11 @@ use Rattle.home.specs.Proper.{ProperCard}
 use Rattle.home.proofs.Accepted.{GoodLines, AcceptedCard, accepted-card, AcceptedJson, accepted-json}
 use Rattle.home.proofs.JsonHome.{json-read, json-home}
 use Rattle.home.proofs.JsonProper.{json-proper}
-use Rattle.home.proofs.CardLines.{card-unfolded, card-read}
-use Rattle.home.proofs.CardTests.{card-answered}
-use Rattle.home.proofs.CardSize.{card-size}
-use Rattle.home.proofs.CardHome.{card-home}
+use Rattle.home.proofs.CardAnswer.{card-to-json}
 use Rattle.home.proofs.NormalJson.{compact-normal}
 use Rattle.home.proofs.NormalCard.{lines-normal}
 
 -- ---- JSON to a card and home again
-
--- a proper card that fits its room, as one card
-proper-card : (stem : Bytes) (n : ℕ) (c : Card) → ProperCard c → isStemText stem ≡ true → isCardNumber n ≡ true → ltb lineRoom (length (cardLines c)) ≡ false → ltb cardRoom (length (printCard c)) ≡ false
-    → cardToJson stem n jsonRoom (printCard c) ≡ fitted jsonRoom jsonRoom (printJson c)
-unfolding cardToJson convertCard convertLines
-proper-card stem n c p a b l r =
-    rw (a, b, card-size c, r, card-unfolded c p, card-read c p, card-answered c p l (fitted jsonRoom jsonRoom (printJson (cardOfLines stem n (map upperLine (cardLines c))))), card-home c p stem n)
 
 -- For every JSON: where it gives a card, that card gives the JSON's normal form with any valid stem and number, or 3 where the
 -- normal form is over its room.
@@ -52,7 +43,7 @@ json-comes-home stem n s b a k e =
     let i = accepted-json cardRoom s b e in
     let p : ProperCard (i .card) = json-proper s (i .json) (i .card) (i .read) (i .from) (i .carries) in
     ap (cardToJson stem n jsonRoom) (i .result)
-    ∙ proper-card stem n (i .card) p a k (i .lines) (ap (λ (x : Bytes). ltb cardRoom (length x)) (sym (i .result)) ∙ i .room)
+    ∙ card-to-json (i .card) p (i .lines) stem n jsonRoom (and-true a k) (ap (λ (x : Bytes). ltb cardRoom (length x)) (sym (i .result)) ∙ i .room)
     ∙ ap (fitted jsonRoom jsonRoom) (compact-normal s (i .json) (i .card) (i .read) (i .from))
 
 -- ---- a card to JSON and home again
