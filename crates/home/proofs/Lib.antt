@@ -10,3 +10,5 @@ pub mod JsonProper
 pub mod Clean
 pub mod CleanLines
 pub mod CleanTexts
+pub mod ReadForms
+pub mod ReadNames
