@@ -12,3 +12,7 @@ pub mod CleanLines
 pub mod CleanTexts
 pub mod ReadForms
 pub mod ReadNames
+pub mod Slots
+pub mod LineEntries
+pub mod MadeKeys
+pub mod KeyedEntries
