@@ -16,3 +16,4 @@ pub mod Slots
 pub mod LineEntries
 pub mod MadeKeys
 pub mod KeyedEntries
+pub mod Merged
