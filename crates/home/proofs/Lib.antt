@@ -17,3 +17,5 @@ pub mod LineEntries
 pub mod MadeKeys
 pub mod KeyedEntries
 pub mod Merged
+pub mod KeptAlike
+pub mod LineKept
