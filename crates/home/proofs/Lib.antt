@@ -19,3 +19,5 @@ pub mod KeyedEntries
 pub mod Merged
 pub mod KeptAlike
 pub mod LineKept
+pub mod Pointed
+pub mod Covered
