@@ -21,3 +21,5 @@ pub mod KeptAlike
 pub mod LineKept
 pub mod Pointed
 pub mod Covered
+pub mod Classes
+pub mod Ordered

@@ -187,7 +187,7 @@ module _ (l : Line) (h : LineFine l) where
         value-utf8 = h .clean .value .0;
       }
 
-  clean-param : (v : Bytes) → CleanValue v → carriedParam v ≡ true
+  pub clean-param : (v : Bytes) → CleanValue v → carriedParam v ≡ true
   unfolding carriedParam
   clean-param v c = rw (clean-raw v (c .0), c .1)
 
