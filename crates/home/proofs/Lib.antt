@@ -23,3 +23,5 @@ pub mod Pointed
 pub mod Covered
 pub mod Classes
 pub mod Ordered
+pub mod Gathered
+pub mod CardProper
