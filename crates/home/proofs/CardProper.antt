@@ -38,7 +38,7 @@ use Rattle.home.proofs.ReadNames.{NameWell}
 use Rattle.home.proofs.KeyedEntries.{PlacedWell, placed-proper, ids-cover}
 use Rattle.home.proofs.LineKept.{LineFine}
 use Rattle.home.proofs.Covered.{Covers, CoversClass}
-use Rattle.home.proofs.Classes.{WellClass}
+use Rattle.home.proofs.ClassFacts.{WellClass}
 use Rattle.home.proofs.Ordered.{LineGood, classed-well, covered, classed-length, members-new, ids-new}
 use Rattle.home.proofs.Gathered.{gathered-all, in-gathered, Well, UidFine, uid-given, kind-given, full-given, SomeName, parts-given, entry-given, MemberFine, member-given, KeptGood, kept-given, Stood, stand-given, entries-length, or-else, first-in, is-first}
 

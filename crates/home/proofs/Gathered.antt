@@ -30,7 +30,7 @@ use Rattle.home.proofs.LineEntries.{Drawn}
 use Rattle.home.proofs.KeyedEntries.{PlacedWell}
 use Rattle.home.proofs.LineKept.{LineFine, fine, carry, same-class, name-word, type-lower, params-lower, params-fit}
 use Rattle.home.proofs.Covered.{Covers, still-kept}
-use Rattle.home.proofs.Classes.{WellClass}
+use Rattle.home.proofs.ClassFacts.{WellClass}
 
 -- a class that gives nothing to a part gives nothing bad
 module _ {A : Type 0} (f : Gives → List A) (W : Line → Class → Type 0) (Q : A → Type 0) (each : (l : Line) (c : Class) → W l c → All Q (f (gives l c))) where

@@ -21,7 +21,7 @@ pub mod KeptAlike
 pub mod LineKept
 pub mod Pointed
 pub mod Covered
-pub mod Classes
+pub mod ClassFacts
 pub mod Ordered
 pub mod Gathered
 pub mod CardProper

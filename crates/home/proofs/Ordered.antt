@@ -22,7 +22,7 @@ use Rattle.home.proofs.Alls.{All}
 use Rattle.home.proofs.KeyedEntries.{keyOf, given}
 use Rattle.home.proofs.LineKept.{LineFine}
 use Rattle.home.proofs.Covered.{Covers, CoversClass, covers-see}
-use Rattle.home.proofs.Classes.{WellClass, NewClass, class-fit}
+use Rattle.home.proofs.ClassFacts.{WellClass, NewClass, class-fit}
 
 abbrev pub LineGood : Line → Type 0
 LineGood l = LineFine l × (emptied l ≡ false)
