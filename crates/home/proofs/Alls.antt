@@ -1,11 +1,13 @@
 -- A statement about every element of a list; what each of them gives.
 use mathlib.Core.Path.{_≡_, refl, sym, ap, ap₂, subst, _∙_}
+use mathlib.Core.Logic.{_⊎_, inl, inr}
 use mathlib.Core.Bool.{Bool, true, false, _&&_, _||_, not}
 use mathlib.Core.List.{List, [], _∷_, _++_, map}
 use mathlib.Core.Option.{Option, none, some}
 use Rattle.text.specs.Bytes.{Bytes, any, all, same, among, distinct, keep, flat, each}
 use Rattle.text.proofs.Cases.{byBool, and-left, and-right, or-left, or-right, not-true}
 use Rattle.text.proofs.Choices.{some-same, both-inv}
+use Rattle.text.proofs.Same.{among-head, among-later}
 use Rattle.text.proofs.Lists.{all-head, all-tail}
 
 abbrev pub All : {A : Type 0} → (A → Type 0) → List A → Type 0
@@ -82,3 +84,39 @@ kept-distinct f p (x ∷ xs) h =
     let t = kept-distinct f p xs (and-right (not (among (f x) (map f xs))) _ h) in
     let n = kept-among f p (f x) xs (not-true (among (f x) (map f xs)) (and-left _ _ h)) in
     byBool (p x) (λ e. rw (e, n) t) (λ e. rw e t)
+
+-- ---- elements
+
+abbrev pub In : {A : Type 0} → A → List A → Type 0
+In x [] = ⊥
+In x (y ∷ ys) = (x ≡ y) ⊎ In x ys
+
+pub in-all : {A : Type 0} (P : A → Type 0) (xs : List A) → ((x : A) → In x xs → P x) → All P xs
+in-all P [] h = tt
+in-all P (x ∷ xs) h = (h x (inl refl), in-all P xs (λ y i. h y (inr i)))
+
+pub all-in : {A : Type 0} (P : A → Type 0) (xs : List A) (x : A) → All P xs → In x xs → P x
+all-in P [] x h i = absurd i
+all-in P (y ∷ ys) x h (inl e) = subst P (sym e) (h .0)
+all-in P (y ∷ ys) x h (inr i) = all-in P ys x (h .1) i
+
+in-left : {A : Type 0} (x : A) (xs ys : List A) → In x xs → In x (xs ++ ys)
+in-left x [] ys i = absurd i
+in-left x (z ∷ xs) ys (inl e) = inl e
+in-left x (z ∷ xs) ys (inr i) = inr (in-left x xs ys i)
+
+in-right : {A : Type 0} (x : A) (xs ys : List A) → In x ys → In x (xs ++ ys)
+in-right x [] ys i = i
+in-right x (z ∷ xs) ys i = inr (in-right x xs ys i)
+
+pub in-flat : {A B : Type 0} (f : A → List B) (x : A) (y : B) (xs : List A) → In y (f x) → In x xs → In y (flat (map f xs))
+unfolding flat
+in-flat f x y [] h i = absurd i
+in-flat f x y (z ∷ xs) h (inl e) = in-left y (f z) (flat (map f xs)) (subst (λ (w : _). In y (f w)) e h)
+in-flat f x y (z ∷ xs) h (inr i) = in-right y (f z) (flat (map f xs)) (in-flat f x y xs h i)
+
+-- the name of an element is among the names
+pub in-among : {A : Type 0} (f : A → Bytes) (x : A) (xs : List A) → In x xs → among (f x) (map f xs) ≡ true
+in-among f x [] i = absurd i
+in-among f x (y ∷ ys) (inl e) = subst (λ (z : Bytes). among z (f y ∷ map f ys) ≡ true) (ap f (sym e)) (among-head (f y) (map f ys))
+in-among f x (y ∷ ys) (inr i) = among-later (f x) (f y) (map f ys) (in-among f x ys i)

@@ -101,7 +101,7 @@ unfolding any keep
 any-kept p [] = refl
 any-kept p (x ∷ xs) = byBool (p x) (λ e. rw (e, e)) (λ e. rw e (any-kept p xs))
 
-any-head-kept : (n : Bytes) (us : List Bytes) → any filled (n ∷ us) ≡ true → any filled (n ∷ keep filled us) ≡ true
+pub any-head-kept : (n : Bytes) (us : List Bytes) → any filled (n ∷ us) ≡ true → any filled (n ∷ keep filled us) ≡ true
 unfolding any
 any-head-kept n us h = rw (any-kept filled us) h
 
