@@ -18,8 +18,3 @@ pub mod Proper
 pub mod MapsJson
 pub mod CardParts
 pub mod CardJson
-pub mod Gains
-pub mod SameSeen
-pub mod EntryLines
-pub mod Sections
-pub mod CardLines
