@@ -28,3 +28,8 @@ pub both-inv : {A B C : Type 0} (f : A → B → C) (x : Option A) (y : Option B
 both-inv f (some a) (some b) e = (a, b, refl, refl, some-same e)
 both-inv f (some a) none e = none-some e
 both-inv f none y e = none-some e
+
+-- the same way on, whatever the value
+pub chain-same : {A B : Type 0} (x : Option A) (f g : A → Option B) → ((a : A) → f a ≡ g a) → chain x f ≡ chain x g
+chain-same (some a) f g h = h a
+chain-same none f g h = refl

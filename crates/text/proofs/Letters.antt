@@ -14,11 +14,11 @@ no-lower c l = beyond 97 122 c (omega tests)
 pub no-upper : (c : ℕ) → ltb c 128 ≡ false → isUpper c ≡ false
 no-upper c l = beyond 65 90 c (omega tests)
 
-high-lower : (c : ℕ) → ltb c 128 ≡ false → lower c ≡ c
+pub high-lower : (c : ℕ) → ltb c 128 ≡ false → lower c ≡ c
 unfolding lower
 high-lower c l = rw (no-upper c l)
 
-high-upper : (c : ℕ) → ltb c 128 ≡ false → upper c ≡ c
+pub high-upper : (c : ℕ) → ltb c 128 ≡ false → upper c ≡ c
 unfolding upper
 high-upper c l = rw (no-lower c l)
 

@@ -1,0 +1,108 @@
+-- Demand 2: what goes out and comes home is the normal form, and the way home is refused only by 3, exactly when the normal form is
+-- over its room.
+use mathlib.Core.Path.{_≡_, refl, sym, ap, _∙_}
+use mathlib.Core.Bool.{Bool, true, false, _&&_, not}
+use mathlib.Core.List.{List, [], _∷_, map}
+use mathlib.Core.Option.{Option, none, some}
+use Prim.Native.Nat.{ℕ, suc}
+use lib.ListN.{length}
+use lib.Dec.{ltb, leb}
+use Rattle.text.specs.Choice.{pick, with-some}
+use Rattle.text.specs.Bytes.{Bytes, each}
+use Rattle.text.proofs.Cases.{byBool, and-true, testing}
+use Rattle.text.proofs.Choices.{some-same, both-inv}
+use Rattle.json.specs.Tree.{object}
+use Rattle.json.specs.Read.{tree, reading}
+use Rattle.line.specs.Physical.{sizeOf}
+use Rattle.line.specs.Grammar.{Line, readLine}
+use Rattle.line.specs.Write.{writeLine, writeCard}
+use Rattle.line.proofs.Lines.{upperLine}
+use Rattle.convert.specs.Model.{Card}
+use Rattle.convert.specs.Classify.{classed}
+use Rattle.convert.specs.FromCard.{cardOfLines}
+use Rattle.convert.specs.ToJson.{membersJson, printJson}
+use Rattle.convert.specs.FromJson.{cardFromJson}
+use Rattle.convert.specs.Carry.{carried}
+use Rattle.convert.specs.ToCard.{cardLines, printCard}
+use Rattle.convert.specs.NormalCard.{normalLines, normalCard}
+use Rattle.convert.specs.NormalJson.{normalJson}
+use Rattle.convert.specs.Answers.{Answer, no, yes, Test, fine, seek, given, cardRoom, lineRoom, jsonRoom, isStemText, isCardNumber, rawLines, linesOf, orNone, lineTests, fitted, convertLines, convertCard, cardToJson, convertModel, convertTree, jsonToCard}
+use Rattle.home.specs.Proper.{ProperCard}
+use Rattle.home.proofs.Accepted.{GoodLines, AcceptedCard, accepted-card, AcceptedJson, accepted-json}
+use Rattle.home.proofs.JsonHome.{json-read, json-home}
+use Rattle.home.proofs.JsonProper.{json-proper}
+use Rattle.home.proofs.CardProper.{card-proper}
+use Rattle.home.proofs.CardAnswer.{card-to-json}
+use Rattle.home.proofs.NormalJson.{compact-normal}
+use Rattle.home.proofs.NormalCard.{lines-normal}
+
+-- ---- JSON to a card and home again
+
+-- For every JSON: where it gives a card, that card gives the JSON's normal form with any valid stem and number, or 3 where the
+-- normal form is over its room.
+pub json-comes-home : (stem : Bytes) (n : ℕ) (s b : Bytes) → isStemText stem ≡ true → isCardNumber n ≡ true → jsonToCard cardRoom s ≡ yes b → cardToJson stem n jsonRoom b ≡ fitted jsonRoom jsonRoom (normalJson s)
+json-comes-home stem n s b a k e =
+    let i = accepted-json cardRoom s b e in
+    let p : ProperCard (i .card) = json-proper s (i .json) (i .card) (i .read) (i .from) (i .carries) in
+    ap (cardToJson stem n jsonRoom) (i .result)
+    ∙ card-to-json (i .card) p (i .lines) stem n jsonRoom (and-true a k) (ap (λ (x : Bytes). ltb cardRoom (length x)) (sym (i .result)) ∙ i .room)
+    ∙ ap (fitted jsonRoom jsonRoom) (compact-normal s (i .json) (i .card) (i .read) (i .from))
+
+-- ---- a card to JSON and home again
+
+-- a card of these lines, or 3 where they or their bytes are over their room
+abbrev pub written : List Line → Answer
+written ls = seek (given 3 (ltb lineRoom (length ls)) ∷ []) (fitted cardRoom cardRoom (writeCard ls))
+
+-- the lines of a card's normal form
+abbrev pub normalOf : Bytes → ℕ → Bytes → List Line
+normalOf stem n s = normalLines stem n (classed (linesOf (orNone (rawLines s))))
+
+proper-json : (c : Card) → ProperCard c → ltb jsonRoom (length (printJson c)) ≡ false → jsonToCard cardRoom (printJson c) ≡ written (cardLines c)
+unfolding jsonToCard convertModel printCard seek
+proper-json c p r = rw (r, json-read c p, json-home c p, p .carries)
+
+-- as many lines are read as were unfolded
+each-length : (raw : List Bytes) (ls : List Line) → each readLine raw ≡ some ls → length ls ≡ length raw
+unfolding each
+each-length [] ls e = ap length (sym (some-same e))
+each-length (r ∷ raw) ls e =
+    let i = both-inv _∷_ (readLine r) (each readLine raw) e in
+    ap length (sym (i .4)) ∙ ap suc (each-length raw (i .1) (i .3))
+
+-- an accepted card is proper
+pub card-is-proper : (stem : Bytes) (n : ℕ) (raw : List Bytes) → isStemText stem ≡ true → GoodLines raw (linesOf raw) → ProperCard (cardOfLines stem n (linesOf raw))
+card-is-proper stem n raw h g =
+    card-proper stem n raw (linesOf raw) h (g .read) (g .clean) (g .used) (g .once) (g .filled) (few (length raw) (length (linesOf raw)) (each-length raw (linesOf raw) (g .read)) (g .few))
+  where
+    few : (m k : ℕ) → k ≡ m → ltb lineRoom m ≡ false → leb k 512 ≡ true
+    few m k e h = omega testing
+
+-- For every card, stem and number: where it gives JSON, that JSON gives exactly the card's normal form, or 3 where the normal form is over
+-- its room (lines or bytes).
+pub card-comes-home : (stem : Bytes) (n : ℕ) (s j : Bytes) → cardToJson stem n jsonRoom s ≡ yes j → jsonToCard cardRoom j ≡ written (normalOf stem n s)
+card-comes-home stem n s j e =
+    let i = accepted-card stem n jsonRoom s j e in
+    let c : Card = cardOfLines stem n (linesOf (i .raw)) in
+    let p : ProperCard c = card-is-proper stem n (i .raw) (i .stem-fits) (i .good) in
+    let l : linesOf (orNone (rawLines s)) ≡ linesOf (i .raw) = ap (λ (o : Option (List Bytes)). linesOf (orNone o)) (i .raws) in
+    ap (jsonToCard cardRoom) (i .result)
+    ∙ proper-json c p (ap (λ (x : Bytes). ltb jsonRoom (length x)) (sym (i .result)) ∙ i .room)
+    ∙ ap written (lines-normal stem n (linesOf (i .raw)) (record { once = i .good .once; valued = i .good .filled }) ∙ ap (λ (ls : List Line). normalLines stem n (classed ls)) (sym l))
+
+-- ---- the same in plain cases
+
+-- the normal form comes home where it fits its room
+pub normal-comes-home : (stem : Bytes) (n : ℕ) (s j : Bytes) → cardToJson stem n jsonRoom s ≡ yes j
+    → ltb lineRoom (length (normalOf stem n s)) ≡ false → ltb cardRoom (length (normalCard stem n s)) ≡ false → jsonToCard cardRoom j ≡ yes (normalCard stem n s)
+unfolding normalCard seek fitted
+normal-comes-home stem n s j e l r = card-comes-home stem n s j e ∙ rw (l, r)
+
+-- and 3 where it has too many lines or bytes
+pub too-many-lines : (stem : Bytes) (n : ℕ) (s j : Bytes) → cardToJson stem n jsonRoom s ≡ yes j → ltb lineRoom (length (normalOf stem n s)) ≡ true → jsonToCard cardRoom j ≡ no 3 0
+unfolding seek
+too-many-lines stem n s j e l = card-comes-home stem n s j e ∙ rw l
+
+pub too-many-bytes : (stem : Bytes) (n : ℕ) (s j : Bytes) → cardToJson stem n jsonRoom s ≡ yes j → ltb cardRoom (length (normalCard stem n s)) ≡ true → jsonToCard cardRoom j ≡ no 3 0
+unfolding normalCard seek fitted
+too-many-bytes stem n s j e r = card-comes-home stem n s j e ∙ byBool (ltb lineRoom (length (normalOf stem n s))) (λ l. rw l) (λ l. rw (l, r))

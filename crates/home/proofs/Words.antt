@@ -1,0 +1,72 @@
+-- Words in lower case, and lists of parameters that are settled.
+use mathlib.Core.Path.{_≡_, refl, sym, ap, ap₂, _∙_}
+use mathlib.Core.Bool.{Bool, true, false, _&&_, _||_, not}
+use mathlib.Core.List.{List, [], _∷_, map}
+use Prim.Native.Nat.{ℕ, _+_}
+use lib.Dec.{eqb, ltb}
+use Rattle.text.specs.Choice.{pick}
+use Rattle.text.specs.Bytes.{Bytes, any, all, empty, same, among, distinct, between, isLower, isDigit, lower, lowered}
+use Rattle.text.proofs.Cases.{byBool, byBelow, tests, beyond, and-left, and-right, or-left, or-right, not-true, not-both}
+use Rattle.text.proofs.Same.{same-swap}
+use Rattle.text.proofs.Lists.{all-head, all-tail, all-imply}
+use Rattle.line.specs.Class.{isLowerName}
+use Rattle.line.specs.Grammar.{Param, param, paramName}
+use Rattle.line.specs.Params.{named}
+use Rattle.line.proofs.Merging.{Settled}
+use Rattle.convert.specs.FromJson.{isLowerWord}
+use Rattle.text.specs.Utf8.{utf8}
+use Rattle.home.proofs.Alls.{All}
+use Rattle.home.proofs.Clean.{isAscii, ascii-utf8}
+
+-- ---- lower case
+
+no-name : (c : ℕ) → ltb c 128 ≡ false → isLowerName c ≡ false
+unfolding isLowerName
+no-name c l = rw (beyond 97 122 c (omega tests), beyond 48 57 c (omega tests), other-hyphen c l)
+  where
+    other-hyphen : (c : ℕ) → ltb c 128 ≡ false → eqb c 45 ≡ false
+    other-hyphen c l = byBool (eqb c 45) (λ e. absurd (omega tests)) (λ e. e)
+
+lower-name : (c : ℕ) → isLowerName c ≡ true → lower c ≡ c
+unfolding isLowerName lower between
+lower-name c h =
+    let e : pick (isLowerName c) (lower c) 0 ≡ pick (isLowerName c) c 0 =
+    byBelow (λ c. pick (isLowerName c) (lower c) 0) (λ c. pick (isLowerName c) c 0) c 128 refl (λ l. rw (no-name c l)) in
+    rw h at e
+
+pub lower-names : (s : Bytes) → all isLowerName s ≡ true → lowered s ≡ s
+unfolding lowered
+lower-names [] h = refl
+lower-names (c ∷ s) h = ap₂ _∷_ (lower-name c (all-head isLowerName c s h)) (lower-names s (all-tail isLowerName c s h))
+
+pub word-lowered : (s : Bytes) → isLowerWord s ≡ true → lowered s ≡ s
+word-lowered s h = lower-names s (and-right (not (empty s)) _ h)
+
+pub or-word : (s : Bytes) → isLowerWord s ≡ true → empty s || isLowerWord s ≡ true
+or-word [] h = refl
+or-word (c ∷ s) h = h
+
+-- ---- settled parameters
+
+abbrev Lowered : Param → Type 0
+Lowered p = lowered (paramName p) ≡ paramName p
+
+none-named : (n : Bytes) (ps : List Param) → All Lowered ps → among n (map paramName ps) ≡ false → any (named n) ps ≡ false
+unfolding any among named
+none-named n [] h e = refl
+none-named n (p ∷ ps) h e =
+    rw (h .0, same-swap (paramName p) n, or-left (same n (paramName p)) _ e) (none-named n ps (h .1) (or-right (same n (paramName p)) _ e))
+
+pub distinct-settled : (ps : List Param) → All Lowered ps → distinct (map paramName ps) ≡ true → Settled ps
+unfolding distinct
+distinct-settled [] h e = tt
+distinct-settled (param n vs ∷ ps) h e =
+    (h .0, none-named n ps (h .1) (not-true (among n (map paramName ps)) (and-left _ _ e)), distinct-settled ps (h .1) (and-right (not (among n (map paramName ps))) _ e))
+
+-- ---- words are ASCII
+
+lower-ascii : (c : ℕ) → isLowerName c ≡ true → isAscii c ≡ true
+lower-ascii c h = byBool (isAscii c) (λ e. e) (λ e. not-both h (no-name c e))
+
+pub name-utf8 : (s : Bytes) → isLowerWord s ≡ true → utf8 s ≡ true
+name-utf8 s h = ascii-utf8 s (all-imply isLowerName isAscii lower-ascii s (and-right (not (empty s)) _ h))
