@@ -1,3 +1,5 @@
 pub mod Opened
 pub mod Cases
 pub mod Examples
+pub mod TextAgain
+pub mod FoldAgain
