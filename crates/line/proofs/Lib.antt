@@ -3,3 +3,4 @@ pub mod Cases
 pub mod Examples
 pub mod TextAgain
 pub mod FoldAgain
+pub mod LineAgain
