@@ -4,3 +4,4 @@ pub mod Examples
 pub mod TextAgain
 pub mod FoldAgain
 pub mod LineAgain
+pub mod Enough
