@@ -10,6 +10,8 @@ use Rattle.line.specs.Grammar.{Param as Param′, param, valueTurn, paramTurn}
 use Rattle.line.specs.Params.{named, valuesNamed}
 use Rattle.line_params.specs.declared.NextParam.{NextParam}
 use Rattle.line_params.specs.declared.NextParam.the-variants.{Param, End}
+use Rattle.line_params.specs.declared.FirstValue.{FirstValue}
+use Rattle.line_params.specs.declared.FirstValue.the-variants.{At, Missing}
 use Rattle.line_params.specs.declared.NextValue.{NextValue}
 use Rattle.line_params.specs.declared.NextValue.the-variants.{More, Last, Bad}
 
@@ -69,3 +71,23 @@ HasAt s at name r = (ps : List Param′) (t : Bytes) → loop paramTurn (drop at
 
 abbrev pub CountAt : Bytes → ℕ → Bytes → ℕ → Type 0
 CountAt s at name r = (ps : List Param′) (t : Bytes) → loop paramTurn (drop at s) ≡ got ps t → r ≡ length (valuesNamed name ps)
+
+-- the first of the values that are read there
+pub record ValueThere (s : Bytes) (at a b : ℕ) : Type 0 where
+  pub ordered : a ≤ b
+  pub within : b ≤ length s
+  pub tells : (vs : List Bytes) (t : Bytes) → loop valueTurn (drop at s) ≡ got vs t → (ws : List Bytes) × (vs ≡ take (b - a) (drop a s) ∷ ws)
+
+abbrev pub ValueFrom : Bytes → ℕ → FirstValue → Type 0
+ValueFrom s at (At a b) = ValueThere s at a b
+ValueFrom s at Missing = (vs : List Bytes) (t : Bytes) → loop valueTurn (drop at s) ≡ got vs t → ⊥
+
+-- the first of all values of the parameters of that name
+pub record ValueNamed (s : Bytes) (at : ℕ) (name : Bytes) (a b : ℕ) : Type 0 where
+  pub ordered : a ≤ b
+  pub within : b ≤ length s
+  pub tells : (ps : List Param′) (t : Bytes) → loop paramTurn (drop at s) ≡ got ps t → (ws : List Bytes) × (valuesNamed name ps ≡ take (b - a) (drop a s) ∷ ws)
+
+abbrev pub FirstValueAt : Bytes → ℕ → Bytes → FirstValue → Type 0
+FirstValueAt s at name (At a b) = ValueNamed s at name a b
+FirstValueAt s at name Missing = (ps : List Param′) (t : Bytes) → loop paramTurn (drop at s) ≡ got ps t → valuesNamed name ps ≡ []

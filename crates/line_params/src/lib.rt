@@ -3,7 +3,7 @@ ghost use mathlib.Core.Path.{_≡_};
 ghost use Prim.Native.Nat.{_≤_};
 ghost use Rattle.text.specs.Choice.{pick};
 ghost use lib.ListN.{length};
-ghost use Rattle.line_params.specs.Scan.{NextParamAt, NextValueAt, HasAt, CountAt};
+ghost use Rattle.line_params.specs.Scan.{NextParamAt, NextValueAt, HasAt, CountAt, ValueFrom, FirstValueAt};
 use line_name::is_named;
 use line_scan::Param;
 use line_scan::Value;
@@ -97,5 +97,39 @@ pub fn count_values(s: &[u8], at: usize, name: &[u8]) -> usize
         let named = is_named(&s[a..e], name);
         n += counted(named, k);
         i = next;
+    }
+}
+
+// Where the first value of the parameters of that name stands.
+pub enum FirstValue {
+    At(usize, usize),
+    Missing,
+}
+
+pub fn first_value(s: &[u8], at: usize, name: &[u8]) -> FirstValue
+    requires { ⌜ at ≤ length (now s) ⌝ }
+    ensures { λ r. ⌜ FirstValueAt (now (s .entry)) at (now (name .entry)) r ⌝ }
+{
+    let mut i = at;
+    loop {
+        let NextParam::Param(e, next, _) = next_param(s, i) else {
+            return FirstValue::Missing;
+        };
+        let a = i + 1;
+        if is_named(&s[a..e], name) {
+            return value_from(s, e + 1);
+        }
+        i = next;
+    }
+}
+
+fn value_from(s: &[u8], at: usize) -> FirstValue
+    requires { ⌜ at ≤ length (now s) ⌝ }
+    ensures { λ r. ⌜ ValueFrom (now (s .entry)) at r ⌝ }
+{
+    match next_value(s, at) {
+        NextValue::More(a, b, _) => FirstValue::At(a, b),
+        NextValue::Last(a, b, _) => FirstValue::At(a, b),
+        NextValue::Bad => FirstValue::Missing,
     }
 }
