@@ -9,6 +9,7 @@ use Rattle.text.specs.Utf8.{encoded}
 use Rattle.line.specs.Physical.{physical, framed}
 use Rattle.line.specs.Unfold.{unfold′}
 use Rattle.line.specs.Grammar.{Param, param, Line, readLine}
+use Rattle.line.specs.Text.{readText, splitText}
 use Rattle.line.specs.Write.{writeLine, fold}
 use Rattle.line.proofs.Opened.{line-opened}
 
@@ -45,3 +46,17 @@ unfolds : map unfold′ ((ascii "a" ∷ ascii "\tb" ∷ ascii "c" ∷ []) ∷ (a
     ≡ (ascii "ab" ∷ ascii "c" ∷ []) ∷ (ascii " a b" ∷ []) ∷ (ascii "a" ∷ []) ∷ []
 unfolding line-opened
 unfolds = refl
+
+-- a fold inside one letter's bytes vanishes
+in-a-letter : unfold′ ((65 ∷ 195 ∷ []) ∷ (32 ∷ 169 ∷ []) ∷ []) ≡ (65 ∷ 195 ∷ 169 ∷ []) ∷ []
+unfolding line-opened
+in-a-letter = refl
+
+-- TEXT: a bad escape; a separator after a backslash is none
+bad-escape : map readText (ascii "a\\:b" ∷ ascii "a\\" ∷ ascii "a\\\\\\,\\;\\n\\Nb" ∷ []) ≡ none ∷ none ∷ some (ascii "a\\,;\n\nb") ∷ []
+unfolding line-opened
+bad-escape = refl
+
+split-bare : splitText 59 (ascii "a\\;b;;c") ≡ ascii "a\\;b" ∷ [] ∷ ascii "c" ∷ []
+unfolding line-opened
+split-bare = refl

@@ -11,7 +11,7 @@ use lib.Seq.{drop-cons, drop-drop, take-suc, getD-take, getD-drop, take-nil, len
 use borrow.Author.Tests.{eq-eqb, ne-eqb, eqb-true, eqb-false, le-leb, lt-leb, not-false}
 use Rattle.text.specs.Bytes.{Bytes, onHead}
 use Rattle.text.specs.Reader.{taken, past}
-use Rattle.line.specs.Physical.{byLf, withoutCr, physical}
+use Rattle.line.specs.Physical.{byLf, withoutCr, physical, lacksLf, sizeOf}
 use Rattle.line.proofs.Cases.{byBool, split}
 use Rattle.line_class.proofs.Runs.{taken-part, past-part, taken-within}
 use Rattle.line_frame.specs.declared.Line.{Line}
@@ -207,3 +207,30 @@ line-last s at lf e h is l c = record {
       first-line s at lf is h lf t ∙ ap (λ u. u ∷ physical (drop lf s)) (sym (c .bytes));
   whole = λ w t. absurd (omega arith);
 }
+
+-- ---- the size
+
+lacks : (s : Bytes) (n : ℕ) → length s ≡ suc n → lacksLf s ≡ not (eqb (getD s n 0) 10)
+unfolding lacksLf
+lacks [] n l = absurd (omega arith)
+lacks (c ∷ []) zero l = byBool (eqb c 10) (λ e. rw e) (λ e. rw e)
+lacks (c ∷ []) (suc n) l = absurd (omega arith)
+lacks (c ∷ (d ∷ s)) zero l = absurd (omega arith)
+lacks (c ∷ (d ∷ s)) (suc n) l = lacks (d ∷ s) n (omega arith)
+
+pub size-empty : (s : Bytes) → length s ≡ 0 → sizeOf s ≡ 1
+unfolding sizeOf lacksLf
+size-empty [] h = refl
+size-empty (c ∷ s) h = absurd (omega arith)
+
+pub size-lf : (s : Bytes) → (length s ≡ 0 → ⊥) → getD s (length s - 1) 0 ≡ 10 → sizeOf s ≡ length s
+unfolding sizeOf
+size-lf s n e =
+    let l : length s ≡ suc (length s - 1) = omega arith in
+    rw (lacks s (length s - 1) l, e) (omega arith)
+
+pub size-without : (s : Bytes) → (length s ≡ 0 → ⊥) → (getD s (length s - 1) 0 ≡ 10 → ⊥) → sizeOf s ≡ length s + 1
+unfolding sizeOf
+size-without s n e =
+    let l : length s ≡ suc (length s - 1) = omega arith in
+    rw (lacks s (length s - 1) l, ne-eqb (getD s (length s - 1) 0) 10 e)

@@ -3,10 +3,25 @@ ghost use mathlib.Core.Path.{_≡_};
 ghost use Prim.Native.Nat.{_+_, _≤_, _<_};
 ghost use lib.ListN.{length, drop};
 ghost use Rattle.text.specs.Reader.{taken};
-ghost use Rattle.line.specs.Physical.{isBegin, isEnd};
+ghost use Rattle.line.specs.Physical.{sizeOf, isBegin, isEnd};
 ghost use Rattle.line_frame.specs.Lines.{notLf, crEnd, LineAt};
 ghost use Rattle.line_frame.specs.Frame.{Ends, Framed};
 use line_name::is_named;
+
+// The bytes of a card: the LF that is supposed at the end counts.
+pub fn size_of(s: &[u8]) -> usize
+    ensures { λ r. ⌜ r ≡ sizeOf (now (s .entry)) ⌝ }
+{
+    let n = s.len();
+    if n == 0 {
+        return 1;
+    }
+    let last = n - 1;
+    if s[last] == 10 {
+        return n;
+    }
+    n + 1
+}
 
 // Where the line that begins at `at` has its LF, or where the bytes end.
 fn lf_at(s: &[u8], at: usize) -> usize

@@ -101,7 +101,7 @@ module _ (s : Bytes) (at e c : ℕ) (is-end : e ≡ at + length (taken isName (d
 
 -- ---- one turn
 
-abbrev added : Param′ → Bytes → Got (Step (List Param′))
+abbrev pub added : Param′ → Bytes → Got (Step (List Param′))
 added p t = got (more (λ ps. p ∷ ps)) t
 
 abbrev ended : ℕ → Bytes → Got (Step (List Param′))
@@ -111,17 +111,17 @@ abbrev another : ℕ → Bytes → Got (Step (List Param′))
 another c t = bind (parameter t) added
 
 module _ (s : Bytes) (i b : ℕ) (looks : b ≡ byteAt s i) where
-  at-colon : b ≡ 58 → paramTurn (drop i s) ≡ got (last []) (drop (i + 1) s)
+  pub at-colon : b ≡ 58 → paramTurn (drop i s) ≡ got (last []) (drop (i + 1) s)
   unfolding paramTurn
   at-colon h = on-yes (is 58) s i b looks ended (on (is 59) another bad) (eq-eqb b 58 h)
 
-  at-semicolon : b ≡ 59 → paramTurn (drop i s) ≡ another b (drop (i + 1) s)
+  pub at-semicolon : b ≡ 59 → paramTurn (drop i s) ≡ another b (drop (i + 1) s)
   unfolding paramTurn
   at-semicolon h =
       let n : eqb b 58 ≡ false = rw h in
       on-no (is 58) s i b looks ended (on (is 59) another bad) n ∙ on-yes (is 59) s i b looks another bad (eq-eqb b 59 h)
 
-  at-neither : (b ≡ 58 → ⊥) → (b ≡ 59 → ⊥) → paramTurn (drop i s) ≡ bad (drop i s)
+  pub at-neither : (b ≡ 58 → ⊥) → (b ≡ 59 → ⊥) → paramTurn (drop i s) ≡ bad (drop i s)
   unfolding paramTurn
   at-neither n m =
       on-no (is 58) s i b looks ended (on (is 59) another bad) (ne-eqb b 58 n) ∙ on-no (is 59) s i b looks another bad (ne-eqb b 59 m)

@@ -67,13 +67,13 @@ module _ (s : Bytes) (i a b n c : ℕ) (v : ValueRead s i a b n) (looks : c ≡ 
   abbrev value : Bytes
   value = take (b - a) (drop a s)
 
-  at-comma : c ≡ 44 → valueTurn (drop i s) ≡ got (more (λ vs. value ∷ vs)) (drop (n + 1) s)
+  pub at-comma : c ≡ 44 → valueTurn (drop i s) ≡ got (more (λ vs. value ∷ vs)) (drop (n + 1) s)
   unfolding valueTurn
   at-comma h =
       ap (λ w. bind w onward) (v .is)
       ∙ on-yes (is 44) s n c looks (λ c t. got (more (λ vs. value ∷ vs)) t) (got (last (value ∷ []))) (eq-eqb c 44 h)
 
-  at-other : (c ≡ 44 → ⊥) → valueTurn (drop i s) ≡ got (last (value ∷ [])) (drop n s)
+  pub at-other : (c ≡ 44 → ⊥) → valueTurn (drop i s) ≡ got (last (value ∷ [])) (drop n s)
   unfolding valueTurn
   at-other h =
       ap (λ w. bind w onward) (v .is)
