@@ -32,7 +32,7 @@ no-unit = refl
 
 pub spelled-past : (s : Bytes) (p : ℕ) → length s < p → spelled s p ≡ none
 unfolding spelled units
-spelled-past s p l = ap (λ (x : Bytes). told 0 (loop unit x)) (drop-of-length-le s {i = p} (omega arith)) ∙ ap (told 0) (loop-bad unit unit-fine [] [] no-unit)
+spelled-past s p l = ap (λ (x : Bytes). told 0 (loop unit x)) (drop-of-length-le s {i = p} (omega arith)) ∙ ap (told 0) (loop-bad unit (unit-fine .less) [] [] no-unit)
 
 -- ---- one place after the other
 module _ (s : Bytes) (o : Option Bytes) where

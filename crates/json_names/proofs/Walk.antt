@@ -19,7 +19,7 @@ use Rattle.text.specs.Bytes.{Bytes, is, among}
 use Rattle.text.specs.Reader.{Got, got, bad, bind, under, first, on, when, Step, more, last, after, turns, loop, one}
 use Rattle.text.specs.Places.{byteAt, AgreeT, Gives, GivesT, Passes}
 use Rattle.text.proofs.Places.{byBool, at-next, at-bad, on-yes, on-no, when-yes, when-no}
-use Rattle.text.proofs.Fine.{Fine, not-bad, got-rest, got-what, bind-inv, under-inv, enough-same, loop-more, loop-last, loop-bad}
+use Rattle.text.proofs.Fine.{Fine, not-bad, got-rest, got-what, bind-inv, under-inv, loop-more, loop-split}
 use Rattle.json.specs.Grammar.{isSpace}
 use Rattle.json.specs.Tree.{Json, jnull, jtrue, jfalse, jnum, jstr, jarr, jobj, Elems, enil, econs, Members, mnil, mcons}
 use Rattle.json.specs.Syntax.{skip, characters, number, four, scalar, sep, name, item, elements, pair, pairs, value}
@@ -30,18 +30,6 @@ use Rattle.json_strings.specs.Spelled.{spelled}
 use Rattle.json_strings.proofs.Laws.{spelled-is}
 use Rattle.json_names.specs.Sound.{goodName, good, goodElems, goodMembers, JudgesValue, JudgesArray, JudgesObject}
 use Rattle.json_names.specs.Kept.{Names, KeptName, Keeps}
-
--- ---- a loop that read something, by its first turn
-module _ {B : Type 0} (f : Bytes → Got (Step B)) (h : Fine 1 f) where
-  after-same : (n : ℕ) (w : Step B) (v : Bytes) → turns f n v ≡ loop f v → after w v (turns f n) ≡ after w v (loop f)
-  after-same n (more g) v e = ap (under g) e
-  after-same n (last b) v e = refl
-
-  pub loop-split : (s : Bytes) (b : B) (t : Bytes) → loop f s ≡ got b t → (w : Step B) × (v : Bytes) × (f s ≡ got w v) × (after w v (loop f) ≡ got b t)
-  unfolding loop turns
-  loop-split s b t e =
-      let i = bind-inv (f s) (λ w v. after w v (turns f (length s))) e in
-      (i .0, i .1, i .2, sym (after-same (length s) (i .0) (i .1) (enough-same f h (length s) (suc (length (i .1))) (i .1) (omega (arith, h .less s (i .0) (i .1) (i .2))) (omega arith))) ∙ i .3)
 
 -- ---- separators
 module _ {B : Type 0} (b : B) (g : B → B) where
@@ -94,7 +82,7 @@ module _ (d : ℕ) (s : Bytes) where
       → (j : Json) × (v : Bytes) × (es : Elems) × (value d (drop i s) ≡ got j v) × (rest ≡ econs j es)
   unfolding item
   item-here i rest t e =
-      let l = loop-split (item (value d)) (item-fine (value d) (value-fine d)) (drop i s) rest t e in
+      let l = loop-split (item (value d)) (item-fine (value d) (value-fine d) .less) (drop i s) rest t e in
       let b = bind-inv (value d (drop i s)) (λ j u. sep 93 (econs j enil) (econs j) u) (l .2) in
       let r = elems-tail (b .0) (loop (item (value d))) (l .0) (l .1) rest t (sep-adds (econs (b .0) enil) (econs (b .0)) 93 (b .1) (l .0) (l .1) (b .3)) (l .3) in
       (b .0, b .1, r .0, b .2, r .1)
@@ -128,7 +116,7 @@ module _ (d : ℕ) (s : Bytes) where
             let m = todo es t x in
             let a = at-next (value d (drop i s)) g in
             let z : item (value d) (drop i s) ≡ got (more (econs (a .0))) (drop j s) = ap (λ (y : Got Json). bind y (λ j u. sep 93 (econs j enil) (econs j) u)) (a .1) ∙ sep-go (econs (a .0) enil) (econs (a .0)) 93 w in
-            let k = under-inv (econs (a .0)) (loop (item (value d)) (drop j s)) (sym (loop-more (item (value d)) (item-fine (value d) (value-fine d)) (drop i s) (drop j s) (econs (a .0)) z) ∙ m .1) in
+            let k = under-inv (econs (a .0)) (loop (item (value d)) (drop j s)) (sym (loop-more (item (value d)) (item-fine (value d) (value-fine d) .less) (drop i s) (drop j s) (econs (a .0)) z) ∙ m .1) in
             let o : good (a .0) ≡ true = sym (judged (a .0) (drop e s) (a .1)) ∙ q in
             (k .0, k .1, m .2 ∙ ap goodElems (sym (k .2)) ∙ rw o)
 
@@ -137,7 +125,7 @@ module _ (d : ℕ) (s : Bytes) where
         elems-last v w es t x =
             let m = todo es t x in
             let a = at-next (value d (drop i s)) g in
-            let l = loop-split (item (value d)) (item-fine (value d) (value-fine d)) (drop i s) (m .0) t (m .1) in
+            let l = loop-split (item (value d)) (item-fine (value d) (value-fine d) .less) (drop i s) (m .0) t (m .1) in
             let z : sep 93 (econs (a .0) enil) (econs (a .0)) (drop e s) ≡ got (l .0) (l .1) = sym (ap (λ (y : Got Json). bind y (λ j u. sep 93 (econs j enil) (econs j) u)) (a .1)) ∙ l .2 in
             let n = sep-stop (econs (a .0) enil) (econs (a .0)) 93 w (l .0) (l .1) z in
             let o : good (a .0) ≡ true = sym (judged (a .0) (drop e s) (a .1)) ∙ q in
@@ -174,7 +162,7 @@ module _ (d : ℕ) (s : Bytes) where
   pair-here : (i : ℕ) (rest : Members) (t : Bytes) → loop (pair (value d)) (drop i s) ≡ got rest t → Here i rest
   unfolding pair
   pair-here i rest t e =
-      let l = loop-split (pair (value d)) (pair-fine (value d) (value-fine d)) (drop i s) rest t e in
+      let l = loop-split (pair (value d)) (pair-fine (value d) (value-fine d) .less) (drop i s) rest t e in
       let a = bind-inv (name (drop i s)) (λ k u. bind (value d u) λ j u. sep 125 (mcons k j mnil) (mcons k j) u) (l .2) in
       let b = bind-inv (value d (a .1)) (λ j u. sep 125 (mcons (a .0) j mnil) (mcons (a .0) j) u) (a .3) in
       let r = members-tail (a .0) (b .0) (loop (pair (value d))) (l .0) (l .1) rest t (sep-adds (mcons (a .0) (b .0) mnil) (mcons (a .0) (b .0)) 125 (b .1) (l .0) (l .1) (b .3)) (l .3) in
@@ -230,7 +218,7 @@ module _ (d : ℕ) (s : Bytes) where
               let z = subst (KeptName s (y .key) (y .rest-key) (m .1) k after-name) q (keeps (y .key) (y .rest-key) (y .is-name) (m .1) (m .3)) in
               let a = at-next (value d (drop v s)) g in
               let f : pair (value d) (drop i s) ≡ got (more (mcons (y .key) (a .0))) (drop j s) = turn-is (y .key) (y .is-name ∙ ap (got (y .key)) (z .1)) (a .0) e (a .1) ∙ sep-go (mcons (y .key) (a .0) mnil) (mcons (y .key) (a .0)) 125 w in
-              let l = under-inv (mcons (y .key) (a .0)) (loop (pair (value d)) (drop j s)) (sym (loop-more (pair (value d)) (pair-fine (value d) (value-fine d)) (drop i s) (drop j s) (mcons (y .key) (a .0)) f) ∙ m .2) in
+              let l = under-inv (mcons (y .key) (a .0)) (loop (pair (value d)) (drop j s)) (sym (loop-more (pair (value d)) (pair-fine (value d) (value-fine d) .less) (drop i s) (drop j s) (mcons (y .key) (a .0)) f) ∙ m .2) in
               let h : good (a .0) ≡ true = sym (judged (a .0) (drop e s) (a .1)) ∙ p in
               (l .0, m .1 ++ (z .0 ∷ []), l .1, subst (λ (x : List ℕ). Names s x (m .1 ++ (z .0 ∷ []))) (sym c) (z .4), m .4 ∙ ap (λ (n : Members). goodMembers n (m .1)) (sym (l .2)) ∙ rw (z .2, z .3, h))
 
@@ -241,7 +229,7 @@ module _ (d : ℕ) (s : Bytes) where
               let y = pair-here i (m .0) t (m .2) in
               let z = subst (KeptName s (y .key) (y .rest-key) (m .1) k after-name) q (keeps (y .key) (y .rest-key) (y .is-name) (m .1) (m .3)) in
               let a = at-next (value d (drop v s)) g in
-              let l = loop-split (pair (value d)) (pair-fine (value d) (value-fine d)) (drop i s) (m .0) t (m .2) in
+              let l = loop-split (pair (value d)) (pair-fine (value d) (value-fine d) .less) (drop i s) (m .0) t (m .2) in
               let n = sep-stop (mcons (y .key) (a .0) mnil) (mcons (y .key) (a .0)) 125 w (l .0) (l .1) (sym (turn-is (y .key) (y .is-name ∙ ap (got (y .key)) (z .1)) (a .0) e (a .1)) ∙ l .2) in
               let h : good (a .0) ≡ true = sym (judged (a .0) (drop e s) (a .1)) ∙ p in
               sym (m .4 ∙ ap (λ (x : Members). goodMembers x (m .1)) (sym (got-what (rw n at (l .3)))) ∙ rw (z .2, z .3, h))
