@@ -33,15 +33,15 @@ spelled-is s at us t e = ap (told 0) (units-same (drop at s) us t e)
 module _ (h : ℕ) (s : Bytes) (at : ℕ) where
   told-more : (u e : ℕ) → unit (drop at s) ≡ got (push u) (drop e s) → told h (units (drop at s)) ≡ told h (under (λ us. u ∷ us) (units (drop e s)))
   unfolding units
-  told-more u e q = ap (told h) (loop-more unit unit-fine (drop at s) (drop e s) (λ us. u ∷ us) q)
+  told-more u e q = ap (told h) (loop-more unit (unit-fine .less) (drop at s) (drop e s) (λ us. u ∷ us) q)
 
   told-end : (e : ℕ) → unit (drop at s) ≡ got (last []) (drop e s) → told h (units (drop at s)) ≡ decodeAfter h []
   unfolding units
-  told-end e q = ap (told h) (loop-last unit unit-fine (drop at s) (drop e s) [] q)
+  told-end e q = ap (told h) (loop-last unit (unit-fine .less) (drop at s) (drop e s) [] q)
 
   told-wrong : (e : ℕ) → unit (drop at s) ≡ bad (drop e s) → told h (units (drop at s)) ≡ none
   unfolding units
-  told-wrong e q = ap (told h) (loop-bad unit unit-fine (drop at s) (drop e s) q)
+  told-wrong e q = ap (told h) (loop-bad unit (unit-fine .less) (drop at s) (drop e s) q)
 
 -- ---- what the first unit stands for
 module _ (u : ℕ) where

@@ -51,7 +51,7 @@ under-id (bad t) = refl
 raws : {cs : Bytes} → Raws cs → (v : Bytes) → loop unit (cs ++ v) ≡ under (λ us. cs ++ us) (loop unit v)
 raws none-more v = under-id (loop unit v)
 raws {cs = c ∷ cs} (one-more l h r) v =
-    loop-more unit unit-fine (c ∷ (cs ++ v)) (cs ++ v) (λ us. c ∷ us) (raw-unit c (cs ++ v) l h)
+    loop-more unit (unit-fine .less) (c ∷ (cs ++ v)) (cs ++ v) (λ us. c ∷ us) (raw-unit c (cs ++ v) l h)
     ∙ ap (under (λ us. c ∷ us)) (raws r v) ∙ under-under (λ us. c ∷ us) (λ us. cs ++ us) (loop unit v)
 
 -- what a character of several bytes has after its first
@@ -118,8 +118,8 @@ lead-raw c e =
 
 -- ---- one character
 loop-after : (s : Bytes) (w : Step Bytes) (v : Bytes) → unit s ≡ got w v → loop unit s ≡ after w v (loop unit)
-loop-after s (more g) v e = loop-more unit unit-fine s v g e
-loop-after s (last b) v e = loop-last unit unit-fine s v b e
+loop-after s (more g) v e = loop-more unit (unit-fine .less) s v g e
+loop-after s (last b) v e = loop-last unit (unit-fine .less) s v b e
 
 wide-after : (c : ℕ) (s cs : Bytes) (w : Step Bytes) (v : Bytes) → isLead c ≡ true → following (lead c) s ≡ got cs v → more (λ (us : Bytes). c ∷ (cs ++ us)) ≡ w
     → loop unit (c ∷ s) ≡ after w v (loop unit)

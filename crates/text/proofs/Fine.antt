@@ -157,23 +157,27 @@ module _ {B : Type 0} (f : Bytes → Got (Step B)) (h : Fine 1 f) where
         (c .0, c .1, enough (suc (length (u ++ z))) (suc (length u)) u b (c .0) (c .2) (omega arith));
   }
 
-  -- also where they read nothing: so a loop is its first turn, and the loop again
+-- ---- a loop is its first turn, and the loop again: for this it is enough that each turn takes a byte
+abbrev pub Takes : {A : Type 0} → (Bytes → Got A) → Type 0
+Takes {A} R = (s : Bytes) (a : A) (w : Bytes) → R s ≡ got a w → 1 + length w ≤ length s
+
+module _ {B : Type 0} (f : Bytes → Got (Step B)) (takes : Takes f) where
   enough-next : (n m : ℕ) (w : Got (Step B)) → ((t : Bytes) (v : Step B) → w ≡ got v t → turns f n t ≡ turns f m t)
       → bind w (λ v t. after v t (turns f n)) ≡ bind w (λ v t. after v t (turns f m))
   enough-next n m (got (more g) t) r = ap (under g) (r t (more g) refl)
   enough-next n m (got (last b) t) r = refl
   enough-next n m (bad t) r = refl
 
-  pub enough-same : (n m : ℕ) (s : Bytes) → length s < n → length s < m → turns f n s ≡ turns f m s
+  enough-same : (n m : ℕ) (s : Bytes) → length s < n → length s < m → turns f n s ≡ turns f m s
   unfolding turns
   enough-same zero m s k l = absurd (omega arith)
   enough-same (suc n) zero s k l = absurd (omega arith)
   enough-same (suc n) (suc m) s k l =
-      enough-next n m (f s) (λ t v e. enough-same n m t (omega (arith, h .less s v t e)) (omega (arith, h .less s v t e)))
+      enough-next n m (f s) (λ t v e. enough-same n m t (omega (arith, takes s v t e)) (omega (arith, takes s v t e)))
 
   pub loop-more : (s t : Bytes) (g : B → B) → f s ≡ got (more g) t → loop f s ≡ under g (loop f t)
   unfolding loop turns
-  loop-more s t g e = rw e (ap (under g) (enough-same (length s) (suc (length t)) t (omega (arith, h .less s (more g) t e)) (omega arith)))
+  loop-more s t g e = rw e (ap (under g) (enough-same (length s) (suc (length t)) t (omega (arith, takes s (more g) t e)) (omega arith)))
 
   pub loop-last : (s t : Bytes) (b : B) → f s ≡ got (last b) t → loop f s ≡ got b t
   unfolding loop turns
@@ -182,6 +186,17 @@ module _ {B : Type 0} (f : Bytes → Got (Step B)) (h : Fine 1 f) where
   pub loop-bad : (s t : Bytes) → f s ≡ bad t → loop f s ≡ bad t
   unfolding loop turns
   loop-bad s t e = rw e
+
+  after-same : (n : ℕ) (w : Step B) (v : Bytes) → turns f n v ≡ loop f v → after w v (turns f n) ≡ after w v (loop f)
+  after-same n (more g) v e = ap (under g) e
+  after-same n (last b) v e = refl
+
+  -- a loop that read something, by its first turn
+  pub loop-split : (s : Bytes) (b : B) (t : Bytes) → loop f s ≡ got b t → (w : Step B) × (v : Bytes) × (f s ≡ got w v) × (after w v (loop f) ≡ got b t)
+  unfolding loop turns
+  loop-split s b t e =
+      let i = bind-inv (f s) (λ w v. after w v (turns f (length s))) e in
+      (i .0, i .1, i .2, sym (after-same (length s) (i .0) (i .1) (enough-same (length s) (suc (length (i .1))) (i .1) (omega (arith, takes s (i .0) (i .1) (i .2))) (omega arith))) ∙ i .3)
 
 -- ---- runs and single bytes
 taken-none : (p : ℕ → Bool) (s : Bytes) → length s ≤ length (past p s) → taken p s ≡ []

@@ -1,0 +1,119 @@
+// The look-up service: a top-level member's value as that very part of the caller's JSON.
+use json_equal::equals;
+use json_marks::mark;
+use json_marks::separator;
+use json_marks::skip_space;
+use json_read::Verdict;
+use json_read::read;
+use json_scan::name_end;
+use json_scan::value_end;
+use text::Read;
+use text::Turn;
+use text::look;
+ghost use mathlib.Core.Path.{_≡_};
+ghost use Prim.Native.Nat.{_≤_};
+ghost use lib.ListN.{length};
+ghost use Rattle.json.specs.Lookup.{lookUp, partOf};
+ghost use Rattle.json_lookup.specs.Finds.{placeOf, Inside, Tells, Bounds, Finds, FindsIn, Locates};
+
+// A part of a text: from `start` to just before `end`. Nothing is found where they are the same.
+pub struct Part {
+    pub start: usize,
+    pub end: usize,
+}
+
+// The places of a member: of its name, after the first quote, and of its value.
+pub struct Places {
+    pub name: usize,
+    pub start: usize,
+    pub end: usize,
+}
+
+fn place(r: Read) -> usize
+    ensures { λ x. ⌜ x ≡ placeOf r ⌝ }
+{
+    match r {
+        Read::Next(e) => e,
+        Read::Bad(b) => b,
+    }
+}
+
+// The member at a place of an object. (Where there is none the places are of no use, and within the text.)
+fn member_at(s: &[u8], at: usize) -> Places
+    requires { ⌜ at ≤ length (now s) ⌝ }
+    ensures { λ r. ⌜ Inside at (length (now (s .entry))) r ⌝ }
+    ensures { λ r. ⌜ Tells (now (s .entry)) at r ⌝ }
+{
+    let q = place(mark(s, at, 34));
+    let v = place(name_end(s, at));
+    let a = skip_space(s, v);
+    let e = place(value_end(s, a, 15));
+    Places {
+        name: q,
+        start: a,
+        end: e,
+    }
+}
+
+// The value of the first member of that name, from a member's place of an object on.
+fn find_from<'a, 'b>(s: &'a [u8], at: usize, name: &'b [u8]) -> Part
+    requires { ⌜ at ≤ length (now s) ⌝ }
+    ensures { λ r. ⌜ Bounds (length (now (s .entry))) r ⌝ }
+    ensures { λ r. ⌜ Finds (now (s .entry)) at (now (name .entry)) r ⌝ }
+{
+    let mut i = at;
+    loop {
+        let m = member_at(s, i);
+        let q = m.name;
+        let a = m.start;
+        let e = m.end;
+        if equals(s, q, name) {
+            return Part { start: a, end: e };
+        }
+        match separator(s, e, 125) {
+            Turn::Go(j) => {
+                i = j;
+            }
+            Turn::Stop(r) => {
+                return Part { start: 0, end: 0 };
+            }
+        }
+    }
+}
+
+// The same in a text that is JSON.
+fn find_in<'a, 'b>(s: &'a [u8], name: &'b [u8]) -> Part
+    ensures { λ r. ⌜ Bounds (length (now (s .entry))) r ⌝ }
+    ensures { λ r. ⌜ FindsIn (now (s .entry)) (now (name .entry)) r ⌝ }
+{
+    let i = skip_space(s, 0);
+    if look(s, i) != 123 {
+        return Part { start: 0, end: 0 };
+    }
+    let j = skip_space(s, i + 1);
+    if look(s, j) == 125 {
+        return Part { start: 0, end: 0 };
+    }
+    find_from(s, j, name)
+}
+
+fn locate<'a, 'b>(s: &'a [u8], name: &'b [u8]) -> Part
+    ensures { λ r. ⌜ Bounds (length (now (s .entry))) r ⌝ }
+    ensures { λ r. ⌜ Locates (now (s .entry)) (now (name .entry)) r ⌝ }
+{
+    match read(s, 16) {
+        Verdict::Sound => find_in(s, name),
+        Verdict::Large => Part { start: 0, end: 0 },
+        Verdict::NotJson(b) => Part { start: 0, end: 0 },
+    }
+}
+
+// The value of the top-level member of that name; empty where the text is over 65,536 bytes, no JSON, no object, or has no such member.
+pub fn look_up<'a, 'b>(json: &'a [u8], name: &'b [u8]) -> &'a [u8]
+    ensures { λ r. ⌜ now r ≡ partOf (now (json .entry)) (lookUp (now (json .entry)) (now (name .entry))) ⌝ }
+{
+    let p = locate(json, name);
+    let a = p.start;
+    let e = p.end;
+    &json[a..e]
+}

@@ -1,0 +1,4 @@
+pub mod Distinct
+pub mod Good
+pub mod Names
+pub mod Walk

@@ -1,0 +1,118 @@
+-- Laws of names kept by their places.
+use mathlib.Core.Path.{_≡_, refl, sym, ap, subst, _∙_}
+use mathlib.Core.Bool.{Bool, true, false, _&&_, _||_, not}
+use mathlib.Core.List.{List, [], _∷_, _++_, map, map-append}
+use mathlib.Core.Option.{Option, none, some}
+use Prim.Native.Nat.{ℕ, zero, suc, _+_, _-_, _≤_, _<_}
+use native.Mathlib.Numerals.{add-one}
+use native.Mathlib.Omega.{arith}
+use lib.ListN.{length, getD, take, drop, set, length-take, length-drop, drop-of-length-le}
+use lib.Seq.{drop-cons, getD-take, take-suc-set}
+use Rattle.text.specs.declared.Read.{Read}
+use Rattle.text.specs.declared.Read.the-variants.{Next, Bad}
+use Rattle.text.specs.Choice.{with-some, is-some}
+use Rattle.text.specs.Bytes.{Bytes, any, same, among, between}
+use Rattle.text.specs.Reader.{Got, got, bad, bind, on, loop}
+use Rattle.text.specs.Places.{Gives}
+use Rattle.text.proofs.Places.{byBool, at-next}
+use Rattle.text.proofs.Fine.{not-bad, got-rest, got-what, bind-inv, loop-bad}
+use Rattle.json.specs.Syntax.{token, characters, name}
+use Rattle.json.specs.Strings.{decode}
+use Rattle.json.proofs.Fine.{name-fine}
+use Rattle.json_units.specs.Units.{unit, units}
+use Rattle.json_units.proofs.Same.{unit-fine}
+use Rattle.json_strings.specs.Spelled.{told, spelled, agree}
+use Rattle.json_strings.proofs.Laws.{spelled-is}
+use Rattle.json_names.specs.Kept.{meets, Names, KeepsIn}
+
+-- a place past the end stands for nothing
+no-unit : unit [] ≡ bad []
+unfolding unit on between
+no-unit = refl
+
+pub spelled-past : (s : Bytes) (p : ℕ) → length s < p → spelled s p ≡ none
+unfolding spelled units
+spelled-past s p l = ap (λ (x : Bytes). told 0 (loop unit x)) (drop-of-length-le s {i = p} (omega arith)) ∙ ap (told 0) (loop-bad unit (unit-fine .less) [] [] no-unit)
+
+-- ---- one place after the other
+module _ (s : Bytes) (o : Option Bytes) where
+  pub meets-none : (l : List ℕ) (k : ℕ) → length l ≤ k → meets s o (drop k l) ≡ false
+  unfolding meets any
+  meets-none l k h = rw (drop-of-length-le l {i = k} h)
+
+  meets-step : (l : List ℕ) (k : ℕ) → k < length l → meets s o (drop k l) ≡ agree o (spelled s (getD l k 0)) || meets s o (drop (k + 1) l)
+  unfolding meets any
+  meets-step l k h = rw (drop-cons l k 0 h, add-one k)
+
+  module _ (ps : List ℕ) (n k : ℕ) (h : k < n) (l : n ≤ length ps) where
+    at-k : meets s o (drop k (take n ps)) ≡ agree o (spelled s (getD ps k 0)) || meets s o (drop (k + 1) (take n ps))
+    at-k = let g : k < length (take n ps) = simp length-take (omega arith) in meets-step (take n ps) k g ∙ rw (getD-take n ps k 0 h)
+
+    pub meets-yes : agree o (spelled s (getD ps k 0)) ≡ true → meets s o (drop k (take n ps)) ≡ true
+    meets-yes e = at-k ∙ rw e
+
+    pub meets-no : agree o (spelled s (getD ps k 0)) ≡ false → meets s o (drop k (take n ps)) ≡ meets s o (drop (k + 1) (take n ps))
+    meets-no e = at-k ∙ rw e
+
+-- ---- the names at the places
+cons-head : {A : Type 0} {x y : A} {xs ys : List A} → x ∷ xs ≡ y ∷ ys → x ≡ y
+cons-head e = cc
+
+cons-tail : {A : Type 0} {x y : A} {xs ys : List A} → x ∷ xs ≡ y ∷ ys → xs ≡ ys
+cons-tail e = cc
+
+pub meets-among : (s n : Bytes) (ps : List ℕ) (ns : List Bytes) → Names s ps ns → meets s (some n) ps ≡ among n ns
+unfolding Names meets among any
+meets-among s n [] [] e = refl
+meets-among s n [] (m ∷ ns) e = let r : _≡_ {A = ℕ} 0 1 = cc in absurd (omega arith)
+meets-among s n (p ∷ ps) [] e = let r : _≡_ {A = ℕ} 0 1 = cc in absurd (omega arith)
+meets-among s n (p ∷ ps) (m ∷ ns) e = rw (cons-head e, meets-among s n ps ns (cons-tail e))
+
+pub names-kept : (s n : Bytes) (ps : List ℕ) (k q : ℕ) (ns : List Bytes) → k < length ps → Names s (take k ps) ns → spelled s q ≡ some n
+    → Names s (take (k + 1) (set ps k q)) (ns ++ (n ∷ []))
+unfolding Names
+names-kept s n ps k q ns l e h =
+    ap (map (spelled s)) (ap (λ (i : ℕ). take i (set ps k q)) (add-one k) ∙ take-suc-set ps k q l)
+    ∙ map-append (spelled s) (take k ps) (q ∷ []) ∙ rw (e, h) (sym (map-append some ns (n ∷ [])))
+
+pub no-names : (s : Bytes) (ps : List ℕ) → Names s (take 0 ps) []
+unfolding Names
+no-names s ps = refl
+
+-- ---- a member's name
+module _ (s : Bytes) (at : ℕ) (us t : Bytes) (e : name (drop at s) ≡ got us t) where
+  pub name-string : (q : ℕ) → Gives s at (token 34 (drop at s)) (Next q) → spelled s q ≡ decode us
+  unfolding name
+  name-string q g =
+      let a = at-next (token 34 (drop at s)) g in
+      let i = bind-inv (token 34 (drop at s)) _ e in
+      let j = bind-inv (characters (i .1)) _ (i .3) in
+      let k = bind-inv (token 58 (j .1)) _ (j .3) in
+      let w : i .1 ≡ drop q s = got-rest (sym (i .2) ∙ a .1) in
+      let z : j .0 ≡ us = got-what (k .3) in
+      spelled-is s q us (j .1) (ap characters (sym w) ∙ (j .2) ∙ ap (λ (x : Bytes). got x (j .1)) z)
+
+  pub name-rest : (v : ℕ) → Gives s at (name (drop at s)) (Next v) → t ≡ drop v s
+  name-rest v g = got-rest (sym e ∙ at-next (name (drop at s)) g .1)
+
+pub name-longer : (s : Bytes) (at v : ℕ) → at ≤ length s → Gives s at (name (drop at s)) (Next v) → at < v
+name-longer s at v l g =
+    let a = at-next (name (drop at s)) g in
+    let h = rw (length-drop, length-drop) at (name-fine .less (drop at s) (a .0) (drop v s) (a .1)) in
+    omega (arith, g .within .0, g .within .1)
+
+-- what a refused name comes to
+pub not-paired : (o : Option Bytes) (ns : List Bytes) → is-some o ≡ false → with-some o (λ n. among n ns) true ≡ true
+not-paired none ns e = refl
+not-paired (some n) ns e = let r : _≡_ {A = ℕ} 0 1 = cc in absurd (omega arith)
+
+pub already : (s : Bytes) (o : Option Bytes) (ps : List ℕ) (ns : List Bytes) → Names s ps ns → meets s o ps ≡ true → with-some o (λ n. among n ns) true ≡ true
+already s none ps ns h e = refl
+already s (some n) ps ns h e = sym (meets-among s n ps ns h) ∙ e
+
+pub is-there : (o : Option Bytes) → is-some o ≡ true → (n : Bytes) × (o ≡ some n)
+is-there none e = let r : _≡_ {A = ℕ} 0 1 = cc in absurd (omega arith)
+is-there (some n) e = (n, refl)
+
+pub keeps-in : (at n : ℕ) {r q : Read} → KeepsIn at n r → r ≡ q → KeepsIn at n q
+keeps-in at n h e = subst (KeepsIn at n) e h

@@ -1,0 +1,98 @@
+use native.Mathlib.Omega.{arith}
+use denote.Ref.{now}
+use mathlib.Core.Path.{sym, ap, _∙_}
+use mathlib.Core.Option.{Option}
+use lib.ListN.{length, take, drop}
+use borrow.Author.Tests.{not-true, not-false}
+use Rattle.text.specs.Bytes.{Bytes, among}
+use Rattle.text.specs.Choice.{is-some}
+use Rattle.text.proofs.Places.{gives-as, at-bad, then-bad}
+use Rattle.text.proofs.Fine.{not-bad}
+use Rattle.json.specs.Syntax.{name}
+use Rattle.json.specs.Strings.{decode}
+use Rattle.json_names.specs.Kept.{meets}
+use Rattle.json_names.proofs.Names.{name-string, name-rest, name-longer, not-paired, already, is-there, meets-among, names-kept}
+use borrow.Author.Needs.{needs}
+use Rattle.json_names.proofs.keep_name.Statement.{statement}
+use Rattle.json_names.proofs.keep_name.Tie as tie
+
+mark-requires : tie.Need-mark-requires
+mark-requires c κs = search needs
+
+enum-known-b : tie.Need-enum-known-b
+enum-known-b c = search needs
+
+enum-known-q : tie.Need-enum-known-q
+enum-known-q c = search needs
+
+name-end-requires : tie.Need-name-end-requires
+name-end-requires c κs = search needs
+
+enum-known-b-2 : tie.Need-enum-known-b-2
+enum-known-b-2 c = search needs
+
+enum-known-v : tie.Need-enum-known-v
+enum-known-v c = search needs
+
+is-paired-requires : tie.Need-is-paired-requires
+is-paired-requires c κs = gives-as (c .before .before .before .before .before .before .before .mark .ensures) (c .before .before .before .before .before .q .given .1) .within .1
+
+returns : tie.Need-returns
+returns c = (λ us t e ns h. let z = name-string (now (c .before .before .before .before .before .before .before .before .before .before .before .before .args .s)) (c .before .before .before .before .before .before .before .before .before .before .before .before .args .at) us t e _ (gives-as (c .before .before .before .before .before .before .before .before .before .mark .ensures) (c .before .before .before .before .before .before .before .q .given .1)) in not-paired (decode us) ns (ap is-some (sym z) ∙ sym (c .before .is-paired .ensures) ∙ not-true _ (c .if1 .taken)), tt)
+
+is-kept-requires : tie.Need-is-kept-requires
+is-kept-requires c κs = (gives-as (c .before .before .before .before .before .before .before .before .before .before .mark .ensures) (c .before .before .before .before .before .before .before .before .q .given .1) .within .1, omega arith)
+
+same-length : tie.Need-same-length
+same-length c = search needs
+
+returns-2 : tie.Need-returns-2
+returns-2 c = (λ us t e ns h. let z = name-string (now (c .before .before .before .before .before .before .before .before .before .before .before .before .before .before .before .args .s)) (c .before .before .before .before .before .before .before .before .before .before .before .before .before .before .before .args .at) us t e _ (gives-as (c .before .before .before .before .before .before .before .before .before .before .before .before .mark .ensures) (c .before .before .before .before .before .before .before .before .before .before .q .given .1)) in already (now (c .before .before .before .before .before .before .before .before .before .before .before .before .before .before .before .args .s)) (decode us) (take (c .before .before .before .before .before .before .before .before .before .before .before .before .before .before .before .args .count) (now (c .before .before .before .before .before .before .before .before .before .before .before .before .before .before .before .args .places))) ns h (ap (λ (o : Option Bytes). meets (now (c .before .before .before .before .before .before .before .before .before .before .before .before .before .before .before .args .s)) o (take (c .before .before .before .before .before .before .before .before .before .before .before .before .before .before .before .args .count) (now (c .before .before .before .before .before .before .before .before .before .before .before .before .before .before .before .args .places)))) (sym z) ∙ sym (c .before .is-kept .ensures) ∙ (c .if2 .taken)), tt)
+
+mul-places : tie.Need-mul-places
+mul-places c = search needs
+
+slice-write-places : tie.Need-slice-write-places
+slice-write-places c = search needs
+
+returns-3 : tie.Need-returns-3
+unfolding name
+returns-3 c = (λ us t e ns h. absurd (not-bad (sym (at-bad _ (then-bad _ (gives-as (c .before .before .before .mark .ensures) (c .before .b .given .1)))) ∙ e)), tt)
+
+returns-4 : tie.Need-returns-4
+returns-4 c = (λ us t e ns h. absurd (not-bad (sym (at-bad _ (gives-as (c .before .before .before .name-end .ensures) (c .before .b2 .given .1))) ∙ e)), tt)
+
+same-length-2 : tie.Need-same-length-2
+same-length-2 c = search needs
+
+returns-5 : tie.Need-returns-5
+returns-5 c = (
+  λ us t e ns h. let z = name-string (now (c .before .before .before .before .before .before .before .before .before .before .before .before .before .before .before .args .s)) (c .before .before .before .before .before .before .before .before .before .before .before .before .before .before .before .args .at) us t e _ (gives-as (c .before .before .before .before .before .before .before .before .before .before .before .before .mark .ensures) (c .before .before .before .before .before .before .before .before .before .before .q .given .1)) in
+      let g = gives-as (c .before .before .before .before .before .before .before .before .name-end .ensures) (c .before .before .before .before .before .before .v .given .1) in
+      let n = is-there _ (sym (c .before .before .before .before .is-paired .ensures) ∙ not-false _ (c .before .before .before .if1 .left)) in
+      let m = ap (λ (o : Option Bytes). meets (now (c .before .before .before .before .before .before .before .before .before .before .before .before .before .before .before .args .s)) o (take (c .before .before .before .before .before .before .before .before .before .before .before .before .before .before .before .args .count) (now (c .before .before .before .before .before .before .before .before .before .before .before .before .before .before .before .args .places)))) (sym (n .1)) ∙ sym (c .before .is-kept .ensures) ∙ (c .if2 .left) in
+      (n .0, name-rest (now (c .before .before .before .before .before .before .before .before .before .before .before .before .before .before .before .args .s)) (c .before .before .before .before .before .before .before .before .before .before .before .before .before .before .before .args .at) us t e _ g, sym z ∙ n .1, sym (meets-among (now (c .before .before .before .before .before .before .before .before .before .before .before .before .before .before .before .args .s)) (n .0) _ ns h) ∙ m, names-kept (now (c .before .before .before .before .before .before .before .before .before .before .before .before .before .before .before .args .s)) (n .0) (now (c .before .before .before .before .before .before .before .before .before .before .before .before .before .before .before .args .places)) (c .before .before .before .before .before .before .before .before .before .before .before .before .before .before .before .args .count) _ ns (c .before .before .before .before .before .before .before .before .before .before .before .before .before .before .before .pre .1) h (n .1)),
+  let g = gives-as (c .before .before .before .before .before .before .before .before .name-end .ensures) (c .before .before .before .before .before .before .v .given .1) in (name-longer (now (c .before .before .before .before .before .before .before .before .before .before .before .before .before .before .before .args .s)) (c .before .before .before .before .before .before .before .before .before .before .before .before .before .before .before .args .at) _ (c .before .before .before .before .before .before .before .before .before .before .before .before .before .before .before .pre .0) g, g .within .1),
+)
+
+pub keep-name-spec : {M : Type 1} → statement M
+keep-name-spec =
+    tie.close
+    (tie.spec
+    mark-requires
+    enum-known-b
+    enum-known-q
+    name-end-requires
+    enum-known-b-2
+    enum-known-v
+    is-paired-requires
+    returns
+    is-kept-requires
+    same-length
+    returns-2
+    mul-places
+    slice-write-places
+    returns-3
+    returns-4
+    same-length-2
+    returns-5)
