@@ -11,7 +11,4 @@ pub mod Merging
 pub mod Uppered
 pub mod Named
 pub mod Cases
-pub mod TextAgain
-pub mod FoldAgain
-pub mod LineAgain
 pub mod Enough
