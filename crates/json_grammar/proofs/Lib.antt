@@ -1,2 +1,3 @@
 pub mod Forms
 pub mod Tests
+pub mod Turns
