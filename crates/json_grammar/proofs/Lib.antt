@@ -1,3 +1,5 @@
 pub mod Forms
 pub mod Tests
 pub mod Turns
+pub mod Rows
+pub mod Units
