@@ -3,3 +3,4 @@ pub mod Tests
 pub mod Turns
 pub mod Rows
 pub mod Units
+pub mod Numerals
