@@ -4,3 +4,4 @@ pub mod Turns
 pub mod Rows
 pub mod Units
 pub mod Numerals
+pub mod Lists
