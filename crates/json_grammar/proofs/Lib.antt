@@ -5,3 +5,4 @@ pub mod Rows
 pub mod Units
 pub mod Numerals
 pub mod Lists
+pub mod Nested

@@ -85,7 +85,7 @@ module _ (P : Lang) (close : ℕ) where
           (c ∷ (x .0 ++ r .0), r .1, e, mark-back o c (x .0 ++ r .0) h (ws-append (x .0) (r .0) (x .3) (r .3)), (m .0, m .1, m .2, inr (m .3), m .4))
 
 -- a member, with its name
-pub Name : Lang
+unfoldable pub Name : Lang
 Name = (Ws then One (is 34)) then Loop Turn then Ws then One (is 58)
 
 member-group : (w o l x k y v z : Bytes) → ((w ++ o) ++ (l ++ (x ++ k))) ++ ((y ++ v) ++ z) ≡ (w ++ ((o ++ l) ++ (((x ++ k) ++ y) ++ v))) ++ z

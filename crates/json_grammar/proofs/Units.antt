@@ -24,7 +24,7 @@ use Rattle.json_grammar.proofs.Rows.{reads-class, reads-last, reads-row
 -- ---- characters of several bytes
 
 -- the rest of a character, of which no part is the rest
-pub Rest : Due → Lang
+unfoldable pub Rest : Due → Lang
 Rest d u = (run d u ≡ start) × ((a b : Bytes) → u ≡ a ++ b → run d a ≡ start → b ≡ [])
 
 pub none-of : (a b : Bytes) → [] ≡ a ++ b → b ≡ []
