@@ -6,3 +6,4 @@ pub mod Units
 pub mod Numerals
 pub mod Lists
 pub mod Nested
+pub mod Accepted

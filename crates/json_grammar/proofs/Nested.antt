@@ -31,7 +31,7 @@ a-mark : (b : ℕ) → Has (One (is b))
 a-mark b = a-byte (is b) b (eq-eqb b b refl)
 
 -- white space before
-reads-skip : {A : Type 0} {L : A → Lang} {R : Bytes → Got A} → Reads L R → Some L → Reads (λ a. Ws then L a) (λ s. R (skip s))
+pub reads-skip : {A : Type 0} {L : A → Lang} {R : Bytes → Got A} → Reads L R → Some L → Reads (λ a. Ws then L a) (λ s. R (skip s))
 unfolding skip Ws isSpace
 reads-skip r m = reads-past isSpace refl r m
 
