@@ -7,3 +7,4 @@ pub mod Numerals
 pub mod Lists
 pub mod Nested
 pub mod Accepted
+pub mod Gives

@@ -115,7 +115,7 @@ unfolding hex4
 reads-hex4 =
     reads-row 0 reads-hex (has-then has-hex (has-then has-hex has-hex)) λ a. reads-row 0 reads-hex (has-then has-hex has-hex) λ b. reads-row 0 reads-hex has-hex λ c. reads-last (λ d. a * 4096 + b * 256 + c * 16 + d) reads-hex
 
-abbrev Escape : Lang
+abbrev pub Escape : Lang
 Escape = One isShort or (One (is 117) then One isHex then One isHex then One isHex then One isHex)
 
 reads-escape : Reads (λ (v : ℕ). Escape) escape
