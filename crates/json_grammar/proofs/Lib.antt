@@ -8,3 +8,4 @@ pub mod Lists
 pub mod Nested
 pub mod Accepted
 pub mod Gives
+pub mod Figures
