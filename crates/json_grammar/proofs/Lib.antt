@@ -9,3 +9,5 @@ pub mod Nested
 pub mod Accepted
 pub mod Gives
 pub mod Figures
+pub mod Spaces
+pub mod Filled
