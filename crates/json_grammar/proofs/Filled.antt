@@ -30,7 +30,7 @@ Filled d = (u w : Bytes) → Value d u → Stops w → Leaves (value d) (u ++ w)
 
 -- ---- scalars
 
-scalar-all : (d : ℕ) (u w : Bytes) → Scalar u → Stops w → Leaves (value d) (u ++ w) w
+pub scalar-all : (d : ℕ) (u w : Bytes) → Scalar u → Stops w → Leaves (value d) (u ++ w) w
 unfolding Scalar String
 scalar-all d u w (inl e) h = (jtrue, [], no-ws, ap (λ (z : Bytes). value d (z ++ w)) e ∙ lit-true d w)
 scalar-all d u w (inr (inl e)) h = (jfalse, [], no-ws, ap (λ (z : Bytes). value d (z ++ w)) e ∙ lit-false d w)
@@ -108,7 +108,7 @@ colon : (t : Bytes) → token 58 (58 ∷ t) ≡ got 58 t
 unfolding token one on skip past isSpace
 colon t = refl
 
-name-all : (q k s : Bytes) → String q → Mark 58 k → (n : Bytes) × (y : Bytes) × Ws y × (name (q ++ (k ++ s)) ≡ got n (y ++ s))
+pub name-all : (q k s : Bytes) → String q → Mark 58 k → (n : Bytes) × (y : Bytes) × Ws y × (name (q ++ (k ++ s)) ≡ got n (y ++ s))
 unfolding name String
 name-all q k s x m =
     let c = characters-all (x .1) (k ++ s) (x .4) in

@@ -11,3 +11,4 @@ pub mod Gives
 pub mod Figures
 pub mod Spaces
 pub mod Filled
+pub mod Reached
