@@ -12,3 +12,4 @@ pub mod Figures
 pub mod Spaces
 pub mod Filled
 pub mod Reached
+pub mod Place
