@@ -1,21 +1,21 @@
 -- What is accepted is of the grammar.
 use mathlib.Core.Path.{_≡_, refl, sym, ap, subst, _∙_}
-use mathlib.Core.Bool.{Bool, true, false, _&&_}
+use mathlib.Core.Bool.{true, false}
 use mathlib.Core.List.{[], _∷_, _++_, append-assoc, append-nil}
 use mathlib.Core.Logic.{_⊎_, inl, inr}
-use Prim.Native.Nat.{ℕ, zero, suc, _<_}
+use Prim.Native.Nat.{ℕ, _<_}
 use native.Mathlib.Omega.{arith}
-use lib.Dec.{eqb, ltb}
+use lib.Dec.{eqb}
 use borrow.Author.Tests.{eqb-true, ltb-true}
-use Rattle.text.specs.Bytes.{Bytes, ascii, is, between, isDigit, all}
-use Rattle.text.specs.Reader.{Got, got, bad, first, on, when, taken, past, some-of}
-use Rattle.text.proofs.Cases.{and-left, and-right, tests}
+use Rattle.text.specs.Bytes.{Bytes, ascii, is, between, all}
+use Rattle.text.specs.Reader.{got, bad, first, on, when, past}
+use Rattle.text.proofs.Cases.{and-left, and-right}
 use Rattle.text.proofs.Lists.{all-append}
 use Rattle.text.proofs.Characters.{isByte}
 use Rattle.text.proofs.Readers.{not-bad, got-rest, bind-inv, when-inv}
 use Rattle.json.specs.Tree.{Json, jnull, jnum}
-use Rattle.json.specs.Grammar.{Lang, Exactly, _then_, isSpace, isE, Ws, Value, Text}
-use Rattle.json.specs.Syntax.{skip, opt, digits, int, frac, sign, exp, number, scalar, value, text}
+use Rattle.json.specs.Grammar.{Exactly, _then_, isSpace, isE, Ws, Value, Text}
+use Rattle.json.specs.Syntax.{skip, opt, int, frac, exp, number, scalar, value, text}
 use Rattle.json_grammar.proofs.Forms.{Reads, reads-got, reads-bad, reads-as, reads-bind}
 use Rattle.json_grammar.proofs.Tests.{reads-when}
 use Rattle.json_grammar.proofs.Lists.{no-ws}
@@ -56,7 +56,7 @@ unfolding all
 no-byte [] h e = refl
 no-byte (c ∷ t) h e = let l : c < 256 = ltb-true c 256 (and-left _ _ h) in absurd (omega (arith, l, e))
 
-pub none-left : (d : ℕ) (s : Bytes) (j : Json) (t : Bytes) → all isByte s ≡ true → text d s ≡ got j t → t ≡ []
+none-left : (d : ℕ) (s : Bytes) (j : Json) (t : Bytes) → all isByte s ≡ true → text d s ≡ got j t → t ≡ []
 none-left d s j t h e =
     let x = reads-text d .good s j t e in
     no-byte t (and-right (all isByte (x .0)) _ (sym (all-append isByte (x .0) t) ∙ ap (all isByte) (sym (x .1)) ∙ h)) (ends-256 d s j t e)

@@ -1,17 +1,16 @@
 -- Every number of the grammar is read, before what cannot go on with it.
 use mathlib.Core.Path.{_≡_, refl, sym, ap, subst, _∙_}
-use mathlib.Core.Bool.{Bool, true, false, _||_, not}
+use mathlib.Core.Bool.{true, false, not}
 use mathlib.Core.List.{[], _∷_, _++_, append-assoc}
 use mathlib.Core.Logic.{_⊎_, inl, inr}
 use Prim.Native.Nat.{ℕ}
-use lib.Dec.{eqb, ltb}
-use borrow.Author.Tests.{eqb-true}
+use lib.Dec.{eqb}
 use Rattle.text.specs.Bytes.{Bytes, is, between, isDigit}
-use Rattle.text.specs.Reader.{Got, got, bind, under, first}
+use Rattle.text.specs.Reader.{got, bind, under, first}
 use Rattle.text.proofs.Cases.{byBool, not-both, not-true, implied, other, tests, beyond}
 use Rattle.text.proofs.Lists.{all-cons}
 use Rattle.text.proofs.Readers.{some-of-run}
-use Rattle.json.specs.Grammar.{Lang, One, _then_, _or_, Maybe, Many, isE, isSign, Digits, Int, Frac, Exp, Number}
+use Rattle.json.specs.Grammar.{One, Maybe, Many, isE, isSign, Digits, Int, Frac, Exp, Number}
 use Rattle.json.specs.Syntax.{opt, digits, int, frac, sign, exp, number}
 use Rattle.json.proofs.Numbers.{Stops, isNumeral}
 use Rattle.json_grammar.proofs.Tests.{on-yes, on-no, many-all}
@@ -139,10 +138,10 @@ number-all u w x h =
     let i : isDigit (first (x .1 ++ w)) ≡ true = ap (λ (t : Bytes). isDigit (first t)) (ap (λ (t : Bytes). t ++ w) (y .2) ∙ append-assoc (y .0) (y .1) w) ∙ int-first (y .0) (y .1 ++ w) (y .3) in
     subst (λ (t : Bytes). Gives number t w) (sym (x .2))
     (gives-bind (x .0) (x .1) w (opt-all 45 (x .0) (x .1 ++ w) (x .3) (no-plus (first (x .1 ++ w)) i .1)) λ a.
-      subst (λ (t : Bytes). Gives (λ s. bind (int s) λ b s. bind (frac s) λ c s. bind (exp s) λ d s. got (a ++ b ++ c ++ d) s) t w) (sym (y .2))
-      (gives-bind (y .0) (y .1) w (int-all (y .0) (y .1 ++ w) (y .3) (at (y .1) (z .2))) λ b.
-        subst (λ (t : Bytes). Gives (λ s. bind (frac s) λ c s. bind (exp s) λ d s. got (a ++ b ++ c ++ d) s) t w) (sym (z .2))
-        (gives-bind (z .0) (z .1) w (frac-all (z .0) (z .1 ++ w) (z .3) (e .0) (e .1)) λ c. gives-last (λ d. a ++ b ++ c ++ d) (z .1) w (exp-all (z .1) w (z .4) (h .0) (h .2)))))
+    subst (λ (t : Bytes). Gives (λ s. bind (int s) λ b s. bind (frac s) λ c s. bind (exp s) λ d s. got (a ++ b ++ c ++ d) s) t w) (sym (y .2))
+    (gives-bind (y .0) (y .1) w (int-all (y .0) (y .1 ++ w) (y .3) (at (y .1) (z .2))) λ b.
+    subst (λ (t : Bytes). Gives (λ s. bind (frac s) λ c s. bind (exp s) λ d s. got (a ++ b ++ c ++ d) s) t w) (sym (z .2))
+    (gives-bind (z .0) (z .1) w (frac-all (z .0) (z .1 ++ w) (z .3) (e .0) (e .1)) λ c. gives-last (λ d. a ++ b ++ c ++ d) (z .1) w (exp-all (z .1) w (z .4) (h .0) (h .2)))))
 
 -- it begins with a minus or a digit
 numeral-digit : (c : ℕ) → isDigit c ≡ true → isNumeral c ≡ true

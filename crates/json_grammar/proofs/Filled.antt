@@ -1,25 +1,21 @@
 -- Every value of the grammar is read; the white space that may stand at its end is left.
 use mathlib.Core.Path.{_≡_, refl, sym, ap, _∙_}
-use mathlib.Core.Bool.{Bool, true, false}
 use mathlib.Core.List.{[], _∷_, _++_, append-assoc}
-use mathlib.Core.Logic.{_⊎_, inl, inr}
+use mathlib.Core.Logic.{inl, inr}
 use Prim.Native.Nat.{ℕ, zero, suc}
-use lib.Dec.{eqb}
-use Rattle.text.specs.Bytes.{Bytes, is, between}
-use Rattle.text.specs.Reader.{Got, got, bad, bind, under, first, on, Step, more, last, after, turns, loop, past, one}
-use Rattle.text.proofs.Readers.{Moves, not-bad, bind-inv, takes-moves, loop-enough, turns-more, turns-last}
-use Rattle.json.specs.Tree.{Json, jnull, jtrue, jfalse, jnum, jstr, jarr, jobj, Elems, enil, econs, Members, mnil, mcons}
-use Rattle.json.specs.Grammar.{Lang, One, _then_, _or_, Maybe, Many, none-more, one-more, isSpace, isE, Ws, Mark, Number, String, Scalar, Array, Named, Object, Value}
-use Rattle.json.specs.Syntax.{skip, token, characters, number, scalar, sep, name, item, elements, pair, pairs, value}
-use Rattle.json.proofs.Takes.{takes-item, takes-pair, takes-value}
+use Rattle.text.specs.Bytes.{Bytes}
+use Rattle.text.specs.Reader.{Got, got, bind, under, on, Step, more, last, after, turns, loop, past, one}
+use Rattle.text.proofs.Readers.{Moves, not-bad, bind-inv, loop-enough, turns-more, turns-last}
+use Rattle.json.specs.Tree.{jnull, jtrue, jfalse, jnum, jstr}
+use Rattle.json.specs.Grammar.{Lang, _then_, Many, none-more, one-more, isSpace, Ws, Mark, String, Scalar, Value}
+use Rattle.json.specs.Syntax.{skip, token, name, value}
 use Rattle.json.proofs.Numbers.{Stops}
-use Rattle.json.proofs.Values.{lit-null, lit-true, lit-false, a-string, a-number, an-array, an-object, no-elems, no-pairs}
-use Rattle.json_grammar.proofs.Tests.{on-no}
+use Rattle.json.proofs.Values.{lit-null, lit-true, lit-false, a-string, a-number}
 use Rattle.json_grammar.proofs.Rows.{one-is}
 use Rattle.json_grammar.proofs.Gives.{Runs, characters-all}
 use Rattle.json_grammar.proofs.Figures.{number-all, number-begins}
 use Rattle.json_grammar.proofs.Lists.{Items, no-ws}
-use Rattle.json_grammar.proofs.Spaces.{skip-ws, value-ws, token-ws, name-ws, elements-ws, pairs-ws, skipped, mark-cases, mark-before, sep-more, sep-last, stops-mark, no-bracket}
+use Rattle.json_grammar.proofs.Spaces.{token-ws, skipped, mark-cases, mark-before}
 
 -- something, with some of the white space at the end left
 abbrev pub Leaves : {A : Type 0} → (Bytes → Got A) → Bytes → Bytes → Type 0
@@ -48,7 +44,6 @@ module _ {B : Type 0} (P : Lang) (close : ℕ) (f : Bytes → Got (Step B))
     (f-ws : (x s : Bytes) → Ws x → f (x ++ s) ≡ f s)
     (f-more : (p m s : Bytes) → P p → Mark 44 m → (g : B → B) × (y : Bytes) × Ws y × (f (p ++ (m ++ s)) ≡ got (more g) (y ++ s)))
     (f-last : (p m s : Bytes) → P p → Mark close m → (b : B) × (y : Bytes) × Ws y × (f (p ++ (m ++ s)) ≡ got (last b) (y ++ s))) where
-
   turns-ws : (n : ℕ) (x s : Bytes) (b : B) (v : Bytes) → Ws x → turns f n s ≡ got b v → turns f n (x ++ s) ≡ got b v
   unfolding turns
   turns-ws zero x s b v w e = absurd (not-bad e)
@@ -76,9 +71,11 @@ module _ {B : Type 0} (P : Lang) (close : ℕ) (f : Bytes → Got (Step B))
       let s : Bytes = t .1 ++ (b ++ (m ++ w)) in
       let i = items-run (t .1) b m w (t .4) ts k in
       let g = f-more p (t .0) s o (t .3) in
-      let q : r ++ (m ++ w) ≡ t .0 ++ s = ap (λ (z : Bytes). z ++ (m ++ w)) (e ∙ ap (λ (z : Bytes). z ++ b) (t .2)) ∙ append-assoc (t .0 ++ t .1) b (m ++ w) ∙ append-assoc (t .0) (t .1) (b ++ (m ++ w)) in
-      (i .0, i .1,
-        (suc (i .2 .0), g .0 (i .2 .1), turns-more f (i .2 .0) (p ++ (r ++ (m ++ w))) (g .1 ++ s) (g .0) (i .2 .1) (i .0 ++ w) (ap (λ (z : Bytes). f (p ++ z)) q ∙ g .3) (turns-ws (i .2 .0) (g .1) s (i .2 .1) (i .0 ++ w) (g .2) (i .2 .2))))
+      let q : r ++ (m ++ w) ≡ t .0 ++ s = ap (λ (z : Bytes). z ++ (m ++ w)) (e ∙ ap (λ (z : Bytes). z ++ b) (t .2)) ∙ append-assoc (t .0 ++ t .1) b (m ++ w) ∙ append-assoc (t .0) (t .1) (b ++ (m ++ w)) in (
+        i .0,
+        i .1,
+        (suc (i .2 .0), g .0 (i .2 .1), turns-more f (i .2 .0) (p ++ (r ++ (m ++ w))) (g .1 ++ s) (g .0) (i .2 .1) (i .0 ++ w) (ap (λ (z : Bytes). f (p ++ z)) q ∙ g .3) (turns-ws (i .2 .0) (g .1) s (i .2 .1) (i .0 ++ w) (g .2) (i .2 .2))),
+      )
 
   -- the grammar's list, and what closes it
   module _ (moves : Moves f) (u m w : Bytes) (x : Items P close u) (k : Mark close m) where

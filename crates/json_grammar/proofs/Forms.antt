@@ -1,14 +1,11 @@
 -- What a reader tells of its input, by a set of byte strings: one law for each form of reader.
 use mathlib.Core.Path.{_≡_, refl, sym, ap, subst, _∙_}
-use mathlib.Core.Bool.{Bool, true, false}
-use mathlib.Core.List.{[], _∷_, _++_, tail, append-assoc, append-nil}
+use mathlib.Core.List.{[], _∷_, _++_, append-assoc, append-nil}
 use mathlib.Core.Logic.{_⊎_, inl, inr}
-use Prim.Native.Nat.{ℕ, zero, suc, _+_, _≤_, _<_}
-use native.Mathlib.Omega.{arith}
+use Prim.Native.Nat.{ℕ}
 use Rattle.text.specs.Bytes.{Bytes}
-use Rattle.text.specs.Reader.{Got, got, bad, bind, under, first, on, when}
-use Rattle.text.proofs.Cases.{byBool, not-both}
-use Rattle.text.proofs.Readers.{not-bad, got-rest, got-what, bind-inv, under-inv, on-inv, when-inv}
+use Rattle.text.specs.Reader.{Got, got, bad, bind, under, first}
+use Rattle.text.proofs.Readers.{not-bad, got-rest, got-what, bind-inv, under-inv}
 use Rattle.json.specs.Grammar.{Lang, _then_}
 
 -- nothing, or what can be completed
@@ -100,9 +97,12 @@ module _ {A B : Type 0} {P : Lang} {Q : B → Lang} {R : Bytes → Got A} {K : A
       let i = bind-inv (R s) K e in
       let x = r .good s (i .0) (i .1) (i .2) in
       let y = k (i .0) .good (i .1) b w (i .3) in
-      let m : s ≡ (x .0 ++ y .0) ++ w = x .1 ∙ ap (λ (z : Bytes). x .0 ++ z) (y .1) ∙ sym (append-assoc (x .0) (y .0) w) in
-      (x .0 ++ y .0, m, (x .0, y .0, refl, x .2, y .2),
-        λ v f. rw (append-assoc (x .0) (y .0) v, x .3 (y .0 ++ v) (first-append (y .0) v w f ∙ ap first (sym (y .1)))) (y .3 v f))
+      let m : s ≡ (x .0 ++ y .0) ++ w = x .1 ∙ ap (λ (z : Bytes). x .0 ++ z) (y .1) ∙ sym (append-assoc (x .0) (y .0) w) in (
+        x .0 ++ y .0,
+        m,
+        (x .0, y .0, refl, x .2, y .2),
+        λ v f. rw (append-assoc (x .0) (y .0) v, x .3 (y .0 ++ v) (first-append (y .0) v w f ∙ ap first (sym (y .1)))) (y .3 v f),
+      )
 
   one-short : (u : Bytes) → Short (λ (a : A). P) u → Short Both u
   unfolding Both
@@ -122,9 +122,12 @@ module _ {A B : Type 0} {P : Lang} {Q : B → Lang} {R : Bytes → Got A} {K : A
       by (inr i) =
           let x = r .good s (i .0) (i .1) (i .2) in
           let y = k (i .0) .fail (i .1) t (i .3) in
-          let m : s ≡ (x .0 ++ y .0) ++ t = x .1 ∙ ap (λ (z : Bytes). x .0 ++ z) (y .1) ∙ sym (append-assoc (x .0) (y .0) t) in
-          (x .0 ++ y .0, m, two-short (x .0) (y .0) (x .2) (y .2),
-            λ c z q f. rw (append-assoc (x .0) (y .0) (c ∷ q), x .3 (y .0 ++ c ∷ q) (first-cons (y .0) t q c z f ∙ ap first (sym (y .1)))) (y .3 c z q f))
+          let m : s ≡ (x .0 ++ y .0) ++ t = x .1 ∙ ap (λ (z : Bytes). x .0 ++ z) (y .1) ∙ sym (append-assoc (x .0) (y .0) t) in (
+            x .0 ++ y .0,
+            m,
+            two-short (x .0) (y .0) (x .2) (y .2),
+            λ c z q f. rw (append-assoc (x .0) (y .0) (c ∷ q), x .3 (y .0 ++ c ∷ q) (first-cons (y .0) t q c z f ∙ ap first (sym (y .1)))) (y .3 c z q f),
+          )
 
   pub reads-bind : Reads (λ b. P then Q b) (λ s. bind (R s) K)
   unfolding Both

@@ -1,21 +1,20 @@
 -- The other way: a reader gives something for every word of a set, and leaves what follows. Rows, and strings.
 use mathlib.Core.Path.{_≡_, refl, sym, ap, subst, _∙_}
-use mathlib.Core.Bool.{Bool, true, false, _&&_}
+use mathlib.Core.Bool.{true}
 use mathlib.Core.List.{[], _∷_, _++_, append-assoc}
 use mathlib.Core.Logic.{_⊎_, inl, inr}
-use Prim.Native.Nat.{ℕ, zero, suc, _+_, _*_, _≤_, _<_}
+use Prim.Native.Nat.{ℕ, zero, suc, _+_, _*_, _≤_}
 use native.Mathlib.Omega.{arith}
 use lib.ListN.{length}
-use lib.Dec.{eqb, ltb}
-use borrow.Author.Tests.{eqb-true, lt-ltb, le-ltb}
+use borrow.Author.Tests.{lt-ltb, le-ltb}
 use Rattle.text.specs.Bytes.{Bytes, is, between}
-use Rattle.text.specs.Utf8.{Due, start, due, broken, lead, tails, next, run, atStart, utf8}
-use Rattle.text.specs.Reader.{Got, got, bad, bind, under, first, on, Step, more, last, turns, loop}
+use Rattle.text.specs.Utf8.{Due, start, due, broken, lead, tails, next, run, atStart}
+use Rattle.text.specs.Reader.{Got, got, bind, under, on, Step, more, last, turns, loop}
 use Rattle.text.proofs.Cases.{byBool, not-both, implied, other, tests, testing, beyond}
 use Rattle.text.proofs.Characters.{utf8-run, run-utf8, not-start, lead-no-start}
 use Rattle.text.proofs.Readers.{takes-moves, loop-enough, turns-more, turns-last}
-use Rattle.json.specs.Grammar.{Lang, One, _then_, _or_, Many, none-more, one-more, isHex, isShort, isPlain, Wide, Character}
-use Rattle.json.specs.Syntax.{hexVal, hex, hex4, short, escape, leads, isLead, tailBytes, following, push, character, characters}
+use Rattle.json.specs.Grammar.{Lang, One, _then_, Many, none-more, one-more, isHex, isShort, isPlain, Wide, Character}
+use Rattle.json.specs.Syntax.{hexVal, hex, hex4, short, escape, isLead, tailBytes, following, push, character, characters}
 use Rattle.json.proofs.Takes.{takes-character}
 use Rattle.json_grammar.proofs.Tests.{on-yes, on-no}
 use Rattle.json_grammar.proofs.Turns.{Loop}
@@ -31,7 +30,7 @@ pub record Gives {A : Type 0} (R : Bytes → Got A) (u w : Bytes) : Type 0 where
 pub gives-bind : {A B : Type 0} {R : Bytes → Got A} {K : A → Bytes → Got B} (u v w : Bytes) → Gives R u (v ++ w) → ((a : A) → Gives (K a) v w) → Gives (λ s. bind (R s) K) (u ++ v) w
 gives-bind u v w x k = record { what = k (x .what) .what; gives = rw (append-assoc u v w, x .gives) (k (x .what) .gives) }
 
-pub gives-row : {A B : Type 0} {P Q : Lang} {R : Bytes → Got A} {K : A → Bytes → Got B} → ((u w : Bytes) → P u → Gives R u w) → ((a : A) (u w : Bytes) → Q u → Gives (K a) u w)
+gives-row : {A B : Type 0} {P Q : Lang} {R : Bytes → Got A} {K : A → Bytes → Got B} → ((u w : Bytes) → P u → Gives R u w) → ((a : A) (u w : Bytes) → Q u → Gives (K a) u w)
     → (u w : Bytes) → (P then Q) u → Gives (λ s. bind (R s) K) u w
 gives-row {A} {B} {P} {Q} {R} {K} r k u w x = subst (λ (z : Bytes). Gives (λ s. bind (R s) K) z w) (sym (x .2)) (gives-bind (x .0) (x .1) w (r (x .0) (x .1 ++ w) (x .3)) (λ a. k a (x .1) w (x .4)))
 
@@ -91,7 +90,7 @@ following-all low high k (c ∷ u) w r =
 
 -- ---- one character
 
-abbrev pub Goes : {B : Type 0} → (Bytes → Got (Step B)) → Bytes → Bytes → Type 0
+abbrev Goes : {B : Type 0} → (Bytes → Got (Step B)) → Bytes → Bytes → Type 0
 Goes {B} f s w = (g : B → B) × (f s ≡ got (more g) w)
 
 -- neither quote, backslash nor a byte by itself

@@ -13,3 +13,4 @@ pub mod Spaces
 pub mod Filled
 pub mod Reached
 pub mod Place
+pub mod Examples

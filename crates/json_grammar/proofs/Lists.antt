@@ -2,11 +2,11 @@
 use mathlib.Core.Path.{_≡_, refl, sym, ap, _∙_}
 use mathlib.Core.Bool.{Bool, true, false}
 use mathlib.Core.List.{[], _∷_, _++_, append-assoc, append-nil}
-use mathlib.Core.Logic.{_⊎_, inl, inr}
+use mathlib.Core.Logic.{inl, inr}
 use Prim.Native.Nat.{ℕ}
 use Rattle.text.specs.Choice.{pick}
 use Rattle.text.specs.Bytes.{Bytes, is}
-use Rattle.json.specs.Grammar.{Lang, One, _then_, _or_, Maybe, Many, none-more, one-more, isSpace, Ws, Mark, String, Named}
+use Rattle.json.specs.Grammar.{Lang, One, _then_, _or_, Maybe, Many, none-more, one-more, Ws, Mark, String, Named}
 use Rattle.json_grammar.proofs.Turns.{Loop}
 use Rattle.json_grammar.proofs.Rows.{many-append}
 use Rattle.json_grammar.proofs.Units.{Turn}
@@ -15,7 +15,7 @@ pub no-ws : Ws []
 unfolding Ws
 no-ws = none-more [] refl
 
-pub ws-append : (a b : Bytes) → Ws a → Ws b → Ws (a ++ b)
+ws-append : (a b : Bytes) → Ws a → Ws b → Ws (a ++ b)
 unfolding Ws
 ws-append a b p q = many-append a b p q
 
@@ -49,9 +49,13 @@ module _ (P : Lang) (close : ℕ) where
 
   last-item : (b : Bytes) → Item true b → Listed b
   last-item b x =
-      let i = x .3 in
-      (i .0, i .1 ++ x .1, x .2 ∙ ap (λ (z : Bytes). z ++ x .1) (i .2) ∙ append-assoc (i .0) (i .1) (x .1), i .3,
-        (i .1, x .1, refl, (i .1, [], sym (append-nil (i .1)), i .4, none-more [] refl), mark-front close (x .1) (x .4)))
+      let i = x .3 in (
+        i .0,
+        i .1 ++ x .1,
+        x .2 ∙ ap (λ (z : Bytes). z ++ x .1) (i .2) ∙ append-assoc (i .0) (i .1) (x .1),
+        i .3,
+        (i .1, x .1, refl, (i .1, [], sym (append-nil (i .1)), i .4, none-more [] refl), mark-front close (x .1) (x .4)),
+      )
 
   more-items : (a b : Bytes) → Item false a → Listed b → Listed (a ++ b)
   more-items a b x l =
@@ -62,11 +66,19 @@ module _ (P : Lang) (close : ℕ) where
       let eb : b ≡ l .0 ++ ((n .0 ++ n .1) ++ m .1) = l .2 ∙ ap (λ (z : Bytes). l .0 ++ z) (m .2 ∙ ap (λ (z : Bytes). z ++ m .1) (n .2)) in
       let y : Bytes = (x .1 ++ l .0) ++ n .0 in
       let e : a ++ b ≡ i .0 ++ ((i .1 ++ (y ++ n .1)) ++ m .1) =
-          ap (λ (z : Bytes). z ++ b) ea ∙ ap (λ (z : Bytes). ((i .0 ++ i .1) ++ x .1) ++ z) eb ∙ regroup (i .0) (i .1) (x .1) (l .0) (n .0) (n .1) (m .1) in
-      (i .0, (i .1 ++ (y ++ n .1)) ++ m .1, e, i .3,
-        (i .1 ++ (y ++ n .1), m .1, refl,
+      ap (λ (z : Bytes). z ++ b) ea ∙ ap (λ (z : Bytes). ((i .0 ++ i .1) ++ x .1) ++ z) eb ∙ regroup (i .0) (i .1) (x .1) (l .0) (n .0) (n .1) (m .1) in (
+        i .0,
+        (i .1 ++ (y ++ n .1)) ++ m .1,
+        e,
+        i .3,
+        (
+          i .1 ++ (y ++ n .1),
+          m .1,
+          refl,
           (i .1, y ++ n .1, refl, i .4, one-more (y ++ n .1) y (n .1) refl (x .1 ++ l .0, n .0, refl, mark-both 44 (x .1) (l .0) (x .4) (l .3), n .3) (n .4)),
-          m .4))
+          m .4,
+        ),
+      )
 
   rotate : (a b : Bytes) → Many (Item false) a → Item true b → Listed (a ++ b)
   rotate a b (none-more s e) x = rw e (last-item b x)
@@ -101,9 +113,13 @@ named u x =
     let r = x .4 in
     let v = r .3 in
     let e : u ≡ ((q .0 ++ q .1) ++ (m .0 ++ (k .0 ++ k .1))) ++ ((v .0 ++ v .1) ++ r .1) =
-        x .2 ∙ ap (λ (z : Bytes). z ++ x .1) (n .2 ∙ ap (λ (z : Bytes). z ++ n .1) (q .2) ∙ ap (λ (z : Bytes). (q .0 ++ q .1) ++ z) (m .2 ∙ ap (λ (z : Bytes). m .0 ++ z) (k .2)))
-        ∙ ap (λ (z : Bytes). ((q .0 ++ q .1) ++ (m .0 ++ (k .0 ++ k .1))) ++ z) (r .2 ∙ ap (λ (z : Bytes). z ++ r .1) (v .2)) in
+    x .2 ∙ ap (λ (z : Bytes). z ++ x .1) (n .2 ∙ ap (λ (z : Bytes). z ++ n .1) (q .2) ∙ ap (λ (z : Bytes). (q .0 ++ q .1) ++ z) (m .2 ∙ ap (λ (z : Bytes). m .0 ++ z) (k .2)))
+    ∙ ap (λ (z : Bytes). ((q .0 ++ q .1) ++ (m .0 ++ (k .0 ++ k .1))) ++ z) (r .2 ∙ ap (λ (z : Bytes). z ++ r .1) (v .2)) in
     let s : Bytes = q .1 ++ m .0 in
-    let t : Bytes = (k .0 ++ k .1) ++ v .0 in
-    (q .0 ++ (s ++ (t ++ v .1)), r .1, e ∙ member-group (q .0) (q .1) (m .0) (k .0) (k .1) (v .0) (v .1) (r .1),
-      (q .0, s ++ (t ++ v .1), refl, q .3, (s, t ++ v .1, refl, (q .1, m .0, refl, q .4, m .3), (t, v .1, refl, mark-both 58 (k .0 ++ k .1) (v .0) (k .0, k .1, refl, k .3, k .4) (v .3), v .4))), r .4)
+    let t : Bytes = (k .0 ++ k .1) ++ v .0 in (
+      q .0 ++ (s ++ (t ++ v .1)),
+      r .1,
+      e ∙ member-group (q .0) (q .1) (m .0) (k .0) (k .1) (v .0) (v .1) (r .1),
+      (q .0, s ++ (t ++ v .1), refl, q .3, (s, t ++ v .1, refl, (q .1, m .0, refl, q .4, m .3), (t, v .1, refl, mark-both 58 (k .0 ++ k .1) (v .0) (k .0, k .1, refl, k .3, k .4) (v .3), v .4))),
+      r .4,
+    )

@@ -1,8 +1,8 @@
 -- Arrays, objects and values.
-use mathlib.Core.Path.{_≡_, refl, ap}
-use mathlib.Core.Bool.{Bool, true, false}
+use mathlib.Core.Path.{_≡_, refl}
+use mathlib.Core.Bool.{true, false}
 use mathlib.Core.List.{[], _∷_, _++_}
-use mathlib.Core.Logic.{_⊎_, inl, inr}
+use mathlib.Core.Logic.{inl, inr}
 use Prim.Native.Nat.{ℕ, zero, suc}
 use lib.Dec.{eqb}
 use borrow.Author.Tests.{eq-eqb}
@@ -11,16 +11,16 @@ use Rattle.text.specs.Bytes.{Bytes, is}
 use Rattle.text.specs.Reader.{Got, Step, more, last}
 use Rattle.text.proofs.Readers.{Takes}
 use Rattle.json.specs.Tree.{Json, jnull, jarr, jobj, Elems, enil, econs, Members, mnil, mcons}
-use Rattle.json.specs.Grammar.{Lang, One, _then_, _or_, Maybe, Many, none-more, isSpace, Ws, Mark, String, Array, Named, Object, Value}
-use Rattle.json.specs.Syntax.{skip, token, characters, scalar, sep, name, item, elements, pair, pairs, value}
+use Rattle.json.specs.Grammar.{Lang, One, _then_, _or_, Many, none-more, isSpace, Ws, Mark, String, Array, Named, Object, Value}
+use Rattle.json.specs.Syntax.{skip, token, sep, name, item, elements, pair, pairs, value}
 use Rattle.json.proofs.Takes.{takes-item, takes-pair, takes-value}
-use Rattle.json_grammar.proofs.Forms.{Some, Reads, reads-got, reads-bad, reads-as, reads-under, reads-bind}
+use Rattle.json_grammar.proofs.Forms.{Some, Reads, reads-got, reads-as, reads-under, reads-bind}
 use Rattle.json_grammar.proofs.Tests.{reads-on, reads-past}
 use Rattle.json_grammar.proofs.Turns.{ends, Loop, reads-loop}
 use Rattle.json_grammar.proofs.Rows.{reads-class, reads-one, reads-last, reads-row, Has, has-then, a-byte}
 use Rattle.json_grammar.proofs.Units.{Turn, reads-characters}
 use Rattle.json_grammar.proofs.Numerals.{has-scalar, reads-scalar}
-use Rattle.json_grammar.proofs.Lists.{no-ws, Item, Items, enclosed, Name, named}
+use Rattle.json_grammar.proofs.Lists.{no-ws, Item, enclosed, Name, named}
 
 -- ---- marks
 
@@ -82,7 +82,7 @@ module _ (P : Lang) (rd : Bytes → Got Json) (takes : Takes 1 rd) (r : Reads (�
       let m = has-then has-ws has in
       let k = has-then has-ws (a-mark 125) in
       reads-as (λ w u x. named u x) (reads-bind {Q = λ (w : Step Members). (Ws then P) then Ws then One (is (pick (ends w) 125 44))} reads-name (λ k. reads-bind r (λ j. reads-sep 125 (mcons k j mnil) (mcons k j) refl) (last mnil, a-close .0, a-close .1))
-        (last mnil, m .0 ++ k .0, (m .0, k .0, refl, m .1, k .1)))
+      (last mnil, m .0 ++ k .0, (m .0, k .0, refl, m .1, k .1)))
     where
       a-close : Has (Ws then One (is 125))
       a-close = has-then has-ws (a-mark 125)
@@ -117,9 +117,9 @@ reads-value zero = reads-skip reads-scalar (jnull, has-scalar .0, has-scalar .1)
 reads-value (suc d) =
     reads-skip {L = λ (j : Json). Value (suc d)}
     (reads-on (is 91) refl (λ c h. reads-under jarr (λ a u m. array d c u h m) (reads-elements (Value d) (value d) (takes-value d) (reads-value d) (has-value d)))
-      (λ c h. (jnull, 93 ∷ [], array d c (93 ∷ []) h ([], 93 ∷ [], refl, no-ws, inl (93, refl, refl))))
-      (reads-on (is 123) refl (λ c h. reads-under jobj (λ a u m. object d c u h m) (reads-pairs (Value d) (value d) (takes-value d) (reads-value d) (has-value d)))
-        (λ c h. (jnull, 125 ∷ [], object d c (125 ∷ []) h ([], 125 ∷ [], refl, no-ws, inl (125, refl, refl))))
-        reads-scalar (λ j u h m. inl m))
-      (λ j u h m. m))
+    (λ c h. (jnull, 93 ∷ [], array d c (93 ∷ []) h ([], 93 ∷ [], refl, no-ws, inl (93, refl, refl))))
+    (reads-on (is 123) refl (λ c h. reads-under jobj (λ a u m. object d c u h m) (reads-pairs (Value d) (value d) (takes-value d) (reads-value d) (has-value d)))
+    (λ c h. (jnull, 125 ∷ [], object d c (125 ∷ []) h ([], 125 ∷ [], refl, no-ws, inl (125, refl, refl))))
+    reads-scalar (λ j u h m. inl m))
+    (λ j u h m. m))
     (jnull, has-value (suc d) .0, has-value (suc d) .1)

@@ -1,17 +1,17 @@
 -- Numbers and the three literals.
 use mathlib.Core.Path.{_≡_, refl, sym, ap, _∙_}
-use mathlib.Core.Bool.{Bool, true, false, _&&_, _||_, not}
+use mathlib.Core.Bool.{Bool, true, false, _&&_, not}
 use mathlib.Core.List.{[], _∷_, _++_}
-use mathlib.Core.Logic.{_⊎_, inl, inr}
+use mathlib.Core.Logic.{inl, inr}
 use Prim.Native.Nat.{ℕ}
-use lib.Dec.{eqb, ltb}
+use lib.Dec.{eqb}
 use borrow.Author.Tests.{eqb-true, eq-eqb}
 use Rattle.text.specs.Bytes.{Bytes, ascii, is, between, isDigit}
-use Rattle.text.specs.Reader.{Got, got, first}
+use Rattle.text.specs.Reader.{first}
 use Rattle.text.proofs.Cases.{implied, tests, beyond}
 use Rattle.json.specs.Tree.{Json, jnull, jtrue, jfalse, jnum, jstr}
-use Rattle.json.specs.Grammar.{Lang, One, Exactly, _then_, _or_, Maybe, Many, none-more, isE, isSign, Digits, Int, Frac, Exp, Number, String, Scalar}
-use Rattle.json.specs.Syntax.{opt, digits, int, frac, sign, exp, number, four, characters, scalar}
+use Rattle.json.specs.Grammar.{One, Exactly, _then_, Maybe, none-more, isE, isSign, Digits, Int, Frac, Exp, Number, String, Scalar}
+use Rattle.json.specs.Syntax.{opt, digits, int, frac, sign, exp, number, four, scalar}
 use Rattle.json_grammar.proofs.Forms.{Reads, reads-got, reads-as, reads-under}
 use Rattle.json_grammar.proofs.Tests.{reads-on, reads-when, reads-some-of}
 use Rattle.json_grammar.proofs.Turns.{Loop}
@@ -28,7 +28,7 @@ reads-digits : Reads (λ (x : Bytes). Digits) digits
 unfolding digits Digits between
 reads-digits = reads-some-of isDigit refl
 
-pub has-digits : Has Digits
+has-digits : Has Digits
 unfolding Digits between
 has-digits = has-then (a-byte isDigit 48 refl) ([], none-more [] refl)
 
@@ -50,7 +50,7 @@ reads-int : Reads (λ (x : Bytes). Int) int
 unfolding int Int
 reads-int = reads-on (is 48) refl (λ c h. reads-got (c ∷ []) (inl (c, refl, h))) (λ c h. ([], [], inl (c, refl, h))) reads-digits (λ a u h m. no-zero u h m)
 
-pub has-int : Has Int
+has-int : Has Int
 unfolding Int
 has-int = (48 ∷ [], inl (48, refl, refl))
 
@@ -107,7 +107,7 @@ unfolding four
 reads-four a b c d j za zb zc zd =
     reads-as (λ x u m. then-is (a ∷ []) (b ∷ c ∷ d ∷ []) (one-is a) (then-is (b ∷ []) (c ∷ d ∷ []) (one-is b) (then-is (c ∷ []) (d ∷ []) (one-is c) (one-is d))) u m)
     (reads-row j (reads-one a za) (has-then (byte b zb) (has-then (byte c zc) (byte d zd))) λ x.
-      reads-row j (reads-one b zb) (has-then (byte c zc) (byte d zd)) λ x. reads-row j (reads-one c zc) (byte d zd) λ x. reads-last (λ x. j) (reads-one d zd))
+    reads-row j (reads-one b zb) (has-then (byte c zc) (byte d zd)) λ x. reads-row j (reads-one c zc) (byte d zd) λ x. reads-last (λ x. j) (reads-one d zd))
   where
     byte : (b : ℕ) → eqb 256 b ≡ false → Has (One (is b))
     byte b z = a-byte (is b) b (eq-eqb b b refl)
@@ -131,9 +131,9 @@ reads-scalar =
     reads-on (is 34) refl (λ c h. reads-under jstr (λ a u m. inr (inr (inr (inr (a-string c u h m))))) reads-characters)
     (λ c h. (jnull, 34 ∷ [], inr (inr (inr (inr (a-string c (34 ∷ []) h ([], 34 ∷ [], refl, none-more [] refl, (34, refl, refl))))))))
     (reads-when (is 116) (reads-as (λ j u m. inl m) (reads-four 116 114 117 101 jtrue refl refl refl refl))
-      (reads-on (is 102) refl (λ c h. reads-as (λ j u m. inr (inl (false-word c u h m))) (reads-four 97 108 115 101 jfalse refl refl refl refl))
-        (λ c h. (jnull, 97 ∷ 108 ∷ 115 ∷ 101 ∷ [], inr (inl (false-word c (97 ∷ 108 ∷ 115 ∷ 101 ∷ []) h refl))))
-        (reads-when (is 110) (reads-as (λ j u m. inr (inr (inl m))) (reads-four 110 117 108 108 jnull refl refl refl refl))
-          (reads-under jnum (λ a u m. inr (inr (inr (inl m)))) reads-number))
-        (λ j u h m. m)))
+    (reads-on (is 102) refl (λ c h. reads-as (λ j u m. inr (inl (false-word c u h m))) (reads-four 97 108 115 101 jfalse refl refl refl refl))
+    (λ c h. (jnull, 97 ∷ 108 ∷ 115 ∷ 101 ∷ [], inr (inl (false-word c (97 ∷ 108 ∷ 115 ∷ 101 ∷ []) h refl))))
+    (reads-when (is 110) (reads-as (λ j u m. inr (inr (inl m))) (reads-four 110 117 108 108 jnull refl refl refl refl))
+    (reads-under jnum (λ a u m. inr (inr (inr (inl m)))) reads-number))
+    (λ j u h m. m)))
     (λ j u h m. m)

@@ -1,10 +1,10 @@
 -- The reader accepts the grammar, and refuses at the first byte at which no JSON can still follow.
 use mathlib.Core.Path.{_≡_, refl, sym, ap, subst, _∙_}
-use mathlib.Core.Bool.{Bool, true, false}
+use mathlib.Core.Bool.{true}
 use mathlib.Core.List.{[], _∷_, _++_, append-assoc, append-nil}
 use mathlib.Core.Logic.{_⊎_, inl, inr, _↔_}
 use mathlib.Core.Option.{Option, none, some}
-use Prim.Native.Nat.{ℕ, zero, suc, _+_, _-_, _≤_, _<_}
+use Prim.Native.Nat.{ℕ, zero, suc, _-_, _≤_, _<_}
 use native.Mathlib.Omega.{arith}
 use lib.ListN.{length, take, length-append}
 use lib.Dec.{ltb}
@@ -15,10 +15,10 @@ use Rattle.text.proofs.Cases.{byBool, tests}
 use Rattle.text.proofs.Characters.{isByte}
 use Rattle.text.proofs.Readers.{not-bad}
 use Rattle.json.specs.Tree.{Json}
-use Rattle.json.specs.Grammar.{Value, Text, Completes, FirstBad}
+use Rattle.json.specs.Grammar.{Text, Completes, FirstBad}
 use Rattle.json.specs.Syntax.{text}
 use Rattle.json.specs.Strings.{decoded, distinctNames}
-use Rattle.json.specs.Read.{Reading, tree, refused, sound, readingOf, reading}
+use Rattle.json.specs.Read.{tree, refused, sound, readingOf, reading}
 use Rattle.json_grammar.proofs.Forms.{Short}
 use Rattle.json_grammar.proofs.Lists.{no-ws}
 use Rattle.json_grammar.proofs.Nested.{has-value}
@@ -123,3 +123,12 @@ reading-place d s p h e = by (text d s) refl e
     by : (x : Got Json) → text d s ≡ x → readingOf (length s) x ≡ refused p → FirstBad d s p ⊎ (Text d s × (p ≡ 0))
     by (got j t) q f = inr (accepts-bytes d s j t h q, sound-place j p f)
     by (bad t) q f = inl (subst (FirstBad d s) (refused-at f) (place-first d s t q))
+
+-- and where there is such a byte, the text is refused at it
+pub place-refused : (d : ℕ) (s : Bytes) (p : ℕ) → all isByte s ≡ true → FirstBad d s p → reading d s ≡ refused p
+unfolding reading
+place-refused d s p h x = by (text d s) refl
+  where
+    by : (y : Got Json) → text d s ≡ y → readingOf (length s) y ≡ refused p
+    by (got j t) q = absurd (x .no-text (accepts-bytes d s j t h q))
+    by (bad t) q = ap refused (one-place d s (length s - length t) p (place-first d s t q) x)

@@ -1,22 +1,20 @@
 -- Every array, object, value and text of the grammar is read.
 use mathlib.Core.Path.{_≡_, refl, sym, ap, _∙_}
-use mathlib.Core.Bool.{Bool, true, false}
 use mathlib.Core.List.{[], _∷_, _++_, append-assoc, append-nil}
-use mathlib.Core.Logic.{_⊎_, inl, inr}
+use mathlib.Core.Logic.{inl, inr}
 use Prim.Native.Nat.{ℕ, zero, suc}
-use lib.Dec.{eqb}
 use Rattle.text.specs.Bytes.{Bytes, is, between}
-use Rattle.text.specs.Reader.{Got, got, bad, bind, under, first, on, when, Step, more, last, loop, past}
+use Rattle.text.specs.Reader.{got, under, on, when, more, last, loop, past}
 use Rattle.text.proofs.Readers.{bind-inv, takes-moves}
 use Rattle.json.specs.Tree.{Json, jarr, jobj, Elems, enil, econs, Members, mnil, mcons}
 use Rattle.json.specs.Grammar.{_then_, Maybe, isSpace, isE, Ws, Mark, String, Array, Named, Object, Value, Text}
-use Rattle.json.specs.Syntax.{skip, sep, name, item, elements, pair, pairs, value, text}
+use Rattle.json.specs.Syntax.{skip, sep, item, elements, pair, pairs, value, text}
 use Rattle.json.proofs.Takes.{takes-item, takes-pair, takes-value}
 use Rattle.json.proofs.Numbers.{Stops}
 use Rattle.json.proofs.Values.{an-array, an-object, no-elems, no-pairs}
 use Rattle.json_grammar.proofs.Tests.{on-no}
 use Rattle.json_grammar.proofs.Rows.{one-is}
-use Rattle.json_grammar.proofs.Lists.{Items, no-ws}
+use Rattle.json_grammar.proofs.Lists.{Items}
 use Rattle.json_grammar.proofs.Spaces.{skip-ws, value-ws, name-ws, elements-ws, pairs-ws, mark-cases, mark-before, sep-more, sep-last, stops-ws, stops-mark, no-bracket}
 use Rattle.json_grammar.proofs.Filled.{Leaves, Filled, scalar-all, turn-first, list-run, list-all, list-skip, name-all}
 
@@ -92,9 +90,12 @@ module _ (d : ℕ) (inside : Filled d) where
   unfolding Array
   array-all u w x =
       let o = opening 91 u w (x .0) (x .1) (x .2) (x .3) in
-      let l = elements-all (x .1) w (x .4) in
-      (jarr (l .0), l .1, l .2,
-        ap (value (suc d)) (o .4) ∙ value-ws (suc d) (o .0) (91 ∷ (o .1 ++ (x .1 ++ w))) (o .2) ∙ an-array d (o .1 ++ (x .1 ++ w)) ∙ ap (under jarr) (elements-ws (value d) (o .1) (x .1 ++ w) (o .3) ∙ l .3))
+      let l = elements-all (x .1) w (x .4) in (
+        jarr (l .0),
+        l .1,
+        l .2,
+        ap (value (suc d)) (o .4) ∙ value-ws (suc d) (o .0) (91 ∷ (o .1 ++ (x .1 ++ w))) (o .2) ∙ an-array d (o .1 ++ (x .1 ++ w)) ∙ ap (under jarr) (elements-ws (value d) (o .1) (x .1 ++ w) (o .3) ∙ l .3),
+      )
 
   -- ---- one turn of an object
 
@@ -163,9 +164,12 @@ module _ (d : ℕ) (inside : Filled d) where
   unfolding Object
   object-all u w x =
       let o = opening 123 u w (x .0) (x .1) (x .2) (x .3) in
-      let l = pairs-all (x .1) w (x .4) in
-      (jobj (l .0), l .1, l .2,
-        ap (value (suc d)) (o .4) ∙ value-ws (suc d) (o .0) (123 ∷ (o .1 ++ (x .1 ++ w))) (o .2) ∙ an-object d (o .1 ++ (x .1 ++ w)) ∙ ap (under jobj) (pairs-ws (value d) (o .1) (x .1 ++ w) (o .3) ∙ l .3))
+      let l = pairs-all (x .1) w (x .4) in (
+        jobj (l .0),
+        l .1,
+        l .2,
+        ap (value (suc d)) (o .4) ∙ value-ws (suc d) (o .0) (123 ∷ (o .1 ++ (x .1 ++ w))) (o .2) ∙ an-object d (o .1 ++ (x .1 ++ w)) ∙ ap (under jobj) (pairs-ws (value d) (o .1) (x .1 ++ w) (o .3) ∙ l .3),
+      )
 
   value-more : Filled (suc d)
   unfolding Value

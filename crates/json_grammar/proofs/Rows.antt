@@ -1,5 +1,5 @@
 -- Rows of readers: one byte of a class, what ends a row, and that there is something to read.
-use mathlib.Core.Path.{_≡_, refl, sym, ap, subst, _∙_}
+use mathlib.Core.Path.{_≡_, refl, ap, _∙_}
 use mathlib.Core.Bool.{Bool, true, false}
 use mathlib.Core.List.{[], _∷_, _++_, append-assoc}
 use Prim.Native.Nat.{ℕ}
@@ -7,8 +7,8 @@ use lib.Dec.{eqb}
 use borrow.Author.Tests.{eqb-true}
 use Rattle.text.specs.Bytes.{Bytes, is}
 use Rattle.text.specs.Reader.{Got, got, bad, bind, under, on, one}
-use Rattle.json.specs.Grammar.{Lang, One, Exactly, _then_, Many, none-more, one-more}
-use Rattle.json_grammar.proofs.Forms.{Some, Reads, reads-got, reads-bad, reads-under, reads-bind}
+use Rattle.json.specs.Grammar.{Lang, One, _then_, Many, none-more, one-more}
+use Rattle.json_grammar.proofs.Forms.{Reads, reads-got, reads-bad, reads-under, reads-bind}
 use Rattle.json_grammar.proofs.Tests.{reads-on, reads-same}
 
 -- one byte of a class
@@ -46,9 +46,6 @@ reads-row b r h k = reads-bind r k (b, h .0, h .1)
 -- a byte before
 pub byte-then : {Q : Lang} (p : ℕ → Bool) (c : ℕ) (u : Bytes) → p c ≡ true → Q u → (One p then Q) (c ∷ u)
 byte-then p c u h q = (c ∷ [], u, refl, (c, refl, h), q)
-
-pub then-with : {P P′ Q Q′ : Lang} → ((u : Bytes) → P u → P′ u) → ((u : Bytes) → Q u → Q′ u) → (u : Bytes) → (P then Q) u → (P′ then Q′) u
-then-with f g u x = (x .0, x .1, x .2, f (x .0) (x .3), g (x .1) (x .4))
 
 pub one-is : (b : ℕ) (u : Bytes) → One (is b) u → u ≡ b ∷ []
 one-is b u x = x .1 ∙ ap (λ (c : ℕ). c ∷ []) (eqb-true (x .0) b (x .2))

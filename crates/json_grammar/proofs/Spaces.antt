@@ -1,16 +1,16 @@
 -- White space before a part does not matter; what a mark is.
 use mathlib.Core.Path.{_≡_, refl, sym, ap, _∙_}
-use mathlib.Core.Bool.{Bool, true, false}
+use mathlib.Core.Bool.{true, false}
 use mathlib.Core.List.{[], _∷_, _++_, append-assoc}
 use Prim.Native.Nat.{ℕ, zero, suc}
 use lib.Dec.{eqb}
 use borrow.Author.Tests.{eqb-true, eq-eqb}
-use Rattle.text.specs.Bytes.{Bytes, is, between, isDigit}
+use Rattle.text.specs.Bytes.{Bytes, between, isDigit}
 use Rattle.text.specs.Reader.{Got, got, bad, first, on, when, more, last, taken, past, one, some-of}
 use Rattle.text.proofs.Cases.{byBool, byKeysP, not-both}
 use Rattle.text.proofs.Readers.{not-bad, taken-all}
 use Rattle.json.specs.Tree.{Json}
-use Rattle.json.specs.Grammar.{One, _then_, Many, none-more, one-more, isSpace, isE, Ws, Mark}
+use Rattle.json.specs.Grammar.{One, Many, none-more, one-more, isSpace, isE, Ws, Mark}
 use Rattle.json.specs.Syntax.{skip, token, opt, digits, int, number, scalar, sep, name, elements, pairs, value}
 use Rattle.json.proofs.Numbers.{Stops}
 use Rattle.json_grammar.proofs.Tests.{taken-past, all-many}
@@ -40,7 +40,7 @@ pub name-ws : (x s : Bytes) → Ws x → name (x ++ s) ≡ name s
 unfolding name
 name-ws x s w = rw (token-ws 34 x s w)
 
-pub sep-ws : {B : Type 0} (close : ℕ) (b : B) (g : B → B) (x s : Bytes) → Ws x → sep close b g (x ++ s) ≡ sep close b g s
+sep-ws : {B : Type 0} (close : ℕ) (b : B) (g : B → B) (x s : Bytes) → Ws x → sep close b g (x ++ s) ≡ sep close b g s
 unfolding sep
 sep-ws close b g x s w = rw (skip-ws x s w)
 
@@ -121,8 +121,8 @@ pub no-bracket : (d : ℕ) (s : Bytes) (j : Json) (t : Bytes) → value d s ≡ 
 no-bracket d s j t e =
     byBool (eqb (first (skip s)) 93)
     (λ h.
-        let x = skipped s in
-        let y = first-93 (skip s) h in
-        let v : value d s ≡ bad (93 ∷ y .0) = ap (value d) (x .2) ∙ value-ws d (x .0) (skip s) (x .1) ∙ ap (value d) (y .1) ∙ bracket d (y .0) in
-        absurd (not-bad (sym v ∙ e)))
+    let x = skipped s in
+    let y = first-93 (skip s) h in
+    let v : value d s ≡ bad (93 ∷ y .0) = ap (value d) (x .2) ∙ value-ws d (x .0) (skip s) (x .1) ∙ ap (value d) (y .1) ∙ bracket d (y .0) in
+    absurd (not-bad (sym v ∙ e)))
     (λ h. h)

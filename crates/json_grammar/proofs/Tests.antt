@@ -1,16 +1,16 @@
 -- Readers that look at a byte: by the first byte, past a class, runs of a class.
 use mathlib.Core.Path.{_≡_, refl, sym, ap, subst, _∙_}
 use mathlib.Core.Bool.{Bool, true, false}
-use mathlib.Core.List.{[], _∷_, _++_, tail, append-assoc, append-nil}
-use mathlib.Core.Logic.{_⊎_, inl, inr}
-use Prim.Native.Nat.{ℕ, zero, suc, _+_, _≤_, _<_}
+use mathlib.Core.List.{[], _∷_, _++_, append-assoc, append-nil}
+use mathlib.Core.Logic.{inl, inr}
+use Prim.Native.Nat.{ℕ}
 use Rattle.text.specs.Bytes.{Bytes, all}
 use Rattle.text.specs.Reader.{Got, got, bad, under, first, on, when, taken, past, some-of}
-use Rattle.text.proofs.Cases.{byBool, not-both}
+use Rattle.text.proofs.Cases.{byBool}
 use Rattle.text.proofs.Lists.{all-head, all-tail, all-cons}
-use Rattle.text.proofs.Readers.{not-bad, got-rest, got-what, taken-run, past-run, taken-all}
+use Rattle.text.proofs.Readers.{got-rest, got-what, taken-run, past-run, taken-all}
 use Rattle.json.specs.Grammar.{Lang, One, _then_, Many, none-more, one-more}
-use Rattle.json_grammar.proofs.Forms.{Short, Some, Reads, not-got, first-append, first-cons, reads-as, reads-bad, reads-under}
+use Rattle.json_grammar.proofs.Forms.{Short, Some, Reads, not-got, first-append, first-cons, reads-bad, reads-under}
 
 -- ---- by the first byte
 
@@ -27,7 +27,6 @@ module _ {A : Type 0} (p : ℕ → Bool) (f : ℕ → Bytes → Got A) (g : Byte
 module _ {A : Type 0} {L M : A → Lang} {f : ℕ → Bytes → Got A} {g : Bytes → Got A} (p : ℕ → Bool) (z : p 256 ≡ false)
     (yes : (c : ℕ) → p c ≡ true → Reads (λ a u. L a (c ∷ u)) (f c)) (some : (c : ℕ) → p c ≡ true → Some (λ a u. L a (c ∷ u)))
     (no : Reads M g) (fits : (a : A) (u : Bytes) → p (first u) ≡ false → M a u → L a u) where
-
   Good : Bytes → A → Bytes → Type 0
   Good s a w = (u : Bytes) × (s ≡ u ++ w) × L a u × ((v : Bytes) → first v ≡ first w → on p f g (u ++ v) ≡ got a v)
 
@@ -125,17 +124,21 @@ module _ (p : ℕ → Bool) where
   taken-past [] = refl
   taken-past (c ∷ s) = byBool (p c) (λ e. rw e (ap (λ (x : Bytes). c ∷ x) (taken-past s))) (λ e. rw e)
 
-  pub past-stops : p 256 ≡ false → (s : Bytes) → p (first (past p s)) ≡ false
+  past-stops : p 256 ≡ false → (s : Bytes) → p (first (past p s)) ≡ false
   unfolding past
   past-stops z [] = z
   past-stops z (c ∷ s) = byBool (p c) (λ e. rw e (past-stops z s)) (λ e. rw e e)
 
   reads-run : p 256 ≡ false → Reads (λ (x : Bytes). Many (One p)) (λ t. got (taken p t) (past p t))
   reads-run z = record {
-    good = λ s a w e. (taken p s, taken-past s ∙ ap (λ (x : Bytes). taken p s ++ x) (got-rest e), all-many (taken p s) (taken-all p s),
-        λ v q.
-            let h : p (first v) ≡ false = ap p (q ∙ ap first (sym (got-rest e))) ∙ past-stops z s in
-            rw (taken-run p (taken p s) v (taken-all p s) h, past-run p (taken p s) v (taken-all p s) h) (ap (λ (x : Bytes). got x v) (got-what e)));
+    good = λ s a w e. (
+      taken p s,
+      taken-past s ∙ ap (λ (x : Bytes). taken p s ++ x) (got-rest e),
+      all-many (taken p s) (taken-all p s),
+      λ v q.
+          let h : p (first v) ≡ false = ap p (q ∙ ap first (sym (got-rest e))) ∙ past-stops z s in
+          rw (taken-run p (taken p s) v (taken-all p s) h, past-run p (taken p s) v (taken-all p s) h) (ap (λ (x : Bytes). got x v) (got-what e)),
+    );
     fail = λ s t e. absurd (not-got e);
   }
 
@@ -154,9 +157,9 @@ reads-same h r = record {
 pub reads-some-of : (p : ℕ → Bool) → p 256 ≡ false → Reads (λ (x : Bytes). One p then Many (One p)) (some-of p)
 reads-some-of p z =
     reads-same (some-on p z) (reads-on p z
-      (λ c h. reads-under (λ ds. c ∷ ds) (λ a u m. (c ∷ [], u, refl, (c, refl, h), m)) (reads-run p z))
-      (λ c h. ([], [], (c ∷ [], [], refl, (c, refl, h), none-more [] refl)))
-      (reads-bad {L = λ x u. ⊥}) (λ a u h e. absurd e))
+    (λ c h. reads-under (λ ds. c ∷ ds) (λ a u m. (c ∷ [], u, refl, (c, refl, h), m)) (reads-run p z))
+    (λ c h. ([], [], (c ∷ [], [], refl, (c, refl, h), none-more [] refl)))
+    (reads-bad {L = λ x u. ⊥}) (λ a u h e. absurd e))
 
 -- ---- past a class
 
@@ -176,11 +179,17 @@ module _ {A : Type 0} {L : A → Lang} {R : Bytes → Got A} (p : ℕ → Bool) 
   pub reads-past : Reads (λ a. Many (One p) then L a) (λ s. R (past p s))
   reads-past = record {
     good = λ s a w e.
-        let x = r .good (past p s) a w e in
-        (taken p s ++ x .0, join s (x .0) w (x .1), (taken p s, x .0, refl, all-many p (taken p s) (taken-all p s), x .2),
-          λ v q. rw (past-over s (x .0) v w q (x .1)) (x .3 v q));
+        let x = r .good (past p s) a w e in (
+          taken p s ++ x .0,
+          join s (x .0) w (x .1),
+          (taken p s, x .0, refl, all-many p (taken p s) (taken-all p s), x .2),
+          λ v q. rw (past-over s (x .0) v w q (x .1)) (x .3 v q),
+        );
     fail = λ s t e.
-        let x = r .fail (past p s) t e in
-        (taken p s ++ x .0, join s (x .0) t (x .1), short (taken p s) (x .0) (all-many p (taken p s) (taken-all p s)) (x .2),
-          λ c y q m. rw (past-over s (x .0) (c ∷ q) t (sym (ap first m)) (x .1)) (x .3 c y q m));
+        let x = r .fail (past p s) t e in (
+          taken p s ++ x .0,
+          join s (x .0) t (x .1),
+          short (taken p s) (x .0) (all-many p (taken p s) (taken-all p s)) (x .2),
+          λ c y q m. rw (past-over s (x .0) (c ∷ q) t (sym (ap first m)) (x .1)) (x .3 c y q m),
+        );
   }

@@ -3,14 +3,14 @@ use mathlib.Core.Path.{_≡_, refl, sym, ap, subst, _∙_}
 use mathlib.Core.Bool.{Bool, true, false}
 use mathlib.Core.List.{[], _∷_, _++_, append-assoc, append-nil}
 use mathlib.Core.Logic.{_⊎_, inl, inr}
-use Prim.Native.Nat.{ℕ, zero, suc, _+_, _≤_, _<_}
+use Prim.Native.Nat.{ℕ, zero, suc, _<_}
 use native.Mathlib.Omega.{arith}
 use lib.ListN.{length}
 use Rattle.text.specs.Bytes.{Bytes}
-use Rattle.text.specs.Reader.{Got, got, bad, bind, under, first, Step, more, last, after, turns, loop}
+use Rattle.text.specs.Reader.{Got, got, bad, first, Step, more, last, after, turns, loop}
 use Rattle.text.proofs.Readers.{not-bad, got-rest, got-what, bind-inv, under-inv, Takes}
 use Rattle.json.specs.Grammar.{Lang, _then_, Many, none-more, one-more}
-use Rattle.json_grammar.proofs.Forms.{Short, Some, Reads, not-got, bad-rest, bind-bad, under-bad, first-append, first-cons}
+use Rattle.json_grammar.proofs.Forms.{Short, Reads, not-got, bind-bad, under-bad, first-append, first-cons}
 
 -- the last turn
 abbrev pub ends : {B : Type 0} → Step B → Bool
@@ -49,8 +49,8 @@ module _ {B : Type 0} (T : Bool → Lang) {f : Bytes → Got (Step B)} (takes : 
   Fail s t = (u : Bytes) × (s ≡ u ++ t) × Short (λ (b : B). Loop T) u × ((c : ℕ) (y q : Bytes) → t ≡ c ∷ y → (m : ℕ) → length (u ++ c ∷ q) < m → turns f m (u ++ c ∷ q) ≡ bad (c ∷ q))
 
   -- one turn more
-  Loop-more : (u v : Bytes) → T false u → Loop T v → Loop T (u ++ v)
-  Loop-more u v t l = (u ++ l .0, l .1, ap (λ (x : Bytes). u ++ x) (l .2) ∙ sym (append-assoc u (l .0) (l .1)), one-more (u ++ l .0) u (l .0) refl t (l .3), l .4)
+  loop-more : (u v : Bytes) → T false u → Loop T v → Loop T (u ++ v)
+  loop-more u v t l = (u ++ l .0, l .1, ap (λ (x : Bytes). u ++ x) (l .2) ∙ sym (append-assoc u (l .0) (l .1)), one-more (u ++ l .0) u (l .0) refl t (l .3), l .4)
 
   after-good : (n : ℕ) (s : Bytes) (w : Step B) (t : Bytes) (b : B) (v : Bytes) → f s ≡ got w t → ((c : B) → turns f n t ≡ got c v → Good t c v) → after w t (turns f n) ≡ got b v → Good s b v
   unfolding Good
@@ -58,15 +58,21 @@ module _ {B : Type 0} (T : Bool → Lang) {f : Bytes → Got (Step B)} (takes : 
       let i = under-inv g (turns f n t) e in
       let x = r .good s (more g) t q in
       let y = h (i .0) (i .1) in
-      let m : s ≡ (x .0 ++ y .0) ++ w = x .1 ∙ ap (λ (z : Bytes). x .0 ++ z) (y .1) ∙ sym (append-assoc (x .0) (y .0) w) in
-      (x .0 ++ y .0, m, Loop-more (x .0) (y .0) (x .2) (y .2),
+      let m : s ≡ (x .0 ++ y .0) ++ w = x .1 ∙ ap (λ (z : Bytes). x .0 ++ z) (y .1) ∙ sym (append-assoc (x .0) (y .0) w) in (
+        x .0 ++ y .0,
+        m,
+        loop-more (x .0) (y .0) (x .2) (y .2),
         λ m v k l.
             let a : f ((x .0 ++ y .0) ++ v) ≡ got (more g) (y .0 ++ v) = ap f (append-assoc (x .0) (y .0) v) ∙ x .3 (y .0 ++ v) (first-append (y .0) v w k ∙ ap first (sym (y .1))) in
-            more-got f m ((x .0 ++ y .0) ++ v) (y .0 ++ v) v g (i .0) b a (i .2) (λ m l. y .3 m v k l) (omega (arith, takes .less ((x .0 ++ y .0) ++ v) (more g) (y .0 ++ v) a)) l)
+            more-got f m ((x .0 ++ y .0) ++ v) (y .0 ++ v) v g (i .0) b a (i .2) (λ m l. y .3 m v k l) (omega (arith, takes .less ((x .0 ++ y .0) ++ v) (more g) (y .0 ++ v) a)) l,
+      )
   after-good n s (last d) t b w q h e =
-      let x = r .good s (last d) t q in
-      (x .0, x .1 ∙ ap (λ (z : Bytes). x .0 ++ z) (got-rest e), ([], x .0, refl, none-more [] refl, x .2),
-        λ m v k l. last-got f m (x .0 ++ v) v b (x .3 v (k ∙ ap first (sym (got-rest e))) ∙ ap (λ a. got (last a) v) (got-what e)) l)
+      let x = r .good s (last d) t q in (
+        x .0,
+        x .1 ∙ ap (λ (z : Bytes). x .0 ++ z) (got-rest e),
+        ([], x .0, refl, none-more [] refl, x .2),
+        λ m v k l. last-got f m (x .0 ++ v) v b (x .3 v (k ∙ ap first (sym (got-rest e))) ∙ ap (λ a. got (last a) v) (got-what e)) l,
+      )
 
   turns-good : (n : ℕ) (s : Bytes) (b : B) (w : Bytes) → turns f n s ≡ got b w → Good s b w
   unfolding turns
@@ -77,7 +83,7 @@ module _ {B : Type 0} (T : Bool → Lang) {f : Bytes → Got (Step B)} (takes : 
 
   by-end : (w : Bool) (u : Bytes) → T w u → (q : Bytes) × Loop T (u ++ q)
   by-end true u t = ([], ([], u, append-nil u, none-more [] refl, t))
-  by-end false u t = (close, Loop-more u close t ([], close, refl, none-more [] refl, closes))
+  by-end false u t = (close, loop-more u close t ([], close, refl, none-more [] refl, closes))
 
   now-short : (u : Bytes) → Short (λ (w : Step B). T (ends w)) u → Short (λ (b : B). Loop T) u
   now-short u (inl e) = inl e
@@ -85,18 +91,21 @@ module _ {B : Type 0} (T : Bool → Lang) {f : Bytes → Got (Step B)} (takes : 
 
   later-short : (u v : Bytes) → T false u → Short (λ (b : B). Loop T) v → Short (λ (b : B). Loop T) (u ++ v)
   later-short u v t (inl e) = let x = by-end false u t in inr (x .0, none, subst (λ (z : Bytes). Loop T (z ++ x .0)) (sym (append-nil u) ∙ ap (λ (z : Bytes). u ++ z) (sym e)) (x .1))
-  later-short u v t (inr q) = inr (q .0, none, subst (Loop T) (sym (append-assoc u v (q .0))) (Loop-more u (v ++ q .0) t (q .2)))
+  later-short u v t (inr q) = inr (q .0, none, subst (Loop T) (sym (append-assoc u v (q .0))) (loop-more u (v ++ q .0) t (q .2)))
 
   after-fail : (n : ℕ) (s : Bytes) (w : Step B) (t z : Bytes) → f s ≡ got w t → (turns f n t ≡ bad z → Fail t z) → after w t (turns f n) ≡ bad z → Fail s z
   unfolding Fail
   after-fail n s (more g) t z q h e =
       let x = r .good s (more g) t q in
       let y = h (under-bad g (turns f n t) e) in
-      let m : s ≡ (x .0 ++ y .0) ++ z = x .1 ∙ ap (λ (v : Bytes). x .0 ++ v) (y .1) ∙ sym (append-assoc (x .0) (y .0) z) in
-      (x .0 ++ y .0, m, later-short (x .0) (y .0) (x .2) (y .2),
+      let m : s ≡ (x .0 ++ y .0) ++ z = x .1 ∙ ap (λ (v : Bytes). x .0 ++ v) (y .1) ∙ sym (append-assoc (x .0) (y .0) z) in (
+        x .0 ++ y .0,
+        m,
+        later-short (x .0) (y .0) (x .2) (y .2),
         λ c v k o m l.
             let a : f ((x .0 ++ y .0) ++ c ∷ k) ≡ got (more g) (y .0 ++ c ∷ k) = ap f (append-assoc (x .0) (y .0) (c ∷ k)) ∙ x .3 (y .0 ++ c ∷ k) (first-cons (y .0) z k c v o ∙ ap first (sym (y .1))) in
-            more-bad f m ((x .0 ++ y .0) ++ c ∷ k) (y .0 ++ c ∷ k) (c ∷ k) g a (λ m l. y .3 c v k o m l) (omega (arith, takes .less ((x .0 ++ y .0) ++ c ∷ k) (more g) (y .0 ++ c ∷ k) a)) l)
+            more-bad f m ((x .0 ++ y .0) ++ c ∷ k) (y .0 ++ c ∷ k) (c ∷ k) g a (λ m l. y .3 c v k o m l) (omega (arith, takes .less ((x .0 ++ y .0) ++ c ∷ k) (more g) (y .0 ++ c ∷ k) a)) l,
+      )
   after-fail n s (last d) t z q h e = absurd (not-got e)
 
   turns-fail : (n : ℕ) (s t : Bytes) → length s < n → turns f n s ≡ bad t → Fail s t

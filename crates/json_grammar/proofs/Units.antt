@@ -1,22 +1,22 @@
 -- Strings: characters of several bytes, escapes, and the closing quote.
-use mathlib.Core.Path.{_≡_, refl, sym, ap, subst, _∙_}
+use mathlib.Core.Path.{_≡_, refl, sym, ap, _∙_}
 use mathlib.Core.Bool.{Bool, true, false, _&&_, not}
 use mathlib.Core.List.{[], _∷_, _++_, head-eq-of-cons-eq, tail-eq-of-cons-eq}
 use mathlib.Core.Logic.{_⊎_, inl, inr}
-use Prim.Native.Nat.{ℕ, zero, suc, _+_, _*_, _≤_, _<_}
+use Prim.Native.Nat.{ℕ, zero, suc, _+_, _*_}
 use native.Mathlib.Omega.{arith}
 use lib.ListN.{length}
 use lib.Dec.{eqb, ltb, leb}
-use borrow.Author.Tests.{ltb-true, ltb-false, leb-true}
+use borrow.Author.Tests.{ltb-true, leb-true}
 use Rattle.text.specs.Bytes.{Bytes, is, between}
 use Rattle.text.specs.Utf8.{Due, start, due, broken, byRow, lead, tails, next, run, atStart, utf8}
-use Rattle.text.specs.Reader.{Got, got, bad, under, first, Step, more, last, loop}
-use Rattle.text.proofs.Cases.{byBool, not-both, and-left, and-right, implied, tests, testing, in-between, beyond}
+use Rattle.text.specs.Reader.{first, Step, more, last}
+use Rattle.text.proofs.Cases.{byBool, not-both, and-left, implied, tests, in-between, beyond}
 use Rattle.text.proofs.Characters.{utf8-run, run-utf8, lead-high, later, later-lead, later-bounds}
-use Rattle.json.specs.Grammar.{Lang, One, _then_, _or_, Many, none-more, isHex, isShort, isPlain, Wide, Character, String}
-use Rattle.json.specs.Syntax.{hexVal, hex, hex4, short, escape, leads, isLead, tailBytes, following, push, character, characters}
+use Rattle.json.specs.Grammar.{Lang, One, _then_, _or_, isHex, isShort, isPlain, Wide, Character}
+use Rattle.json.specs.Syntax.{hexVal, hex, hex4, short, escape, isLead, tailBytes, following, push, character, characters}
 use Rattle.json.proofs.Takes.{takes-character}
-use Rattle.json_grammar.proofs.Forms.{Some, Reads, reads-got, reads-bad, reads-as, reads-under, reads-bind}
+use Rattle.json_grammar.proofs.Forms.{Reads, reads-got, reads-bad, reads-under}
 use Rattle.json_grammar.proofs.Tests.{reads-on}
 use Rattle.json_grammar.proofs.Turns.{ends, Loop, reads-loop}
 use Rattle.json_grammar.proofs.Rows.{reads-class, reads-last, reads-row, Has, has-then, a-byte, byte-then}
@@ -27,7 +27,7 @@ use Rattle.json_grammar.proofs.Rows.{reads-class, reads-last, reads-row
 unfoldable pub Rest : Due → Lang
 Rest d u = (run d u ≡ start) × ((a b : Bytes) → u ≡ a ++ b → run d a ≡ start → b ≡ [])
 
-pub none-of : (a b : Bytes) → [] ≡ a ++ b → b ≡ []
+none-of : (a b : Bytes) → [] ≡ a ++ b → b ≡ []
 none-of [] b e = sym e
 none-of (c ∷ a) b e = let r : 0 ≡ suc (length (a ++ b)) = ap length e in absurd (omega arith)
 
@@ -149,18 +149,18 @@ n-short : isShort 110 ≡ true
 unfolding isShort
 n-short = refl
 
-pub reads-character : Reads (λ w. Turn (ends w)) character
+reads-character : Reads (λ w. Turn (ends w)) character
 unfolding character between isLead byRow lead Character
 reads-character =
     reads-on (is 34) refl (λ c h. reads-got (last []) (c, refl, h)) (λ c h. (last [], [], (c, refl, h)))
     (reads-on {L = λ w u. eqb (first u) 34 ≡ false → Turn (ends w) u} (is 92) refl (λ c h. reads-under push (λ a u m k. escaped c u h m) reads-escape)
-      (λ c h. (push 0, 110 ∷ [], λ k. escaped c (110 ∷ []) h (inl (110, refl, n-short))))
-      (reads-on {L = Inner} (between 32 127) refl (λ c h. reads-got (push c) (λ k l. inl (c, refl, plain c h k l))) (λ c h. (push c, [], λ k l. inl (c, refl, plain c h k l)))
-        (reads-on {L = Inner} isLead refl (λ c h. reads-under (λ cs. more (λ us. c ∷ (cs ++ us))) (λ a u m k l. inr (inl (wide c u h m))) (reads-following (lead c) (later-lead c)))
-          (λ c h. let m = has-rest (lead c) (lead-roomy c h) in (push c, m .0, λ k l. inr (inl (wide c (m .0) h (m .1)))))
-          (reads-bad {L = λ x u. ⊥}) (λ a u h e. absurd e))
-        (λ a u h m. m))
-      (λ w u h m k. m k h))
+    (λ c h. (push 0, 110 ∷ [], λ k. escaped c (110 ∷ []) h (inl (110, refl, n-short))))
+    (reads-on {L = Inner} (between 32 127) refl (λ c h. reads-got (push c) (λ k l. inl (c, refl, plain c h k l))) (λ c h. (push c, [], λ k l. inl (c, refl, plain c h k l)))
+    (reads-on {L = Inner} isLead refl (λ c h. reads-under (λ cs. more (λ us. c ∷ (cs ++ us))) (λ a u m k l. inr (inl (wide c u h m))) (reads-following (lead c) (later-lead c)))
+    (λ c h. let m = has-rest (lead c) (lead-roomy c h) in (push c, m .0, λ k l. inr (inl (wide c (m .0) h (m .1)))))
+    (reads-bad {L = λ x u. ⊥}) (λ a u h e. absurd e))
+    (λ a u h m. m))
+    (λ w u h m k. m k h))
     (λ w u h m. m h)
 
 pub reads-characters : Reads (λ (us : Bytes). Loop Turn) characters
