@@ -1,4 +1,4 @@
--- Every value of the grammar is read; the white space that may stand at its end is left.
+-- Every scalar, list of items and member name of the grammar is read; the white space that may stand at its end is left.
 use mathlib.Core.Path.{_≡_, refl, sym, ap, _∙_}
 use mathlib.Core.List.{[], _∷_, _++_, append-assoc}
 use mathlib.Core.Logic.{inl, inr}
