@@ -1,0 +1,16 @@
+pub mod Forms
+pub mod Tests
+pub mod Turns
+pub mod Rows
+pub mod Units
+pub mod Numerals
+pub mod Lists
+pub mod Nested
+pub mod Accepted
+pub mod Gives
+pub mod Figures
+pub mod Spaces
+pub mod Filled
+pub mod Reached
+pub mod Place
+pub mod Examples
