@@ -62,7 +62,7 @@ module _ {B : Type 0} (b : B) (g : B → B) where
   adds-by false false t u w v e = absurd (not-bad e)
 
   -- what a turn adds
-  sep-adds : (close : ℕ) (s : Bytes) (w : Step B) (v : Bytes) → sep close b g s ≡ got w v → (w ≡ last b) ⊎ (w ≡ more g)
+  pub sep-adds : (close : ℕ) (s : Bytes) (w : Step B) (v : Bytes) → sep close b g s ≡ got w v → (w ≡ last b) ⊎ (w ≡ more g)
   unfolding sep on
   sep-adds close s w v e = adds-by (eqb (first (skip s)) close) (eqb (first (skip s)) 44) (tail (skip s)) (skip s) w v e
 
@@ -292,7 +292,7 @@ module _ (s : Bytes) (i b : ℕ) (e : b ≡ byteAt s i) where
     as-array zero n q = absurd (n refl)
     as-array (suc d) n q = ap (on (is 91) _ _) (skip-to h) ∙ on-yes (is 91) s i b e _ _ (eq-eqb _ _ q) ∙ rw sub-one
 
-    as-object : (d : ℕ) → (d ≡ 0 → ⊥) → (b ≡ 91 → ⊥) → b ≡ 123 → value d (drop at s) ≡ under jobj (pairs (value (d - 1)) (drop (i + 1) s))
+    pub as-object : (d : ℕ) → (d ≡ 0 → ⊥) → (b ≡ 91 → ⊥) → b ≡ 123 → value d (drop at s) ≡ under jobj (pairs (value (d - 1)) (drop (i + 1) s))
     unfolding value
     as-object zero n m q = absurd (n refl)
     as-object (suc d) n m q = ap (on (is 91) _ _) (skip-to h) ∙ on-no (is 91) s i b e _ _ (ne-eqb _ _ m) ∙ on-yes (is 123) s i b e _ _ (eq-eqb _ _ q) ∙ rw sub-one

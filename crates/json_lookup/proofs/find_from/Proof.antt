@@ -1,56 +1,49 @@
+use borrow.Author.Needs.{needs}
+use native.Mathlib.Omega.{arith}
+use denote.Ref.{now}
+use mathlib.Core.Path.{refl}
+use Prim.Native.Nat.{_≤_, _-_}
+use lib.ListN.{length}
+use Rattle.text.proofs.Places.{turn-as}
+use Rattle.json_lookup.proofs.Laws.{Todo, found-here, found-on, found-last}
 use Rattle.json_lookup.proofs.find_from.Statement.{statement}
 use Rattle.json_lookup.proofs.find_from.Tie as tie
-use Rattle.json_lookup.proofs.find_from.Reads as reads
-use Rattle.json_lookup.proofs.find_from.Lts as lts
-use Rattle.json_equal.proofs.equals.Reads as equals-reads
-use Rattle.json_lookup.proofs.member_at.Reads as member-at-reads
-use Rattle.json_marks.proofs.separator.Reads as separator-reads
 
 abbrev Inv-loop : tie.InvT-loop
-Inv-loop s at name i₀ i = ?
+Inv-loop s at name i₀ i = (i ≤ length s) × Todo s at name i
 
 abbrev μ-loop : tie.MeasureT-loop
-μ-loop s at name i₀ i = ?
+μ-loop s at name i₀ i = length s - i
 
--- src/lib.rt:61:5
 loop-holds : tie.Need-loop-holds Inv-loop μ-loop
-loop-holds c = ?
+loop-holds c = (c .before .before .pre, λ ps t x. (ps, x, refl))
 
--- src/lib.rt:62:13
 member-at-requires : tie.Need-member-at-requires Inv-loop μ-loop
-member-at-requires c κs = ?
+member-at-requires c κs = c .loop .inv .0
 
--- src/lib.rt:66:12
 equals-requires : tie.Need-equals-requires Inv-loop μ-loop
-equals-requires c κs = ?
+equals-requires c κs = c .member-at .ensures .0 .name-in
 
--- src/lib.rt:67:13
 returns : tie.Need-returns Inv-loop μ-loop
-returns c = ?
+returns c = (record { ordered = c .before .before .member-at .ensures .0 .ordered; inside = c .before .before .member-at .ensures .0 .end-in }, found-here (now (c .before .before .before .before .before .before .args .s)) (c .before .before .before .before .before .before .args .at) (now (c .before .before .before .before .before .before .args .name)) (c .before .before .before .loop .i) (c .before .before .before .loop .inv .1) (c .before .before .member-at .result) (c .before .before .member-at .ensures .1) _ (c .before .equals .ensures) (c .if1 .taken) (c .before .before .member-at .ensures .0 .ordered) (c .before .before .member-at .ensures .0 .end-in))
 
--- src/lib.rt:69:15
 separator-requires : tie.Need-separator-requires Inv-loop μ-loop
-separator-requires c κs = ?
+separator-requires c κs = (c .before .before .member-at .ensures .0 .end-in, omega arith)
 
--- src/lib.rt:70:22
 enum-known-j : tie.Need-enum-known-j Inv-loop μ-loop
-enum-known-j c = ?
+enum-known-j c = search needs
 
--- src/lib.rt:61:5
 loop-less : tie.Need-loop-less Inv-loop μ-loop
-loop-less c = ?
+loop-less c = let h = turn-as (c .before .before .before .separator .ensures) (c .before .j .given .1) in omega (arith, h .within .0, h .within .1, c .before .before .before .before .before .before .member-at .ensures .0 .from, c .before .before .before .before .before .before .member-at .ensures .0 .ordered)
 
--- src/lib.rt:61:5
 loop-again : tie.Need-loop-again Inv-loop μ-loop
-loop-again c = ?
+loop-again c = let h = turn-as (c .before .before .before .separator .ensures) (c .before .j .given .1) in (h .within .1, found-on (now (c .before .before .before .before .before .before .before .before .before .before .args .s)) (c .before .before .before .before .before .before .before .before .before .before .args .at) (now (c .before .before .before .before .before .before .before .before .before .before .args .name)) (c .before .before .before .before .before .before .before .loop .i) (c .before .before .before .before .before .before .before .loop .inv .1) (c .before .before .before .before .before .before .member-at .result) (c .before .before .before .before .before .before .member-at .ensures .1) _ (c .before .before .before .before .before .equals .ensures) (c .before .before .before .before .if1 .left) _ h)
 
--- src/lib.rt:73:24
 enum-known-r : tie.Need-enum-known-r Inv-loop μ-loop
-enum-known-r c = ?
+enum-known-r c = search needs
 
--- src/lib.rt:74:17
 returns-2 : tie.Need-returns-2 Inv-loop μ-loop
-returns-2 c = ?
+returns-2 c = (record { ordered = omega arith; inside = omega arith }, found-last (now (c .before .before .before .before .before .before .before .before .before .before .args .s)) (c .before .before .before .before .before .before .before .before .before .before .args .at) (now (c .before .before .before .before .before .before .before .before .before .before .args .name)) (c .before .before .before .before .before .before .before .loop .i) (c .before .before .before .before .before .before .before .loop .inv .1) (c .before .before .before .before .before .before .member-at .result) (c .before .before .before .before .before .before .member-at .ensures .1) _ (c .before .before .before .before .before .equals .ensures) (c .before .before .before .before .if1 .left) _ (turn-as (c .before .before .before .separator .ensures) (c .before .r .given .1)))
 
 pub find-from-spec : {M : Type 1} → statement M
 find-from-spec =

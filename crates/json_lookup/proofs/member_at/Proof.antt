@@ -1,45 +1,48 @@
+use native.Mathlib.Omega.{arith}
+use denote.Ref.{now}
+use mathlib.Core.Path.{ap, sym, _∙_}
+use Prim.Native.Nat.{_≤_}
+use lib.ListN.{length}
+use Rattle.json_lookup.proofs.Laws.{place-in, member-is}
 use borrow.Author.Needs.{needs}
 use Rattle.json_lookup.proofs.member_at.Statement.{statement}
 use Rattle.json_lookup.proofs.member_at.Tie as tie
-use Rattle.json_lookup.proofs.member_at.Reads as reads
-use Rattle.json_lookup.proofs.member_at.Lts as lts
-use Rattle.json_lookup.proofs.place.Reads as place-reads
-use Rattle.json_marks.proofs.mark.Reads as mark-reads
-use Rattle.json_marks.proofs.skip_space.Reads as skip-space-reads
-use Rattle.json_scan.proofs.name_end.Reads as name-end-reads
-use Rattle.json_scan.proofs.value_end.Reads as value-end-reads
 
--- src/lib.rt:47:19
 mark-requires : tie.Need-mark-requires
 mark-requires c κs = search needs
 
--- src/lib.rt:47:9
 place-requires : tie.Need-place-requires
 place-requires c κs = search needs
 
--- src/lib.rt:48:19
 name-end-requires : tie.Need-name-end-requires
 name-end-requires c κs = search needs
 
--- src/lib.rt:48:9
 place-requires-2 : tie.Need-place-requires-2
 place-requires-2 c κs = search needs
 
--- src/lib.rt:49:9
 skip-space-requires : tie.Need-skip-space-requires
-skip-space-requires c κs = ?
+skip-space-requires c κs = let q = place-in (now (c .before .before .before .before .before .args .s)) (c .before .before .before .before .before .args .at) _ _ (c .before .name-end .ensures) in omega (arith, q .1, c .place2 .ensures)
 
--- src/lib.rt:50:19
 value-end-requires : tie.Need-value-end-requires
 value-end-requires c κs = search needs
 
--- src/lib.rt:50:9
 place-requires-3 : tie.Need-place-requires-3
 place-requires-3 c κs = search needs
 
--- src/lib.rt:42:1
 returns : tie.Need-returns
-returns c = ?
+returns c = let p = place-in (now (c .before .before .before .before .before .before .before .before .args .s)) (c .before .before .before .before .before .before .before .before .args .at) _ _ (c .before .before .before .before .before .before .mark .ensures) in
+    let q = place-in (now (c .before .before .before .before .before .before .before .before .args .s)) (c .before .before .before .before .before .before .before .before .args .at) _ _ (c .before .before .before .before .name-end .ensures) in
+    let r = place-in (now (c .before .before .before .before .before .before .before .before .args .s)) (c .before .before .skip-space .result) _ _ (c .before .value-end .ensures) in (
+      record {
+        name-in = omega (arith, p .1, c .before .before .before .before .before .place .ensures);
+        from = omega (arith, q .0, c .before .before .before .place2 .ensures, c .before .before .skip-space .ensures .from);
+        ordered = omega (arith, r .0, c .place3 .ensures);
+        end-in = omega (arith, r .1, c .place3 .ensures);
+      },
+      λ k t e j u w.
+          let m = member-is (now (c .before .before .before .before .before .before .before .before .args .s)) (c .before .before .before .before .before .before .before .before .args .at) (c .before .before .before .before .before .before .mark .ensures) (c .before .before .before .before .name-end .ensures) (c .before .before .before .before .before .place .ensures) (c .before .before .before .place2 .ensures) (c .before .before .skip-space .ensures) (c .before .value-end .ensures) (c .place3 .ensures) k t e j u w in
+          record { spells = m .0; begins = m .1; ends = m .2 },
+    )
 
 pub member-at-spec : {M : Type 1} → statement M
 member-at-spec =
