@@ -1,8 +1,8 @@
 -- Worked examples, by computation.
 use mathlib.Core.Path.{_≡_, refl}
-use mathlib.Core.List.{List, [], _∷_, _++_}
+use mathlib.Core.List.{[], _∷_}
 use mathlib.Core.Option.{none, some}
-use Rattle.text.specs.Bytes.{Bytes, ascii}
+use Rattle.text.specs.Bytes.{ascii}
 use Rattle.line.specs.Physical.{physical, framed}
 use Rattle.line.specs.Unfold.{unfold′}
 use Rattle.line.specs.Grammar.{readLine}

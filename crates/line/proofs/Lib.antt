@@ -1,5 +1,6 @@
 pub mod Opened
 pub mod Cases
+pub mod Shapes
 pub mod Examples
 pub mod TextAgain
 pub mod FoldAgain

@@ -1,21 +1,22 @@
 -- A written line reads as the line.
 use mathlib.Core.Path.{_≡_, refl, sym, ap, _∙_}
 use mathlib.Core.Bool.{Bool, true, false, _&&_, _||_, not}
-use mathlib.Core.List.{List, [], _∷_, _++_, tail, append-assoc}
-use mathlib.Core.Option.{Option, none, some}
+use mathlib.Core.List.{List, [], _∷_, _++_}
+use mathlib.Core.Option.{some}
 use Prim.Native.Nat.{ℕ, zero, suc, _+_, _≤_, _<_}
 use native.Mathlib.Omega.{arith}
 use lib.Dec.{eqb}
 use borrow.Author.Tests.{eqb-true}
 use lib.ListN.{length, length-append}
-use Rattle.text.specs.Choice.{pick, provided}
-use Rattle.text.specs.Bytes.{Bytes, ascii, is, all, same, uppered, empty}
-use Rattle.text.specs.Reader.{Got, got, bad, bind, under, first, on, when, Step, more, last, after, turns, loop, taken, past, one, some-of, run-of}
+use Rattle.text.specs.Choice.{provided}
+use Rattle.text.specs.Bytes.{Bytes, ascii, all, same, uppered, empty}
+use Rattle.text.specs.Reader.{got, bind, under, first, on, when, more, last, after, turns, loop, taken, past, one, some-of, run-of}
 use Rattle.line.specs.Class.{isName, isBare, isQuotable}
 use Rattle.line.specs.Grammar.{Param, param, Line, word, paramValue, valueTurn, parameter, paramTurn, afterName, lineReader, accepted, ofGot, readLine}
 use Rattle.line.specs.Write.{writeValue, writeValues, writeParams, writeGroup, writeLine}
 use Rattle.line.proofs.Cases.{byBool}
 use Rattle.line.proofs.Opened.{line-opened}
+use Rattle.line.proofs.Shapes.{onward, valued, named, added, whole, grouped, begun}
 
 -- ---- a run of bytes that pass a test, before one that does not
 
@@ -118,9 +119,6 @@ comma-ends : (t : Bytes) → Ends (44 ∷ t)
 unfolding line-opened
 comma-ends t = record { not-bare = refl; not-quote = refl }
 
-abbrev onward : Bytes → Bytes → Got (Step (List Bytes))
-onward v t = on (is 44) (λ c t. got (more (λ vs. v ∷ vs)) t) (got (last (v ∷ []))) t
-
 at-comma : (v t : Bytes) → onward v (44 ∷ t) ≡ got (more (λ vs. v ∷ vs)) t
 unfolding on
 at-comma v t = refl
@@ -184,12 +182,6 @@ equals-name : isName 61 ≡ false
 unfolding line-opened
 equals-name = refl
 
-abbrev valued : Bytes → Bytes → Got Param
-valued n t = bind (loop valueTurn t) λ vs t. got (param n vs) t
-
-abbrev named : Bytes → Bytes → Got Param
-named n t = bind (one 61 t) λ e t. valued n t
-
 at-equals : (n t : Bytes) → named n (61 ∷ t) ≡ valued n t
 unfolding one on
 at-equals n t = refl
@@ -201,9 +193,6 @@ param-again always n v vs u h q f =
     ap (λ x. bind x named) (word-again n (61 ∷ writeValues always (v ∷ vs) u) h equals-name)
     ∙ at-equals n (writeValues always (v ∷ vs) u)
     ∙ ap (λ x. bind x (λ vs t. got (param n vs) t)) (values-again always v vs u q (f .ends) (f .not-comma))
-
-abbrev added : Param → Bytes → Got (Step (List Param))
-added p t = got (more (λ ps. p ∷ ps)) t
 
 at-colon : (t : Bytes) → paramTurn (58 ∷ t) ≡ got (last []) t
 unfolding paramTurn on
@@ -252,18 +241,9 @@ dot-name : isName 46 ≡ false
 unfolding line-opened
 dot-name = refl
 
-abbrev whole : Bytes → Bytes → List Param → Bytes → Got Line
-whole g n ps t = got (record { group = g; name = n; params = ps; value = t }) []
-
 after-again : (g n : Bytes) (ps : List Param) (t : Bytes) → Writables ps → afterName g n (writeParams ps t) ≡ whole g n ps t
 unfolding afterName
 after-again g n ps t w = ap (λ x. bind x (whole g n)) (params-again ps t w)
-
-abbrev grouped : Bytes → Bytes → Got Line
-grouped w t = bind (word t) (λ n t. afterName w n t)
-
-abbrev begun : Bytes → Bytes → Got Line
-begun w t = on (is 46) (λ c t. grouped w t) (afterName [] w) t
 
 at-dot : (w t : Bytes) → begun w (46 ∷ t) ≡ grouped w t
 unfolding on
