@@ -1,18 +1,19 @@
 -- A loop over values or parameters is its first turn, and the loop again.
-use mathlib.Core.Path.{_≡_, refl, sym, ap, _∙_}
-use mathlib.Core.Bool.{Bool, true, false}
+use mathlib.Core.Path.{_≡_, refl, ap}
+use mathlib.Core.Bool.{true, false}
 use mathlib.Core.List.{List, [], _∷_, tail}
-use Prim.Native.Nat.{ℕ, zero, suc, _+_, _≤_, _<_}
+use Prim.Native.Nat.{ℕ, zero, suc, _≤_, _<_}
 use native.Mathlib.Omega.{arith}
 use lib.Dec.{eqb}
 use lib.ListN.{length}
 use Rattle.text.specs.Bytes.{Bytes, is}
-use Rattle.text.specs.Reader.{Got, got, bad, bind, under, first, on, Step, more, last, after, turns, loop, one, some-of, run-of}
+use Rattle.text.specs.Reader.{Got, got, bad, bind, under, first, on, Step, more, last, after, turns, loop, one, some-of}
 use Rattle.text.proofs.Fine.{bind-inv, under-inv, got-rest, got-what, not-bad, Fine, fine-got, fine-weak, fine-bind, fine-on, one-fine, some-fine, run-fine}
 use Rattle.line.specs.Class.{isName, isBare, isQuotable}
 use Rattle.line.specs.Grammar.{Param, param, word, paramValue, valueTurn, parameter, paramTurn}
-use Rattle.line.proofs.Cases.{byBool}
+use Rattle.text.proofs.Cases.{byBool}
 use Rattle.line.proofs.Opened.{line-opened}
+use Rattle.line.proofs.Shapes.{onward, valued, named, added}
 
 -- a turn that goes on takes a byte at least
 pub record Shrinks {B : Type 0} (f : Bytes → Got (Step B)) : Type 0 where
@@ -63,9 +64,6 @@ unfolding paramValue
 value-fine =
     fine-on (is 34) refl (omega arith) (λ c. fine-weak (fine-bind (run-fine isQuotable) (λ v. fine-bind (one-fine 34 refl) (λ q. fine-got v)))) (run-fine isBare)
 
-abbrev onward : Bytes → Bytes → Got (Step (List Bytes))
-onward v t = on (is 44) (λ c t. got (more (λ vs. v ∷ vs)) t) (got (last (v ∷ []))) t
-
 onward-takes : (v u : Bytes) (w : Step (List Bytes)) (t : Bytes) → onward v u ≡ got w t → length t ≤ length u
 unfolding on
 onward-takes v u w t e =
@@ -112,12 +110,6 @@ name-end : isName 256 ≡ false
 unfolding line-opened
 name-end = refl
 
-abbrev valued : Bytes → Bytes → Got Param
-valued n t = bind (loop valueTurn t) λ vs t. got (param n vs) t
-
-abbrev named : Bytes → Bytes → Got Param
-named n t = bind (one 61 t) λ e t. valued n t
-
 parameter-takes : (s : Bytes) (p : Param) (u : Bytes) → parameter s ≡ got p u → length u ≤ length s
 unfolding parameter word
 parameter-takes s p u e =
@@ -126,9 +118,6 @@ parameter-takes s p u e =
     let k = bind-inv (loop valueTurn (j .1)) (λ vs t. got (param (i .0) vs) t) (j .3) in
     let f : k .1 ≡ u = got-rest (k .3) in
     omega (arith, some-fine isName name-end .less s _ _ (i .2), one-fine 61 refl .less (i .1) _ _ (j .2), values-takes (j .1) _ _ (k .2), ap length f)
-
-abbrev added : Param → Bytes → Got (Step (List Param))
-added p t = got (more (λ ps. p ∷ ps)) t
 
 pub param-shrinks : Shrinks paramTurn
 unfolding paramTurn on

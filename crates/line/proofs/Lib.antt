@@ -1,4 +1,5 @@
 pub mod Opened
+pub mod Shapes
 pub mod Examples
 pub mod Texts
 pub mod Parameters
@@ -10,5 +11,4 @@ pub mod Cards
 pub mod Merging
 pub mod Uppered
 pub mod Named
-pub mod Cases
 pub mod Enough

@@ -1,7 +1,7 @@
 -- One byte more, for the UTF-8 reader's state.
 use mathlib.Core.Path.{_≡_, refl, ap}
 use mathlib.Core.Bool.{Bool, true, false, _||_, not}
-use mathlib.Core.List.{[], _∷_, map}
+use mathlib.Core.List.{map}
 use Prim.Native.Nat.{ℕ, zero, suc, _+_, _-_, _≤_, _<_}
 use native.Mathlib.Omega.{arith}
 use native.Mathlib.Numerals.{add-one}
@@ -9,7 +9,7 @@ use lib.ListN.{length, drop, getD, drop-of-length-le}
 use lib.Seq.{drop-cons}
 use borrow.Author.Tests.{le-leb, lt-leb}
 use Rattle.text.specs.Bytes.{Bytes, between}
-use Rattle.line.proofs.Cases.{range, inRange}
+use Rattle.text.proofs.Cases.{range, inRange}
 use Rattle.text.specs.Utf8.{Due, start, due, broken, atStart, lead, tails, run, next, utf8}
 
 pub run-step : (d : Due) (s : Bytes) (i : ℕ) → i < length s → run d (drop i s) ≡ run (next d (getD s i 0)) (drop (i + 1) s)

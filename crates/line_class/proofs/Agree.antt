@@ -7,7 +7,7 @@ use native.Mathlib.Omega.{arith}
 use mir.Val.{Fits}
 use mir.Syntax.{w8}
 use lib.Dec.{T}
-use lib.ListN.{length, drop, getD}
+use lib.ListN.{drop, getD}
 use lib.Seq.{getD-drop}
 use Rattle.text.specs.Bytes.{Bytes, any, all}
 use Rattle.text.specs.Reader.{taken}

@@ -1,15 +1,15 @@
 -- Bytes that pass a test: one turn of a loop over a run of them, or over all bytes.
-use mathlib.Core.Path.{_≡_, refl, sym, ap, _∙_}
+use mathlib.Core.Path.{_≡_, refl, ap}
 use mathlib.Core.Bool.{Bool, true, false}
-use mathlib.Core.List.{List, [], _∷_}
-use Prim.Native.Nat.{ℕ, zero, suc, _+_, _≤_, _<_}
+use mathlib.Core.List.{[], _∷_}
+use Prim.Native.Nat.{ℕ, suc, _+_, _≤_, _<_}
 use native.Mathlib.Omega.{arith}
 use native.Mathlib.Numerals.{add-one}
 use lib.ListN.{length, take, drop, getD, drop-of-length-le}
 use lib.Seq.{drop-cons}
 use Rattle.text.specs.Bytes.{Bytes, any, all}
 use Rattle.text.specs.Reader.{taken, past}
-use Rattle.line.proofs.Cases.{byBool}
+use Rattle.text.proofs.Cases.{byBool}
 
 taken-cons : (p : ℕ → Bool) (c : ℕ) (s : Bytes) → p c ≡ true → length (taken p (c ∷ s)) ≡ suc (length (taken p s))
 unfolding taken

@@ -2,7 +2,7 @@
 use mathlib.Core.Path.{_≡_, refl, sym, ap, _∙_}
 use mathlib.Core.Bool.{Bool, true, false, _||_}
 use mathlib.Core.List.{List, [], _∷_, _++_, map}
-use mathlib.Core.Option.{Option, none, some}
+use mathlib.Core.Option.{none, some}
 use Prim.Native.Nat.{ℕ, suc, _+_, _-_, _≤_, _<_}
 use native.Mathlib.Omega.{arith}
 use lib.ListN.{length, take, drop, getD, drop-of-length-le}
@@ -10,11 +10,10 @@ use lib.Seq.{take-add, drop-drop, drop-cons}
 use Rattle.text.specs.Choice.{both}
 use Rattle.text.specs.Bytes.{Bytes}
 use Rattle.line.specs.Physical.{byLf, withoutCr, physical, isBegin, isEnd, upToEnd, framed}
-use Rattle.line.proofs.Cases.{split}
+use Rattle.text.proofs.Cases.{split}
 use Rattle.line_frame.specs.declared.Line.{Line}
 use Rattle.line_frame.specs.declared.End.{End}
 use Rattle.line_frame.specs.declared.End.the-variants.{At, Missing}
-use Rattle.line_frame.specs.declared.Frame.{Frame}
 use Rattle.line_frame.specs.declared.Frame.the-variants.{Body, NotOne}
 use Rattle.line_frame.specs.Lines.{LineAt}
 use Rattle.line_frame.specs.Frame.{Ends, Framed}

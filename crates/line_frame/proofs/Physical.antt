@@ -1,20 +1,19 @@
 -- One physical line at the front of the bytes.
 use mathlib.Core.Path.{_≡_, refl, sym, ap, _∙_}
-use mathlib.Core.Bool.{Bool, true, false, not}
-use mathlib.Core.List.{List, [], _∷_, _++_, map, tail, append-assoc}
+use mathlib.Core.Bool.{true, false, not}
+use mathlib.Core.List.{[], _∷_, _++_, tail, append-assoc}
 use Prim.Native.Nat.{ℕ, zero, suc, _+_, _-_, _≤_, _<_}
 use native.Mathlib.Omega.{arith}
 use native.Mathlib.Numerals.{add-one}
 use lib.Dec.{eqb}
-use lib.ListN.{length, take, drop, getD, length-take, length-drop, drop-of-length-le}
-use lib.Seq.{drop-cons, drop-drop, take-suc, getD-take, getD-drop, take-nil, length-take-le, take-take}
-use borrow.Author.Tests.{eq-eqb, ne-eqb, eqb-true, eqb-false, le-leb, lt-leb, not-false}
+use lib.ListN.{length, take, drop, getD, length-drop, drop-of-length-le}
+use lib.Seq.{drop-cons, drop-drop, take-suc, getD-take, getD-drop, length-take-le, take-take}
+use borrow.Author.Tests.{eq-eqb, ne-eqb, eqb-true, eqb-false, le-leb, lt-leb}
 use Rattle.text.specs.Bytes.{Bytes, onHead}
 use Rattle.text.specs.Reader.{taken, past}
 use Rattle.line.specs.Physical.{byLf, withoutCr, physical, lacksLf, sizeOf}
-use Rattle.line.proofs.Cases.{byBool, split}
+use Rattle.text.proofs.Cases.{byBool, split}
 use Rattle.line_class.proofs.Runs.{taken-part, past-part, taken-within}
-use Rattle.line_frame.specs.declared.Line.{Line}
 use Rattle.line_frame.specs.Lines.{notLf, crEnd, LineAt}
 
 -- ---- up to the LF
@@ -26,10 +25,6 @@ is-lf c e = rw e
 pub is-not-lf : (c : ℕ) → (c ≡ 10 → ⊥) → notLf c ≡ true
 unfolding notLf
 is-not-lf c e = rw (ne-eqb c 10 e)
-
-on-head : (c : ℕ) (x : Bytes) (xs : List Bytes) → onHead c (x ∷ xs) ≡ (c ∷ x) ∷ xs
-unfolding onHead
-on-head c x xs = refl
 
 pub by-lf : (c : ℕ) (s : Bytes) → byLf (c ∷ s) ≡ taken notLf (c ∷ s) ∷ byLf (tail (past notLf (c ∷ s)))
 unfolding byLf taken past notLf onHead

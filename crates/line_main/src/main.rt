@@ -27,6 +27,27 @@ fn say_line(line: &[u8]) {
     send(&out, m);
 }
 
+// Says so where the value is no TEXT, and else what it stands for if that is not the value itself.
+fn say_text(line: &[u8], from: usize) {
+    if from > line.len() {
+        return;
+    }
+    let value = &line[from..];
+    if !line_text::is_text(value) {
+        say(b"  a bad escape\n");
+        return;
+    }
+    let mut out = [0u8; 2048];
+    let Wrote::Bytes(m) = line_text::read_text(&mut out, value) else {
+        return;
+    };
+    if m < value.len() {
+        say(b"  ");
+        send(&out, m);
+        say(b"\n");
+    }
+}
+
 fn tell(line: &[u8], number: usize) {
     io::print_decimal(STDOUT_FILENO, number as u64);
     if line_check::is_garbled(line) {
@@ -34,9 +55,10 @@ fn tell(line: &[u8], number: usize) {
         return;
     }
     match line_scan::parse_line(line) {
-        Parsed::Line(_) => {
+        Parsed::Line(head) => {
             say(b" ");
             say_line(line);
+            say_text(line, head.value);
         }
         Parsed::Bad => {
             say(b" off the grammar\n");

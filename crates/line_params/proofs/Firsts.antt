@@ -1,24 +1,24 @@
 -- The first of what a loop reads, and the loop again.
-use mathlib.Core.Path.{_≡_, refl, sym, ap, _∙_}
+use mathlib.Core.Path.{_≡_, sym, ap, _∙_}
 use mathlib.Core.List.{List, [], _∷_}
 use Prim.Native.Nat.{ℕ, _+_, _-_, _≤_, _<_}
 use native.Mathlib.Omega.{arith}
 use lib.ListN.{length, take, drop}
 use Rattle.text.specs.Bytes.{Bytes}
 use Rattle.text.specs.Places.{byteAt}
-use Rattle.text.specs.Reader.{Got, got, bad, bind, under, loop}
+use Rattle.text.specs.Reader.{Got, got, bad, bind, loop}
 use Rattle.text.proofs.Fine.{under-inv, got-rest, got-what}
-use Rattle.line.specs.Grammar.{Param, param, paramValue, valueTurn, parameter, paramTurn}
+use Rattle.line.specs.Grammar.{Param, param, valueTurn, paramTurn}
+use Rattle.line.proofs.Shapes.{added}
 use Rattle.line.proofs.Enough.{loop-more, loop-last, value-shrinks, param-shrinks}
 use Rattle.line_scan.specs.declared.Param.the-variants.{At as Param-At, Bad as Param-Bad}
 use Rattle.line_scan.specs.declared.Param.{Param as Found}
 use Rattle.line_scan.specs.declared.Value.the-variants.{At as Value-At, Bad as Value-Bad}
 use Rattle.line_scan.specs.declared.Value.{Value}
 use Rattle.line_scan.specs.Places.{Fails, ValueRead, ValueAt, ParamRead, ParamAt}
-use Rattle.line_scan.proofs.Reading.{fails-as, fails-bind, reading-from, reading-bad}
 use Rattle.line_scan.proofs.ValueTurns.{at-comma, at-other, values-start, values-bad}
-use Rattle.line_scan.proofs.ParamTurns.{added, at-colon, at-semicolon, params-start, params-off, params-bad}
-use Rattle.line_params.specs.Scan.{First, ParamNext, ParamEnd, ValueNext, ValueLast}
+use Rattle.line_scan.proofs.ParamTurns.{at-colon, at-semicolon, params-start, params-off, params-bad}
+use Rattle.line_params.specs.Scan.{ParamNext, ParamEnd, ValueNext, ValueLast}
 
 -- a reader that fails gives nothing
 fails-not : {A : Type 0} (x : Got A) (a : A) (t : Bytes) → Fails x → x ≡ got a t → ⊥

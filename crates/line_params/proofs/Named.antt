@@ -1,19 +1,18 @@
 -- Parameters by name: one turn of the loops over them.
-use mathlib.Core.Path.{_≡_, refl, sym, ap, _∙_}
+use mathlib.Core.Path.{_≡_, sym, ap, _∙_}
 use mathlib.Core.Bool.{Bool, true, false, _||_}
 use mathlib.Core.List.{List, [], _∷_, _++_, map}
-use Prim.Native.Nat.{ℕ, zero, suc, _+_, _-_, _≤_, _<_}
+use Prim.Native.Nat.{ℕ, _+_, _-_, _≤_}
 use native.Mathlib.Omega.{arith}
-use native.Mathlib.Nat.{add-assoc}
 use lib.ListN.{length, take, drop, length-append}
 use Rattle.text.specs.Choice.{pick}
 use Rattle.text.specs.Bytes.{Bytes, any, same, lowered, flat, keep}
-use Rattle.text.specs.Reader.{Got, got, loop}
+use Rattle.text.specs.Reader.{got, loop}
 use Rattle.line.specs.Grammar.{Param as Param′, param, valueTurn, paramTurn}
 use Rattle.line.specs.Params.{named, valuesNamed}
 use Rattle.line_params.specs.declared.NextParam.{NextParam}
 use Rattle.line_params.specs.declared.NextParam.the-variants.{Param, End}
-use Rattle.line_params.specs.Scan.{First, ParamNext, ParamEnd, NextParamAt, ValueNext, ValueLast, NextValueAt, ValueThere, ValueFrom, ValueNamed, FirstValueAt}
+use Rattle.line_params.specs.Scan.{ParamNext, ParamEnd, NextParamAt, ValueNext, ValueLast, NextValueAt, ValueThere, ValueFrom, ValueNamed, FirstValueAt}
 use Rattle.line_params.specs.declared.NextValue.{NextValue}
 use Rattle.line_params.specs.declared.NextValue.the-variants.{More, Last}
 use Rattle.line_params.specs.declared.FirstValue.{FirstValue}

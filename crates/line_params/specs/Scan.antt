@@ -5,7 +5,7 @@ use mathlib.Core.List.{List, [], _∷_}
 use Prim.Native.Nat.{ℕ, _+_, _-_, _≤_, _<_}
 use lib.ListN.{length, take, drop}
 use Rattle.text.specs.Bytes.{Bytes, any}
-use Rattle.text.specs.Reader.{Got, got, bad, loop}
+use Rattle.text.specs.Reader.{got, loop}
 use Rattle.line.specs.Grammar.{Param as Param′, param, valueTurn, paramTurn}
 use Rattle.line.specs.Params.{named, valuesNamed}
 use Rattle.line_params.specs.declared.NextParam.{NextParam}

@@ -1,8 +1,8 @@
 -- Words and parameters by place, and one turn of the loop over parameters.
 use mathlib.Core.Path.{_≡_, refl, sym, ap, _∙_}
-use mathlib.Core.Bool.{Bool, true, false}
+use mathlib.Core.Bool.{true, false}
 use mathlib.Core.List.{List, [], _∷_, _++_, append-nil}
-use Prim.Native.Nat.{ℕ, zero, suc, _+_, _-_, _≤_, _<_}
+use Prim.Native.Nat.{ℕ, suc, _+_, _-_, _≤_, _<_}
 use native.Mathlib.Omega.{arith}
 use native.Mathlib.Nat.{add-assoc}
 use lib.Dec.{eqb}
@@ -10,18 +10,19 @@ use lib.ListN.{length, take, drop, length-append}
 use borrow.Author.Tests.{eq-eqb, ne-eqb}
 use Rattle.text.specs.Bytes.{Bytes, is}
 use Rattle.text.specs.Places.{byteAt}
-use Rattle.text.specs.Reader.{Got, got, bad, bind, first, on, when, Step, more, last, loop, taken, past, one, some-of}
+use Rattle.text.specs.Reader.{Got, got, bad, bind, first, on, when, Step, last, loop, taken, one, some-of}
 use Rattle.text.proofs.Places.{on-yes, on-no}
 use Rattle.line.specs.Class.{isName}
 use Rattle.line.specs.Grammar.{Param as Param′, param, word, valueTurn, parameter, paramTurn, valueCount}
-use Rattle.line.proofs.Cases.{byBool}
+use Rattle.text.proofs.Cases.{byBool}
 use Rattle.line.proofs.Opened.{line-opened}
+use Rattle.line.proofs.Shapes.{valued, named, added}
 use Rattle.line_scan.specs.declared.Values.{Values}
 use Rattle.line_scan.specs.declared.Values.the-variants.{Upto as Values-Upto, Bad as Values-Bad}
 use Rattle.line_scan.specs.declared.Param.{Param}
 use Rattle.line_scan.specs.declared.Param.the-variants.{At, Bad}
 use Rattle.line_scan.specs.Places.{Fails, ValuesRead, ValuesAt, ParamRead, ParamAt, ParamsRead}
-use Rattle.line_scan.proofs.Reading.{fails-bind, fails-as, run-taken, run-past, run-from, run-within, Reading, reading-from, reading-on, reading-last, reading-bad}
+use Rattle.line_scan.proofs.Reading.{fails-bind, fails-as, run-taken, run-past, Reading, reading-from, reading-on, reading-last, reading-bad}
 
 -- ---- a word
 
@@ -53,13 +54,6 @@ module _ (s : Bytes) (at e : ℕ) (is-end : e ≡ at + length (taken isName (dro
       rw (begins-not (drop at s) l) tt
 
 -- ---- a parameter
-
--- after its name, and after the `=`
-abbrev valued : Bytes → Bytes → Got Param′
-valued n t = bind (loop valueTurn t) λ vs t. got (param n vs) t
-
-abbrev named : Bytes → Bytes → Got Param′
-named n t = bind (one 61 t) λ e t. valued n t
 
 pub no-name : (s : Bytes) (at : ℕ) → Fails (word (drop at s)) → Fails (parameter (drop at s))
 unfolding parameter
@@ -100,9 +94,6 @@ module _ (s : Bytes) (at e c : ℕ) (is-end : e ≡ at + length (taken isName (d
         }
 
 -- ---- one turn
-
-abbrev pub added : Param′ → Bytes → Got (Step (List Param′))
-added p t = got (more (λ ps. p ∷ ps)) t
 
 abbrev ended : ℕ → Bytes → Got (Step (List Param′))
 ended c t = got (last []) t

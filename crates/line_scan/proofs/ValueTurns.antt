@@ -1,27 +1,23 @@
 -- Parameter values by place: one value, and one turn of the loop over them.
-use mathlib.Core.Path.{_≡_, refl, sym, ap, _∙_}
-use mathlib.Core.Bool.{Bool, true, false}
+use mathlib.Core.Path.{_≡_, refl, ap, _∙_}
 use mathlib.Core.List.{List, [], _∷_, _++_}
-use Prim.Native.Nat.{ℕ, zero, suc, _+_, _-_, _≤_, _<_}
+use Prim.Native.Nat.{ℕ, _+_, _-_, _≤_, _<_}
 use native.Mathlib.Omega.{arith}
 use lib.ListN.{length, take, drop, length-append}
 use borrow.Author.Tests.{eq-eqb, ne-eqb}
 use Rattle.text.specs.Bytes.{Bytes, is}
 use Rattle.text.specs.Places.{byteAt}
-use Rattle.text.specs.Reader.{Got, got, bad, bind, on, Step, more, last, loop, taken, one, run-of}
+use Rattle.text.specs.Reader.{got, bad, bind, more, last, loop, taken, one, run-of}
 use Rattle.text.proofs.Places.{on-yes, on-no}
 use Rattle.line.specs.Class.{isBare, isQuotable}
 use Rattle.line.specs.Grammar.{paramValue, valueTurn}
+use Rattle.line.proofs.Shapes.{closing, onward}
 use Rattle.line_scan.specs.Places.{Fails, ValueRead, ValueAt, ValuesRead}
 use Rattle.line_scan.specs.declared.Value.{Value}
 use Rattle.line_scan.specs.declared.Value.the-variants.{At, Bad}
 use Rattle.line_scan.proofs.Reading.{fails-bind, fails-as, run-read, run-from, run-within, Reading, reading-from, reading-on, reading-last, reading-bad}
 
 -- ---- one value
-
--- after the bytes in quotes
-abbrev closing : Bytes → Bytes → Got Bytes
-closing v t = bind (one 34 t) λ q t. got v t
 
 module _ (s : Bytes) (at q : ℕ) (looks : q ≡ byteAt s at) where
   module _ (e c : ℕ) (is-end : e ≡ (at + 1) + length (taken isQuotable (drop (at + 1) s))) (looks-end : c ≡ byteAt s e) where
@@ -58,10 +54,6 @@ module _ (s : Bytes) (at q : ℕ) (looks : q ≡ byteAt s at) where
   }
 
 -- ---- one turn
-
--- after a value
-abbrev onward : Bytes → Bytes → Got (Step (List Bytes))
-onward v t = on (is 44) (λ c t. got (more (λ vs. v ∷ vs)) t) (got (last (v ∷ []))) t
 
 module _ (s : Bytes) (i a b n c : ℕ) (v : ValueRead s i a b n) (looks : c ≡ byteAt s n) where
   abbrev value : Bytes

@@ -1,28 +1,27 @@
 -- Whole lines by place.
 use mathlib.Core.Path.{_≡_, refl, sym, ap, subst, _∙_}
-use mathlib.Core.Bool.{Bool, true, false, _&&_, _||_, not}
-use mathlib.Core.List.{List, [], _∷_}
+use mathlib.Core.Bool.{Bool, true, false, _||_}
+use mathlib.Core.List.{[]}
 use mathlib.Core.Option.{Option, none, some}
 use Prim.Native.Nat.{ℕ, _+_, _-_, _≤_, _<_}
 use native.Mathlib.Omega.{arith}
 use lib.Dec.{leb}
 use lib.ListN.{length, take, drop}
 use borrow.Author.Tests.{eq-eqb, ne-eqb, le-leb, lt-leb}
-use Rattle.text.specs.Choice.{provided}
 use Rattle.text.specs.Bytes.{Bytes, ascii, is, any, same, lowered, among}
 use Rattle.text.specs.Places.{byteAt}
-use Rattle.text.specs.Reader.{Got, got, bad, bind, on, loop, taken}
+use Rattle.text.specs.Reader.{Got, got, bad, bind, loop, taken}
 use Rattle.text.proofs.Places.{on-yes, on-no}
 use Rattle.line.specs.Class.{isName}
-use Rattle.line.specs.Grammar.{Param, Line, word, paramTurn, afterName, lineReader, valueCount, fits, isFrameName, accepted, ofGot, readLine}
+use Rattle.line.specs.Grammar.{Line, word, paramTurn, afterName, lineReader, valueCount, fits, isFrameName, accepted, ofGot, readLine}
+use Rattle.line.proofs.Shapes.{whole, grouped, begun}
 use Rattle.line_scan.specs.declared.Params.{Params}
 use Rattle.line_scan.specs.declared.Params.the-variants.{Upto, Bad}
-use Rattle.line_scan.specs.declared.Head.{Head}
 use Rattle.line_scan.specs.declared.Parsed.{Parsed}
 use Rattle.line_scan.specs.declared.Parsed.the-variants.{Line as Parsed-Line, Bad as Parsed-Bad}
 use Rattle.line_scan.specs.Places.{Fails, ParamsRead, ParamsAt}
-use Rattle.line_scan.specs.Lines.{lineOf, LineRead, LineGives, RestAt}
-use Rattle.line_scan.proofs.Reading.{fails-bind, fails-as, run-from, run-within}
+use Rattle.line_scan.specs.Lines.{lineOf, LineGives, RestAt}
+use Rattle.line_scan.proofs.Reading.{fails-bind}
 use Rattle.line_scan.proofs.ParamTurns.{word-read, word-none}
 
 -- ---- BEGIN and END
@@ -40,9 +39,6 @@ unfolding isFrameName among any
 frame-end n e = rw e (or-false (same (lowered n) (ascii "end")))
 
 -- ---- what was read of a line, or was not
-
-abbrev whole : Bytes → Bytes → List Param → Bytes → Got Line
-whole g n ps t = got (record { group = g; name = n; params = ps; value = t }) []
 
 of-bad : (x : Got Line) → Fails x → ofGot x ≡ none
 of-bad (got l t) h = absurd h
@@ -120,13 +116,6 @@ module _ (s : Bytes) (g a e : ℕ) where
 gives-as : (s : Bytes) (r : Parsed) {want other : Option Line} → want ≡ other → LineGives s other r → LineGives s want r
 gives-as s r e h = subst (λ w. LineGives s w r) (sym e) h
 
--- after the first word, and after a group's dot
-abbrev named : Bytes → Bytes → Got Line
-named w t = bind (word t) (λ n t. afterName w n t)
-
-abbrev begun : Bytes → Bytes → Got Line
-begun w t = on (is 46) (λ c t. named w t) (afterName [] w) t
-
 module _ (s : Bytes) (e : ℕ) (is-end : e ≡ 0 + length (taken isName (drop 0 s))) where
   pub no-word : e ≡ 0 → LineGives s (readLine s) Parsed-Bad
   unfolding readLine lineReader
@@ -146,19 +135,19 @@ module _ (s : Bytes) (e : ℕ) (is-end : e ≡ 0 + length (taken isName (drop 0 
         gives-as s r
         (ap ofGot
         (first-word
-        ∙ on-no (is 46) s e c looks (λ c t. named (take e s) t) (afterName [] (take e s)) (ne-eqb c 46 n)
+        ∙ on-no (is 46) s e c looks (λ c t. grouped (take e s) t) (afterName [] (take e s)) (ne-eqb c 46 n)
         ∙ ap (λ m. afterName [] (take m s) (drop e s)) (sym z)))
         h
 
     module _ (b : ℕ) (is-end₂ : b ≡ (e + 1) + length (taken isName (drop (e + 1) s))) (dot : c ≡ 46) where
-      grouped : lineReader s ≡ named (take e s) (drop (e + 1) s)
-      grouped = first-word ∙ on-yes (is 46) s e c looks (λ c t. named (take e s) t) (afterName [] (take e s)) (eq-eqb c 46 dot)
+      after-dot : lineReader s ≡ grouped (take e s) (drop (e + 1) s)
+      after-dot = first-word ∙ on-yes (is 46) s e c looks (λ c t. grouped (take e s) t) (afterName [] (take e s)) (eq-eqb c 46 dot)
 
       pub no-name : b ≡ e + 1 → LineGives s (readLine s) Parsed-Bad
       unfolding readLine
-      no-name h = ap ofGot grouped ∙ of-bad (named (take e s) (drop (e + 1) s)) (fails-bind (word (drop (e + 1) s)) (λ n t. afterName (take e s) n t) (word-none s (e + 1) b is-end₂ h))
+      no-name h = ap ofGot after-dot ∙ of-bad (grouped (take e s) (drop (e + 1) s)) (fails-bind (word (drop (e + 1) s)) (λ n t. afterName (take e s) n t) (word-none s (e + 1) b is-end₂ h))
 
       pub with-group : (r : Parsed) → (b ≡ e + 1 → ⊥) → RestAt s e (e + 1) b r → LineGives s (readLine s) r
       unfolding readLine
       with-group r n h =
-          gives-as s r (ap ofGot (grouped ∙ ap (λ w. bind w (λ n t. afterName (take e s) n t)) (word-read s (e + 1) b is-end₂ n))) h
+          gives-as s r (ap ofGot (after-dot ∙ ap (λ w. bind w (λ n t. afterName (take e s) n t)) (word-read s (e + 1) b is-end₂ n))) h

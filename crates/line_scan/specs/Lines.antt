@@ -1,11 +1,11 @@
 -- What the scanner of a whole line answers.
 use mathlib.Core.Path.{_≡_}
-use mathlib.Core.List.{List, []}
+use mathlib.Core.List.{List}
 use mathlib.Core.Option.{Option, none, some}
-use Prim.Native.Nat.{ℕ, _+_, _-_, _≤_, _<_}
+use Prim.Native.Nat.{ℕ, _-_, _≤_, _<_}
 use lib.ListN.{length, take, drop}
 use Rattle.text.specs.Bytes.{Bytes}
-use Rattle.text.specs.Reader.{Got, got, bad, loop}
+use Rattle.text.specs.Reader.{got, loop}
 use Rattle.line.specs.Grammar.{Param, Line, paramTurn, afterName, ofGot, readLine}
 use Rattle.line_scan.specs.declared.Head.{Head}
 use Rattle.line_scan.specs.declared.Parsed.{Parsed}

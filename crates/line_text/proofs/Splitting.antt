@@ -1,18 +1,19 @@
 -- Splitting TEXT: one turn of the scanner. What is true of the part that begins later is true of the part that begins here.
 use mathlib.Core.Path.{_≡_, refl, sym, ap, _∙_}
-use mathlib.Core.Bool.{Bool, true, false, _&&_, not}
-use mathlib.Core.List.{List, [], _∷_}
+use mathlib.Core.Bool.{true, false, _&&_, not}
+use mathlib.Core.List.{[], _∷_}
 use Prim.Native.Nat.{ℕ, suc, _+_, _-_, _≤_, _<_}
 use native.Mathlib.Omega.{arith}
 use native.Mathlib.Numerals.{add-one}
-use lib.Dec.{eqb, leb, ltb}
+use lib.Dec.{eqb, ltb}
 use lib.ListN.{length, take, drop, getD, drop-of-length-le}
 use lib.Seq.{drop-cons, take-nil}
-use borrow.Author.Tests.{eqb-true, leb-true, leb-false, lt-ltb, le-ltb, le-leb, lt-leb}
+use borrow.Author.Tests.{lt-ltb, le-ltb, le-leb, lt-leb}
 use Rattle.text.specs.Choice.{pick}
 use Rattle.text.specs.Bytes.{Bytes, onHead}
 use Rattle.line.specs.Text.{splitFrom, splitText}
-use Rattle.line.proofs.Cases.{byBool, split}
+use Rattle.text.proofs.Cases.{byBool, split}
+use Rattle.line.proofs.Shapes.{on-head}
 use Rattle.line_text.specs.Split.{PartEnds, charEnd}
 
 -- ---- what one byte does
@@ -38,10 +39,6 @@ split-last d c b = rw b
 split-nil : (d : ℕ) → splitText d [] ≡ [] ∷ []
 unfolding splitText splitFrom
 split-nil d = refl
-
-on-head : (c : ℕ) (x : Bytes) (xs : List Bytes) → onHead c (x ∷ xs) ≡ (c ∷ x) ∷ xs
-unfolding onHead
-on-head c x xs = refl
 
 -- ---- a part that ends here
 

@@ -1,18 +1,17 @@
 -- Unfolding, one physical line after the other: what is left of the bytes and of the table.
 use mathlib.Core.Path.{_≡_, refl, sym, ap, _∙_}
-use mathlib.Core.Bool.{Bool, true, false, _&&_}
+use mathlib.Core.Bool.{true, false, _&&_}
 use mathlib.Core.List.{List, [], _∷_, _++_, tail, append-assoc}
-use Prim.Native.Nat.{ℕ, zero, suc, _+_, _-_, _≤_, _<_}
+use Prim.Native.Nat.{ℕ, zero, suc, _+_, _-_, _<_}
 use native.Mathlib.Omega.{arith}
 use native.Mathlib.Numerals.{add-one}
 use native.Mathlib.Nat.{add-assoc}
 use lib.Dec.{ltb}
-use lib.ListN.{length, take, drop, length-append}
+use lib.ListN.{length, length-append}
 use borrow.Author.Tests.{lt-ltb}
 use Rattle.text.specs.Bytes.{Bytes, flat}
 use Rattle.text.specs.Reader.{first}
 use Rattle.line.specs.Class.{isBlank}
-use Rattle.line.specs.Physical.{byLf, physical}
 use Rattle.line.specs.Unfold.{rest, unfold′}
 use Rattle.line_unfold.specs.Table.{marks}
 

@@ -2,11 +2,11 @@
 use mathlib.Core.Path.{_≡_, refl, sym, ap, _∙_}
 use mathlib.Core.Bool.{Bool, true, false, _&&_}
 use mathlib.Core.List.{List, [], _∷_, _++_, tail, append-nil}
-use Prim.Native.Nat.{ℕ, zero, suc, _+_, _-_, _≤_, _<_}
+use Prim.Native.Nat.{ℕ, suc, _+_, _-_, _≤_, _<_}
 use native.Mathlib.Omega.{arith}
 use native.Mathlib.Numerals.{add-one}
 use lib.Dec.{ltb}
-use lib.ListN.{length, take, drop, getD, set, drop-of-length-le, length-take, length-drop}
+use lib.ListN.{length, take, drop, getD, set, drop-of-length-le, length-take}
 use lib.Seq.{drop-cons, take-at}
 use borrow.Author.Tests.{ltb-true}
 use Rattle.text.specs.Bytes.{Bytes, flat}
@@ -17,7 +17,7 @@ use Rattle.output.proofs.Rests.{rest-as, rest-byte, rest-all}
 use Rattle.line.specs.Class.{isBlank}
 use Rattle.line.specs.Physical.{byLf, physical}
 use Rattle.line.specs.Unfold.{unfold′}
-use Rattle.line.proofs.Cases.{split}
+use Rattle.text.proofs.Cases.{split}
 use Rattle.line_frame.specs.declared.Line.{Line}
 use Rattle.line_frame.specs.Lines.{LineAt}
 use Rattle.line_unfold.specs.Table.{Adds, Laid, marks}

@@ -1,20 +1,17 @@
 -- The laws of `put`: how writers compose.
 use mathlib.Core.Path.{_≡_, refl, sym, ap, subst, _∙_}
-use Prim.Native.Nat.{ℕ, suc, _+_, _-_, _^_, _≤_, _<_}
-use mir.Val.{Fits}
-use mir.Syntax.{w64}
-use mathlib.Core.List.{List, [], _∷_, _++_, append-assoc, append-nil}
+use Prim.Native.Nat.{ℕ, suc, _+_, _-_, _≤_, _<_}
+use mathlib.Core.List.{[], _∷_, _++_, append-assoc, append-nil}
 use native.Mathlib.Omega.{arith}
 use native.Mathlib.Numerals.{add-one}
-use lib.ListN.{length, take, drop, set, getD, length-append, length-take, length-drop, length-set, drop-of-length-le, take-append-drop}
-use native.Mathlib.Nat.{lt-of-not-le, lt-of-le-of-lt}
+use lib.ListN.{length, take, drop, set, getD, length-append, length-take, length-drop, length-set, drop-of-length-le}
+use native.Mathlib.Nat.{lt-of-not-le}
 use native.Mathlib.Decide.{decLe}
 use borrow.Rule.Slice.PartMut.{midOf, postOf, putMid}
 use lib.Seq.{take-nil, take-all, take-append-add, take-append-le, drop-drop, take-at, drop-at, set-at, drop-cons}
 use borrow.Author.Tests.{le-leb, lt-leb}
 use Rattle.output.specs.declared.Wrote.{Wrote}
 use Rattle.output.specs.declared.Wrote.the-variants.{Bytes as Wrote-Bytes, Full}
-use Rattle.text.specs.Choice.{pick}
 use Rattle.text.specs.Bytes.{Bytes}
 use Rattle.output.specs.Put.{put, answer, Puts, Sofar}
 

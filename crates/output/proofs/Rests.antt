@@ -3,7 +3,7 @@ use mathlib.Core.Path.{_≡_, refl, sym, ap, _∙_}
 use Prim.Native.Nat.{ℕ, _+_, _-_, _^_, _≤_, _<_}
 use mir.Val.{Fits}
 use mir.Syntax.{w64}
-use mathlib.Core.List.{List, [], _∷_, _++_, append-assoc, append-nil}
+use mathlib.Core.List.{[], _∷_, _++_, append-assoc, append-nil}
 use native.Mathlib.Nat.{lt-of-le-of-lt}
 use native.Mathlib.Omega.{arith}
 use lib.ListN.{length, set}
@@ -12,7 +12,7 @@ use Rattle.text.specs.Bytes.{Bytes}
 use Rattle.output.specs.declared.Wrote.{Wrote}
 use Rattle.output.specs.declared.Wrote.the-variants.{Bytes as Wrote-Bytes, Full}
 use Rattle.output.specs.Put.{Puts, Rest}
-use Rattle.output.proofs.Laws.{start, byte, no-byte, done, next, stop, more, puts-as, first}
+use Rattle.output.proofs.Laws.{start, byte, no-byte, done, next, stop, more, puts-as}
 
 pub rest-all : (room whole : Bytes) → Rest room whole whole 0 room
 rest-all room whole = record { x = []; so = start room; rest = refl }

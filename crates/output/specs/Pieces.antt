@@ -1,6 +1,6 @@
 -- Bytes made piece by piece: a piece for each byte, or for each index.
 use Prim.Native.Nat.{ℕ, zero, suc}
-use mathlib.Core.List.{List, [], _∷_, _++_}
+use mathlib.Core.List.{[], _∷_, _++_}
 use Rattle.text.specs.Bytes.{Bytes}
 
 -- f's piece for each byte, in order

@@ -2,8 +2,10 @@
 use mathlib.Core.Path.{_≡_, refl, sym, ap, subst, _∙_}
 use mathlib.Core.Bool.{Bool, true, false, _&&_, _||_, not}
 use mathlib.Core.List.{List, [], _∷_, map, head-eq-of-cons-eq, tail-eq-of-cons-eq}
-use Prim.Native.Nat.{ℕ, zero, suc, _≤_}
+use Prim.Native.Nat.{ℕ, zero, suc, _+_, _≤_, _<_}
 use native.Mathlib.Omega.{arith}
+use native.Mathlib.Nat.{lt-of-not-le}
+use native.Mathlib.Decide.{decLe}
 use lib.Dec.{ltb, leb, eqb}
 use borrow.Author.Tests.{eqb-true, eqb-false, ltb-true, ltb-false, leb-true, leb-false, lt-ltb, le-ltb, le-leb, lt-leb, eq-eqb, ne-eqb}
 use Rattle.text.specs.Choice.{pick}
@@ -127,3 +129,21 @@ module _ (P : ℕ → Type 0) (c : ℕ) where
   pub byKeysP : (ks : List ℕ) → AllOf P ks → (NoneOf c ks → P c) → P c
   byKeysP [] e h = h tt
   byKeysP (k ∷ ks) e h = keyP k (eqb c k) refl (e .0) (λ q. byKeysP ks (e .1) (λ n. h (q, n)))
+
+-- ---- numbers
+
+-- two numbers, one way or the other
+pub split {ℓ} : {P : Type ℓ} (a b : ℕ) → (a ≤ b → P) → (b < a → P) → P
+split a b f g = elim (decLe a b) [ yes h ↦ f h | no h ↦ g (lt-of-not-le h) ]
+
+-- n numbers from lo on, the last one first
+abbrev pub range : ℕ → ℕ → List ℕ
+range lo zero = []
+range lo (suc n) = (lo + n) ∷ range lo n
+
+-- two functions agree at a number of a range: at each of them by computation
+pub inRange {ℓ} : {A : Type ℓ} (F G : ℕ → A) (c lo n : ℕ) → map F (range lo n) ≡ map G (range lo n) → lo ≤ c → c < lo + n → F c ≡ G c
+inRange F G c lo zero e h l = absurd (omega arith)
+inRange F G c lo (suc n) e h l =
+    key F G c (lo + n) (eqb c (lo + n)) refl (head-eq-of-cons-eq e)
+    (λ q. inRange F G c lo n (tail-eq-of-cons-eq e) h (let d : (c ≡ lo + n → ⊥) = eqb-false c (lo + n) q in omega arith))

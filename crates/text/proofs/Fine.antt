@@ -11,25 +11,8 @@ use lib.Dec.{eqb}
 use Rattle.text.specs.Choice.{pick}
 use Rattle.text.specs.Bytes.{Bytes, is}
 use Rattle.text.specs.Reader.{Got, got, bad, bind, under, first, on, when, Step, more, last, after, turns, loop, taken, past, one, some-of, run-of}
-use Rattle.text.proofs.Places.{byBool}
-
--- ---- what is known where a reader gave something
-pub not-bad : {A : Type 0} {s : Bytes} {a : A} {w : Bytes} → bad s ≡ got a w → ⊥
-not-bad e = let r : _≡_ {A = ℕ} 0 1 = cc in omega arith
-
-pub got-rest : {A : Type 0} {a b : A} {s w : Bytes} → got a s ≡ got b w → s ≡ w
-got-rest e = cc
-
-pub got-what : {A : Type 0} {a b : A} {s w : Bytes} → got a s ≡ got b w → a ≡ b
-got-what e = cc
-
-pub bind-inv : {A B : Type 0} (x : Got A) (k : A → Bytes → Got B) {b : B} {w : Bytes} → bind x k ≡ got b w → (a : A) × (t : Bytes) × (x ≡ got a t) × (k a t ≡ got b w)
-bind-inv (got a t) k e = (a, t, refl, e)
-bind-inv (bad t) k e = absurd (not-bad e)
-
-pub under-inv : {A B : Type 0} (f : A → B) (x : Got A) {b : B} {w : Bytes} → under f x ≡ got b w → (a : A) × (x ≡ got a w) × (f a ≡ b)
-under-inv f (got a t) e = (a, ap (got a) (got-rest e), got-what e)
-under-inv f (bad t) e = absurd (not-bad e)
+use Rattle.text.proofs.Cases.{byBool}
+pub use Rattle.text.proofs.Readers.{not-bad, got-rest, got-what, bind-inv, under-inv}
 
 -- ---- a reader takes n bytes at least, and what it leaves does not matter to it
 pub record Fine {A : Type 0} (n : ℕ) (R : Bytes → Got A) : Type 0 where

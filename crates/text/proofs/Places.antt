@@ -18,11 +18,8 @@ use Rattle.text.specs.declared.Turn.the-variants.{Go, Stop}
 use Rattle.text.specs.Choice.{pick}
 use Rattle.text.specs.Bytes.{Bytes, between}
 use Rattle.text.specs.Reader.{Got, got, bad, bind, under, first, on, when, Step, more, last, past}
+pub use Rattle.text.proofs.Cases.{byBool, between-true as between-in}
 use Rattle.text.specs.Places.{byteAt, Within, WithinT, Agree, AgreeT, Gives, GivesT, Passes}
-
-pub byBool : {P : Type 0} (b : Bool) → (b ≡ true → P) → (b ≡ false → P) → P
-byBool true t f = t refl
-byBool false t f = f refl
 
 -- ---- bytes
 -- a byte, whatever stands for the end
@@ -53,13 +50,6 @@ pub tail-drop : (s : Bytes) (i : ℕ) → tail (drop i s) ≡ drop (i + 1) s
 tail-drop [] i = rw (drop-nil i, drop-nil (i + 1))
 tail-drop (c ∷ s) zero = refl
 tail-drop (c ∷ s) (suc i) = rw (add-one (suc i)) (rw (add-one i) at (tail-drop s i))
-
-pub between-in : (lo hi b : ℕ) → between lo hi b ≡ true → (lo ≤ b) × (b ≤ hi)
-unfolding between
-between-in lo hi b e =
-    byBool (leb lo b)
-    (λ p. byBool (leb b hi) (λ q. (leb-true lo b p, leb-true b hi q)) (λ q. let r : false ≡ true = rw (p, q) at e in let z : _≡_ {A = ℕ} 0 1 = cc in absurd (omega arith)))
-    (λ p. let r : false ≡ true = rw p at e in let z : _≡_ {A = ℕ} 0 1 = cc in absurd (omega arith))
 
 -- ---- by the first byte, where the code looked at it
 module _ {A : Type 0} (p : ℕ → Bool) (s : Bytes) (i b : ℕ) (e : b ≡ byteAt s i) where
