@@ -1,0 +1,59 @@
+// The members of an object and the elements of an array of a JSON text, one after the other: after each, `json_marks::separator`
+// tells whether another one follows. Where the grammar does not hold, the places are of no use, and within the text.
+use json_marks::mark;
+use json_marks::skip_space;
+use json_scan::name_end;
+use json_scan::value_end;
+use text::Read;
+ghost use mathlib.Core.Path.{_≡_};
+ghost use Prim.Native.Nat.{_≤_};
+ghost use lib.ListN.{length};
+ghost use Rattle.json_access.specs.Access.{placeOf, Inside, TellsMember, TellsElement};
+
+// The places of a member: of its name, after the first quote, and of its value.
+pub struct Places {
+    pub name: usize,
+    pub start: usize,
+    pub end: usize,
+}
+
+fn place(r: Read) -> usize
+    ensures { λ x. ⌜ x ≡ placeOf r ⌝ }
+{
+    match r {
+        Read::Next(e) => e,
+        Read::Bad(b) => b,
+    }
+}
+
+// The member at a place of an object.
+pub fn member_at(s: &[u8], at: usize, depth: usize) -> Places
+    requires { ⌜ at ≤ length (now s) ⌝ }
+    ensures { λ r. ⌜ Inside at (length (now (s .entry))) r ⌝ }
+    ensures { λ r. ⌜ TellsMember depth (now (s .entry)) at r ⌝ }
+{
+    let q = place(mark(s, at, 34));
+    let v = place(name_end(s, at));
+    let a = skip_space(s, v);
+    let e = place(value_end(s, a, depth));
+    Places {
+        name: q,
+        start: a,
+        end: e,
+    }
+}
+
+// The element at a place of an array: the places of its value. (Its name is no name, but the place itself.)
+pub fn element_at(s: &[u8], at: usize, depth: usize) -> Places
+    requires { ⌜ at ≤ length (now s) ⌝ }
+    ensures { λ r. ⌜ Inside at (length (now (s .entry))) r ⌝ }
+    ensures { λ r. ⌜ TellsElement depth (now (s .entry)) at r ⌝ }
+{
+    let a = skip_space(s, at);
+    let e = place(value_end(s, a, depth));
+    Places {
+        name: at,
+        start: a,
+        end: e,
+    }
+}
