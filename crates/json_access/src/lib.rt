@@ -5,10 +5,11 @@ use json_marks::skip_space;
 use json_scan::name_end;
 use json_scan::value_end;
 use text::Read;
+use text::look;
 ghost use mathlib.Core.Path.{_≡_};
 ghost use Prim.Native.Nat.{_≤_};
 ghost use lib.ListN.{length};
-ghost use Rattle.json_access.specs.Access.{placeOf, Inside, TellsMember, TellsElement};
+ghost use Rattle.json_access.specs.Access.{placeOf, Inside, TellsMember, TellsElement, TellsKind};
 
 // The places of a member: of its name, after the first quote, and of its value.
 pub struct Places {
@@ -56,4 +57,43 @@ pub fn element_at(s: &[u8], at: usize, depth: usize) -> Places
         start: a,
         end: e,
     }
+}
+
+// What a value is.
+pub enum Kind {
+    Null,
+    True,
+    False,
+    Number,
+    String,
+    Array,
+    Object,
+}
+
+// The kind of the value at a place, by its first byte.
+pub fn kind_at(s: &[u8], at: usize) -> Kind
+    requires { ⌜ at ≤ length (now s) ⌝ }
+    ensures { λ r. ⌜ TellsKind (now (s .entry)) at r ⌝ }
+{
+    let i = skip_space(s, at);
+    let b = look(s, i);
+    if b == 91 {
+        return Kind::Array;
+    }
+    if b == 123 {
+        return Kind::Object;
+    }
+    if b == 34 {
+        return Kind::String;
+    }
+    if b == 116 {
+        return Kind::True;
+    }
+    if b == 102 {
+        return Kind::False;
+    }
+    if b == 110 {
+        return Kind::Null;
+    }
+    Kind::Number
 }
