@@ -28,46 +28,14 @@ use Rattle.json.specs.Lookup.{Span, spanOf, spans, given, found, isTree, room, 
 use Rattle.json.proofs.Fine.{name-fine, value-fine, sep-fine}
 use Rattle.json_marks.proofs.Laws.{skip-to}
 use Rattle.json_strings.specs.Spelled.{spelled, spells}
-use Rattle.json_names.proofs.Names.{name-string, name-rest}
 use Rattle.json_names.proofs.Walk.{sep-adds, sep-go, sep-stop, as-object}
 use Rattle.json_read.specs.declared.Verdict.{Verdict}
 use Rattle.json_read.specs.declared.Verdict.the-variants.{Sound, Large, NotJson}
 use Rattle.json_read.specs.Verdict.{verdictOf, verdict}
-use Rattle.json_lookup.specs.declared.Places.{Places}
+use Rattle.json_access.specs.declared.Places.{Places}
+use Rattle.json_access.specs.Access.{TellsMember}
 use Rattle.json_lookup.specs.declared.Part.{Part}
-use Rattle.json_lookup.specs.Finds.{placeOf, Member, Tells, bytesOf, Finds, FindsIn, Locates}
-
--- ---- one member
-past-past : (p : ℕ → Bool) (t : Bytes) → past p (past p t) ≡ past p t
-unfolding past
-past-past p [] = refl
-past-past p (c ∷ t) = byBool (p c) (λ e. rw e (past-past p t)) (λ e. rw (e, e))
-
-value-skip : (d : ℕ) (t : Bytes) → value d (skip t) ≡ value d t
-unfolding value skip
-value-skip zero t = ap scalar (past-past isSpace t)
-value-skip (suc d) t = rw (past-past isSpace t)
-
-pub place-in : {A : Type 0} (s : Bytes) (at : ℕ) (want : Got A) (r : Read) → Gives s at want r → (at ≤ placeOf r) × (placeOf r ≤ length s)
-place-in s at want (Next e) g = g .within
-place-in s at want (Bad b) g = g .within
-
-as-next : {A : Type 0} (s : Bytes) (at : ℕ) (want : Got A) (r : Read) {a : A} {t : Bytes} → Gives s at want r → want ≡ got a t → Gives s at want (Next (placeOf r))
-as-next s at want (Next e) g q = g
-as-next s at want (Bad b) g q = absurd (not-bad (sym (at-bad want g) ∙ q))
-
-module _ (s : Bytes) (at : ℕ) {r₁ r₂ r₃ : Read} (g₁ : Gives s at (token 34 (drop at s)) r₁) (g₂ : Gives s at (name (drop at s)) r₂) where
-  pub member-is : {q v a x : ℕ} → q ≡ placeOf r₁ → v ≡ placeOf r₂ → Passes isSpace s v a → Gives s a (value 15 (drop a s)) r₃ → x ≡ placeOf r₃
-      → (k t : Bytes) → name (drop at s) ≡ got k t → (j : Json) (u : Bytes) → value 15 t ≡ got j u
-      → (spelled s q ≡ decode k) × (skip t ≡ drop a s) × (u ≡ drop x s)
-  unfolding name
-  member-is {q} {v} {a} {x} eq ev h g₃ ex k t e j u w =
-      let n₁ = as-next s at (token 34 (drop at s)) r₁ g₁ (bind-inv (token 34 (drop at s)) _ e .2) in
-      let n₂ = as-next s at (name (drop at s)) r₂ g₂ e in
-      let b : skip t ≡ drop a s = ap skip (name-rest s at k t e (placeOf r₂) n₂ ∙ ap (λ (i : ℕ). drop i s) (sym ev)) ∙ skip-to h in
-      let z : value 15 (drop a s) ≡ got j u = ap (value 15) (sym b) ∙ value-skip 15 t ∙ w in
-      let n₃ = as-next s a (value 15 (drop a s)) r₃ g₃ z in
-      (ap (spelled s) eq ∙ name-string s at k t e (placeOf r₁) n₁, b, got-rest (sym z ∙ at-next (value 15 (drop a s)) n₃ .1) ∙ ap (λ (i : ℕ). drop i s) (sym ex))
+use Rattle.json_lookup.specs.Finds.{bytesOf, Finds, FindsIn, Locates}
 
 -- ---- members
 abbrev spanAt : Bytes → Bytes → Bytes → Span
@@ -128,7 +96,7 @@ matched k m q e = ap (λ (x : Option Bytes). spells x m) e ∙ go (decode k)
     go none = refl
     go (some y) = refl
 
-module _ (s : Bytes) (at : ℕ) (m : Bytes) (i : ℕ) (todo : Todo s at m i) (r : Places) (told : Tells s i r) (b : Bool) (eb : b ≡ spells (spelled s (r .name)) m) where
+module _ (s : Bytes) (at : ℕ) (m : Bytes) (i : ℕ) (todo : Todo s at m i) (r : Places) (told : TellsMember 15 s i r) (b : Bool) (eb : b ≡ spells (spelled s (r .name)) m) where
   pub found-here : b ≡ true → r .start ≤ r .end → r .end ≤ length s → (ps : List Span) (t : Bytes) → loop (spanOf 15) (drop at s) ≡ got ps t
       → take (r .end - r .start) (drop (r .start) s) ≡ partOf s (found (length s) m ps)
   unfolding found partOf

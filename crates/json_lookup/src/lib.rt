@@ -1,58 +1,22 @@
 // The look-up service: a top-level member's value as that very part of the caller's JSON.
+use json_access::member_at;
 use json_equal::equals;
-use json_marks::mark;
 use json_marks::separator;
 use json_marks::skip_space;
 use json_read::Verdict;
 use json_read::read;
-use json_scan::name_end;
-use json_scan::value_end;
-use text::Read;
 use text::Turn;
 use text::look;
 ghost use mathlib.Core.Path.{_≡_};
 ghost use Prim.Native.Nat.{_≤_};
 ghost use lib.ListN.{length};
 ghost use Rattle.json.specs.Lookup.{lookUp, partOf};
-ghost use Rattle.json_lookup.specs.Finds.{placeOf, Inside, Tells, Bounds, Finds, FindsIn, Locates};
+ghost use Rattle.json_lookup.specs.Finds.{Bounds, Finds, FindsIn, Locates};
 
 // A part of a text: from `start` to just before `end`. Nothing is found where they are the same.
 pub struct Part {
     pub start: usize,
     pub end: usize,
-}
-
-// The places of a member: of its name, after the first quote, and of its value.
-pub struct Places {
-    pub name: usize,
-    pub start: usize,
-    pub end: usize,
-}
-
-fn place(r: Read) -> usize
-    ensures { λ x. ⌜ x ≡ placeOf r ⌝ }
-{
-    match r {
-        Read::Next(e) => e,
-        Read::Bad(b) => b,
-    }
-}
-
-// The member at a place of an object. (Where there is none the places are of no use, and within the text.)
-fn member_at(s: &[u8], at: usize) -> Places
-    requires { ⌜ at ≤ length (now s) ⌝ }
-    ensures { λ r. ⌜ Inside at (length (now (s .entry))) r ⌝ }
-    ensures { λ r. ⌜ Tells (now (s .entry)) at r ⌝ }
-{
-    let q = place(mark(s, at, 34));
-    let v = place(name_end(s, at));
-    let a = skip_space(s, v);
-    let e = place(value_end(s, a, 15));
-    Places {
-        name: q,
-        start: a,
-        end: e,
-    }
 }
 
 // The value of the first member of that name, from a member's place of an object on.
@@ -63,7 +27,7 @@ fn find_from<'a, 'b>(s: &'a [u8], at: usize, name: &'b [u8]) -> Part
 {
     let mut i = at;
     loop {
-        let m = member_at(s, i);
+        let m = member_at(s, i, 15);
         let q = m.name;
         let a = m.start;
         let e = m.end;

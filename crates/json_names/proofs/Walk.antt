@@ -268,7 +268,7 @@ module _ (s : Bytes) (i b : ℕ) (e : b ≡ byteAt s i) where
 
   -- a value, by its first byte
   module _ (at : ℕ) (h : Passes isSpace s at i) where
-    as-scalar : (d : ℕ) → (b ≡ 91 → ⊥) → (b ≡ 123 → ⊥) → value d (drop at s) ≡ scalar (drop i s)
+    pub as-scalar : (d : ℕ) → (b ≡ 91 → ⊥) → (b ≡ 123 → ⊥) → value d (drop at s) ≡ scalar (drop i s)
     unfolding value
     as-scalar zero n m = ap scalar (skip-to h)
     as-scalar (suc d) n m = ap (on (is 91) _ _) (skip-to h) ∙ on-no (is 91) s i b e _ _ (ne-eqb _ _ n) ∙ on-no (is 123) s i b e _ _ (ne-eqb _ _ m)
@@ -287,7 +287,7 @@ module _ (s : Bytes) (i b : ℕ) (e : b ≡ byteAt s i) where
     pub judges-scalar : (d : ℕ) → (b ≡ 34 → ⊥) → (b ≡ 91 → ⊥) → (b ≡ 123 → ⊥) → JudgesValue d s at true
     judges-scalar d n m o j t x = scalar-good n j t (sym (as-scalar d m o) ∙ x)
 
-    as-array : (d : ℕ) → (d ≡ 0 → ⊥) → b ≡ 91 → value d (drop at s) ≡ under jarr (elements (value (d - 1)) (drop (i + 1) s))
+    pub as-array : (d : ℕ) → (d ≡ 0 → ⊥) → b ≡ 91 → value d (drop at s) ≡ under jarr (elements (value (d - 1)) (drop (i + 1) s))
     unfolding value
     as-array zero n q = absurd (n refl)
     as-array (suc d) n q = ap (on (is 91) _ _) (skip-to h) ∙ on-yes (is 91) s i b e _ _ (eq-eqb _ _ q) ∙ rw sub-one

@@ -3,10 +3,10 @@ use denote.Ref.{now}
 use mathlib.Core.Path.{ap, sym, _∙_}
 use Prim.Native.Nat.{_≤_}
 use lib.ListN.{length}
-use Rattle.json_lookup.proofs.Laws.{place-in, member-is}
+use Rattle.json_access.proofs.Laws.{place-in, member-is}
 use borrow.Author.Needs.{needs}
-use Rattle.json_lookup.proofs.member_at.Statement.{statement}
-use Rattle.json_lookup.proofs.member_at.Tie as tie
+use Rattle.json_access.proofs.member_at.Statement.{statement}
+use Rattle.json_access.proofs.member_at.Tie as tie
 
 mark-requires : tie.Need-mark-requires
 mark-requires c κs = search needs
@@ -40,7 +40,7 @@ returns c = let p = place-in (now (c .before .before .before .before .before .be
         end-in = omega (arith, r .1, c .place3 .ensures);
       },
       λ k t e j u w.
-          let m = member-is (now (c .before .before .before .before .before .before .before .before .args .s)) (c .before .before .before .before .before .before .before .before .args .at) (c .before .before .before .before .before .before .mark .ensures) (c .before .before .before .before .name-end .ensures) (c .before .before .before .before .before .place .ensures) (c .before .before .before .place2 .ensures) (c .before .before .skip-space .ensures) (c .before .value-end .ensures) (c .place3 .ensures) k t e j u w in
+          let m = member-is (c .before .before .before .before .before .before .before .before .args .depth) (now (c .before .before .before .before .before .before .before .before .args .s)) (c .before .before .before .before .before .before .before .before .args .at) (c .before .before .before .before .before .before .mark .ensures) (c .before .before .before .before .name-end .ensures) (c .before .before .before .before .before .place .ensures) (c .before .before .before .place2 .ensures) (c .before .before .skip-space .ensures) (c .before .value-end .ensures) (c .place3 .ensures) k t e j u w in
           record { spells = m .0; begins = m .1; ends = m .2 },
     )
 

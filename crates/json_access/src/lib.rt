@@ -1,0 +1,99 @@
+// The members of an object and the elements of an array of a JSON text, one after the other: after each, `json_marks::separator`
+// tells whether another one follows. Where the grammar does not hold, the places are of no use, and within the text.
+use json_marks::mark;
+use json_marks::skip_space;
+use json_scan::name_end;
+use json_scan::value_end;
+use text::Read;
+use text::look;
+ghost use mathlib.Core.Path.{_≡_};
+ghost use Prim.Native.Nat.{_≤_};
+ghost use lib.ListN.{length};
+ghost use Rattle.json_access.specs.Access.{placeOf, Inside, TellsMember, TellsElement, TellsKind};
+
+// The places of a member: of its name, after the first quote, and of its value.
+pub struct Places {
+    pub name: usize,
+    pub start: usize,
+    pub end: usize,
+}
+
+fn place(r: Read) -> usize
+    ensures { λ x. ⌜ x ≡ placeOf r ⌝ }
+{
+    match r {
+        Read::Next(e) => e,
+        Read::Bad(b) => b,
+    }
+}
+
+// The member at a place of an object.
+pub fn member_at(s: &[u8], at: usize, depth: usize) -> Places
+    requires { ⌜ at ≤ length (now s) ⌝ }
+    ensures { λ r. ⌜ Inside at (length (now (s .entry))) r ⌝ }
+    ensures { λ r. ⌜ TellsMember depth (now (s .entry)) at r ⌝ }
+{
+    let q = place(mark(s, at, 34));
+    let v = place(name_end(s, at));
+    let a = skip_space(s, v);
+    let e = place(value_end(s, a, depth));
+    Places {
+        name: q,
+        start: a,
+        end: e,
+    }
+}
+
+// The element at a place of an array: the places of its value. (Its name is no name, but the place itself.)
+pub fn element_at(s: &[u8], at: usize, depth: usize) -> Places
+    requires { ⌜ at ≤ length (now s) ⌝ }
+    ensures { λ r. ⌜ Inside at (length (now (s .entry))) r ⌝ }
+    ensures { λ r. ⌜ TellsElement depth (now (s .entry)) at r ⌝ }
+{
+    let a = skip_space(s, at);
+    let e = place(value_end(s, a, depth));
+    Places {
+        name: at,
+        start: a,
+        end: e,
+    }
+}
+
+// What a value is.
+pub enum Kind {
+    Null,
+    True,
+    False,
+    Number,
+    String,
+    Array,
+    Object,
+}
+
+// The kind of the value at a place, by its first byte.
+pub fn kind_at(s: &[u8], at: usize) -> Kind
+    requires { ⌜ at ≤ length (now s) ⌝ }
+    ensures { λ r. ⌜ TellsKind (now (s .entry)) at r ⌝ }
+{
+    let i = skip_space(s, at);
+    let b = look(s, i);
+    if b == 91 {
+        return Kind::Array;
+    }
+    if b == 123 {
+        return Kind::Object;
+    }
+    if b == 34 {
+        return Kind::String;
+    }
+    if b == 116 {
+        return Kind::True;
+    }
+    if b == 102 {
+        return Kind::False;
+    }
+    if b == 110 {
+        return Kind::Null;
+    }
+    Kind::Number
+}
