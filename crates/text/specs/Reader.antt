@@ -46,7 +46,7 @@ unfoldable pub turns : {B : Type 0} → (Bytes → Got (Step B)) → ℕ → Byt
 turns f zero s = bad s
 turns f (suc n) s = bind (f s) (λ w t. after w t (turns f n))
 
--- each turn takes one byte at least, so these turns are enough
+-- every turn but the last takes one byte at least, so these turns are enough
 unfoldable pub loop : {B : Type 0} → (Bytes → Got (Step B)) → Bytes → Got B
 loop f s = turns f (suc (length s)) s
 
