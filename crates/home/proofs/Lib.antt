@@ -80,3 +80,4 @@ pub mod ClassFacts
 pub mod Ordered
 pub mod Gathered
 pub mod CardProper
+pub mod Standing
