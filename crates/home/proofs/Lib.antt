@@ -81,3 +81,4 @@ pub mod Ordered
 pub mod Gathered
 pub mod CardProper
 pub mod Standing
+pub mod LineSays
