@@ -82,3 +82,4 @@ pub mod Gathered
 pub mod CardProper
 pub mod Standing
 pub mod LineSays
+pub mod AllowedLines
