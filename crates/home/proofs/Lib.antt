@@ -83,3 +83,5 @@ pub mod CardProper
 pub mod Standing
 pub mod LineSays
 pub mod AllowedLines
+pub mod AllowedUpper
+pub mod InSections
