@@ -85,3 +85,4 @@ pub mod LineSays
 pub mod AllowedLines
 pub mod AllowedUpper
 pub mod InSections
+pub mod SectionsStand
