@@ -86,3 +86,5 @@ pub mod AllowedLines
 pub mod AllowedUpper
 pub mod InSections
 pub mod SectionsStand
+pub mod EveryLine
+pub mod HomeAgain
