@@ -1,48 +1,41 @@
 -- The normal form of each line is allowed for it.
 use mathlib.Core.Path.{_≡_, refl, sym, ap, _∙_}
-use mathlib.Core.Bool.{Bool, true, false, _&&_, not}
-use mathlib.Core.List.{List, [], _∷_, _++_, append-nil}
-use mathlib.Core.Option.{Option, some}
-use Prim.Native.Nat.{ℕ}
-use lib.ListN.{length}
+use mathlib.Core.Bool.{true, false, _&&_}
+use mathlib.Core.List.{List, [], _∷_, append-nil}
+use mathlib.Core.Option.{some}
 use lib.Dec.{ltb}
-use Rattle.text.specs.Choice.{chain, provided}
+use Rattle.text.specs.Choice.{provided}
 use Rattle.text.specs.Bytes.{Bytes, ascii, any, all, empty, same, among, between, lower, lowered, keep, flat}
-use Rattle.text.specs.Utf8.{utf8}
-use Rattle.text.proofs.Cases.{byBool, and-left, not-both}
-use Rattle.text.proofs.Lists.{all-imply}
+use Rattle.text.proofs.Cases.{byBool, not-both}
 use Rattle.text.proofs.Letters.{lowered-lowered}
 use Rattle.text.proofs.Same.{same-true}
 use Rattle.json.specs.Tree.{Json}
 use Rattle.json.specs.Compact.{compact}
 use Rattle.json.proofs.Trees.{reading-compact}
 use Rattle.line.specs.Grammar.{Param, param, Line}
-use Rattle.line.specs.Params.{named, valuesNamed, lacking, onlyNamed, valueType, besidesValue, merged}
+use Rattle.line.specs.Params.{named, valuesNamed, lacking, onlyNamed, valueType, besidesValue}
 use Rattle.line.specs.Text.{readText, writeText}
 use Rattle.line.proofs.Texts.{read-write}
-use Rattle.line.proofs.Merging.{merged-settled}
-use Rattle.convert.specs.Table.{Map, maps, Slot, slotOf}
+use Rattle.convert.specs.Table.{Slot, slotOf}
 use Rattle.convert.specs.Model.{Entry}
-use Rattle.convert.specs.Value.{filled, isKeyText, readName, writeName, writtenParts}
-use Rattle.convert.specs.Pointer.{pointed}
+use Rattle.convert.specs.Value.{isKeyText, readName, writeName, writtenParts}
 use Rattle.convert.specs.Classify.{nothing, bare, sole, memberName, memberValue, entryOf}
 use Rattle.convert.specs.FromCard.{keptLine}
 use Rattle.convert.specs.FromJson.{keptAsLine}
-use Rattle.convert.specs.ToCard.{entryLine}
 use Rattle.convert.specs.NormalCard.{plainLine, renewed, nameValues, nameText, entryForm, keptForm, propId}
 use Rattle.convert.specs.Answers.{isNamed, onlyUri, misused}
 use Rattle.convert.proofs.Entries.{Proper, entry-read}
 use Rattle.convert.proofs.KeptLines.{ProperKept, kept-line}
-use Rattle.home.specs.Allowed.{plain, Both, withKey, Allowed, uid, kind, full, parts, entry, member, kept}
+use Rattle.home.specs.Allowed.{plain, withKey, Allowed, uid, kind, full, parts, entry, member, kept}
 use Rattle.home.proofs.Known.{onProvided, onChain}
 use Rattle.home.proofs.CleanLines.{CleanLine}
-use Rattle.home.proofs.ReadNames.{NameWell, name-well}
+use Rattle.home.proofs.ReadNames.{name-well}
 use Rattle.home.proofs.CardClasses.{filled-parts, name-back}
 use Rattle.home.proofs.NormalCardParts.{name-read}
 use Rattle.home.proofs.NormalCardRest.{values-besides}
-use Rattle.home.proofs.NormalCardEntries.{rekeyed, entry-key, entry-which, entry-line}
+use Rattle.home.proofs.NormalCardEntries.{entry-key, entry-which, entry-line}
 use Rattle.home.proofs.Slots.{slot-row}
-use Rattle.home.proofs.LineEntries.{Drawn, entry-drawn}
+use Rattle.home.proofs.LineEntries.{entry-drawn}
 use Rattle.home.proofs.Pointed.{value-sound}
 use Rattle.home.proofs.Merged.{merged-none, none-left}
 use Rattle.home.proofs.LineKept.{LineFine, fine}

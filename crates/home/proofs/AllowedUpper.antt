@@ -1,19 +1,19 @@
 -- What is allowed stays allowed in upper-case names, as a line is written.
-use mathlib.Core.Path.{_≡_, refl, ap, _∙_}
+use mathlib.Core.Path.{_≡_, _∙_}
 use mathlib.Core.Bool.{true, _&&_}
 use mathlib.Core.List.{List, [], _∷_, map}
 use mathlib.Core.Option.{some}
-use Rattle.text.specs.Bytes.{Bytes, ascii, empty, same, lowered}
+use Rattle.text.specs.Bytes.{Bytes, ascii, empty}
 use Rattle.text.proofs.Letters.{lowered-uppered}
 use Rattle.line.specs.Grammar.{Param, Line}
 use Rattle.line.specs.Params.{besidesValue}
 use Rattle.line.proofs.Parameters.{upperParam}
 use Rattle.line.proofs.Lines.{upperLine}
 use Rattle.line.proofs.Uppered.{valuesNamed-upper, besidesValue-upper, valueType-upper, onlyNamed-upper}
-use Rattle.convert.specs.Classify.{nothing, bare, memberName, entryOf}
+use Rattle.convert.specs.Classify.{nothing, bare, memberName}
 use Rattle.convert.specs.Answers.{isNamed}
 use Rattle.convert.proofs.Cases.{entry-upper, kept-upper}
-use Rattle.home.specs.Allowed.{plain, Both, withKey, Allowed, uid, kind, full, parts, entry, member, kept}
+use Rattle.home.specs.Allowed.{plain, Allowed, uid, kind, full, parts, entry, member, kept}
 use Rattle.home.proofs.Images.{empty-map}
 
 module _ (h : Line) where

@@ -19,10 +19,10 @@ use Rattle.home.proofs.Ordered.{LineGood, classed-length}
 use Rattle.home.proofs.CardProper.{lines-good}
 use Rattle.home.proofs.LineSays.{class-says}
 use Rattle.home.proofs.InSections.{lines-reordered}
-use Rattle.home.proofs.SectionsStand.{LineSays, sections-stand}
+use Rattle.home.proofs.SectionsStand.{ClassedFine, sections-stand}
 use Rattle.home.proofs.Standing.{stand-reordered}
 
-all-say : (s : Seen) (ls : List Line) → All LineGood ls → All LineSays (classedAfter s ls)
+all-say : (s : Seen) (ls : List Line) → All LineGood ls → All ClassedFine (classedAfter s ls)
 unfolding classedAfter
 all-say s [] h = tt
 all-say s (l ∷ ls) h = ((h .0 .0, class-says s l), all-say (see s (classify s l)) ls (h .1))

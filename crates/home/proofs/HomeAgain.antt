@@ -1,15 +1,15 @@
 -- What demand 2 says of a card that came home, in plain words: every line stands in it, and it comes home again unchanged.
-use mathlib.Core.Path.{_≡_, refl, sym, ap, _∙_}
-use mathlib.Core.Bool.{Bool, true, false, _&&_}
-use mathlib.Core.List.{List, [], _∷_, map}
-use mathlib.Core.Option.{Option, some}
+use mathlib.Core.Path.{_≡_, sym, ap, _∙_}
+use mathlib.Core.Bool.{true, false}
+use mathlib.Core.List.{List, [], map}
+use mathlib.Core.Option.{Option}
 use Prim.Native.Nat.{ℕ}
 use lib.ListN.{length}
 use lib.Dec.{ltb}
 use Rattle.text.specs.Bytes.{Bytes}
 use Rattle.text.proofs.Cases.{and-true}
 use Rattle.line.specs.Grammar.{Line}
-use Rattle.line.specs.Write.{writeLine, writeCard}
+use Rattle.line.specs.Write.{writeCard}
 use Rattle.line.proofs.Lines.{upperLine}
 use Rattle.convert.specs.Model.{Card}
 use Rattle.convert.specs.Classify.{classed}
@@ -17,11 +17,11 @@ use Rattle.convert.specs.FromCard.{cardOfLines}
 use Rattle.convert.specs.ToJson.{printJson}
 use Rattle.convert.specs.ToCard.{cardLines, printCard}
 use Rattle.convert.specs.NormalCard.{normalLines}
-use Rattle.convert.specs.Answers.{Answer, yes, seek, given, cardRoom, lineRoom, jsonRoom, isStemText, isCardNumber, rawLines, linesOf, orNone, fitted, cardToJson, jsonToCard}
+use Rattle.convert.specs.Answers.{yes, seek, given, cardRoom, lineRoom, jsonRoom, isStemText, isCardNumber, linesOf, orNone, fitted, cardToJson, jsonToCard}
 use Rattle.home.specs.Proper.{ProperCard}
 use Rattle.home.specs.Allowed.{AllStand, carriedLines, newLines}
 use Rattle.home.proofs.Seeking.{yes-same, seek-fine, given-false, fitted-inv}
-use Rattle.home.proofs.Accepted.{GoodLines, AcceptedCard, accepted-card}
+use Rattle.home.proofs.Accepted.{AcceptedCard, accepted-card}
 use Rattle.home.proofs.CardLines.{card-unfolded, card-read}
 use Rattle.home.proofs.CardAnswer.{card-to-json}
 use Rattle.home.proofs.NormalCard.{lines-normal}

@@ -1,28 +1,28 @@
 -- The lines of a card in the order of the normal form's sections: the same lines, each as often as it came.
 use mathlib.Core.Path.{_≡_, refl, sym, ap, ap₂, _∙_}
-use mathlib.Core.Bool.{Bool, true, false, _||_, not}
+use mathlib.Core.Bool.{Bool, true, false, not}
 use mathlib.Core.List.{List, [], _∷_, _++_, map, append-assoc, append-nil}
-use mathlib.Core.Option.{none, some}
+use mathlib.Core.Option.{some}
 use Prim.Native.Nat.{ℕ, zero, suc, _+_}
-use lib.Dec.{eqb, ltb}
+use lib.Dec.{eqb}
 use Rattle.text.specs.Choice.{pick}
-use Rattle.text.specs.Bytes.{Bytes, any, lowered, keep, flat}
-use Rattle.text.proofs.Cases.{byBool, byBelow, not-both, not-true, tests, or-left, or-right}
+use Rattle.text.specs.Bytes.{any, lowered, keep, flat}
+use Rattle.text.proofs.Cases.{byBool, not-both, not-true, or-left, or-right}
 use Rattle.text.proofs.Choices.{none-some}
 use Rattle.line.specs.Grammar.{Line}
-use Rattle.convert.specs.Table.{Map, maps, Slot, slotOf}
-use Rattle.convert.specs.Classify.{Class, as-version, as-uid, as-kind, as-dropped, as-full, as-parts, as-entry, as-member, as-kept, Seen, nothing, see, classify, Classed, classedAfter, classed}
-use Rattle.convert.specs.NormalCard.{Section, uids, kinds, fulls, names, members, kepts, map-at, sectionOf, sectionNumber, section}
-use Rattle.home.specs.Allowed.{Into, here, carries, carriedLines}
+use Rattle.convert.specs.Table.{Map, maps}
+use Rattle.convert.specs.Classify.{Class, as-version, as-uid, as-kind, as-dropped, as-full, as-parts, as-entry, as-member, as-kept, Seen, see, classify, Classed, classedAfter}
+use Rattle.convert.specs.NormalCard.{uids, kinds, fulls, names, members, kepts, map-at, sectionOf, sectionNumber, section}
+use Rattle.home.specs.Allowed.{Into, here, carriedLines}
 use Rattle.home.proofs.Alls.{All}
 use Rattle.home.proofs.Slots.{at, slot-row}
 use Rattle.home.proofs.LineSays.{Says, class-says, comes, carries-class}
 use Rattle.home.proofs.Standing.{into-before, Reordered, none-left, one-placed}
 
-abbrev pub ClassSays : Classed → Type 0
+abbrev ClassSays : Classed → Type 0
 ClassSays c = Says (c .line) (c .class)
 
-pub all-say : (s : Seen) (ls : List Line) → All ClassSays (classedAfter s ls)
+all-say : (s : Seen) (ls : List Line) → All ClassSays (classedAfter s ls)
 unfolding classedAfter
 all-say s [] = tt
 all-say s (l ∷ ls) = (class-says s l, all-say (see s (classify s l)) ls)

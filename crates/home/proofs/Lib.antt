@@ -88,3 +88,4 @@ pub mod InSections
 pub mod SectionsStand
 pub mod EveryLine
 pub mod HomeAgain
+pub mod StandsPlainly

@@ -1,22 +1,22 @@
 -- What a line's class says of the line alone, whatever was seen before it; and which lines have none.
-use mathlib.Core.Path.{_≡_, refl, sym, ap, _∙_}
+use mathlib.Core.Path.{_≡_, refl, sym}
 use mathlib.Core.Bool.{Bool, true, false, _&&_, not}
 use mathlib.Core.List.{List, [], _∷_}
 use mathlib.Core.Option.{Option, none, some}
 use Prim.Native.Nat.{ℕ}
 use Rattle.text.specs.Choice.{with-some, provided}
 use Rattle.text.specs.Bytes.{Bytes, ascii, any, empty, same, among, lowered}
-use Rattle.text.proofs.Cases.{byBool, and-left, and-true}
-use Rattle.text.proofs.Choices.{none-some, some-same}
+use Rattle.text.proofs.Cases.{byBool, and-left}
+use Rattle.text.proofs.Choices.{none-some}
 use Rattle.text.proofs.Same.{same-true}
 use Rattle.line.specs.Grammar.{Param, Line}
 use Rattle.line.specs.Params.{valuesNamed, onlyNamed, valueType, besidesValue}
 use Rattle.line.specs.Text.{readText}
 use Rattle.convert.specs.Table.{Slot, slotOf, reserved}
-use Rattle.convert.specs.Value.{isKeyText, readAs, takesType, readName}
+use Rattle.convert.specs.Value.{isKeyText, takesType, readName}
 use Rattle.convert.specs.Pointer.{pointed}
 use Rattle.convert.specs.Model.{Entry}
-use Rattle.convert.specs.Classify.{Class, as-version, as-uid, as-kind, as-dropped, as-full, as-parts, as-entry, as-member, as-kept, Seen, nothing, isId, bare, isDerived, fullClass, partsClass, sole, memberName, memberValue, memberClass, keyFrom, prefFrom, typesFrom, allowed, entryOf, entryClass, classify}
+use Rattle.convert.specs.Classify.{Class, as-version, as-uid, as-kind, as-dropped, as-full, as-parts, as-entry, as-member, as-kept, Seen, nothing, isId, bare, isDerived, fullClass, partsClass, sole, memberName, memberValue, memberClass, keyFrom, allowed, entryOf, entryClass, classify}
 use Rattle.convert.specs.Answers.{isNamed}
 use Rattle.home.specs.Allowed.{plain, carries}
 use Rattle.home.proofs.Known.{onProvided, onChain, onSome}

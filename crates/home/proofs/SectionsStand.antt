@@ -1,6 +1,6 @@
 -- Each section of a card's lines stands in the normal form.
 use mathlib.Core.Path.{_≡_, refl, sym, ap, subst, _∙_}
-use mathlib.Core.Bool.{Bool, true, false, _&&_, _||_}
+use mathlib.Core.Bool.{Bool, true, false}
 use mathlib.Core.List.{List, [], _∷_, _++_, map, append-nil}
 use mathlib.Core.Option.{some}
 use Prim.Native.Nat.{ℕ, zero, suc, _+_, _≤_}
@@ -106,14 +106,14 @@ at-number (map-at i) = let q : 7 + i ≡ suc (suc (suc (suc (suc (suc (suc i))))
 same-section : (a b : Section) → eqb (sectionNumber a) (sectionNumber b) ≡ true → a ≡ b
 same-section a b e = sym (at-number a) ∙ ap sectionAt (eqb-true (sectionNumber a) (sectionNumber b) e) ∙ at-number b
 
-abbrev pub LineSays : Classed → Type 0
-LineSays c = LineFine (c .line) × Says (c .line) (c .class)
+abbrev pub ClassedFine : Classed → Type 0
+ClassedFine c = LineFine (c .line) × Says (c .line) (c .class)
 
 section-first : (n : Section) (l : Line) (c : Class) (cs : List Classed) → section n (record { line = l; class = c } ∷ cs) ≡ pick (eqb (sectionNumber (sectionOf c)) (sectionNumber n)) (l ∷ section n cs) (section n cs)
 unfolding section keep
 section-first n l c cs = byBool (eqb (sectionNumber (sectionOf c)) (sectionNumber n)) (λ e. rw e) (λ e. rw e)
 
-section-fits : (n : Section) (cs : List Classed) → All LineSays cs → All (Fits n) (section n cs)
+section-fits : (n : Section) (cs : List Classed) → All ClassedFine cs → All (Fits n) (section n cs)
 unfolding section keep
 section-fits n [] h = tt
 section-fits n (c ∷ cs) h =
@@ -162,7 +162,7 @@ section-length n cs =
     let p : Classed → Bool = λ (c : Classed). eqb (sectionNumber (sectionOf (c .class))) (sectionNumber n) in
     omega (arith, length-map (λ (c : Classed). c .line) (keep p cs), keep-length p cs)
 
-module _ (cs : List Classed) (h : All LineSays cs) (few : length cs ≤ 512) where
+module _ (cs : List Classed) (h : All ClassedFine cs) (few : length cs ≤ 512) where
   map-stands : (i : ℕ) (m : Map) → at i maps ≡ some m → AllStand [] (section (map-at i) cs) (entryForms m (keys (m .prefix) (map propId (section (map-at i) cs))) (section (map-at i) cs))
   map-stands i m r =
       let ls : List Line = section (map-at i) cs in
@@ -197,7 +197,7 @@ member-stands l (as-entry i e) h ls hs s = rw (elsewhere i 5 refl) s
 member-stands l (as-member n j) h ls hs s = one-more (member-allowed l n j (h .0) (h .1) (h .2) (h .3)) s here
 member-stands l as-kept h ls hs s = s
 
-members-stand : (cs : List Classed) → All LineSays cs → AllStand [] (section members cs) (flat (map memberForm cs))
+members-stand : (cs : List Classed) → All ClassedFine cs → AllStand [] (section members cs) (flat (map memberForm cs))
 unfolding section keep flat
 members-stand [] h = no-more
 members-stand (c ∷ cs) h = rw (section-first members (c .line) (c .class) cs) (member-stands (c .line) (c .class) (h .0 .1) (section members cs) _ (members-stand cs (h .1)))
@@ -211,7 +211,7 @@ newOf stem n cs = plainLine (ascii "version") [] (ascii "4.0") ∷ (whereNone (s
 no-new : (v : Line) (u f : List Line) → v ∷ (u ++ [] ++ f ++ [] ++ [] ++ [] ++ []) ≡ v ∷ (u ++ f)
 no-new v u f = simp append-nil
 
-pub sections-stand : (stem : Bytes) (n : ℕ) (cs : List Classed) → All LineSays cs → length cs ≤ 512 → AllStand (newOf stem n cs) (sectioned cs) (normalLines stem n cs)
+pub sections-stand : (stem : Bytes) (n : ℕ) (cs : List Classed) → All ClassedFine cs → length cs ≤ 512 → AllStand (newOf stem n cs) (sectioned cs) (normalLines stem n cs)
 unfolding normalLines
 sections-stand stem n cs h few =
     let version : Line = plainLine (ascii "version") [] (ascii "4.0") in
