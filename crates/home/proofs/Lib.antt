@@ -89,3 +89,4 @@ pub mod SectionsStand
 pub mod EveryLine
 pub mod HomeAgain
 pub mod StandsPlainly
+pub mod AllowedExample
