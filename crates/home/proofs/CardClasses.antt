@@ -84,7 +84,7 @@ seven P h (a ∷ (b ∷ (c ∷ (d ∷ (e ∷ (f ∷ (g ∷ (x ∷ xs)))))))) q =
 abbrev pub partsGives : List (List Bytes) → Gives
 partsGives ps = record { uid = []; kind = []; full = []; parts = pick (hasParts ps) (ps ∷ []) []; entry = []; member = []; kept = [] }
 
-name-back : (ps : List (List Bytes)) → length ps ≡ 7 → all (all filled) ps ≡ true → apart (part ps 0) (part ps 5) ≡ true → apart (part ps 4) (part ps 6) ≡ true → hasParts ps ≡ true → readName (writeName ps) ≡ some ps
+pub name-back : (ps : List (List Bytes)) → length ps ≡ 7 → all (all filled) ps ≡ true → apart (part ps 0) (part ps 5) ≡ true → apart (part ps 4) (part ps 6) ≡ true → hasParts ps ≡ true → readName (writeName ps) ≡ some ps
 name-back ps q =
     seven (λ ps. all (all filled) ps ≡ true → apart (part ps 0) (part ps 5) ≡ true → apart (part ps 4) (part ps 6) ≡ true → hasParts ps ≡ true → readName (writeName ps) ≡ some ps)
     read-name ps q
@@ -139,7 +139,7 @@ before-alike c =
       members = λ n. among-onto n (c .members) [] ∙ ap (λ (b : Bool). among n (map nameOf (c .members)) || b) (among-none n) ∙ or-none (among n (map nameOf (c .members)));
     }
 
-filled-parts : (pss : List (List Bytes)) → all (all (λ v. filled v && utf8 v)) pss ≡ true → all (all filled) pss ≡ true
+pub filled-parts : (pss : List (List Bytes)) → all (all (λ v. filled v && utf8 v)) pss ≡ true → all (all filled) pss ≡ true
 filled-parts pss h = all-imply (all (λ v. filled v && utf8 v)) (all filled) (λ vs k. all-imply (λ v. filled v && utf8 v) filled (λ v e. and-left (filled v) _ e) vs k) pss h
 
 pub card-classed : (c : Card) → ProperCard c → Section nothing (cardLines c) (cardGives c) (seenBefore c)

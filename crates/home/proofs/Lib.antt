@@ -80,3 +80,13 @@ pub mod ClassFacts
 pub mod Ordered
 pub mod Gathered
 pub mod CardProper
+pub mod Standing
+pub mod LineSays
+pub mod AllowedLines
+pub mod AllowedUpper
+pub mod InSections
+pub mod SectionsStand
+pub mod EveryLine
+pub mod HomeAgain
+pub mod StandsPlainly
+pub mod AllowedExample

@@ -83,7 +83,7 @@ keys-after p used (k ∷ ks) h l a =
     given : empty k ≡ false → isKeyText k ≡ true
     given e = rw e at (and-left (isIdText k) _ a)
 
-keep-length : {A : Type 0} (p : A → Bool) (xs : List A) → length (keep p xs) ≤ length xs
+pub keep-length : {A : Type 0} (p : A → Bool) (xs : List A) → length (keep p xs) ≤ length xs
 unfolding keep
 keep-length p [] = omega arith
 keep-length p (x ∷ xs) = byBool (p x) (λ e. rw e (omega (arith, keep-length p xs))) (λ e. rw e (omega (arith, keep-length p xs)))

@@ -83,6 +83,9 @@ module _ (s : Seen) (w : Slot) (l : Line) (e : Entry) where
       let q = some-same a4 in
       go (e1 ∙ ap (λ (x : Entry). some (x .key)) q) (e2 ∙ ap (λ (x : Entry). some (x .pref)) q) (e3 ∙ ap (λ (x : Entry). some (x .types)) q) (e4 ∙ ap (λ (x : Entry). some (x .texts)) q) (ap (λ (x : Entry). x .which) q)
 
+  pub entry-which : entryOf s w l ≡ some e → w .which ≡ e .which
+  entry-which h = onEntry h λ k p t v n. n
+
   pub entry-key : entryOf s w l ≡ some e → e .key ≡ propId l
   unfolding same
   entry-key h = onEntry h λ k p t v n. key-given s (w .index) _ (e .key) k ∙ ap (joined []) (values-besides (ascii "prop-id") (l .params) refl)

@@ -31,7 +31,7 @@ part-values s vs e =
 parts-values : (ss : List Bytes) (ps : List (List Bytes)) → each partValues ss ≡ some ps → ps ≡ map partTexts ss
 parts-values ss ps e = sym (map-id ps) ∙ each-same partValues (λ v. true) (λ t. t) partTexts (λ v t u r. part-values v t r) ss ps (all-anything ss) e
 
-each-length : {A B : Type 0} (f : A → Option B) (xs : List A) (ys : List B) → each f xs ≡ some ys → length ys ≡ length xs
+pub each-length : {A B : Type 0} (f : A → Option B) (xs : List A) (ys : List B) → each f xs ≡ some ys → length ys ≡ length xs
 each-length f [] ys e = onNone f e λ n. rw (← n)
 each-length f (x ∷ xs) ys e = onEach f x xs e λ z zs p q r. rw (← r) (ap suc (each-length f xs zs q))
 

@@ -1,0 +1,109 @@
+-- What demand 2 says of a card that came home, in plain words: every line stands in it, and it comes home again unchanged.
+use mathlib.Core.Path.{_≡_, sym, ap, _∙_}
+use mathlib.Core.Bool.{true, false}
+use mathlib.Core.List.{List, [], map}
+use mathlib.Core.Option.{Option}
+use Prim.Native.Nat.{ℕ}
+use lib.ListN.{length}
+use lib.Dec.{ltb}
+use Rattle.text.specs.Bytes.{Bytes}
+use Rattle.text.proofs.Cases.{and-true}
+use Rattle.line.specs.Grammar.{Line}
+use Rattle.line.specs.Write.{writeCard}
+use Rattle.line.proofs.Lines.{upperLine}
+use Rattle.convert.specs.Model.{Card}
+use Rattle.convert.specs.Classify.{classed}
+use Rattle.convert.specs.FromCard.{cardOfLines}
+use Rattle.convert.specs.ToJson.{printJson}
+use Rattle.convert.specs.ToCard.{cardLines, printCard}
+use Rattle.convert.specs.NormalCard.{normalLines}
+use Rattle.convert.specs.Answers.{yes, seek, given, cardRoom, lineRoom, jsonRoom, isStemText, isCardNumber, linesOf, orNone, fitted, cardToJson, jsonToCard}
+use Rattle.home.specs.Proper.{ProperCard}
+use Rattle.home.specs.Allowed.{AllStand, carriedLines, newLines}
+use Rattle.home.proofs.Seeking.{yes-same, seek-fine, given-false, fitted-inv}
+use Rattle.home.proofs.Accepted.{AcceptedCard, accepted-card}
+use Rattle.home.proofs.CardLines.{card-unfolded, card-read}
+use Rattle.home.proofs.CardAnswer.{card-to-json}
+use Rattle.home.proofs.NormalCard.{lines-normal}
+use Rattle.home.proofs.WayHome.{written, normalOf, card-is-proper, card-comes-home}
+use Rattle.home.proofs.Respelled.{lines}
+use Rattle.home.proofs.Standing.{stand-map}
+use Rattle.home.proofs.AllowedUpper.{allowed-upper}
+use Rattle.home.proofs.EveryLine.{every-line}
+
+written-inv : (ls : List Line) (b : Bytes) → written ls ≡ yes b → (ltb lineRoom (length ls) ≡ false) × (ltb cardRoom (length b) ≡ false) × (b ≡ writeCard ls)
+unfolding seek
+written-inv ls b e =
+    let i = seek-fine (given 3 (ltb lineRoom (length ls))) [] (fitted cardRoom cardRoom (writeCard ls)) b e in
+    let f = fitted-inv cardRoom cardRoom (writeCard ls) b (i .1) in
+    (given-false 3 (ltb lineRoom (length ls)) (i .0), ap (λ (x : Bytes). ltb cardRoom (length x)) (f .2) ∙ f .0, f .2)
+
+json-fits : (r : Bytes) → ltb jsonRoom (length r) ≡ false → fitted jsonRoom jsonRoom r ≡ yes r
+unfolding fitted seek
+json-fits r h = rw h
+
+-- a card that goes to JSON j and comes home as b: the model between them
+record Way (stem : Bytes) (n : ℕ) (s j b : Bytes) : Type 0 where
+  card : Card
+  proper : ProperCard card
+  json : j ≡ printJson card
+  fits : ltb jsonRoom (length j) ≡ false
+  normal : cardLines card ≡ normalOf stem n s
+  few : ltb lineRoom (length (cardLines card)) ≡ false
+  room : ltb cardRoom (length b) ≡ false
+  home : b ≡ printCard card
+
+module _ (stem : Bytes) (n : ℕ) (s j b : Bytes) (out : cardToJson stem n jsonRoom s ≡ yes j) (back : jsonToCard cardRoom j ≡ yes b) where
+  accepted : AcceptedCard stem n s j
+  accepted = accepted-card stem n jsonRoom s j out
+
+  the-lines : lines s ≡ linesOf (accepted .raw)
+  the-lines = ap (λ (o : Option (List Bytes)). linesOf (orNone o)) (accepted .raws)
+
+  way : Way stem n s j b
+  unfolding printCard
+  way =
+      let ls : List Line = linesOf (accepted .raw) in
+      let normal : cardLines (cardOfLines stem n ls) ≡ normalOf stem n s = lines-normal stem n ls (record { once = accepted .good .once; valued = accepted .good .filled }) ∙ ap (λ (x : List Line). normalLines stem n (classed x)) (sym the-lines) in
+      let w = written-inv (normalOf stem n s) b (sym (card-comes-home stem n s j out) ∙ back) in
+      record {
+        card = cardOfLines stem n ls;
+        proper = card-is-proper stem n (accepted .raw) (accepted .stem-fits) (accepted .good);
+        json = accepted .result;
+        fits = accepted .room;
+        normal = normal;
+        few = ap (λ (x : List Line). ltb lineRoom (length x)) normal ∙ w .0;
+        room = w .1;
+        home = w .2 ∙ ap writeCard (sym normal);
+      }
+
+  -- ---- every line stands in the card that comes home
+
+  home-lines : lines b ≡ map upperLine (normalOf stem n s)
+  home-lines =
+      let c : Card = way .card in
+      ap lines (way .home)
+      ∙ ap (λ (o : Option (List Bytes)). linesOf (orNone o)) (card-unfolded c (way .proper))
+      ∙ card-read c (way .proper)
+      ∙ ap (map upperLine) (way .normal)
+
+  pub every-line-comes-home : AllStand (map upperLine (newLines stem n (lines s))) (carriedLines (lines s)) (lines b)
+  every-line-comes-home =
+      let ls : List Line = linesOf (accepted .raw) in
+      rw (home-lines, the-lines) (stand-map upperLine allowed-upper (every-line stem n (accepted .raw) ls (accepted .good)))
+
+  -- ---- a card that came home comes home unchanged, whatever the stem and number
+
+  pub same-json-again : (stem′ : Bytes) (n′ : ℕ) → isStemText stem′ ≡ true → isCardNumber n′ ≡ true → cardToJson stem′ n′ jsonRoom b ≡ yes j
+  same-json-again stem′ n′ p q =
+      let c : Card = way .card in
+      let f : ltb jsonRoom (length (printJson c)) ≡ false = ap (λ (x : Bytes). ltb jsonRoom (length x)) (sym (way .json)) ∙ way .fits in
+      ap (cardToJson stem′ n′ jsonRoom) (way .home)
+      ∙ card-to-json c (way .proper) (way .few) stem′ n′ jsonRoom (and-true p q) (ap (λ (x : Bytes). ltb cardRoom (length x)) (sym (way .home)) ∙ way .room)
+      ∙ json-fits (printJson c) f
+      ∙ ap yes (sym (way .json))
+
+  pub home-again : (stem′ : Bytes) (n′ : ℕ) (k : Bytes) → cardToJson stem′ n′ jsonRoom b ≡ yes k → jsonToCard cardRoom k ≡ yes b
+  home-again stem′ n′ k e =
+      let a = accepted-card stem′ n′ jsonRoom b k e in
+      ap (jsonToCard cardRoom) (yes-same (sym e ∙ same-json-again stem′ n′ (a .stem-fits) (a .number-fits))) ∙ back

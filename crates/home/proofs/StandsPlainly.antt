@@ -1,0 +1,97 @@
+-- What it says that all lines stand: each line that came has its line, unknown ones unchanged, and there are as many as came.
+use mathlib.Core.Path.{_≡_, refl, sym, subst, _∙_}
+use mathlib.Core.Logic.{inl, inr}
+use mathlib.Core.Bool.{Bool, true, false}
+use mathlib.Core.List.{List, [], _∷_, map}
+use mathlib.Core.Option.{none}
+use Prim.Native.Nat.{ℕ, _+_}
+use lib.ListN.{length}
+use Rattle.text.specs.Bytes.{Bytes, ascii, any, same, among, lowered, keep}
+use Rattle.text.proofs.Cases.{byBool, not-both, or-left, or-right}
+use Rattle.text.proofs.Choices.{none-some}
+use Rattle.line.specs.Grammar.{Line}
+use Rattle.line.proofs.Lines.{upperLine}
+use Rattle.convert.specs.Table.{slotOf}
+use Rattle.convert.specs.FromCard.{keptLine}
+use Rattle.convert.specs.Answers.{yes, cardRoom, jsonRoom, isNamed, cardToJson, jsonToCard}
+use Rattle.home.specs.Allowed.{Allowed, uid, kind, full, parts, entry, member, kept, Into, here, later, AllStand, no-more, one-more, carries, carriedLines, newLines}
+use Rattle.home.proofs.Alls.{In}
+use Rattle.home.proofs.Respelled.{lines}
+use Rattle.home.proofs.Standing.{as-many}
+use Rattle.home.proofs.HomeAgain.{every-line-comes-home}
+
+-- ---- a line has its line
+
+into-there : {A : Type 0} {x : A} {xs ys : List A} → Into x xs ys → In x ys
+into-there here = inl refl
+into-there (later i) = inr (into-there i)
+
+into-others : {A : Type 0} {x : A} {xs ys : List A} (z : A) → Into x xs ys → In z xs → In z ys
+into-others z here h = inr h
+into-others z (later i) (inl e) = inl e
+into-others z (later i) (inr h) = inr (into-others z i h)
+
+pub line-stands : {new ls hs : List Line} (l : Line) → AllStand new ls hs → In l ls → (h : Line) × In h hs × Allowed l h
+line-stands l no-more e = absurd e
+line-stands l (one-more {h = h} a s i) (inl e) = (h, into-there i, subst (λ (x : Line). Allowed x h) (sym e) a)
+line-stands l (one-more a s i) (inr e) = let t = line-stands l s e in (t .0, into-others (t .0) i (t .1), t .2)
+
+keep-there : {A : Type 0} (p : A → Bool) (x : A) (xs : List A) → In x xs → p x ≡ true → In x (keep p xs)
+unfolding keep
+keep-there p x [] h e = h
+keep-there p x (y ∷ ys) (inl q) e = let r : p y ≡ true = subst (λ (z : _). p z ≡ true) q e in rw r (inl q)
+keep-there p x (y ∷ ys) (inr h) e = byBool (p y) (λ r. rw r (inr (keep-there p x ys h e))) (λ r. rw r (keep-there p x ys h e))
+
+-- ---- unknown lines
+
+-- the names that are known besides those of the maps
+abbrev knownNames : List Bytes
+knownNames = ascii "version" ∷ ascii "uid" ∷ ascii "kind" ∷ ascii "fn" ∷ ascii "n" ∷ ascii "jsprop" ∷ []
+
+abbrev pub Unknown : Line → Type 0
+Unknown l = (among (lowered (l .name)) knownNames ≡ false) × (slotOf (lowered (l .name)) ≡ none)
+
+-- none of the names is the line's
+not-named : (l : Line) → Unknown l
+    → (isNamed (ascii "version") l ≡ false) × (isNamed (ascii "uid") l ≡ false) × (isNamed (ascii "kind") l ≡ false) × (isNamed (ascii "fn") l ≡ false) × (isNamed (ascii "n") l ≡ false) × (isNamed (ascii "jsprop") l ≡ false)
+unfolding among any
+not-named l u =
+    let n : Bytes = lowered (l .name) in
+    let a = or-right (same n (ascii "version")) _ (u .0) in
+    let b = or-right (same n (ascii "uid")) _ a in
+    let c = or-right (same n (ascii "kind")) _ b in
+    let d = or-right (same n (ascii "fn")) _ c in
+    let e = or-right (same n (ascii "n")) _ d in
+    (or-left _ _ (u .0), or-left _ _ a, or-left _ _ b, or-left _ _ c, or-left _ _ d, or-left _ _ e)
+
+pub unknown-kept : (l h : Line) → Unknown l → Allowed l h → keptLine h ≡ keptLine l
+unknown-kept l h u (uid b p q e) = not-both (b .0) (not-named l u .1)
+unknown-kept l h u (kind b p q e) = not-both (b .0) (not-named l u .2)
+unknown-kept l h u (full b p q v x y) = not-both (b .0) (not-named l u .3)
+unknown-kept l h u (parts b p q ps x y) = not-both (b .0) (not-named l u .4)
+unknown-kept l h u (entry n w o e k x y q) = none-some (sym (u .1) ∙ o)
+unknown-kept l h u (member b p q n x y j v z) = not-both (b .0) (not-named l u .5)
+unknown-kept l h u (kept e) = e
+
+unknown-carries : (l : Line) → Unknown l → carries l ≡ true
+unfolding carries
+unknown-carries l u = let n = not-named l u in rw (n .0, n .3)
+
+-- ---- of a card that came home
+
+module _ (stem : Bytes) (n : ℕ) (s j b : Bytes) (out : cardToJson stem n jsonRoom s ≡ yes j) (back : jsonToCard cardRoom j ≡ yes b) where
+  stand : AllStand (map upperLine (newLines stem n (lines s))) (carriedLines (lines s)) (lines b)
+  stand = every-line-comes-home stem n s j b out back
+
+  -- each line but VERSION and a derived FN has a line allowed for it
+  pub line-comes-home : (l : Line) → In l (lines s) → carries l ≡ true → (h : Line) × In h (lines b) × Allowed l h
+  unfolding carriedLines
+  line-comes-home l i c = line-stands l stand (keep-there carries l (lines s) i c)
+
+  -- a line of an unknown name is kept as it is
+  pub unknown-comes-home : (l : Line) → In l (lines s) → Unknown l → (h : Line) × In h (lines b) × (keptLine h ≡ keptLine l)
+  unknown-comes-home l i u = let t = line-comes-home l i (unknown-carries l u) in (t .0, t .1, unknown-kept l (t .0) u (t .2))
+
+  -- as many lines as came, and the new ones
+  pub as-many-come-home : length (lines b) ≡ length (carriedLines (lines s)) + length (map upperLine (newLines stem n (lines s)))
+  as-many-come-home = as-many stand
