@@ -1,0 +1,59 @@
+// Compact JSON strings, written into a lent part.
+use output::Wrote;
+use output::put_byte;
+use output::put_text;
+ghost use mathlib.Core.Path.{_≡_};
+ghost use mathlib.Core.List.{_∷_, [], _++_};
+ghost use Prim.Native.Nat.{_<_, _/_, _%_};
+ghost use Rattle.text.specs.Bytes.{ascii};
+ghost use Rattle.output.specs.Put.{Puts};
+ghost use Rattle.json.specs.Compact.{hexDigit, spelled, spelledAll};
+
+fn hex_digit(d: u8) -> u8
+    requires { ⌜ d < 16 ⌝ }
+    ensures { λ r. ⌜ r ≡ hexDigit d ⌝ }
+{
+    if d < 10 { 48 + d } else { 87 + d }
+}
+
+// A byte as \u00 and two lower-case hexadecimal digits.
+fn put_code(out: &mut [u8], b: u8) -> Wrote
+    ensures { λ r. ⌜ Puts (now (out .entry)) (ascii "\\u00" ++ (hexDigit (b / 16) ∷ hexDigit (b % 16) ∷ [])) r (now (out .exit)) ⌝ }
+{
+    let code = [92, 117, 48, 48, hex_digit(b / 16), hex_digit(b % 16)];
+    put_text(out, &code)
+}
+
+// One byte of a string, escaped where it has to be.
+fn put_spelled(out: &mut [u8], b: u8) -> Wrote
+    ensures { λ r. ⌜ Puts (now (out .entry)) (spelled b) r (now (out .exit)) ⌝ }
+{
+    if b == 34 {
+        return put_text(out, b"\\\"");
+    }
+    if b == 92 {
+        return put_text(out, b"\\\\");
+    }
+    if b == 8 {
+        return put_text(out, b"\\b");
+    }
+    if b == 9 {
+        return put_text(out, b"\\t");
+    }
+    if b == 10 {
+        return put_text(out, b"\\n");
+    }
+    if b == 12 {
+        return put_text(out, b"\\f");
+    }
+    if b == 13 {
+        return put_text(out, b"\\r");
+    }
+    if b == 127 {
+        return put_code(out, b);
+    }
+    if b < 32 {
+        return put_code(out, b);
+    }
+    put_byte(out, b)
+}
