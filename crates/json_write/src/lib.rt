@@ -57,3 +57,19 @@ fn put_spelled(out: &mut [u8], b: u8) -> Wrote
     }
     put_byte(out, b)
 }
+
+// The bytes of a string, each escaped where it has to be.
+pub fn put_spelled_all<'a, 'b>(out: &'a mut [u8], s: &'b [u8]) -> Wrote
+    ensures { λ r. ⌜ Puts (now (out .entry)) (spelledAll (now (s .entry))) r (now (out .exit)) ⌝ }
+{
+    let mut i = 0;
+    let mut at = 0;
+    while i < s.len() {
+        let Wrote::Bytes(n) = put_spelled(&mut out[at..], s[i]) else {
+            return Wrote::Full;
+        };
+        at += n;
+        i += 1;
+    }
+    Wrote::Bytes(at)
+}
