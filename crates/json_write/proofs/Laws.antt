@@ -7,8 +7,9 @@ use native.Mathlib.Numerals.{add-one}
 use lib.ListN.{length, getD, drop, drop-of-length-le}
 use lib.Seq.{drop-cons}
 use borrow.Author.Tests.{ne-eqb, lt-ltb, le-ltb}
-use Rattle.text.specs.Bytes.{ascii}
-use Rattle.json.specs.Compact.{hexDigit, spelled, spelledAll}
+use Rattle.text.specs.Bytes.{ascii, flat}
+use Rattle.json.specs.Compact.{hexDigit, spelled, spelledAll, quoted}
+use Rattle.json_write.specs.Quotes.{quote}
 
 pub spelled-del : (b : ℕ) → b ≡ 127 → ascii "\\u00" ++ (hexDigit (b / 16) ∷ hexDigit (b % 16) ∷ []) ≡ spelled b
 unfolding spelled
@@ -31,3 +32,7 @@ spelled-next s i l = rw (drop-cons s i 0 l, add-one i)
 pub spelled-none : (s : List ℕ) (i : ℕ) → length s ≤ i → spelledAll (drop i s) ≡ []
 unfolding spelledAll
 spelled-none s i l = rw (drop-of-length-le s {i = i} l)
+
+pub quoted-is : (s : List ℕ) → flat (quote ∷ spelledAll s ∷ quote ∷ []) ≡ quoted s []
+unfolding flat quoted
+quoted-is s = refl

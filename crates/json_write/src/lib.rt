@@ -5,9 +5,10 @@ use output::put_text;
 ghost use mathlib.Core.Path.{_≡_};
 ghost use mathlib.Core.List.{_∷_, [], _++_};
 ghost use Prim.Native.Nat.{_<_, _/_, _%_};
-ghost use Rattle.text.specs.Bytes.{ascii};
+ghost use Rattle.text.specs.Bytes.{ascii, flat};
 ghost use Rattle.output.specs.Put.{Puts};
-ghost use Rattle.json.specs.Compact.{hexDigit, spelled, spelledAll};
+ghost use Rattle.json.specs.Compact.{hexDigit, spelled, spelledAll, quoted};
+ghost use Rattle.json_write.specs.Quotes.{quote};
 
 fn hex_digit(d: u8) -> u8
     requires { ⌜ d < 16 ⌝ }
@@ -72,4 +73,28 @@ pub fn put_spelled_all<'a, 'b>(out: &'a mut [u8], s: &'b [u8]) -> Wrote
         i += 1;
     }
     Wrote::Bytes(at)
+}
+
+fn put_pieces<'a, 'b>(out: &'a mut [u8], s: &'b [u8]) -> Wrote
+    ensures { λ r. ⌜ Puts (now (out .entry)) (flat (quote ∷ spelledAll (now (s .entry)) ∷ quote ∷ [])) r (now (out .exit)) ⌝ }
+{
+    let Wrote::Bytes(a) = put_byte(out, 34) else {
+        return Wrote::Full;
+    };
+    let Wrote::Bytes(b) = put_spelled_all(&mut out[a..], s) else {
+        return Wrote::Full;
+    };
+    let ab = a + b;
+    let Wrote::Bytes(c) = put_byte(&mut out[ab..], 34) else {
+        return Wrote::Full;
+    };
+    let abc = ab + c;
+    Wrote::Bytes(abc)
+}
+
+// A string with its quotes.
+pub fn put_string<'a, 'b>(out: &'a mut [u8], s: &'b [u8]) -> Wrote
+    ensures { λ r. ⌜ Puts (now (out .entry)) (quoted (now (s .entry)) []) r (now (out .exit)) ⌝ }
+{
+    put_pieces(out, s)
 }
