@@ -1,6 +1,8 @@
-// Reads each card that an argument names as the line library does, and writes what it finds: each good line folded anew.
+// Writes a few parameters. Then reads each card that an argument names as the line library does, and writes what it finds:
+// each good line folded anew, what some of its parameters hold, and its value as TEXT.
 use libc::STDOUT_FILENO;
 use line_frame::Frame;
+use line_params::FirstValue;
 use line_scan::Parsed;
 use line_unfold::Unfolded;
 use output::Wrote;
@@ -27,7 +29,44 @@ fn say_line(line: &[u8]) {
     send(&out, m);
 }
 
-// Says so where the value is no TEXT, and else what it stands for if that is not the value itself.
+// How many values the parameters of that name have, and the first of them.
+fn say_values(line: &[u8], at: usize, name: &[u8]) {
+    if at > line.len() {
+        return;
+    }
+    if !line_params::has_param(line, at, name) {
+        return;
+    }
+    let n = line_params::count_values(line, at, name);
+    say(b"  ");
+    io::print_decimal(STDOUT_FILENO, n as u64);
+    say(b" of ");
+    say(name);
+    if let FirstValue::At(a, b) = line_params::first_value(line, at, name) {
+        say(b": ");
+        say(&line[a..b]);
+    }
+    say(b"\n");
+}
+
+// The TEXT of the first n bytes written, where that takes more.
+fn say_written(read: &[u8], n: usize, semi: bool, label: &[u8]) {
+    if n > read.len() {
+        return;
+    }
+    let mut out = [0u8; 4096];
+    let Wrote::Bytes(m) = line_text::write_text(&mut out, &read[0..n], semi) else {
+        return;
+    };
+    if m > n {
+        say(label);
+        send(&out, m);
+        say(b"\n");
+    }
+}
+
+// Says so where the value is no TEXT. Else what it stands for if that is not the value itself, and that written back,
+// without and with its semicolons escaped.
 fn say_text(line: &[u8], from: usize) {
     if from > line.len() {
         return;
@@ -46,6 +85,8 @@ fn say_text(line: &[u8], from: usize) {
         send(&out, m);
         say(b"\n");
     }
+    say_written(&out, m, false, b"  text ");
+    say_written(&out, m, true, b"  part ");
 }
 
 fn tell(line: &[u8], number: usize) {
@@ -58,6 +99,9 @@ fn tell(line: &[u8], number: usize) {
         Parsed::Line(head) => {
             say(b" ");
             say_line(line);
+            say_values(line, head.end, b"value");
+            say_values(line, head.end, b"type");
+            say_values(line, head.end, b"p");
             say_text(line, head.value);
         }
         Parsed::Bad => {
@@ -134,7 +178,29 @@ fn read(k: usize) {
     card(&buf[..n]);
 }
 
+// Into a room of 11 bytes.
+fn say_param(name: &[u8], value: &[u8]) {
+    let mut out = [0u8; 11];
+    let Wrote::Bytes(m) = line_write::put_param(&mut out, name, value) else {
+        say(b"no room\n");
+        return;
+    };
+    send(&out, m);
+    say(b"\n");
+}
+
+fn examples() {
+    say_param(b"type", b"work");
+    say_param(b"type", b"");
+    say_param(b"Type", b"a;b");
+    say_param(b"type", b"a;bc");
+    say_param(b"jsPTR", b"a");
+    say_param(b"jsptr", b"");
+    say_param(b"jsptrs", b"a");
+}
+
 fn main() {
+    examples();
     let n = os::arg_count();
     let mut k = 1;
     while k < n {

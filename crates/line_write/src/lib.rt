@@ -2,12 +2,13 @@
 ghost use mathlib.Core.Path.{_≡_};
 ghost use Prim.Native.Nat.{_≤_, _^_};
 ghost use mathlib.Core.List.{_∷_, [], _++_};
-ghost use Rattle.text.specs.Bytes.{flat, uppered};
+ghost use Rattle.text.specs.Bytes.{ascii, flat, same, uppered};
 ghost use Rattle.output.specs.Put.{Puts};
 ghost use Rattle.line.specs.Write.{writeValue, width, breaks, fold};
 ghost use Rattle.line_write.specs.Fold.{piece, columnAfter};
 use line_class::Class;
 use line_class::all_of;
+use line_name::is_named;
 use line_name::upper_of;
 use output::Wrote;
 use output::put_byte;
@@ -75,6 +76,28 @@ pub fn put_param_name(out: &mut [u8], name: &[u8]) -> Wrote
     };
     let abc = ab + c;
     Wrote::Bytes(abc)
+}
+
+// The value of the parameter of that name: in quotes where they are needed, and always for JSPTR.
+fn put_value_of(out: &mut [u8], name: &[u8], v: &[u8]) -> Wrote
+    ensures { λ r. ⌜ Puts (now (out .entry)) (writeValue (same (uppered (now (name .entry))) (ascii "JSPTR")) (now (v .entry)) []) r (now (out .exit)) ⌝ }
+{
+    let always = is_named(name, b"jsptr");
+    put_value(out, v, always)
+}
+
+// A parameter with one value: `;NAME=value`
+pub fn put_param(out: &mut [u8], name: &[u8], v: &[u8]) -> Wrote
+    ensures { λ r. ⌜ Puts (now (out .entry)) (59 ∷ (uppered (now (name .entry)) ++ 61 ∷ writeValue (same (uppered (now (name .entry))) (ascii "JSPTR")) (now (v .entry)) [])) r (now (out .exit)) ⌝ }
+{
+    let Wrote::Bytes(a) = put_param_name(out, name) else {
+        return Wrote::Full;
+    };
+    let Wrote::Bytes(b) = put_value_of(&mut out[a..], name, v) else {
+        return Wrote::Full;
+    };
+    let ab = a + b;
+    Wrote::Bytes(ab)
 }
 
 // The bytes of a character, by its first; 0 for a later byte of one.

@@ -9,6 +9,9 @@ Inv-loop n k₀ k = Unit {0}
 abbrev μ-loop : tie.MeasureT-loop
 μ-loop n k₀ k = n - k
 
+examples-requires : tie.Need-examples-requires Inv-loop μ-loop
+examples-requires c κs = search needs
+
 arg-count-requires : tie.Need-arg-count-requires Inv-loop μ-loop
 arg-count-requires c κs = search needs
 
@@ -36,6 +39,7 @@ main-spec =
     (tie.spec
     Inv-loop
     μ-loop
+    examples-requires
     arg-count-requires
     loop-holds
     read-requires
