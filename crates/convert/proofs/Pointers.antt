@@ -51,7 +51,7 @@ slash-pointer : (m : Bytes) → pointer (47 ∷ m) ≡ 126 ∷ 49 ∷ pointer m
 unfolding pointer
 slash-pointer m = refl
 
-no-pointer : pointer [] ≡ []
+pub no-pointer : pointer [] ≡ []
 unfolding pointer
 no-pointer = refl
 

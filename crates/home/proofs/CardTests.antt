@@ -4,7 +4,7 @@ use mathlib.Core.Bool.{Bool, true, false, _&&_, _||_}
 use mathlib.Core.List.{List, [], _∷_, _++_, map}
 use mathlib.Core.Option.{Option, none, some}
 use Prim.Native.Nat.{ℕ, suc}
-use lib.ListN.{length}
+use lib.ListN.{length, length-map}
 use lib.Dec.{ltb}
 use Rattle.text.specs.Choice.{with-some}
 use Rattle.text.specs.Bytes.{Bytes, ascii, any, all, empty, same, among, lower, lowered, upper, uppered, between, keep, flat}
@@ -25,6 +25,7 @@ use Rattle.convert.specs.Value.{filled, writeName}
 use Rattle.convert.specs.FromJson.{isLowerWord, seenIn}
 use Rattle.convert.specs.ToCard.{property, whereFilled, derivedLine, fullLine, cardLines}
 use Rattle.convert.specs.Answers.{Answer, fine, lineRoom, seek, given, firstFrom, atLine, garbled, ungrammatical, isNamed, isVersionLine, versionFirst, onlyUri, misused, secondFrom, emptied, lineTests}
+use Rattle.convert.proofs.Cases.{empty-upper}
 use Rattle.home.specs.Proper.{ProperCard}
 use Rattle.home.proofs.LowerWords.{names-lower}
 use Rattle.home.proofs.Rows.{rows}
@@ -54,18 +55,14 @@ unfolding any named
 upper-named n [] = refl
 upper-named n (param m vs ∷ ps) = rw (lowered-uppered m, upper-named n ps)
 
-upper-empty : (ps : List Param) → empty (map upperParam ps) ≡ empty ps
-upper-empty [] = refl
-upper-empty (p ∷ ps) = refl
-
 misused-upper : (l : Line) → misused (upperLine l) ≡ misused l
 unfolding misused onlyUri
 misused-upper l =
     rw (
       lowered-uppered (l .name),
-      upper-empty (l .params),
+      empty-upper (l .params),
       besidesValue-upper (l .params),
-      upper-empty (besidesValue (l .params)),
+      empty-upper (besidesValue (l .params)),
       valueType-upper (l .params),
       upper-named (ascii "group") (l .params),
       valuesNamed-upper (ascii "value") (l .params),
@@ -208,10 +205,6 @@ fn-there c =
 
 -- ---- all tests
 
-length-map : {A B : Type 0} (f : A → B) (xs : List A) → length (map f xs) ≡ length xs
-length-map f [] = refl
-length-map f (x ∷ xs) = ap suc (length-map f xs)
-
 module _ (c : Card) (p : ProperCard c) where
   none-garbled : atLine 4 garbled (map writeLine (cardLines c)) ≡ fine
   none-garbled = no-line 4 garbled writeLine (cardLines c) (each-imply Fair (λ l. garbled (writeLine l) ≡ false) fair-garbled (cardLines c) (card-fair c p))
@@ -235,7 +228,7 @@ module _ (c : Card) (p : ProperCard c) where
 
   pub card-tests : lineTests (map writeLine (cardLines c)) (map upperLine (cardLines c)) ≡ given 3 (ltb lineRoom (length (cardLines c))) ∷ fine ∷ fine ∷ fine ∷ fine ∷ fine ∷ fine ∷ fine ∷ []
   unfolding lineTests
-  card-tests = rw (length-map writeLine (cardLines c), none-garbled, all-grammatical, versioned, none-misused, no-second, none-emptied, fn-there c)
+  card-tests = rw (length-map (cardLines c) writeLine, none-garbled, all-grammatical, versioned, none-misused, no-second, none-emptied, fn-there c)
 
   -- where the lines are not too many, no test stops the answer
   pub card-answered : ltb lineRoom (length (cardLines c)) ≡ false → (a : Answer) → seek (lineTests (map writeLine (cardLines c)) (map upperLine (cardLines c))) a ≡ a

@@ -59,7 +59,7 @@ pub utf8-none : utf8 [] ≡ true
 unfolding utf8 run
 utf8-none = refl
 
-ascii-run : (s : Bytes) → all isAscii s ≡ true → run start s ≡ start
+pub ascii-run : (s : Bytes) → all isAscii s ≡ true → run start s ≡ start
 unfolding run
 ascii-run [] h = refl
 ascii-run (c ∷ s) h = ap (λ (d : Due). run d s) (ascii-next c (all-head isAscii c s h)) ∙ ascii-run s (all-tail isAscii c s h)

@@ -1,7 +1,7 @@
 -- A line that is kept stays kept where more was seen.
 use mathlib.Core.Path.{_≡_, refl, sym, ap, subst, _∙_}
 use mathlib.Core.Logic.{_⊎_, inl, inr}
-use mathlib.Core.Bool.{Bool, true, false, _&&_, _||_, not}
+use mathlib.Core.Bool.{Bool, true, false, _&&_, _||_, not, and-false}
 use mathlib.Core.List.{List, [], _∷_, _++_}
 use mathlib.Core.Option.{Option, none, some}
 use Prim.Native.Nat.{ℕ}
@@ -32,10 +32,6 @@ pub record Covers (t s : Seen) : Type 0 where
 -- what is not seen in t was not seen in s
 unseen : {a b : Bool} → (a ≡ true → b ≡ true) → b ≡ false → a ≡ false
 unseen {a} {b} f e = byBool a (λ q. not-both (f q) e) (λ q. q)
-
-and-false : (a : Bool) → a && false ≡ false
-and-false true = refl
-and-false false = refl
 
 not-kept {ℓ} : {P : Type ℓ} {c : Class} → isKept c ≡ false → c ≡ as-kept → P
 not-kept q e = not-both (ap isKept e) q

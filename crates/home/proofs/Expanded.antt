@@ -15,17 +15,8 @@ use Rattle.text.proofs.Characters.{run-append, utf8-run, run-utf8, not-start, l
 use Rattle.json.specs.Compact.{spelled, spelledAll}
 use Rattle.line.specs.Text.{escape, writeText}
 use Rattle.convert.specs.Pointer.{pointer}
-
-abbrev pub isAscii : ℕ → Bool
-isAscii c = ltb c 128
-
-ascii-run : (s : Bytes) → all isAscii s ≡ true → run start s ≡ start
-unfolding run next lead
-ascii-run [] h = refl
-ascii-run (c ∷ s) h = rw (all-head isAscii c s h) (ascii-run s (all-tail isAscii c s h))
-
-pub ascii-utf8 : (s : Bytes) → all isAscii s ≡ true → utf8 s ≡ true
-ascii-utf8 s h = run-utf8 s (ascii-run s h)
+use Rattle.convert.proofs.Pointers.{no-pointer}
+use Rattle.home.proofs.Clean.{isAscii, ascii-run}
 
 low-lead : (c : ℕ) → isAscii c ≡ true → lead c ≡ start
 unfolding lead
@@ -95,10 +86,6 @@ text-all k = expand-all (escape k) (writeText k) (text-none k) (text-step k)
 abbrev coded : ℕ → Bytes
 coded c = pick (eqb c 126) (126 ∷ 48 ∷ []) (pick (eqb c 47) (126 ∷ 49 ∷ []) (c ∷ []))
 
-pointer-none : pointer [] ≡ []
-unfolding pointer
-pointer-none = refl
-
 pointer-step : (c : ℕ) (s : Bytes) → pointer (c ∷ s) ≡ coded c ++ pointer s
 unfolding pointer
 pointer-step c s = refl
@@ -111,10 +98,10 @@ coded-high : (c : ℕ) → isAscii c ≡ false → coded c ≡ c ∷ []
 coded-high c l = let h = ltb-false c 128 l in rw (ne-eqb c 126 (omega arith), ne-eqb c 47 (omega arith))
 
 pub pointer-utf8 : (s : Bytes) → utf8 s ≡ true → utf8 (pointer s) ≡ true
-pointer-utf8 = expand-utf8 coded pointer pointer-none pointer-step (coded-all isAscii refl refl refl) coded-high
+pointer-utf8 = expand-utf8 coded pointer no-pointer pointer-step (coded-all isAscii refl refl refl) coded-high
 
 pub pointer-all : (q : ℕ → Bool) → q 126 ≡ true → q 48 ≡ true → q 49 ≡ true → (s : Bytes) → all q s ≡ true → all q (pointer s) ≡ true
-pointer-all q a b d = expand-all coded pointer pointer-none pointer-step q q (coded-all q a b d)
+pointer-all q a b d = expand-all coded pointer no-pointer pointer-step q q (coded-all q a b d)
 
 -- ---- JSON strings
 

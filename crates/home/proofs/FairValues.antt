@@ -17,9 +17,10 @@ use Rattle.convert.specs.Model.{part}
 use Rattle.convert.specs.Value.{headOr, isTelUri, writeAs, writtenParts, writeName}
 use Rattle.convert.specs.Carry.{carriedRaw, carriedText, carriedParam, carriedAs}
 use Rattle.convert.specs.Pointer.{pointer}
-use Rattle.home.proofs.Expanded.{isAscii, ascii-utf8, pointer-utf8, pointer-all}
+use Rattle.home.proofs.Expanded.{pointer-utf8, pointer-all}
 use Rattle.home.proofs.WrittenClean.{Clean, AllClean, isPrinted, clean-joined, raw-clean, text-clean}
 use Rattle.home.proofs.Fair.{fairValue}
+use Rattle.home.proofs.Clean.{isAscii, ascii-utf8}
 
 -- ---- parameter values
 

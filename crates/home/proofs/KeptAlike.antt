@@ -5,6 +5,7 @@ use mathlib.Core.List.{List, [], _∷_, _++_, map}
 use mathlib.Core.Option.{Option, none, some}
 use Rattle.text.specs.Choice.{pick, with-some, chain, provided}
 use Rattle.text.specs.Bytes.{Bytes, ascii, empty, same, lowered}
+use Rattle.text.proofs.Letters.{lowered-empty}
 use Rattle.line.specs.Grammar.{Param, param, Line}
 use Rattle.line.specs.Params.{named, valuesNamed, lacking, onlyNamed, valueType, besidesValue, merged}
 use Rattle.convert.specs.Table.{Slot, slotOf}
@@ -56,11 +57,6 @@ module _ (s : Seen) (l m : Line) (a : Alike l m) where
 pub filled-besides : (ps : List Param) → All Filled ps → All Filled (besidesValue ps)
 unfolding besidesValue lacking
 filled-besides ps h = all-kept Filled (λ p. not (named (ascii "value") p)) ps h
-
-lowered-empty : (s : Bytes) → empty (lowered s) ≡ empty s
-unfolding lowered
-lowered-empty [] = refl
-lowered-empty (c ∷ s) = refl
 
 pub kept-alike : (l m : Line) → All Filled (l .params) → All Filled (m .params) → keptLine l ≡ keptLine m → Alike l m
 unfolding keptLine

@@ -11,7 +11,7 @@ use lib.Dec.{eqb, ltb, leb}
 use borrow.Author.Tests.{eqb-true, eq-eqb}
 use Rattle.text.specs.Choice.{pick}
 use Rattle.text.specs.Bytes.{Bytes, any, all, empty, same, among, distinct, between, keep}
-use Rattle.text.proofs.Cases.{byBool, and-left, and-right, and-true, not-both}
+use Rattle.text.proofs.Cases.{byBool, and-left, and-right, and-true, not-both, or-second}
 use Rattle.text.proofs.Same.{same-true, same-self, among-head, among-later}
 use Rattle.text.proofs.Choices.{none-some, some-same}
 use Rattle.text.proofs.Lists.{all-head, all-tail, all-cons, any-append}
@@ -158,10 +158,6 @@ id-here i k (e ∷ es) h = byBool (same k (e .key)) (λ q. rw (eq-eqb i i refl, 
 
 or-first : (a b : Bool) → a ≡ true → a || b ≡ true
 or-first a b e = rw e
-
-or-second : (a b : Bool) → b ≡ true → a || b ≡ true
-or-second true b e = refl
-or-second false b e = e
 
 ids-have : (j n : ℕ) (ms : List Map) (m : Map) (ps : List Placed) (k : Bytes) → at n ms ≡ some m → empty k ≡ false → among k (map keyOf (inMap (j + n) ps)) ≡ true
     → any (isId (j + n) k) (idsFrom j (mapsFrom j ms ps)) ≡ true

@@ -10,7 +10,7 @@ use lib.Dec.{eqb, ltb}
 use borrow.Author.Tests.{lt-ltb}
 use Rattle.text.specs.Choice.{pick, chain, provided}
 use Rattle.text.specs.Bytes.{Bytes, ascii, any, all, empty, same, among, lowered, parts, flat, keep, each}
-use Rattle.text.proofs.Cases.{byBool, and-left, and-right, not-both}
+use Rattle.text.proofs.Cases.{byBool, and-left, and-right, not-both, or-second}
 use Rattle.text.proofs.Choices.{none-some, some-same, provided-inv, chain-inv, map-inv}
 use Rattle.text.proofs.Same.{same-true}
 use Rattle.text.proofs.Lists.{all-none, keep-none}
@@ -37,17 +37,13 @@ pub record Drawn (m : Map) (e : Entry) : Type 0 where
 
 -- ---- PROP-ID: none, or a key text that is new
 
-or-later : (a b : Bool) → b ≡ true → a || b ≡ true
-or-later true b e = refl
-or-later false b e = e
-
 pub key-inv : (s : Seen) (i : ℕ) (ks : List Bytes) (k : Bytes) → keyFrom s i ks ≡ some k
     → (empty k || isKeyText k ≡ true) × (empty k || not (any (isId i k) (s .ids)) ≡ true)
 key-inv s i [] k e = subst (λ (k : Bytes). (empty k || isKeyText k ≡ true) × (empty k || not (any (isId i k) (s .ids)) ≡ true)) (some-same e) (refl, refl)
 key-inv s i (j ∷ []) k e =
     let p = provided-inv (isKeyText j && not (any (isId i j) (s .ids))) (some j) e in
     subst (λ (k : Bytes). (empty k || isKeyText k ≡ true) × (empty k || not (any (isId i k) (s .ids)) ≡ true)) (some-same (p .1))
-    (or-later (empty j) _ (and-left (isKeyText j) _ (p .0)), or-later (empty j) _ (and-right (isKeyText j) _ (p .0)))
+    (or-second (empty j) _ (and-left (isKeyText j) _ (p .0)), or-second (empty j) _ (and-right (isKeyText j) _ (p .0)))
 key-inv s i (j ∷ (l ∷ ks)) k e = none-some e
 
 -- ---- PREF: none where the map takes no types
@@ -61,7 +57,7 @@ pref-text : (vs : List Bytes) (p : Bytes) → prefFrom vs ≡ some p → empty p
 pref-text [] p e = ap (λ (p : Bytes). empty p || isPref p) (sym (some-same e))
 pref-text (q ∷ []) p e =
     let i = provided-inv (isPref q) (some q) e in
-    or-later (empty p) (isPref p) (ap isPref (sym (some-same (i .1))) ∙ i .0)
+    or-second (empty p) (isPref p) (ap isPref (sym (some-same (i .1))) ∙ i .0)
 pref-text (q ∷ (r ∷ rs)) p e = none-some e
 
 no-pref : (vs : List Bytes) (p : Bytes) → vs ≡ [] → prefFrom vs ≡ some p → empty p ≡ true

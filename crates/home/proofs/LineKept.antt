@@ -5,7 +5,7 @@ use mathlib.Core.Bool.{Bool, true, false, _&&_, _||_, not}
 use mathlib.Core.List.{List, [], _∷_, _++_, map}
 use Prim.Native.Nat.{ℕ, suc, _+_, _≤_}
 use native.Mathlib.Omega.{arith}
-use lib.ListN.{length}
+use lib.ListN.{length, length-append}
 use lib.Dec.{eqb, ltb, leb}
 use borrow.Author.Tests.{le-leb, leb-true}
 use Rattle.text.specs.Choice.{pick}
@@ -18,7 +18,7 @@ use Rattle.text.proofs.Lists.{all-not}
 use Rattle.line.specs.Class.{isName, isLowerName, isControl}
 use Rattle.line.specs.Grammar.{Param, param, paramName, paramValues, Line, valueCount, fits, isFrameName, accepted}
 use Rattle.line.specs.Params.{named, valuesNamed, lacking, firstOr, valueType, besidesValue, merged}
-use Rattle.line.proofs.Merging.{Settled, merged-settled}
+use Rattle.line.proofs.Merging.{Settled, merged-settled, none-left}
 use Rattle.line.proofs.Parameters.{isWord}
 use Rattle.convert.specs.Model.{Kept}
 use Rattle.convert.specs.Value.{filled}
@@ -35,7 +35,7 @@ use Rattle.home.proofs.Stands.{lowerParam}
 use Rattle.home.proofs.Clean.{isAscii, Clean}
 use Rattle.home.proofs.CleanLines.{name-ascii, CleanValue, CleanParam, CleanLine}
 use Rattle.home.proofs.CleanTexts.{clean-raw}
-use Rattle.home.proofs.Merged.{Holds, Filled, none-left, lacking-none, merged-none, merged-hold, split-count, lacking-length, lacking-one-less, merged-length, merged-count}
+use Rattle.home.proofs.Merged.{Holds, Filled, lacking-none, merged-none, merged-hold, split-count, lacking-length, lacking-one-less, merged-length, merged-count}
 use Rattle.home.proofs.KeptAlike.{class-alike, kept-alike}
 
 -- a line that no refusal names
@@ -96,10 +96,6 @@ module _ (l : Line) where
 
 abbrev valueParam : Bytes → List Param
 valueParam t = pick (same t (ascii "unknown")) [] (param (ascii "value") (t ∷ []) ∷ [])
-
-length-append : (ps qs : List Param) → length (ps ++ qs) ≡ length ps + length qs
-length-append [] qs = omega arith
-length-append (p ∷ ps) qs = omega (arith, length-append ps qs)
 
 count-append : (ps qs : List Param) → valueCount (ps ++ qs) ≡ valueCount ps + valueCount qs
 unfolding valueCount

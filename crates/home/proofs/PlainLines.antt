@@ -24,6 +24,8 @@ use Rattle.convert.specs.FromJson.{isLowerWord, isGroup, neverKept, keptAsLine,
 use Rattle.convert.specs.ToCard.{property, paramOf, lineWhere, derivedLine, entryLine, mapsLines, memberLine}
 use Rattle.convert.specs.Answers.{valueFits}
 use Rattle.convert.proofs.Types.{typeText}
+use Rattle.convert.proofs.Entries.{four, the-value, prefValues, entry-params}
+use Rattle.convert.proofs.KeptLines.{no-values}
 use Rattle.home.specs.Proper.{ProperEntries, ProperMaps, KeptFine, AllKeptFine}
 use Rattle.home.proofs.LowerWords.{lower-word, names-lower}
 use Rattle.home.proofs.Rows.{others, Row, Rows}
@@ -68,22 +70,6 @@ unfolding any named
 of-group n [] h = refl
 of-group n (v ∷ vs) h = rw h
 
-of-value : (n : Bytes) (vs : List Bytes) → same (lowered n) (ascii "value") ≡ false → valuesNamed (ascii "value") (paramOf n vs) ≡ []
-of-value n [] h = valuesNamed-none (ascii "value")
-of-value n (v ∷ vs) h = valuesNamed-other (ascii "value") n (v ∷ vs) h
-
-the-value : (vs : List Bytes) → valuesNamed (ascii "value") (paramOf (ascii "value") vs) ≡ vs
-unfolding same lowered lower between
-the-value [] = valuesNamed-none (ascii "value")
-the-value (v ∷ vs) = valuesNamed-one (ascii "value") (ascii "value") (v ∷ vs) refl
-
-abbrev prefValues : Bytes → List Bytes
-prefValues p = pick (empty p) [] (p ∷ [])
-
-pref-param : (p : Bytes) → pick (empty p) [] (param (ascii "pref") (p ∷ []) ∷ []) ≡ paramOf (ascii "pref") (prefValues p)
-pref-param [] = refl
-pref-param (c ∷ p) = refl
-
 written-fits : (f : Form) (vs : List Bytes) → valueFits (writtenType f vs) ≡ true
 unfolding writtenType all isName between
 written-fits text vs = refl
@@ -93,32 +79,12 @@ written-fits phone vs = byBool (isTelUri (headOr [] vs)) (λ e. rw e) (λ e. rw 
 written-fits organization vs = refl
 
 module _ (ks ps ts vs : List Bytes) where
-  abbrev four : List Param
-  four = paramOf (ascii "prop-id") ks ++ (paramOf (ascii "pref") ps ++ paramOf (ascii "type") ts ++ paramOf (ascii "value") vs)
-
-  four-group : any (named (ascii "group")) four ≡ false
+  four-group : any (named (ascii "group")) (four ks ps ts vs) ≡ false
   unfolding same lowered lower between
   four-group =
       any-neither (named (ascii "group")) (paramOf (ascii "prop-id") ks) _ (of-group (ascii "prop-id") ks refl)
       (any-neither (named (ascii "group")) (paramOf (ascii "pref") ps ++ paramOf (ascii "type") ts) (paramOf (ascii "value") vs)
       (any-neither (named (ascii "group")) (paramOf (ascii "pref") ps) (paramOf (ascii "type") ts) (of-group (ascii "pref") ps refl) (of-group (ascii "type") ts refl)) (of-group (ascii "value") vs refl))
-
-  four-value : valuesNamed (ascii "value") four ≡ vs
-  unfolding same lowered lower between
-  four-value =
-      rw (
-        valuesNamed-append (ascii "value") (paramOf (ascii "prop-id") ks) (paramOf (ascii "pref") ps ++ paramOf (ascii "type") ts ++ paramOf (ascii "value") vs),
-        valuesNamed-append (ascii "value") (paramOf (ascii "pref") ps ++ paramOf (ascii "type") ts) (paramOf (ascii "value") vs),
-        valuesNamed-append (ascii "value") (paramOf (ascii "pref") ps) (paramOf (ascii "type") ts),
-        of-value (ascii "prop-id") ks refl,
-        of-value (ascii "pref") ps refl,
-        of-value (ascii "type") ts refl,
-        the-value vs,
-      )
-
-entry-params : (m : Map) (e : Entry) → entryLine m e .params ≡ four (e .key ∷ []) (prefValues (e .pref)) (map typeText (e .types)) (writtenType (m .form) (e .texts))
-unfolding entryLine
-entry-params m e = rw (pref-param (e .pref))
 
 row-own : (n : Bytes) → among n others ≡ false → among n heads ≡ false
 unfolding among
@@ -138,7 +104,7 @@ entry-plain i m e r =
     record {
       own = entry-own i m e r;
       group = rw (entry-params m e) (four-group (e .key ∷ []) (prefValues (e .pref)) ts vs);
-      value = rw (entry-params m e, four-value (e .key ∷ []) (prefValues (e .pref)) ts vs) (written-fits (m .form) (e .texts));
+      value = rw (entry-params m e, the-value (e .key ∷ []) (prefValues (e .pref)) ts vs) (written-fits (m .form) (e .texts));
     }
 
 entries-plain : (i : ℕ) (m : Map) (es : List Entry) → ((w : ℕ) → ltb w (length (m .properties)) ≡ true → Row i m w) → ProperEntries m es → Each Plain (map (entryLine m) es)
@@ -173,10 +139,6 @@ no-group (param n vs ∷ ps) s h =
 value-group : (t : Bytes) → any (named (ascii "group")) (valueParam t) ≡ false
 unfolding any named same lowered lower between
 value-group t = byBool (same t (ascii "unknown")) (λ e. rw e) (λ e. rw e)
-
-no-values : (ps : List Param) → any (named (ascii "value")) ps ≡ false → valuesNamed (ascii "value") ps ≡ []
-unfolding valuesNamed flat
-no-values ps h = rw (keep-none (named (ascii "value")) ps h)
 
 type-fits : (t : Bytes) → isLowerWord t ≡ true → valueFits (valuesNamed (ascii "value") (valueParam t)) ≡ true
 unfolding same lowered lower between

@@ -13,7 +13,7 @@ use Rattle.text.specs.Bytes.{Bytes, any, all, empty, among, keep, each}
 use Rattle.text.specs.Utf8.{utf8}
 use Rattle.text.proofs.Cases.{byBool, tests, and-true, or-left, or-right, not-both, not-false}
 use Rattle.text.proofs.Choices.{some-same, provided-inv, chain-inv, map-inv, both-inv}
-use Rattle.text.proofs.Lists.{keep-passes, keep-all}
+use Rattle.text.proofs.Lists.{keep-passes, keep-all, each-length}
 use Rattle.line.specs.Text.{readText, splitText}
 use Rattle.convert.specs.Model.{hasParts, part}
 use Rattle.convert.specs.Value.{filled, partValues, without, ownParts, readName}
@@ -103,13 +103,6 @@ still ps e =
 
 own-parts : (ps : List (List Bytes)) → length ps ≤ 7 → any full ps ≡ true → hasParts (ownParts ps) ≡ true
 own-parts ps l h = byBool (hasParts (ownParts ps)) (λ e. e) (λ e. not-both h (none-full ps 7 l (still ps e)))
-
-each-length : {A B : Type 0} (f : A → Option B) (xs : List A) (ys : List B) → each f xs ≡ some ys → length ys ≡ length xs
-unfolding each
-each-length f [] ys e = ap length (sym (some-same e))
-each-length f (x ∷ xs) ys e =
-    let i = both-inv _∷_ (f x) (each f xs) e in
-    ap length (sym (i .4)) ∙ ap suc (each-length f xs (i .1) (i .3))
 
 -- ---- the name
 

@@ -6,7 +6,7 @@ use mathlib.Core.Option.{Option, none, some}
 use Prim.Native.Nat.{ℕ}
 use Rattle.text.specs.Choice.{pick, with-some}
 use Rattle.text.specs.Bytes.{Bytes, empty, lowered, flat}
-use Rattle.text.proofs.Letters.{lowered-lowered}
+use Rattle.text.proofs.Letters.{lowered-lowered, lowered-empty}
 use Rattle.line.specs.Grammar.{Param, param, Line}
 use Rattle.line.proofs.Parameters.{upperParam}
 use Rattle.line.proofs.Lines.{upperLine}
@@ -28,19 +28,14 @@ caseless l = upperLine (lowerGroup l)
 
 -- ---- the class of a line
 
-empty-lowered : (g : Bytes) → empty (lowered g) ≡ empty g
-unfolding lowered
-empty-lowered [] = refl
-empty-lowered (c ∷ g) = refl
-
 slot-group : (s : Seen) (l : Line) (w : Option Slot) → with-some w (λ w. entryClass s w (lowerGroup l)) as-kept ≡ with-some w (λ w. entryClass s w l) as-kept
 unfolding entryClass entryOf
-slot-group s l (some w) = rw (empty-lowered (l .group))
+slot-group s l (some w) = rw (lowered-empty (l .group))
 slot-group s l none = refl
 
 classify-group : (s : Seen) (l : Line) → classify s (lowerGroup l) ≡ classify s l
 unfolding classify fullClass partsClass memberClass
-classify-group s l = rw (empty-lowered (l .group), slot-group s l (slotOf (lowered (l .name))))
+classify-group s l = rw (lowered-empty (l .group), slot-group s l (slotOf (lowered (l .name))))
 
 kept-group : (l : Line) → keptLine (lowerGroup l) ≡ keptLine l
 unfolding keptLine

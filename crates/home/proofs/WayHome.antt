@@ -11,6 +11,7 @@ use Rattle.text.specs.Choice.{pick, with-some}
 use Rattle.text.specs.Bytes.{Bytes, each}
 use Rattle.text.proofs.Cases.{byBool, and-true, testing}
 use Rattle.text.proofs.Choices.{some-same, both-inv}
+use Rattle.text.proofs.Lists.{each-length}
 use Rattle.json.specs.Tree.{object}
 use Rattle.json.specs.Read.{tree, reading}
 use Rattle.line.specs.Physical.{sizeOf}
@@ -62,18 +63,10 @@ proper-json : (c : Card) → ProperCard c → ltb jsonRoom (length (printJson c)
 unfolding jsonToCard convertModel printCard seek
 proper-json c p r = rw (r, json-read c p, json-home c p, p .carries)
 
--- as many lines are read as were unfolded
-each-length : (raw : List Bytes) (ls : List Line) → each readLine raw ≡ some ls → length ls ≡ length raw
-unfolding each
-each-length [] ls e = ap length (sym (some-same e))
-each-length (r ∷ raw) ls e =
-    let i = both-inv _∷_ (readLine r) (each readLine raw) e in
-    ap length (sym (i .4)) ∙ ap suc (each-length raw (i .1) (i .3))
-
 -- an accepted card is proper
 pub card-is-proper : (stem : Bytes) (n : ℕ) (raw : List Bytes) → isStemText stem ≡ true → GoodLines raw (linesOf raw) → ProperCard (cardOfLines stem n (linesOf raw))
 card-is-proper stem n raw h g =
-    card-proper stem n raw (linesOf raw) h (g .read) (g .clean) (g .used) (g .once) (g .filled) (few (length raw) (length (linesOf raw)) (each-length raw (linesOf raw) (g .read)) (g .few))
+    card-proper stem n raw (linesOf raw) h (g .read) (g .clean) (g .used) (g .once) (g .filled) (few (length raw) (length (linesOf raw)) (each-length readLine raw (linesOf raw) (g .read)) (g .few))
   where
     few : (m k : ℕ) → k ≡ m → ltb lineRoom m ≡ false → leb k 512 ≡ true
     few m k e h = omega testing

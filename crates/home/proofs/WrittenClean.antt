@@ -20,8 +20,9 @@ use Rattle.json.proofs.Sound.{Sound, SoundElems, SoundMembers}
 use Rattle.line.specs.Class.{isControl}
 use Rattle.line.specs.Text.{escape, writeText}
 use Rattle.convert.specs.Carry.{carriedRaw, carriedText}
-use Rattle.home.proofs.Expanded.{isAscii, ascii-utf8, escape-high, text-utf8, text-all, spelled-high, spelled-utf8, spelled-all}
+use Rattle.home.proofs.Expanded.{escape-high, text-utf8, text-all, spelled-high, spelled-utf8, spelled-all}
 use Rattle.home.proofs.NumberBytes.{isNumber, number-fits}
+use Rattle.home.proofs.Clean.{isAscii, ascii-utf8}
 
 abbrev pub Clean : Bytes → Type 0
 Clean s = (utf8 s ≡ true) × (any isControl s ≡ false)
