@@ -35,6 +35,15 @@ each-part (vs ∷ pss) h = rw (part-read vs (all-head (all filled) vs pss h), ea
 
 -- ---- what reading leaves out
 
+-- all is left without none
+pub without-none : (vs : List Bytes) → without [] vs ≡ vs
+unfolding without among any all
+without-none vs = keep-all (λ v. true) vs (all-true vs)
+  where
+    all-true : (vs : List Bytes) → all (λ v. true) vs ≡ true
+    all-true [] = refl
+    all-true (v ∷ vs) = all-true vs
+
 -- nothing is left of the others themselves
 without-self : (others : List Bytes) → without others others ≡ []
 unfolding without

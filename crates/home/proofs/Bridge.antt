@@ -26,6 +26,7 @@ use Rattle.convert.proofs.Proper as Readable
 use Rattle.home.specs.Proper.{ProperEntry, ProperEntries, ProperMaps, ProperMember, ProperMembers, KeptFine, AllKeptFine, ProperCard}
 use Rattle.home.proofs.Words.{word-lowered}
 use Rattle.home.proofs.Stands.{lowerParam, Stands, stands-inv}
+use Rattle.home.proofs.KeptFacts.{proper-kept}
 
 -- ---- entries: the kind tells which property, for every row of the table
 
@@ -74,7 +75,7 @@ seven-parts (a ∷ (b ∷ (c ∷ (d ∷ (e ∷ (g ∷ [])))))) l f x y = absurd 
 seven-parts (a ∷ (b ∷ (c ∷ (d ∷ (e ∷ (g ∷ (h ∷ []))))))) l f x y = (a, b, c, d, e, g, h, refl, f, x, y)
 seven-parts (a ∷ (b ∷ (c ∷ (d ∷ (e ∷ (g ∷ (h ∷ (i ∷ ps)))))))) l f x y = absurd (omega arith)
 
-all-filled : (ps : List (List Bytes)) → all (all (λ v. filled v && utf8 v)) ps ≡ true → all (all filled) ps ≡ true
+pub all-filled : (ps : List (List Bytes)) → all (all (λ v. filled v && utf8 v)) ps ≡ true → all (all filled) ps ≡ true
 all-filled ps h = all-imply (all (λ v. filled v && utf8 v)) (all filled) (λ vs g. all-imply (λ v. filled v && utf8 v) filled (λ v e. and-left (filled v) (utf8 v) e) vs g) ps h
 
 -- what `carried` says of components that N writes together
@@ -97,34 +98,9 @@ members-good (member n j ∷ ms) g =
     let h : filled n && not (among n reserved) ≡ true = and-left (filled n && not (among n reserved)) (utf8 n) (g .0 .name) in
     (not-true (empty n) (and-left (filled n) _ h), not-true (among n reserved) (and-right (filled n) _ h), g .0 .value, members-good ms (g .1))
 
-no-value : (ps : List Param) → all lowerParam ps ≡ true → any (named (ascii "value")) ps ≡ false
-unfolding named
-no-value ps h =
-    all-none lowerParam (named (ascii "value"))
-    (λ p e. ap (λ (n : Bytes). same n (ascii "value")) (word-lowered (paramName p) (and-left _ _ e)) ∙ not-true (same (paramName p) (ascii "value")) (and-right (isLowerWord (paramName p)) _ e)) ps h
-
-group-lowered : (g : Bytes) → empty g || isLowerWord g ≡ true → lowered g ≡ g
-unfolding lowered
-group-lowered [] h = refl
-group-lowered (c ∷ g) h = word-lowered (c ∷ g) h
-
-kept-proper : (s : Seen) (k : Kept) → KeptFine k → keptStands s k ≡ true → ProperKept k
-kept-proper s k g h =
-    let t = stands-inv s k h in
-    record {
-      name = word-lowered (k .name) (t .name);
-      group = group-lowered (k .group) (g .group);
-      word = g .group;
-      type = word-lowered (k .type) (t .type);
-      params = g .params;
-      no-value = no-value (k .params) (t .params);
-      no-group = g .no-group;
-      values = g .values;
-    }
-
 all-kept : (s : Seen) (ks : List Kept) → AllKeptFine ks → all (keptStands s) ks ≡ true → Readable.AllKept ks
 all-kept s [] g h = tt
-all-kept s (k ∷ ks) g h = (kept-proper s k (g .0) (all-head (keptStands s) k ks h), all-kept s ks (g .1) (all-tail (keptStands s) k ks h))
+all-kept s (k ∷ ks) g h = (proper-kept s k (g .0) (stands-inv s k (all-head (keptStands s) k ks h)), all-kept s ks (g .1) (all-tail (keptStands s) k ks h))
 
 -- ---- the whole
 

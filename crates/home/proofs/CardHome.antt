@@ -11,7 +11,7 @@ use borrow.Author.Tests.{eq-eqb, ne-eqb}
 use Rattle.text.specs.Choice.{pick}
 use Rattle.text.specs.Bytes.{Bytes, any, all, empty}
 use Rattle.text.proofs.Cases.{byBool, not-both}
-use Rattle.text.proofs.Lists.{any-head, any-tail}
+use Rattle.text.proofs.Lists.{any-head, any-tail, not-full}
 use Rattle.line.proofs.Lines.{upperLine}
 use Rattle.convert.specs.Table.{Map, maps}
 use Rattle.convert.specs.Model.{Entry, Card, hasParts, noParts}
@@ -20,7 +20,7 @@ use Rattle.convert.specs.FromCard.{Placed, placed, Gives, gathered, firstOf, or
 use Rattle.convert.specs.ToCard.{cardLines}
 use Rattle.convert.proofs.Keyed.{keys-given}
 use Rattle.home.specs.Proper.{ProperEntries, ProperMaps, ProperCard}
-use Rattle.home.proofs.Given.{noGives, plus, gathered-given}
+use Rattle.home.proofs.Given.{noGives, plus, gathered-given, inMap-append}
 use Rattle.home.proofs.MapLines.{placedFrom, key-filled}
 use Rattle.home.proofs.CardClasses.{optional, cardGives, card-classed}
 
@@ -42,11 +42,6 @@ own-keys (e ∷ es) = ap (λ (l : List Entry). e ∷ l) (own-keys es)
 pub keyed-back : (m : Map) (es : List Entry) → ProperEntries m es → keyedEntries m es ≡ es
 keyed-back m es g = rw (keys-given (m .prefix) (map keyOf es) (keys-filled m es g)) (own-keys es)
 
-in-append : (j : ℕ) (ps qs : List Placed) → inMap j (ps ++ qs) ≡ inMap j ps ++ inMap j qs
-unfolding inMap
-in-append j [] qs = refl
-in-append j (placed i e ∷ ps) qs = byBool (eqb j i) (λ q. rw q (ap (λ (l : List Entry). e ∷ l) (in-append j ps qs))) (λ q. rw q (in-append j ps qs))
-
 in-own : (i : ℕ) (es : List Entry) → inMap i (map (placed i) es) ≡ es
 unfolding inMap
 in-own i [] = refl
@@ -61,7 +56,7 @@ in-other i j (e ∷ es) h = rw h (in-other i j es h)
 in-later : (i j : ℕ) (ess : List (List Entry)) → suc j ≤ i → inMap j (placedFrom i ess) ≡ []
 unfolding placedFrom inMap
 in-later i j [] h = refl
-in-later i j (es ∷ ess) h = rw (in-append j (map (placed i) es) (placedFrom (suc i) ess), in-other i j es (ne-eqb j i (omega arith)), in-later (suc i) j ess (omega arith))
+in-later i j (es ∷ ess) h = rw (inMap-append j (map (placed i) es) (placedFrom (suc i) ess), in-other i j es (ne-eqb j i (omega arith)), in-later (suc i) j ess (omega arith))
 
 pub maps-back : (i : ℕ) (ms : List Map) (ess : List (List Entry)) (ps : List Placed) → ((j : ℕ) → i ≤ j → inMap j ps ≡ inMap j (placedFrom i ess)) → ProperMaps ms ess → mapsFrom i ms ps ≡ ess
 unfolding mapsFrom placedFrom
@@ -69,9 +64,9 @@ maps-back i [] [] ps h g = refl
 maps-back i [] (es ∷ ess) ps h g = absurd g
 maps-back i (m ∷ ms) [] ps h g = absurd g
 maps-back i (m ∷ ms) (es ∷ ess) ps h g =
-    let own : inMap i ps ≡ es = h i (omega arith) ∙ in-append i (map (placed i) es) (placedFrom (suc i) ess) ∙ ap₂ _++_ (in-own i es) (in-later (suc i) i ess (omega arith)) ∙ append-nil es in
+    let own : inMap i ps ≡ es = h i (omega arith) ∙ inMap-append i (map (placed i) es) (placedFrom (suc i) ess) ∙ ap₂ _++_ (in-own i es) (in-later (suc i) i ess (omega arith)) ∙ append-nil es in
     let next : (j : ℕ) → suc i ≤ j → inMap j ps ≡ inMap j (placedFrom (suc i) ess) =
-    λ j l. h j (omega arith) ∙ in-append j (map (placed i) es) (placedFrom (suc i) ess) ∙ ap (λ (l : List Entry). l ++ inMap j (placedFrom (suc i) ess)) (in-other i j es (ne-eqb j i (omega arith))) in
+    λ j l. h j (omega arith) ∙ inMap-append j (map (placed i) es) (placedFrom (suc i) ess) ∙ ap (λ (l : List Entry). l ++ inMap j (placedFrom (suc i) ess)) (in-other i j es (ne-eqb j i (omega arith))) in
     rw own (ap₂ _∷_ (keyed-back m es (g .0)) (maps-back (suc i) ms ess ps next (g .2)))
 
 -- ---- what may be absent
@@ -79,17 +74,13 @@ maps-back i (m ∷ ms) (es ∷ ess) ps h g =
 abbrev full : List Bytes → Bool
 full vs = not (empty vs)
 
-empty-none : (vs : List Bytes) → full vs ≡ false → vs ≡ []
-empty-none [] h = refl
-empty-none (v ∷ vs) h = not-both refl h
-
 -- as many empty lists as others
 all-empty : (ps qs : List (List Bytes)) → length ps ≡ length qs → any full ps ≡ false → any full qs ≡ false → ps ≡ qs
 all-empty [] [] q h k = refl
 all-empty [] (y ∷ qs) q h k = absurd (omega arith)
 all-empty (x ∷ ps) [] q h k = absurd (omega arith)
 all-empty (x ∷ ps) (y ∷ qs) q h k =
-    ap₂ _∷_ (empty-none x (any-head full x ps h) ∙ sym (empty-none y (any-head full y qs k))) (all-empty ps qs (omega arith) (any-tail full x ps h) (any-tail full y qs k))
+    ap₂ _∷_ (not-full x (any-head full x ps h) ∙ sym (not-full y (any-head full y qs k))) (all-empty ps qs (omega arith) (any-tail full x ps h) (any-tail full y qs k))
 
 no-parts : (ps : List (List Bytes)) → length ps ≡ 7 → hasParts ps ≡ false → noParts ≡ ps
 unfolding hasParts any

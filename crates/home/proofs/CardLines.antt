@@ -27,7 +27,6 @@ use Rattle.convert.specs.FromJson.{isLowerWord, keptAsLine, keptStands, seenIn}
 use Rattle.convert.specs.ToCard.{property, whereFilled, lineWhere, derivedLine, fullLine, entryLine, mapsLines, memberLine, cardLines, printCard}
 use Rattle.convert.specs.Answers.{rawLines, linesOf}
 use Rattle.home.specs.Proper.{ProperEntries, ProperMaps, ProperMembers, AllKeptFine, ProperCard}
-use Rattle.home.proofs.LowerWords.{names-lower}
 use Rattle.home.proofs.Rows.{Row, Rows, rows}
 use Rattle.home.proofs.Carried.{Carried, is-carried}
 use Rattle.home.proofs.WrittenClean.{Clean, isPrinted, clean-printed, raw-clean}
@@ -35,8 +34,9 @@ use Rattle.home.proofs.Fair.{Fair, fairParam, fair-sendable, name-print
 use Rattle.home.proofs.FairValues.{safe-fair, textual, textual-clean, name-clean, made-clean}
 use Rattle.home.proofs.FairEntries.{entry-fair}
 use Rattle.home.proofs.FairKept.{member-fair, kept-fair}
-use Rattle.home.proofs.KeptFacts.{stands}
 use Rattle.home.proofs.Parted.{versionLine, uidLine, kindLines, laterLines, card-parted, Each, each-append, later-each}
+use Rattle.home.proofs.Words.{names-lower}
+use Rattle.home.proofs.Stands.{stands-inv}
 
 abbrev pub AllFair : List Line → Type 0
 AllFair ls = Each Fair ls
@@ -122,7 +122,7 @@ members-fair (m ∷ ms) g h = (member-fair m (g .0) (all-head (λ m. carriedPara
 kepts-fair : (s : Seen) (ks : List Kept) → AllKeptFine ks → all (keptStands s) ks ≡ true → all carriedKept ks ≡ true → AllFair (map keptAsLine ks)
 kepts-fair s [] f t h = tt
 kepts-fair s (k ∷ ks) f t h =
-    (kept-fair s k (f .0) (stands s k (all-head (keptStands s) k ks t)) (all-head carriedKept k ks h), kepts-fair s ks (f .1) (all-tail (keptStands s) k ks t) (all-tail carriedKept k ks h))
+    (kept-fair s k (f .0) (stands-inv s k (all-head (keptStands s) k ks t)) (all-head carriedKept k ks h), kepts-fair s ks (f .1) (all-tail (keptStands s) k ks t) (all-tail carriedKept k ks h))
 
 -- ---- the card
 

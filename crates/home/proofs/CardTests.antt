@@ -27,12 +27,12 @@ use Rattle.convert.specs.ToCard.{property, whereFilled, derivedLine, fullLine, 
 use Rattle.convert.specs.Answers.{Answer, fine, lineRoom, seek, given, firstFrom, atLine, garbled, ungrammatical, isNamed, isVersionLine, versionFirst, onlyUri, misused, secondFrom, emptied, lineTests}
 use Rattle.convert.proofs.Cases.{empty-upper}
 use Rattle.home.specs.Proper.{ProperCard}
-use Rattle.home.proofs.LowerWords.{names-lower}
 use Rattle.home.proofs.Rows.{rows}
 use Rattle.home.proofs.Fair.{Fair, fair-garbled, fair-grammatical}
 use Rattle.home.proofs.Parted.{versionLine, uidLine, kindLines, laterLines, card-parted, Each, each-append, later-each}
 use Rattle.home.proofs.CardLines.{card-fair}
 use Rattle.home.proofs.PlainLines.{heads, Plain, full-plain, name-plain, members-plain, maps-plain, kepts-plain}
+use Rattle.home.proofs.Words.{names-lower}
 
 -- ---- a test that no line fails
 

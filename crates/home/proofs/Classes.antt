@@ -1,7 +1,7 @@
 -- What is known of a line by its class, and the lines of a section by what they give to the model.
 use mathlib.Core.Path.{_≡_, refl, ap₂, _∙_}
 use mathlib.Core.Bool.{true, false, _&&_, not}
-use mathlib.Core.List.{List, [], _∷_, _++_, map}
+use mathlib.Core.List.{List, [], _∷_, _++_, map, map-append}
 use mathlib.Core.Option.{some}
 use Prim.Native.Nat.{ℕ, _+_}
 use lib.Dec.{eqb, ltb}
@@ -17,7 +17,6 @@ use Rattle.convert.specs.Classify.{Class, as-version, as-uid, as-kind, as-dropp
 use Rattle.convert.specs.FromCard.{Gives, gives, gathered}
 use Rattle.convert.specs.NormalCard.{Section, sectionOf, sectionNumber, section}
 use Rattle.home.proofs.Known.{onProvided, onSome}
-use Rattle.home.proofs.Images.{map-append}
 
 -- ---- what a class says of its line, after what was seen
 

@@ -14,6 +14,7 @@ use Rattle.text.proofs.Lists.{all-head, all-tail, all-append, any-append, any-h
 use Rattle.text.proofs.Cases.{or-left, or-right}
 use Rattle.text.proofs.Characters.{run-append, utf8-run, run-utf8, not-start, later, later-lead, later-tails, later-bounds, isByte, utf8-bytes}
 use Rattle.line.specs.Class.{isControl}
+use Rattle.convert.specs.Value.{headOr}
 
 -- ---- what is due after some bytes
 
@@ -66,6 +67,10 @@ ascii-run (c ∷ s) h = ap (λ (d : Due). run d s) (ascii-next c (all-head isAsc
 
 pub ascii-utf8 : (s : Bytes) → all isAscii s ≡ true → utf8 s ≡ true
 ascii-utf8 s h = run-utf8 s (ascii-run s h)
+
+pub head-utf8 : (vs : List Bytes) → all utf8 vs ≡ true → utf8 (headOr [] vs) ≡ true
+head-utf8 [] h = utf8-none
+head-utf8 (v ∷ vs) h = all-head utf8 v vs h
 
 -- ---- clean texts
 

@@ -13,6 +13,7 @@ use Rattle.text.proofs.Cases.{byBool, byBelow, tests, and-left, and-right, and-
 use Rattle.text.proofs.Lists.{all-head, all-tail, all-both, all-imply, any-tail, length-keep}
 use Rattle.line.specs.Class.{isName, isLowerName}
 use Rattle.line.specs.Grammar.{Param, param, valueCount, fits, isFrameName}
+use Rattle.line.proofs.Lines.{count-append}
 use Rattle.convert.specs.Table.{Form, text, single, uri, phone, organization, Map, inOrder, contextCodes, featureCodes}
 use Rattle.convert.specs.Model.{Entry}
 use Rattle.convert.specs.Value.{headOr, isKeyText, isPref, isTelUri, writtenType}
@@ -84,11 +85,6 @@ written-fair phone vs = byBool (isTelUri (headOr [] vs)) (λ e. rw e uri-fair) (
 written-fair organization vs = refl
 
 -- ---- counts
-
-count-append : (ps qs : List Param) → valueCount (ps ++ qs) ≡ valueCount ps + valueCount qs
-unfolding valueCount
-count-append [] qs = omega arith
-count-append (param n vs ∷ ps) qs = omega (arith, count-append ps qs)
 
 count-of : (n : Bytes) (vs : List Bytes) → (length (paramOf n vs) ≤ 1) × (valueCount (paramOf n vs) ≤ length vs)
 unfolding valueCount

@@ -20,7 +20,8 @@ use Rattle.convert.specs.Pointer.{pointer}
 use Rattle.home.proofs.Expanded.{pointer-utf8, pointer-all}
 use Rattle.home.proofs.WrittenClean.{Clean, AllClean, isPrinted, clean-joined, raw-clean, text-clean}
 use Rattle.home.proofs.Fair.{fairValue}
-use Rattle.home.proofs.Clean.{isAscii, ascii-utf8}
+use Rattle.home.proofs.Clean.{isAscii, ascii-utf8, head-utf8}
+use Rattle.home.proofs.Words.{no-key}
 
 -- ---- parameter values
 
@@ -35,13 +36,9 @@ safe-fair v h =
     (and-true (sym (all-not isControl v) ∙ all-imply isSafe (λ c. not (isControl c)) (λ c e. and-right (isAscii c) _ (and-left (isPrinted c) _ e)) v h)
     (sym (all-not (is 34) v) ∙ all-imply isSafe (λ c. not (eqb c 34)) (λ c e. and-right (isPrinted c) _ e) v h))
 
-high-key : (c : ℕ) → ltb c 128 ≡ false → isKey c ≡ false
-unfolding isKey isName
-high-key c l = rw (beyond 65 90 c (omega tests), beyond 97 122 c (omega tests), beyond 48 57 c (omega tests), ne-eqb c 45 (omega tests), ne-eqb c 95 (omega tests))
-
 key-safe : (c : ℕ) → isKey c ≡ true → isSafe c ≡ true
 unfolding isKey isName isControl between
-key-safe c h = implied isKey isSafe 128 c refl (high-key c) h
+key-safe c h = implied isKey isSafe 128 c refl (no-key c) h
 
 pub keys-fair : (v : Bytes) → all isKey v ≡ true → fairValue v ≡ true
 keys-fair v h = safe-fair v (all-imply isKey isSafe key-safe v h)
@@ -86,11 +83,6 @@ no-text = refl
 head-textual : (vs : List Bytes) → all textual vs ≡ true → textual (headOr [] vs) ≡ true
 head-textual [] h = no-text
 head-textual (v ∷ vs) h = all-head textual v vs h
-
-head-utf8 : (vs : List Bytes) → all utf8 vs ≡ true → utf8 (headOr [] vs) ≡ true
-unfolding utf8 run
-head-utf8 [] h = refl
-head-utf8 (v ∷ vs) h = all-head utf8 v vs h
 
 head-raw : (vs : List Bytes) → all carriedRaw vs ≡ true → carriedRaw (headOr [] vs) ≡ true
 unfolding carriedRaw any

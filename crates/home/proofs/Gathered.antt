@@ -11,6 +11,7 @@ use Rattle.text.specs.Choice.{is-some, with-some}
 use Rattle.text.specs.Bytes.{Bytes, empty, among, flat}
 use Rattle.text.specs.Utf8.{utf8}
 use Rattle.text.proofs.Choices.{some-same}
+use Rattle.text.proofs.Cases.{not-true}
 use Rattle.json.specs.Tree.{Member, member, nameOf}
 use Rattle.line.specs.Grammar.{Line}
 use Rattle.convert.specs.Table.{Map, maps}
@@ -19,7 +20,7 @@ use Rattle.convert.specs.Value.{filled}
 use Rattle.convert.specs.Carry.{carriedRaw, carriedParam, carriedKept}
 use Rattle.convert.specs.Classify.{Class, as-version, as-uid, as-kind, as-dropped, as-full, as-parts, as-entry, as-member, as-kept, Seen, classify, Classed}
 use Rattle.convert.specs.FromCard.{keptLine, Placed, placed, Gives, gives, gathered, firstOf, orElse}
-use Rattle.convert.specs.FromJson.{isLowerWord, isKept, keptStands, keptAsLine}
+use Rattle.convert.specs.FromJson.{isLowerWord, isKept, keptStands, keptAsLine, neverKept}
 use Rattle.home.specs.Proper.{ProperMember, KeptFine}
 use Rattle.home.proofs.Alls.{All, all-flat, In, in-flat}
 use Rattle.home.proofs.Slots.{at}
@@ -138,8 +139,8 @@ kept-given l as-kept h = ((fine l (h .0), carry l (h .0)), tt)
 
 -- ---- kept lines stand in what covers all that was seen before them
 
-kept-class : (t u : Seen) (l : Line) → LineFine l → Covers t u → classify u l ≡ as-kept → isKept (classify t (keptAsLine (keptLine l))) ≡ true
-kept-class t u l h k e = ap isKept (same-class l h t ∙ still-kept t u k l e)
+kept-class : (t u : Seen) (l : Line) → LineFine l → Covers t u → classify u l ≡ as-kept → classify t (keptAsLine (keptLine l)) ≡ as-kept
+kept-class t u l h k e = same-class l h t ∙ still-kept t u k l e
 
 module _ (t : Seen) where
   abbrev pub Stood : Line → Class → Type 0
@@ -158,11 +159,11 @@ module _ (t : Seen) where
       let f = h .0 .0 in (
         stands t (keptLine l) (record {
           name = name-word l f;
-          other = h .0 .1;
+          never = not-true (among (keptLine l .name) neverKept) (h .0 .1);
           type = type-lower l f;
           params = params-lower l f;
           fit = params-fit l f;
-          kept = kept-class t (h .1 .0) l f (h .1 .1) (h .1 .2);
+          class = kept-class t (h .1 .0) l f (h .1 .1) (h .1 .2);
         }),
         tt,
       )

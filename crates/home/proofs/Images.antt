@@ -1,6 +1,7 @@
 -- each: what holds of every element and its image holds of the lists.
 use mathlib.Core.Path.{_≡_, refl, ap, ap₂}
 use mathlib.Core.Bool.{Bool, true}
+pub use mathlib.Core.List.{map-append}
 use mathlib.Core.List.{List, [], _∷_, _++_, map}
 use mathlib.Core.Option.{Option, some}
 use Rattle.text.specs.Bytes.{all, empty, keep, each}
@@ -43,10 +44,6 @@ all-anything (x ∷ xs) = all-anything xs
 pub empty-map : {A B : Type 0} (f : A → B) (xs : List A) → empty (map f xs) ≡ empty xs
 empty-map f [] = refl
 empty-map f (x ∷ xs) = refl
-
-pub map-append : {A B : Type 0} (f : A → B) (xs ys : List A) → map f (xs ++ ys) ≡ map f xs ++ map f ys
-map-append f [] ys = refl
-map-append {A} {B} f (x ∷ xs) ys = ap (λ (l : List B). f x ∷ l) (map-append f xs ys)
 
 pub map-map : {A B C : Type 0} (g : B → C) (f : A → B) (xs : List A) → map g (map f xs) ≡ map (λ x. g (f x)) xs
 map-map g f [] = refl

@@ -26,7 +26,7 @@ use Rattle.convert.proofs.Types.{below}
 use Rattle.home.specs.Proper.{ProperEntry, ProperEntries, ProperMaps}
 use Rattle.home.proofs.Alls.{All, all-test, test-all, all-mono, each-gives, each-called}
 use Rattle.home.proofs.SoundLists.{SoundMember, object-sound, field-sound, optional-inv, optional-holds, no-field}
-use Rattle.home.proofs.Places.{position-below, inOrder-all}
+use Rattle.home.proofs.Positions.{position-inside, inOrder-all}
 use Rattle.home.proofs.JsonTexts.{content-formed}
 
 -- ---- rows of the table: what an entry may have agrees with how many values of TYPE the row takes
@@ -79,7 +79,7 @@ flag-below : (i n : ℕ) (ts : List TypeName) → i + length ts ≡ n → (m : M
 flag-below i n ts l (member k j) c e =
     let p = provided-inv (isTrue j) (Option·map (λ k. i + k) (position (λ t. same k (jsonType t)) ts)) e in
     let q = map-inv (λ k. i + k) (position (λ t. same k (jsonType t)) ts) (p .1) in
-    lt-ltb c n (omega (arith, position-below (λ t. same k (jsonType t)) ts (q .0) (q .1), q .2))
+    lt-ltb c n (omega (tests, position-inside (λ t. same k (jsonType t)) ts (q .0) (q .1), q .2))
 
 flags-below : (i n : ℕ) (ts : List TypeName) → i + length ts ≡ n → (j : Json) (cs : List ℕ) → flagsFrom i ts j ≡ some cs → all (below n) cs ≡ true
 unfolding flagsFrom
@@ -133,7 +133,7 @@ module _ (m : Map) (r : Row m) (ms : List Member) (o : onlyMembers (entryMembers
       there : (j : Json) → chain (asString j) (λ s. position (same s) (m .kinds)) ≡ some w → ltb w (length (m .properties)) ≡ true
       there j g =
           let c = chain-inv (asString j) (λ s. position (same s) (m .kinds)) g in
-          lt-ltb w (length (m .properties)) (omega (tests, r .kinds, position-below (same (c .0)) (m .kinds) w (c .2)))
+          lt-ltb w (length (m .properties)) (omega (tests, r .kinds, position-inside (same (c .0)) (m .kinds) w (c .2)))
 
 -- ---- entries
 

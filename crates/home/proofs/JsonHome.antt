@@ -25,7 +25,7 @@ use Rattle.convert.proofs.CardJson.{card-json}
 use Rattle.home.specs.Proper.{ProperMember, ProperMembers, ProperCard}
 use Rattle.home.proofs.Alls.{All, all-joined, all-test, test-all}
 use Rattle.home.proofs.Clean.{utf8-none}
-use Rattle.home.proofs.Words.{name-utf8}
+use Rattle.home.proofs.Words.{name-utf8, group-utf8}
 use Rattle.home.proofs.SoundLists.{SoundMember}
 use Rattle.home.proofs.Sublists.{Sub, none-of, left-out, taken-in, sub-append, sub-distinct, sub-among, distinct-append}
 use Rattle.home.proofs.SoundCard.{object-of, array-of}
@@ -84,10 +84,6 @@ words = (refl, refl, refl, refl, refl, refl, refl)
 props-utf8 : utf8 (ascii "vCardProps") ≡ true
 unfolding text-opened
 props-utf8 = refl
-
-kind-utf8 : (k : Bytes) → empty k || isLowerWord k ≡ true → utf8 k ≡ true
-kind-utf8 [] h = utf8-none
-kind-utf8 (b ∷ k) h = name-utf8 (b ∷ k) h
 
 module _ (c : Card) (g : ProperCard c) where
   abbrev kindMember : Member
@@ -178,7 +174,7 @@ module _ (c : Card) (g : ProperCard c) where
         (words .2, and-right (filled (c .uid)) _ (g .uid)),
         all-joined S (where′ (filled (c .kind)) kindMember ++ where′ named nameMember) (mapsJson maps (c .maps))
             (all-joined S (where′ (filled (c .kind)) kindMember) (where′ named nameMember)
-            (all-where S (filled (c .kind)) kindMember (λ b. (words .3, kind-utf8 (c .kind) (g .kind))))
+            (all-where S (filled (c .kind)) kindMember (λ b. (words .3, group-utf8 (c .kind) (g .kind))))
             (all-where S named nameMember (λ b. (words .4, name-sound 12 (c .full) (c .parts) (g .full) (g .parts)))))
             (maps-sound 11 maps rows (c .maps) (g .entries)),
       ),

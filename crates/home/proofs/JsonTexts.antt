@@ -22,6 +22,7 @@ use Rattle.convert.specs.FromJson.{onlyMembers, required, optional, Component, 
 use Rattle.convert.proofs.Forms.{formed}
 use Rattle.home.proofs.Alls.{All, all-test, test-all, all-kept, all-flat, each-gives}
 use Rattle.home.proofs.SoundLists.{SoundMember, string-sound, array-sound, object-sound, field-sound, optional-holds}
+use Rattle.home.proofs.Clean.{utf8-none}
 
 -- ---- one string
 
@@ -117,10 +118,6 @@ units-utf8 d j us h e =
     let i = chain-inv (asArray j) (each unitFrom) e in
     let o = array-sound d j (i .0) h (i .1) in
     each-gives unitFrom (Sound (o .0)) (λ u. utf8 u ≡ true) (unit-utf8 (o .0)) (i .0) us (o .2) (i .2)
-
-utf8-none : utf8 [] ≡ true
-unfolding utf8 run
-utf8-none = refl
 
 organization-formed : (d : ℕ) (ms : List Member) (vs : List Bytes) → All (SoundMember d) ms → organizationFrom ms ≡ some vs → (formed organization vs ≡ true) × (all utf8 vs ≡ true)
 unfolding organizationFrom formed

@@ -10,7 +10,7 @@ use lib.Dec.{eqb, ltb}
 use borrow.Author.Tests.{lt-ltb}
 use Rattle.text.specs.Choice.{pick, chain, provided}
 use Rattle.text.specs.Bytes.{Bytes, ascii, any, all, empty, same, among, lowered, parts, flat, keep, each}
-use Rattle.text.proofs.Cases.{byBool, and-left, and-right, not-both, or-second}
+use Rattle.text.proofs.Cases.{byBool, and-left, and-right, not-both, or-second, tests}
 use Rattle.text.proofs.Choices.{none-some, some-same, provided-inv, chain-inv, map-inv}
 use Rattle.text.proofs.Same.{same-true}
 use Rattle.text.proofs.Lists.{all-none, keep-none}
@@ -23,7 +23,7 @@ use Rattle.convert.specs.Classify.{Seen, isId, keyFrom, prefFrom, typesFrom, al
 use Rattle.convert.proofs.Orders.{inOrder-again}
 use Rattle.convert.proofs.Types.{below}
 use Rattle.home.proofs.Alls.{All, all-test, each-gives}
-use Rattle.home.proofs.Places.{position-below, take-length, inOrder-all}
+use Rattle.home.proofs.Positions.{position-inside, take-length, inOrder-all}
 use Rattle.home.proofs.CleanLines.{CleanLine}
 use Rattle.home.proofs.ReadForms.{ReadWell, read-well}
 
@@ -79,7 +79,7 @@ abbrev code : ℕ → Bytes → Option ℕ
 code n v = position (λ t. same (lowered v) (vcardType t)) (take n typeNames)
 
 code-below : (n : ℕ) (v : Bytes) (c : ℕ) → code n v ≡ some c → below n c ≡ true
-code-below n v c e = lt-ltb c n (omega (arith, position-below (λ t. same (lowered v) (vcardType t)) (take n typeNames) c e, take-length n typeNames))
+code-below n v c e = lt-ltb c n (omega (tests, position-inside (λ t. same (lowered v) (vcardType t)) (take n typeNames) c e, take-length n typeNames))
 
 types-inv : (n : ℕ) (vs : List Bytes) (ts : List ℕ) → typesFrom n vs ≡ some ts → (all (below n) ts ≡ true) × (inOrder ts ≡ ts)
 unfolding typesFrom

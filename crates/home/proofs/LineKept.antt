@@ -20,6 +20,7 @@ use Rattle.line.specs.Grammar.{Param, param, paramName, paramValues, Line, valu
 use Rattle.line.specs.Params.{named, valuesNamed, lacking, firstOr, valueType, besidesValue, merged}
 use Rattle.line.proofs.Merging.{Settled, merged-settled, none-left}
 use Rattle.line.proofs.Parameters.{isWord}
+use Rattle.line.proofs.Lines.{count-append}
 use Rattle.convert.specs.Model.{Kept}
 use Rattle.convert.specs.Value.{filled}
 use Rattle.convert.specs.Carry.{carriedRaw, carriedParam, carriedKept}
@@ -96,11 +97,6 @@ module _ (l : Line) where
 
 abbrev valueParam : Bytes → List Param
 valueParam t = pick (same t (ascii "unknown")) [] (param (ascii "value") (t ∷ []) ∷ [])
-
-count-append : (ps qs : List Param) → valueCount (ps ++ qs) ≡ valueCount ps + valueCount qs
-unfolding valueCount
-count-append [] qs = omega arith
-count-append (param n vs ∷ ps) qs = omega (arith, count-append ps qs)
 
 -- VALUE stands there once more only where it stood
 value-less : (vs : List Bytes) (t : Bytes) → t ≡ lowered (firstOr (ascii "unknown") vs)

@@ -23,6 +23,7 @@ use Rattle.home.proofs.Known.{onSome}
 use Rattle.home.proofs.Images.{map-map}
 use Rattle.home.proofs.Classes.{Fact, Agrees, gathered-section}
 use Rattle.home.proofs.NormalCardEntries.{rekeyed, entry-key, entry-line}
+use Rattle.home.proofs.Given.{inMap-append}
 
 -- ---- rows of the table
 
@@ -126,11 +127,6 @@ entries-form m es ls h =
     ∙ sym (put-lines m (keys (m .prefix) (map propId ls)) ls)
 
 -- ---- all maps
-
-inMap-append : (i : ℕ) (xs ys : List Placed) → inMap i (xs ++ ys) ≡ inMap i xs ++ inMap i ys
-unfolding inMap
-inMap-append i [] ys = refl
-inMap-append i (placed j e ∷ xs) ys = byBool (eqb i j) (λ t. rw t (ap (λ (x : List Entry). e ∷ x) (inMap-append i xs ys))) (λ t. rw t (inMap-append i xs ys))
 
 inMap-gathered : (i : ℕ) (cs : List Classed) → inMap i (gathered (λ (g : Gives). g .entry) cs) ≡ gathered (λ (g : Gives). inMap i (g .entry)) cs
 unfolding gathered flat inMap

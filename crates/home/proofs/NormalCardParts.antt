@@ -14,6 +14,7 @@ use Rattle.line.specs.Text.{readText, splitText}
 use Rattle.convert.specs.Model.{hasParts, part}
 use Rattle.convert.specs.Value.{filled, partValues, without, ownParts, readName}
 use Rattle.convert.specs.NormalCard.{textOf, partTexts, nameValues}
+use Rattle.convert.proofs.Names.{without-none}
 use Rattle.home.proofs.Known.{onProvided, onChain, onMap, onNone, onEach}
 use Rattle.home.proofs.Images.{each-same, map-id, all-anything}
 
@@ -36,15 +37,8 @@ parts-values ss ps e = sym (map-id ps) ∙ each-same partValues (λ v. true) (λ
 abbrev full : List Bytes → Bool
 full vs = not (empty vs)
 
-nothing-out : (vs : List Bytes) → without [] vs ≡ vs
-unfolding without
-nothing-out vs = keep-all (λ v. not (among v [])) vs (all-out vs)
-  where
-    all-out : (vs : List Bytes) → all (λ v. not (among v [])) vs ≡ true
-    all-out vs = unfold among any in all-anything vs
-
 still-full : (vs others : List Bytes) → full (without others vs) || full others ≡ full vs || full others
-still-full vs [] = rw (nothing-out vs)
+still-full vs [] = rw (without-none vs)
 still-full vs (o ∷ os) = or-true (full (without (o ∷ os) vs)) ∙ sym (or-true (full vs))
 
 -- the tests made variables

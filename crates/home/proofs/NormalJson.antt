@@ -20,6 +20,7 @@ use Rattle.convert.specs.Value.{filled}
 use Rattle.convert.specs.FromJson.{isLowerWord, isText, Name, nameless, nameFrom, mapFrom, keptFrom, standing, seenIn, keptStands, otherMembers, cardFromMembers, cardFromJson}
 use Rattle.convert.specs.ToJson.{where′, nameJson, membersJson, printJson}
 use Rattle.convert.specs.NormalJson.{as-is, unlessGone, nameForm, membersForm, normalTree, normalJson}
+use Rattle.convert.proofs.CardParts.{has-no-parts}
 use Rattle.home.proofs.Known.{onProvided, onChain, onOptional, onSome}
 use Rattle.home.proofs.Shapes.{string-inv, fields-distinct}
 use Rattle.home.proofs.NormalJsonName.{name-form}
@@ -47,15 +48,11 @@ kind-part ms k e =
 
 -- ---- name
 
-no-parts : hasParts noParts ≡ false
-unfolding hasParts any
-no-parts = refl
-
 name-part : (ms : List Member) (n : Name) → with-some (field (ascii "name") ms) nameFrom (some nameless) ≡ some n
     → where′ (is-some (n .full) || hasParts (n .parts)) (member (ascii "name") (nameJson (n .full) (n .parts))) ≡ unlessGone (ascii "name") object (with-some (field (ascii "name") ms) nameForm [])
 name-part ms n e =
     onOptional (field (ascii "name") ms) nameless nameFrom e
-    (λ a d. rw (a, ← d, no-parts))
+    (λ a d. rw (a, ← d, has-no-parts))
     (λ j h q. rw h (name-form j n q))
 
 -- ---- the whole

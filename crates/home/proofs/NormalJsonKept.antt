@@ -1,7 +1,7 @@
 -- vCardProps: group first, one-value arrays as strings.
 use mathlib.Core.Path.{_≡_, refl, sym, ap, ap₂, _∙_}
 use mathlib.Core.Bool.{true, false, not}
-use mathlib.Core.List.{List, [], _∷_, _++_, map}
+use mathlib.Core.List.{List, [], _∷_, _++_, map, map-append}
 use mathlib.Core.Option.{some}
 use Rattle.text.specs.Choice.{with-some, chain}
 use Rattle.text.specs.Bytes.{Bytes, ascii, any, all, empty, same, among, distinct, keep, each}
@@ -18,7 +18,7 @@ use Rattle.convert.specs.FromJson.{isLowerWord, strings, paramFrom, isGroup, gr
 use Rattle.convert.specs.ToJson.{where′, valuesJson, paramJson, keptJson}
 use Rattle.convert.specs.NormalJson.{itemsOf, unlessGone, oneAsString, paramForm, isGroupMember, paramsForm, keptTree}
 use Rattle.home.proofs.Known.{onProvided, onChain, onMap, onNone, onEach, onOptional}
-use Rattle.home.proofs.Images.{AtMostOne, each-same, each-keep, map-append, all-anything, empty-map}
+use Rattle.home.proofs.Images.{AtMostOne, each-same, each-keep, all-anything, empty-map}
 use Rattle.home.proofs.Shapes.{string-inv, gone, items-distinct, field-items, fields-names}
 
 -- ---- one parameter

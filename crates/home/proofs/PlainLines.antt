@@ -27,10 +27,11 @@ use Rattle.convert.proofs.Types.{typeText}
 use Rattle.convert.proofs.Entries.{four, the-value, prefValues, entry-params}
 use Rattle.convert.proofs.KeptLines.{no-values}
 use Rattle.home.specs.Proper.{ProperEntries, ProperMaps, KeptFine, AllKeptFine}
-use Rattle.home.proofs.LowerWords.{lower-word, names-lower}
 use Rattle.home.proofs.Rows.{others, Row, Rows}
-use Rattle.home.proofs.KeptFacts.{Stands, stands, paramStands, no-value}
+use Rattle.home.proofs.KeptFacts.{no-value}
 use Rattle.home.proofs.Parted.{Each, each-append}
+use Rattle.home.proofs.Words.{word-lowered, names-lower}
+use Rattle.home.proofs.Stands.{stands-inv, Stands, lowerParam}
 
 -- lines that stand once, before the others
 abbrev pub heads : List Bytes
@@ -129,12 +130,12 @@ never-own n h =
     let e = any-tail (same n) (ascii "begin") _ h in
     any-tail (same n) (ascii "end") _ e
 
-no-group : (ps : List Param) → all paramStands ps ≡ true → any isGroup ps ≡ false → any (named (ascii "group")) ps ≡ false
+no-group : (ps : List Param) → all lowerParam ps ≡ true → any isGroup ps ≡ false → any (named (ascii "group")) ps ≡ false
 unfolding any named
 no-group [] s h = refl
 no-group (param n vs ∷ ps) s h =
-    rw (lower-word n (and-left (isLowerWord n) _ (all-head paramStands (param n vs) ps s)), any-head isGroup (param n vs) ps h)
-    (no-group ps (all-tail paramStands (param n vs) ps s) (any-tail isGroup (param n vs) ps h))
+    rw (word-lowered n (and-left (isLowerWord n) _ (all-head lowerParam (param n vs) ps s)), any-head isGroup (param n vs) ps h)
+    (no-group ps (all-tail lowerParam (param n vs) ps s) (any-tail isGroup (param n vs) ps h))
 
 value-group : (t : Bytes) → any (named (ascii "group")) (valueParam t) ≡ false
 unfolding any named same lowered lower between
@@ -151,11 +152,11 @@ kept-plain : (s : Seen) (k : Kept) → KeptFine k → Stands s k → Plain (kept
 unfolding keptAsLine
 kept-plain s k f t =
     record {
-      own = rw (lower-word (k .name) (t .name)) (never-own (k .name) (t .never));
+      own = rw (word-lowered (k .name) (t .name)) (never-own (k .name) (t .never));
       group = any-neither (named (ascii "group")) (k .params) (valueParam (k .type)) (no-group (k .params) (t .params) (f .no-group)) (value-group (k .type));
       value = rw (valuesNamed-append (ascii "value") (k .params) (valueParam (k .type)), no-values (k .params) (no-value (k .params) (t .params))) (type-fits (k .type) (t .type));
     }
 
 pub kepts-plain : (s : Seen) (ks : List Kept) → AllKeptFine ks → all (keptStands s) ks ≡ true → Each Plain (map keptAsLine ks)
 kepts-plain s [] f h = tt
-kepts-plain s (k ∷ ks) f h = (kept-plain s k (f .0) (stands s k (all-head (keptStands s) k ks h)), kepts-plain s ks (f .1) (all-tail (keptStands s) k ks h))
+kepts-plain s (k ∷ ks) f h = (kept-plain s k (f .0) (stands-inv s k (all-head (keptStands s) k ks h)), kepts-plain s ks (f .1) (all-tail (keptStands s) k ks h))

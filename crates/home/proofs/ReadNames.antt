@@ -13,11 +13,12 @@ use Rattle.text.specs.Bytes.{Bytes, any, all, empty, among, keep, each}
 use Rattle.text.specs.Utf8.{utf8}
 use Rattle.text.proofs.Cases.{byBool, tests, and-true, or-left, or-right, not-both, not-false}
 use Rattle.text.proofs.Choices.{some-same, provided-inv, chain-inv, map-inv, both-inv}
-use Rattle.text.proofs.Lists.{keep-passes, keep-all, each-length}
+use Rattle.text.proofs.Lists.{keep-passes, keep-all, each-length, not-full}
 use Rattle.line.specs.Text.{readText, splitText}
 use Rattle.convert.specs.Model.{hasParts, part}
 use Rattle.convert.specs.Value.{filled, partValues, without, ownParts, readName}
 use Rattle.convert.specs.Carry.{carriedText, apart}
+use Rattle.convert.proofs.Names.{without-none}
 use Rattle.home.proofs.Alls.{All, all-test, test-all, all-mono, all-two, all-kept, each-gives}
 use Rattle.home.proofs.Clean.{Clean}
 use Rattle.home.proofs.CleanTexts.{CleanText, text-clean, split-clean}
@@ -53,10 +54,6 @@ own-apart ps = (keep-passes (λ v. not (among v (part ps 5))) (part ps 0), keep-
 abbrev full : List Bytes → Bool
 full vs = not (empty vs)
 
-not-full : (vs : List Bytes) → full vs ≡ false → vs ≡ []
-not-full [] e = refl
-not-full (v ∷ vs) e = not-both refl e
-
 none-full : (ps : List (List Bytes)) (n : ℕ) → length ps ≤ n → ((i : ℕ) → i < n → part ps i ≡ []) → any full ps ≡ false
 unfolding any
 none-full [] n l h = refl
@@ -64,16 +61,6 @@ none-full (p ∷ ps) zero l h = absurd (omega arith)
 none-full (p ∷ ps) (suc n) l h =
     let z : p ≡ [] = h 0 (omega arith) in
     rw z (none-full ps n (omega arith) (λ i k. h (suc i) (omega arith)))
-
--- what is left of values without none
-none-among : (vs : List Bytes) → All (λ v. not (among v []) ≡ true) vs
-unfolding among any
-none-among [] = tt
-none-among (v ∷ vs) = (refl, none-among vs)
-
-without-none : (vs : List Bytes) → without [] vs ≡ vs
-unfolding without
-without-none vs = keep-all (λ v. not (among v [])) vs (all-test (λ v. not (among v [])) vs (none-among vs))
 
 still : (ps : List (List Bytes)) → hasParts (ownParts ps) ≡ false → (i : ℕ) → i < 7 → part ps i ≡ []
 unfolding hasParts ownParts any

@@ -20,6 +20,7 @@ use Rattle.json.specs.Syntax.{opt, int, frac, exp, digits, number}
 use Rattle.json.specs.Grammar.{isE}
 use Rattle.json.proofs.Sound.{Sound, SoundElems, SoundMembers}
 use Rattle.json.proofs.Numbers.{Spelled}
+use Rattle.json.proofs.Fine.{digit-256}
 use Rattle.convert.specs.Table.{Map, typeNames, type-name, jsonType}
 use Rattle.convert.specs.Value.{filled, isPref}
 use Rattle.home.proofs.Alls.{All, all-joined, all-mono, test-all}
@@ -55,14 +56,9 @@ all-map P Q f k (x ∷ xs) h = (k x (h .0), all-map P Q f k xs (h .1))
 
 -- ---- PREF is a number that JSON spells so
 
--- digits alone, the first of them not 0
-no-digit : isDigit 256 ≡ false
-unfolding between
-no-digit = refl
-
 digits-read : (c : ℕ) (s : Bytes) → all isDigit (c ∷ s) ≡ true → digits (c ∷ s) ≡ got (c ∷ s) []
 unfolding digits
-digits-read c s h = subst (λ (t : Bytes). some-of isDigit (c ∷ t) ≡ got (c ∷ s) []) (append-nil s) (some-of-run isDigit c s [] h no-digit)
+digits-read c s h = subst (λ (t : Bytes). some-of isDigit (c ∷ t) ≡ got (c ∷ s) []) (append-nil s) (some-of-run isDigit c s [] h digit-256)
 
 digits-number : (c : ℕ) (s : Bytes) → eqb c 45 ≡ false → eqb c 48 ≡ false → all isDigit (c ∷ s) ≡ true → number (c ∷ s) ≡ got (c ∷ s) []
 unfolding number opt int frac exp on isE

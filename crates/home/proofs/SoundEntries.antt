@@ -21,10 +21,11 @@ use Rattle.convert.specs.ToJson.{where′, contentJson, flagsJson, entryJson, m
 use Rattle.convert.proofs.Entries.{Proper}
 use Rattle.home.specs.Proper.{ProperEntry, ProperEntries, ProperMaps}
 use Rattle.home.proofs.Alls.{All, all-joined, all-test, test-all}
-use Rattle.home.proofs.Clean.{isAscii, ascii-utf8, utf8-none}
+use Rattle.home.proofs.Clean.{isAscii, ascii-utf8, utf8-none, head-utf8}
 use Rattle.home.proofs.SoundLists.{SoundMember}
 use Rattle.home.proofs.Sublists.{Sub, none-of, left-out, taken-in, sub-nothing, sub-all, sub-append, sub-keep, sub-map, sub-distinct}
 use Rattle.home.proofs.SoundCard.{object-of, array-of, all-map, pref-spelled}
+use Rattle.home.proofs.Words.{no-key}
 
 -- ---- members that are there or not
 
@@ -42,17 +43,6 @@ sub-names xs ys {us} {vs} s t = subst (λ (ns : List Bytes). Sub ns (us ++ vs)) 
 
 -- ---- keys
 
-no-key : (c : ℕ) → ltb c 128 ≡ false → isKey c ≡ false
-unfolding isKey isName
-no-key c l =
-    rw (beyond 65 90 c (omega tests), beyond 97 122 c (omega tests), beyond 48 57 c (omega tests), hyphen, low-line)
-  where
-    hyphen : eqb c 45 ≡ false
-    hyphen = byBool (eqb c 45) (λ e. absurd (omega tests)) (λ e. e)
-
-    low-line : eqb c 95 ≡ false
-    low-line = byBool (eqb c 95) (λ e. absurd (omega tests)) (λ e. e)
-
 key-ascii : (c : ℕ) → isKey c ≡ true → isAscii c ≡ true
 key-ascii c h = byBool (isAscii c) (λ e. e) (λ e. not-both h (no-key c e))
 
@@ -64,10 +54,6 @@ key-utf8 k h = ascii-utf8 k (all-imply isKey isAscii key-ascii k (and-right (fil
 
 string-member : (d : ℕ) (n v : Bytes) → utf8 n ≡ true → utf8 v ≡ true → SoundMember d (member n (jstr v))
 string-member d n v a b = (a, b)
-
-head-utf8 : (vs : List Bytes) → all utf8 vs ≡ true → utf8 (headOr [] vs) ≡ true
-head-utf8 [] h = utf8-none
-head-utf8 (v ∷ vs) h = all-head utf8 v vs h
 
 -- ---- contexts and features
 

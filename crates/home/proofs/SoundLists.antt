@@ -17,6 +17,7 @@ use Rattle.json.specs.Strings.{names}
 use Rattle.json.proofs.Sound.{Sound, SoundElems, SoundMembers}
 use Rattle.convert.specs.FromJson.{onlyMembers, optional}
 use Rattle.home.proofs.Alls.{All}
+use Rattle.home.proofs.Shapes.{names-of}
 
 abbrev pub SoundMember : ℕ → Member → Type 0
 SoundMember d m = (utf8 (nameOf m) ≡ true) × Sound d (valueOf m)
@@ -30,11 +31,6 @@ elems-sound : (d : ℕ) (es : Elems) → SoundElems d es → All (Sound d) (elem
 unfolding elemsOf
 elems-sound d enil h = tt
 elems-sound d (econs j es) h = (h .0, elems-sound d es (h .1))
-
-names-listed : (ms : Members) → names ms ≡ map nameOf (membersOf ms)
-unfolding names membersOf
-names-listed mnil = refl
-names-listed (mcons n j ms) = ap (λ (x : List Bytes). n ∷ x) (names-listed ms)
 
 -- ---- by the kind of value
 
@@ -64,7 +60,7 @@ object-sound d (jnum x) ms h e = none-some e
 object-sound d (jstr t) ms h e = none-some e
 object-sound d (jarr es) ms h e = none-some e
 object-sound d (jobj os) ms h e =
-    let n : distinct (map nameOf (membersOf os)) ≡ true = ap distinct (sym (names-listed os)) ∙ h .2 in
+    let n : distinct (map nameOf (membersOf os)) ≡ true = ap distinct (sym (names-of os)) ∙ h .2 in
     (h .0, h .1, subst (λ (x : List Member). distinct (map nameOf x) ≡ true) (some-same e) n, subst (All (SoundMember (h .0))) (some-same e) (members-sound (h .0) os (h .3)))
 
 -- ---- members by name

@@ -32,7 +32,7 @@ use Rattle.home.proofs.Sublists.{Sub, none-of, left-out, taken-in, sub-
 use Rattle.home.proofs.SoundCard.{object-of, array-of, all-map}
 use Rattle.home.proofs.SoundEntries.{sub-where, all-where, sub-names, rows, one-name, sub-every}
 use Rattle.home.proofs.SoundTree.{maps-sound, maps-sub}
-use Rattle.home.proofs.Words.{name-utf8}
+use Rattle.home.proofs.Words.{name-utf8, group-utf8}
 
 -- ---- name
 
@@ -123,10 +123,6 @@ group-distinct false g ps s h = rw (param-names ps) (settled-distinct ps s)
 group-word : utf8 (ascii "group") ≡ true
 unfolding text-opened
 group-word = refl
-
-group-utf8 : (g : Bytes) → empty g || isLowerWord g ≡ true → utf8 g ≡ true
-group-utf8 [] h = utf8-none
-group-utf8 (c ∷ g) h = name-utf8 (c ∷ g) h
 
 kept-sound : (d : ℕ) (s : Seen) (k : Kept) → KeptFine k → keptStands s k ≡ true → Sound (suc (suc (suc d))) (keptJson k)
 unfolding keptJson

@@ -6,9 +6,9 @@ use mathlib.Core.Option.{Option, none, some}
 use Prim.Native.Nat.{suc, _≤_}
 use native.Mathlib.Omega.{arith}
 use lib.ListN.{length}
-use Rattle.text.specs.Bytes.{any, all, keep, flat, each}
+use Rattle.text.specs.Bytes.{any, all, keep, flat, each, empty}
 use Rattle.text.proofs.Choices.{some-same, both-inv}
-use Rattle.text.proofs.Cases.{byBool, and-left, and-right, or-left, or-right}
+use Rattle.text.proofs.Cases.{byBool, and-left, and-right, or-left, or-right, not-both}
 
 module _ {A : Type 0} (p : A → Bool) where
   pub any-append : (xs ys : List A) → any p (xs ++ ys) ≡ any p xs || any p ys
@@ -139,6 +139,11 @@ each-both f [] ys us vs p q = q ∙ ap (λ l. some (l ++ vs)) (some-same p)
 each-both f (x ∷ xs) ys us vs p q =
     let i = both-inv _∷_ (f x) (each f xs) p in
     rw (i .2, each-both f xs ys (i .1) vs (i .3) q) (ap (λ l. some (l ++ vs)) (i .4))
+
+-- a list that is not filled
+pub not-full : {A : Type 0} (xs : List A) → not (empty xs) ≡ false → xs ≡ []
+not-full [] e = refl
+not-full (x ∷ xs) e = not-both refl e
 
 -- ---- lengths
 
