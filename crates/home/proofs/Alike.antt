@@ -4,7 +4,7 @@ use mathlib.Core.Bool.{_&&_, not}
 use mathlib.Core.List.{List, [], _∷_}
 use mathlib.Core.Option.{Option, none, some}
 use Prim.Native.Nat.{ℕ}
-use Rattle.text.specs.Choice.{with-some, chain, provided}
+use Rattle.text.specs.Choice.{with-some, provided}
 use Rattle.text.specs.Bytes.{Bytes, ascii, any, among, lowered}
 use Rattle.text.proofs.Choices.{chain-same}
 use Rattle.line.specs.Grammar.{Param, Line}

@@ -1,31 +1,27 @@
 -- A proper card meets what the laws about JSON trees ask of one.
-use mathlib.Core.Path.{_≡_, refl, sym, ap, _∙_}
-use mathlib.Core.Bool.{Bool, true, false, _&&_, _||_, not}
-use mathlib.Core.List.{List, [], _∷_, map}
+use mathlib.Core.Path.{_≡_, refl}
+use mathlib.Core.Bool.{Bool, true, _&&_, not}
+use mathlib.Core.List.{List, [], _∷_}
 use mathlib.Core.Option.{some}
-use Prim.Native.Nat.{ℕ, zero, suc, _<_}
+use Prim.Native.Nat.{ℕ, zero, suc}
 use native.Mathlib.Omega.{arith}
 use lib.ListN.{length, getD}
 use lib.Dec.{ltb}
 use Rattle.text.specs.Choice.{pick, with-some}
-use Rattle.text.specs.Bytes.{Bytes, ascii, any, all, empty, same, among, distinct, lowered}
+use Rattle.text.specs.Bytes.{Bytes, ascii, all, empty, same, among}
 use Rattle.text.specs.Utf8.{utf8}
 use Rattle.text.proofs.Cases.{and-left, and-right, not-true, tests}
-use Rattle.text.proofs.Lists.{all-head, all-tail, all-imply, all-none}
+use Rattle.text.proofs.Lists.{all-head, all-tail, all-imply}
 use Rattle.json.specs.Tree.{Member, member, nameOf}
-use Rattle.line.specs.Grammar.{Param, param, paramName}
-use Rattle.line.specs.Params.{named}
 use Rattle.convert.specs.Table.{Map, maps, position, reserved}
 use Rattle.convert.specs.Model.{Entry, Kept, Card, part}
 use Rattle.convert.specs.Value.{filled}
 use Rattle.convert.specs.Classify.{Seen}
-use Rattle.convert.specs.FromJson.{isLowerWord, keptStands}
+use Rattle.convert.specs.FromJson.{keptStands}
 use Rattle.convert.specs.Carry.{carriedRaw, carriedText, carriedMaps, carriedParam, carriedKept, apart, carried}
-use Rattle.convert.proofs.KeptLines.{ProperKept}
 use Rattle.convert.proofs.Proper as Readable
-use Rattle.home.specs.Proper.{ProperEntry, ProperEntries, ProperMaps, ProperMember, ProperMembers, KeptFine, AllKeptFine, ProperCard}
-use Rattle.home.proofs.Words.{word-lowered}
-use Rattle.home.proofs.Stands.{lowerParam, Stands, stands-inv}
+use Rattle.home.specs.Proper.{ProperEntries, ProperMaps, ProperMembers, AllKeptFine, ProperCard}
+use Rattle.home.proofs.Stands.{stands-inv}
 use Rattle.home.proofs.KeptFacts.{proper-kept}
 
 -- ---- entries: the kind tells which property, for every row of the table

@@ -1,16 +1,14 @@
 -- A proper card's written lines, section by section: what each gives to the model, and what is seen after it.
 use mathlib.Core.Path.{_≡_, refl, ap, _∙_}
-use mathlib.Core.Bool.{Bool, true, false, _&&_, _||_}
+use mathlib.Core.Bool.{Bool, true, false, _||_}
 use mathlib.Core.List.{List, [], _∷_, map, append-nil}
 use mathlib.Core.Option.{Option, none, some}
 use native.Mathlib.Omega.{arith}
 use lib.ListN.{length}
 use Rattle.text.specs.Choice.{pick, with-some, is-some}
 use Rattle.text.specs.Bytes.{Bytes, ascii, any, all, empty, among}
-use Rattle.text.specs.Utf8.{utf8}
-use Rattle.text.proofs.Cases.{byBool, and-left}
+use Rattle.text.proofs.Cases.{byBool}
 use Rattle.text.proofs.Same.{among-none}
-use Rattle.text.proofs.Lists.{all-imply}
 use Rattle.json.specs.Tree.{nameOf}
 use Rattle.line.specs.Grammar.{Line}
 use Rattle.line.specs.Text.{writeText}

@@ -10,7 +10,7 @@ use lib.Dec.{eqb}
 use borrow.Author.Tests.{eq-eqb, ne-eqb}
 use Rattle.text.specs.Choice.{pick}
 use Rattle.text.specs.Bytes.{Bytes, any, all, empty}
-use Rattle.text.proofs.Cases.{byBool, not-both}
+use Rattle.text.proofs.Cases.{byBool}
 use Rattle.text.proofs.Lists.{any-head, any-tail, not-full}
 use Rattle.line.proofs.Lines.{upperLine}
 use Rattle.convert.specs.Table.{Map, maps}

@@ -1,32 +1,31 @@
 -- A card from lines is proper.
-use mathlib.Core.Path.{_≡_, refl, sym, ap, subst, _∙_}
-use mathlib.Core.Logic.{_⊎_, inl, inr}
+use mathlib.Core.Path.{_≡_, refl, ap}
+use mathlib.Core.Logic.{inl}
 use mathlib.Core.Bool.{Bool, true, false, _&&_, _||_, not}
-use mathlib.Core.List.{List, [], _∷_, _++_, map}
-use mathlib.Core.Option.{Option, none, some}
-use Prim.Native.Nat.{ℕ, suc, _+_, _≤_}
+use mathlib.Core.List.{List, [], _∷_, _++_}
+use mathlib.Core.Option.{none, some}
+use Prim.Native.Nat.{ℕ, _≤_}
 use native.Mathlib.Omega.{arith}
 use lib.ListN.{length}
-use lib.Dec.{eqb, ltb, leb}
+use lib.Dec.{eqb, leb}
 use borrow.Author.Tests.{leb-true}
-use Rattle.text.specs.Choice.{is-some, with-some}
-use Rattle.text.specs.Bytes.{Bytes, any, all, empty, among, isDigit, between, distinct, each}
+use Rattle.text.specs.Choice.{with-some}
+use Rattle.text.specs.Bytes.{Bytes, any, all, empty, among, isDigit, between, each}
 use Rattle.text.specs.Decimal.{decimal}
 use Rattle.text.specs.Utf8.{utf8}
 use Rattle.text.proofs.Cases.{byBool, tests, implied, beyond, and-left, and-right, and-true, or-left, or-right, not-both}
-use Rattle.text.proofs.Choices.{some-same}
 use Rattle.text.proofs.Lists.{all-imply, all-none, all-both, all-cons, any-head, any-tail}
 use Rattle.text.proofs.Decimals.{decimal-digits}
-use Rattle.json.specs.Tree.{Json, Member, member, nameOf}
+use Rattle.json.specs.Tree.{Member, member, nameOf}
 use Rattle.line.specs.Class.{isName, isKey, isStem, isControl}
 use Rattle.line.specs.Grammar.{Line, accepted, readLine}
 use Rattle.convert.specs.Table.{maps}
-use Rattle.convert.specs.Model.{Entry, Kept, Card, hasParts, noParts, part}
+use Rattle.convert.specs.Model.{Kept, Card, hasParts, noParts}
 use Rattle.convert.specs.Value.{filled}
 use Rattle.convert.specs.Carry.{carriedRaw, carriedText, carriedParam, carriedMaps, carriedKept, apart, carried}
-use Rattle.convert.specs.Classify.{Class, as-version, as-uid, as-kind, as-dropped, as-full, as-parts, as-entry, as-member, as-kept, isId, Seen, nothing, Classed, classedAfter, classed, classify}
-use Rattle.convert.specs.FromCard.{Placed, placed, Gives, gives, gathered, firstOf, orElse, mapsFrom, madeUid, cardOfClassed, cardOfLines}
-use Rattle.convert.specs.FromJson.{isLowerWord, keptStands, idsFrom, seenIn}
+use Rattle.convert.specs.Classify.{Class, as-version, as-uid, as-kind, as-dropped, as-full, as-parts, as-entry, as-member, as-kept, Seen, nothing, Classed, classedAfter, classed, classify}
+use Rattle.convert.specs.FromCard.{placed, Gives, gathered, firstOf, orElse, mapsFrom, madeUid, cardOfClassed, cardOfLines}
+use Rattle.convert.specs.FromJson.{isLowerWord, keptStands, seenIn}
 use Rattle.convert.specs.Answers.{isStemText, garbled, misused, secondFrom, emptied}
 use Rattle.home.specs.Proper.{ProperMember, ProperMembers, KeptFine, AllKeptFine, ProperMaps, ProperCard}
 use Rattle.home.proofs.Alls.{All, all-test, all-mono, all-two, each-gives, In, in-all, all-in, in-among}
@@ -38,7 +37,6 @@ use Rattle.home.proofs.ReadNames.{NameWell}
 use Rattle.home.proofs.KeyedEntries.{PlacedWell, placed-proper, ids-cover}
 use Rattle.home.proofs.LineKept.{LineFine}
 use Rattle.home.proofs.Covered.{Covers, CoversClass}
-use Rattle.home.proofs.ClassFacts.{WellClass}
 use Rattle.home.proofs.Ordered.{LineGood, classed-well, covered, classed-length, members-new, ids-new}
 use Rattle.home.proofs.Gathered.{gathered-all, in-gathered, Well, UidFine, uid-given, kind-given, full-given, SomeName, parts-given, entry-given, MemberFine, member-given, KeptGood, kept-given, Stood, stand-given, entries-length, or-else, first-in, is-first}
 

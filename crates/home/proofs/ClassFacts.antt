@@ -1,17 +1,16 @@
 -- What each line of a card becomes, and that it is new.
-use mathlib.Core.Path.{_≡_, refl, sym, ap, subst, _∙_}
+use mathlib.Core.Path.{_≡_, refl, sym, ap}
 use mathlib.Core.Bool.{Bool, true, false, _&&_, _||_, not}
-use mathlib.Core.List.{List, [], _∷_, _++_}
+use mathlib.Core.List.{List}
 use mathlib.Core.Option.{Option, none, some}
-use Prim.Native.Nat.{ℕ}
-use Rattle.text.specs.Choice.{pick, with-some, chain, provided}
+use Rattle.text.specs.Choice.{with-some, provided}
 use Rattle.text.specs.Bytes.{Bytes, ascii, any, all, empty, same, among, lowered}
 use Rattle.text.specs.Utf8.{utf8}
-use Rattle.text.proofs.Cases.{byBool, and-true, or-left, or-right, not-both}
+use Rattle.text.proofs.Cases.{byBool, and-true, or-left, or-right}
 use Rattle.text.proofs.Choices.{provided-inv}
-use Rattle.json.specs.Tree.{Json, Member, member}
+use Rattle.json.specs.Tree.{Json, member}
 use Rattle.line.specs.Class.{isName}
-use Rattle.line.specs.Grammar.{Param, paramValues, Line}
+use Rattle.line.specs.Grammar.{paramValues, Line}
 use Rattle.line.specs.Params.{named, lacking, besidesValue}
 use Rattle.line.specs.Text.{readText}
 use Rattle.convert.specs.Table.{Map, maps, Slot, slotOf}

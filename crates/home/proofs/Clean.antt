@@ -1,16 +1,15 @@
 -- Texts in UTF-8 without controls: they may be cut at ASCII bytes.
 use mathlib.Core.Path.{_≡_, refl, sym, ap, subst, _∙_}
-use mathlib.Core.Bool.{Bool, true, false, _&&_, _||_, not}
+use mathlib.Core.Bool.{Bool, true, false, _&&_}
 use mathlib.Core.List.{List, [], _∷_, _++_, append-nil}
-use Prim.Native.Nat.{ℕ, suc, _≤_}
+use Prim.Native.Nat.{ℕ}
 use native.Mathlib.Omega.{arith}
-use lib.Dec.{eqb, ltb, leb}
-use Rattle.text.specs.Choice.{pick}
+use lib.Dec.{ltb}
 use Rattle.text.specs.Bytes.{Bytes, any, all, between}
-use Rattle.text.specs.Utf8.{Due, start, due, broken, lead, tails, next, run, utf8}
-use Rattle.text.specs.Reader.{taken, past, first}
-use Rattle.text.proofs.Cases.{byBool, and-left, and-right, tests, not-both, below}
-use Rattle.text.proofs.Lists.{all-head, all-tail, all-append, any-append, any-head, any-tail}
+use Rattle.text.specs.Utf8.{Due, start, due, broken, lead, next, run, utf8}
+use Rattle.text.specs.Reader.{taken, past}
+use Rattle.text.proofs.Cases.{byBool, and-right, tests, below}
+use Rattle.text.proofs.Lists.{all-head, all-tail, all-append, any-append}
 use Rattle.text.proofs.Cases.{or-left, or-right}
 use Rattle.text.proofs.Characters.{run-append, utf8-run, run-utf8, not-start, later, later-lead, later-tails, later-bounds, isByte, utf8-bytes}
 use Rattle.line.specs.Class.{isControl}

@@ -2,22 +2,20 @@
 use mathlib.Core.Path.{_≡_, refl, sym, ap, subst, _∙_}
 use mathlib.Core.Logic.{_⊎_, inl, inr}
 use mathlib.Core.Bool.{Bool, true, false, _&&_, _||_, not}
-use mathlib.Core.List.{List, [], _∷_, _++_, tail}
-use mathlib.Core.Option.{Option, none, some}
+use mathlib.Core.List.{List, [], _∷_, tail}
+use mathlib.Core.Option.{some}
 use Prim.Native.Nat.{ℕ, zero, suc}
-use native.Mathlib.Omega.{arith}
 use lib.ListN.{length}
 use lib.Dec.{eqb, ltb}
 use borrow.Author.Tests.{eqb-true}
-use Rattle.text.specs.Choice.{pick, provided}
 use Rattle.text.specs.Bytes.{Bytes, is, any, all, empty, between}
-use Rattle.text.specs.Reader.{Got, got, bad, bind, under, first, on, Step, more, last, after, turns, loop, one, some-of, run-of, taken, past}
-use Rattle.text.proofs.Cases.{byBool, byBelow, upTo, tests, beyond, and-left, and-right, and-true, not-true, not-both, implied, or-second}
+use Rattle.text.specs.Reader.{Got, got, bad, bind, first, on, Step, more, last, after, turns, loop, one, some-of, run-of, taken, past}
+use Rattle.text.proofs.Cases.{byBool, tests, beyond, not-both, implied, or-second}
 use Rattle.text.proofs.Choices.{none-some, some-same, provided-inv}
 use Rattle.text.proofs.Lists.{all-imply, all-none}
 use Rattle.text.proofs.Readers.{not-bad, got-rest, got-what, bind-inv, under-inv, on-inv, when-inv, Keeps, some-of-inv, taken-all}
-use Rattle.line.specs.Class.{isName, isBare, isQuotable, isControl}
-use Rattle.line.specs.Grammar.{Param, param, paramName, paramValues, Line, word, paramValue, valueTurn, parameter, paramTurn, afterName, lineReader, fits, isFrameName, accepted, ofGot, readLine}
+use Rattle.line.specs.Class.{isName, isBare, isQuotable}
+use Rattle.line.specs.Grammar.{Param, paramName, paramValues, Line, word, paramValue, valueTurn, parameter, paramTurn, afterName, lineReader, accepted, ofGot, readLine}
 use Rattle.line.proofs.Parameters.{isWord}
 use Rattle.home.proofs.Alls.{All}
 use Rattle.home.proofs.Clean.{isAscii, Clean, clean-right, clean-tail, ascii-utf8, taken-past, taken-clean}

@@ -2,13 +2,13 @@
 use mathlib.Core.Path.{_≡_, refl, ap}
 use mathlib.Core.Bool.{Bool, true, false, _&&_, _||_, not}
 use mathlib.Core.List.{List, [], _∷_, _++_, map}
-use Prim.Native.Nat.{ℕ, suc, _+_, _≤_}
+use Prim.Native.Nat.{ℕ, _≤_}
 use native.Mathlib.Omega.{arith}
 use lib.ListN.{length, length-append, length-map}
 use lib.Dec.{eqb, ltb, leb}
 use borrow.Author.Tests.{le-leb}
 use Rattle.text.specs.Choice.{pick}
-use Rattle.text.specs.Bytes.{Bytes, ascii, any, all, empty, same, among, between, lowered, isDigit, keep}
+use Rattle.text.specs.Bytes.{Bytes, ascii, any, all, empty, same, among, between, lowered, isDigit}
 use Rattle.text.proofs.Cases.{byBool, byBelow, tests, and-left, and-right, and-true}
 use Rattle.text.proofs.Lists.{all-head, all-tail, all-both, all-imply, any-tail, length-keep}
 use Rattle.line.specs.Class.{isName, isLowerName}

@@ -3,11 +3,10 @@ use mathlib.Core.Path.{_≡_, refl, sym, _∙_}
 use mathlib.Core.Bool.{Bool, true, false, _&&_, not}
 use mathlib.Core.List.{List, [], _∷_, _++_, map}
 use Prim.Native.Nat.{ℕ, zero, suc}
-use lib.Dec.{eqb, ltb}
-use borrow.Author.Tests.{ne-eqb}
+use lib.Dec.{eqb}
 use Rattle.text.specs.Bytes.{Bytes, ascii, is, any, all, between, begins, joined, flat}
 use Rattle.text.specs.Utf8.{utf8, run}
-use Rattle.text.proofs.Cases.{byBool, implied, beyond, tests, and-left, and-right, and-true}
+use Rattle.text.proofs.Cases.{byBool, implied, and-left, and-right, and-true}
 use Rattle.text.proofs.Lists.{all-head, all-tail, all-not, all-both, all-imply}
 use Rattle.line.specs.Class.{isName, isKey, isControl}
 use Rattle.line.specs.Text.{escape, writeText}

@@ -1,16 +1,16 @@
 -- A kept line of a proper card, taken apart: it is proper, and stays kept in its place.
-use mathlib.Core.Path.{_≡_, refl, sym, _∙_}
-use mathlib.Core.Bool.{Bool, true, false, _&&_, not}
+use mathlib.Core.Path.{_≡_, refl, _∙_}
+use mathlib.Core.Bool.{true, false}
 use mathlib.Core.List.{List, [], _∷_, map}
-use Rattle.text.specs.Bytes.{ascii, any, all, same, among}
-use Rattle.text.proofs.Cases.{and-left, and-right, not-true, not-both}
+use Rattle.text.specs.Bytes.{ascii, any, all, same}
+use Rattle.text.proofs.Cases.{and-left, and-right, not-true}
 use Rattle.text.proofs.Lists.{all-head, all-tail}
-use Rattle.line.specs.Grammar.{Param, param, paramName, Line, fits}
+use Rattle.line.specs.Grammar.{Param, param, Line}
 use Rattle.line.specs.Params.{named}
 use Rattle.convert.specs.Model.{Kept}
-use Rattle.convert.specs.Classify.{Class, as-version, as-uid, as-kind, as-dropped, as-full, as-parts, as-entry, as-member, as-kept, Seen, classify}
+use Rattle.convert.specs.Classify.{as-kept, Seen, classify}
 use Rattle.convert.specs.FromCard.{Gives, gives}
-use Rattle.convert.specs.FromJson.{isLowerWord, isKept, neverKept, keptAsLine, keptStands}
+use Rattle.convert.specs.FromJson.{isLowerWord, keptAsLine, keptStands}
 use Rattle.convert.proofs.KeptLines.{ProperKept, kept-line}
 pub use Rattle.home.proofs.Stands.{Stands, stands-inv as stands, lowerParam as paramStands}
 use Rattle.home.specs.Proper.{KeptFine, AllKeptFine}

@@ -1,34 +1,33 @@
 -- Entries drawn from lines are proper once they have their keys.
-use mathlib.Core.Path.{_≡_, refl, sym, ap, ap₂, subst, _∙_}
-use mathlib.Core.Logic.{_⊎_, inl, inr}
+use mathlib.Core.Path.{_≡_, refl, sym, ap, subst, _∙_}
+use mathlib.Core.Logic.{inl, inr}
 use mathlib.Core.Bool.{Bool, true, false, _&&_, _||_, not}
 use mathlib.Core.List.{List, [], _∷_, _++_, map}
-use mathlib.Core.Option.{Option, none, some}
+use mathlib.Core.Option.{some}
 use Prim.Native.Nat.{ℕ, zero, suc, _+_, _≤_}
 use native.Mathlib.Omega.{arith}
 use lib.ListN.{length}
-use lib.Dec.{eqb, ltb, leb}
+use lib.Dec.{eqb, ltb}
 use borrow.Author.Tests.{eqb-true, eq-eqb}
 use Rattle.text.specs.Choice.{pick}
 use Rattle.text.specs.Bytes.{Bytes, any, all, empty, same, among, distinct, between, keep}
-use Rattle.text.proofs.Cases.{byBool, and-left, and-right, and-true, not-both, or-second}
+use Rattle.text.proofs.Cases.{byBool, and-left, and-right, and-true, or-second}
 use Rattle.text.proofs.Same.{same-true, same-self, among-head, among-later}
-use Rattle.text.proofs.Choices.{none-some, some-same}
-use Rattle.text.proofs.Lists.{all-head, all-tail, all-cons, any-append}
+use Rattle.text.proofs.Choices.{none-some}
+use Rattle.text.proofs.Lists.{all-head, all-tail, any-append}
 use Rattle.line.specs.Class.{isName, isKey}
 use Rattle.convert.specs.Table.{Map, maps}
 use Rattle.convert.specs.Model.{Entry}
 use Rattle.convert.specs.Value.{isKeyText}
 use Rattle.convert.specs.Keys.{fresh, keysAfter, keys}
 use Rattle.convert.specs.Carry.{carriedAs, carriedMaps}
-use Rattle.convert.specs.Classify.{Id, id, isId}
+use Rattle.convert.specs.Classify.{id, isId}
 use Rattle.convert.specs.FromCard.{Placed, placed, inMap, withKeys, keyedEntries, mapsFrom}
 use Rattle.convert.specs.FromJson.{idsFrom}
 use Rattle.convert.proofs.Keyed.{keys-distinct}
-use Rattle.convert.proofs.Entries.{Proper}
-use Rattle.home.specs.Proper.{ProperEntry, ProperEntries, ProperMaps}
-use Rattle.home.proofs.Alls.{All, all-test, test-all, In}
-use Rattle.home.proofs.Slots.{at, at-all}
+use Rattle.home.specs.Proper.{ProperEntries, ProperMaps}
+use Rattle.home.proofs.Alls.{All, In}
+use Rattle.home.proofs.Slots.{at}
 use Rattle.home.proofs.LineEntries.{Drawn}
 use Rattle.home.proofs.MadeKeys.{isPrefix, isIdText, keys-texts, keys-length}
 

@@ -1,22 +1,20 @@
 -- The entry that a line gives: proper but for its key, which may be empty until one is made.
 use mathlib.Core.Path.{_≡_, refl, sym, ap, subst, _∙_}
 use mathlib.Core.Bool.{Bool, true, false, _&&_, _||_, not}
-use mathlib.Core.List.{List, [], _∷_, _++_, map}
-use mathlib.Core.Option.{Option, none, some, Option·map}
-use Prim.Native.Nat.{ℕ, _<_}
-use native.Mathlib.Omega.{arith}
+use mathlib.Core.List.{List, [], _∷_, map}
+use mathlib.Core.Option.{Option, some}
+use Prim.Native.Nat.{ℕ}
 use lib.ListN.{length, take}
 use lib.Dec.{eqb, ltb}
 use borrow.Author.Tests.{lt-ltb}
-use Rattle.text.specs.Choice.{pick, chain, provided}
-use Rattle.text.specs.Bytes.{Bytes, ascii, any, all, empty, same, among, lowered, parts, flat, keep, each}
+use Rattle.text.specs.Bytes.{Bytes, ascii, any, all, empty, same, among, lowered, parts, flat, each}
 use Rattle.text.proofs.Cases.{byBool, and-left, and-right, not-both, or-second, tests}
 use Rattle.text.proofs.Choices.{none-some, some-same, provided-inv, chain-inv, map-inv}
 use Rattle.text.proofs.Same.{same-true}
 use Rattle.text.proofs.Lists.{all-none, keep-none}
 use Rattle.line.specs.Grammar.{Param, paramName, Line}
 use Rattle.line.specs.Params.{named, valuesNamed, onlyNamed, valueType, besidesValue}
-use Rattle.convert.specs.Table.{Map, Slot, TypeName, typeNames, vcardType, position, inOrder}
+use Rattle.convert.specs.Table.{Map, Slot, typeNames, vcardType, position, inOrder}
 use Rattle.convert.specs.Model.{Entry}
 use Rattle.convert.specs.Value.{isKeyText, isPref, readAs, takesType}
 use Rattle.convert.specs.Classify.{Seen, isId, keyFrom, prefFrom, typesFrom, allowed, entryOf}

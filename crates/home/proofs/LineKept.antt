@@ -1,29 +1,27 @@
 -- The kept entry of a clean line.
-use mathlib.Core.Path.{_≡_, refl, sym, ap, subst, _∙_}
+use mathlib.Core.Path.{_≡_, refl, sym, ap, _∙_}
 use mathlib.Core.Logic.{_⊎_, inl, inr}
 use mathlib.Core.Bool.{Bool, true, false, _&&_, _||_, not}
-use mathlib.Core.List.{List, [], _∷_, _++_, map}
-use Prim.Native.Nat.{ℕ, suc, _+_, _≤_}
+use mathlib.Core.List.{List, [], _∷_, _++_}
+use Prim.Native.Nat.{ℕ, _≤_}
 use native.Mathlib.Omega.{arith}
 use lib.ListN.{length, length-append}
-use lib.Dec.{eqb, ltb, leb}
+use lib.Dec.{leb}
 use borrow.Author.Tests.{le-leb, leb-true}
 use Rattle.text.specs.Choice.{pick}
-use Rattle.text.specs.Bytes.{Bytes, ascii, is, any, all, empty, same, among, between, lower, lowered}
+use Rattle.text.specs.Bytes.{Bytes, ascii, any, all, empty, same, among, between, lower, lowered}
 use Rattle.text.specs.Utf8.{utf8}
-use Rattle.text.proofs.Cases.{byBool, tests, implied, beyond, and-left, and-right, and-true, or-left, or-right, not-true, not-both}
+use Rattle.text.proofs.Cases.{byBool, implied, and-left, and-right, and-true, or-left, or-right, not-true, not-both}
 use Rattle.text.proofs.Letters.{lowered-lowered}
-use Rattle.text.proofs.Same.{same-true}
 use Rattle.text.proofs.Lists.{all-not}
-use Rattle.line.specs.Class.{isName, isLowerName, isControl}
+use Rattle.line.specs.Class.{isName, isLowerName}
 use Rattle.line.specs.Grammar.{Param, param, paramName, paramValues, Line, valueCount, fits, isFrameName, accepted}
 use Rattle.line.specs.Params.{named, valuesNamed, lacking, firstOr, valueType, besidesValue, merged}
 use Rattle.line.proofs.Merging.{Settled, merged-settled, none-left}
 use Rattle.line.proofs.Parameters.{isWord}
 use Rattle.line.proofs.Lines.{count-append}
-use Rattle.convert.specs.Model.{Kept}
 use Rattle.convert.specs.Value.{filled}
-use Rattle.convert.specs.Carry.{carriedRaw, carriedParam, carriedKept}
+use Rattle.convert.specs.Carry.{carriedParam, carriedKept}
 use Rattle.convert.specs.Classify.{Seen, classify}
 use Rattle.convert.specs.FromCard.{keptLine}
 use Rattle.convert.specs.FromJson.{isLowerWord, isGroup, keptAsLine, neverKept}
@@ -31,9 +29,8 @@ use Rattle.convert.specs.Answers.{isNamed, onlyUri, valueFits, misused}
 use Rattle.convert.proofs.KeptLines.{ProperKept, kept-line}
 use Rattle.home.specs.Proper.{KeptFine}
 use Rattle.home.proofs.Alls.{All, all-test, test-all, all-mono, all-two, all-kept, all-joined}
-use Rattle.home.proofs.Words.{or-word, word-lowered}
+use Rattle.home.proofs.Words.{or-word}
 use Rattle.home.proofs.Stands.{lowerParam}
-use Rattle.home.proofs.Clean.{isAscii, Clean}
 use Rattle.home.proofs.CleanLines.{name-ascii, CleanValue, CleanParam, CleanLine}
 use Rattle.home.proofs.CleanTexts.{clean-raw}
 use Rattle.home.proofs.Merged.{Holds, Filled, lacking-none, merged-none, merged-hold, split-count, lacking-length, lacking-one-less, merged-length, merged-count}

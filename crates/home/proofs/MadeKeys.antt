@@ -1,21 +1,21 @@
 -- Keys are key texts, in a card of at most 512 lines.
-use mathlib.Core.Path.{_≡_, refl, sym, ap, subst, _∙_}
+use mathlib.Core.Path.{_≡_, refl, sym, ap, subst}
 use mathlib.Core.Bool.{Bool, true, false, _&&_, _||_, not}
-use mathlib.Core.List.{List, [], _∷_, _++_, map}
+use mathlib.Core.List.{List, [], _∷_, _++_}
 use Prim.Native.Nat.{ℕ, zero, suc, _+_, _≤_, _<_}
 use native.Mathlib.Omega.{arith}
 use lib.ListN.{length, length-append}
-use lib.Dec.{eqb, ltb, leb}
-use borrow.Author.Tests.{le-leb, leb-true, lt-ltb}
+use lib.Dec.{leb}
+use borrow.Author.Tests.{le-leb}
 use Rattle.text.specs.Choice.{pick}
-use Rattle.text.specs.Bytes.{Bytes, any, all, empty, among, isDigit, between, keep}
+use Rattle.text.specs.Bytes.{Bytes, all, empty, among, isDigit, between, keep}
 use Rattle.text.specs.Decimal.{digitsBefore, decimal}
-use Rattle.text.proofs.Cases.{byBool, byBelow, upTo, tests, and-true, and-left, and-right, not-true, implied, beyond}
-use Rattle.text.proofs.Lists.{all-both, all-imply, all-head, all-tail, all-cons, length-keep}
+use Rattle.text.proofs.Cases.{byBool, byBelow, tests, and-true, and-left, and-right, implied, beyond}
+use Rattle.text.proofs.Lists.{all-both, all-imply, all-cons, length-keep}
 use Rattle.text.proofs.Decimals.{decimal-digits}
 use Rattle.line.specs.Class.{isName, isKey}
-use Rattle.convert.specs.Value.{filled, isKeyText}
-use Rattle.convert.specs.Keys.{numbered, fresh, freshFrom, keysAfter, keys}
+use Rattle.convert.specs.Value.{isKeyText}
+use Rattle.convert.specs.Keys.{numbered, fresh, keysAfter, keys}
 use Rattle.convert.proofs.Fresh.{numberFrom, fresh-numbered, fresh-filled}
 
 -- ---- the number of a made key

@@ -1,16 +1,16 @@
 -- Equal-named parameters as one: what stays the same.
-use mathlib.Core.Path.{_≡_, refl, sym, ap, ap₂, subst, _∙_}
-use mathlib.Core.Bool.{Bool, true, false, _&&_, _||_, not}
+use mathlib.Core.Path.{_≡_, refl, sym, ap, _∙_}
+use mathlib.Core.Bool.{Bool, true, false, _&&_, not}
 use mathlib.Core.List.{List, [], _∷_, _++_, map, append-nil}
-use Prim.Native.Nat.{ℕ, suc, _+_, _≤_}
+use Prim.Native.Nat.{suc, _+_, _≤_}
 use native.Mathlib.Omega.{arith}
 use lib.ListN.{length, length-append}
 use Rattle.text.specs.Choice.{pick}
 use Rattle.text.specs.Bytes.{Bytes, ascii, any, all, empty, same, among, lowered, flat, keep}
-use Rattle.text.proofs.Cases.{byBool, and-left, and-right, or-left, or-right, not-true, not-both}
+use Rattle.text.proofs.Cases.{byBool, or-left, or-right, not-both}
 use Rattle.text.proofs.Letters.{lowered-lowered}
 use Rattle.text.proofs.Same.{same-true, same-self}
-use Rattle.text.proofs.Lists.{any-head, any-tail, any-none, keep-passes, all-not}
+use Rattle.text.proofs.Lists.{any-head, any-tail}
 use Rattle.line.specs.Grammar.{Param, param, paramName, paramValues, valueCount}
 use Rattle.line.specs.Params.{named, valuesNamed, lacking, onlyNamed, merged}
 use Rattle.convert.specs.Classify.{isDerived}

@@ -16,7 +16,7 @@ use Rattle.convert.specs.Table.{Map, text, Slot, slotFrom, slotOf, position, ma
 use Rattle.convert.specs.Model.{Entry}
 use Rattle.convert.specs.Keys.{keys}
 use Rattle.convert.specs.Classify.{Class, as-version, as-uid, as-kind, as-dropped, as-full, as-parts, as-entry, as-member, as-kept, Seen, Classed, classedAfter}
-use Rattle.convert.specs.FromCard.{Placed, placed, Gives, gives, gathered, inMap, withKeys, keyedEntries, mapsFrom}
+use Rattle.convert.specs.FromCard.{Gives, gives, gathered, inMap, withKeys, keyedEntries, mapsFrom}
 use Rattle.convert.specs.ToCard.{entryLine, mapsLines}
 use Rattle.convert.specs.NormalCard.{map-at, section, propId, entryForm, entryForms, mapForms}
 use Rattle.home.proofs.Known.{onSome}

@@ -2,20 +2,19 @@
 use mathlib.Core.Path.{_≡_, refl, sym, ap, _∙_}
 use mathlib.Core.Bool.{Bool, true, false, _||_, not, or-true}
 use mathlib.Core.List.{List, [], _∷_, map}
-use mathlib.Core.Option.{Option, some}
-use Prim.Native.Nat.{suc}
+use mathlib.Core.Option.{some}
 use lib.ListN.{length}
 use lib.Dec.{leb}
-use Rattle.text.specs.Bytes.{Bytes, any, all, empty, among, keep, each}
+use Rattle.text.specs.Bytes.{Bytes, any, empty, keep, each}
 use Rattle.text.proofs.Cases.{tests}
 use Rattle.text.proofs.Choices.{some-same}
-use Rattle.text.proofs.Lists.{keep-all, each-length}
+use Rattle.text.proofs.Lists.{each-length}
 use Rattle.line.specs.Text.{readText, splitText}
 use Rattle.convert.specs.Model.{hasParts, part}
 use Rattle.convert.specs.Value.{filled, partValues, without, ownParts, readName}
 use Rattle.convert.specs.NormalCard.{textOf, partTexts, nameValues}
 use Rattle.convert.proofs.Names.{without-none}
-use Rattle.home.proofs.Known.{onProvided, onChain, onMap, onNone, onEach}
+use Rattle.home.proofs.Known.{onProvided, onChain, onMap}
 use Rattle.home.proofs.Images.{each-same, map-id, all-anything}
 
 -- ---- the strings

@@ -1,16 +1,13 @@
 -- The lines of a card in order: no member's name and no PROP-ID of a map comes twice; what was seen before a line was seen in all.
-use mathlib.Core.Path.{_≡_, refl, sym, ap, subst, _∙_}
-use mathlib.Core.Bool.{Bool, true, false, _&&_, _||_, not}
+use mathlib.Core.Path.{_≡_, refl, sym, ap, subst}
+use mathlib.Core.Bool.{true, false, _&&_, _||_, not}
 use mathlib.Core.List.{List, [], _∷_, _++_, map}
-use mathlib.Core.Option.{Option, none, some}
-use Prim.Native.Nat.{ℕ, suc, _≤_}
-use native.Mathlib.Omega.{arith}
+use Prim.Native.Nat.{ℕ, suc}
 use lib.ListN.{length}
 use lib.Dec.{eqb}
-use borrow.Author.Tests.{eqb-true, eq-eqb}
-use Rattle.text.specs.Choice.{pick}
+use borrow.Author.Tests.{eqb-true}
 use Rattle.text.specs.Bytes.{Bytes, any, empty, same, among, distinct, flat, keep}
-use Rattle.text.proofs.Cases.{byBool, and-true, not-true, not-both}
+use Rattle.text.proofs.Cases.{byBool, not-true, not-both}
 use Rattle.text.proofs.Same.{same-true, same-self, among-head, among-later}
 use Rattle.json.specs.Tree.{Member, member, nameOf}
 use Rattle.line.specs.Grammar.{Line}

@@ -9,13 +9,13 @@ use lib.Dec.{ltb}
 use Rattle.text.specs.Choice.{pick, with-some}
 use Rattle.text.specs.Bytes.{Bytes, ascii, any, all, empty, same, among, lower, lowered, between, keep, flat}
 use Rattle.text.proofs.Cases.{byBool, and-left, and-right, and-true}
-use Rattle.text.proofs.Lists.{all-head, all-tail, any-head, any-tail, any-neither, keep-none}
+use Rattle.text.proofs.Lists.{all-head, all-tail, any-head, any-tail, any-neither}
 use Rattle.json.specs.Tree.{Member, member}
 use Rattle.line.specs.Class.{isName}
 use Rattle.line.specs.Grammar.{Param, param, Line}
 use Rattle.line.specs.Params.{named, valuesNamed}
 use Rattle.line.specs.Text.{writeText}
-use Rattle.line.proofs.Named.{valuesNamed-append, valuesNamed-one, valuesNamed-other, valuesNamed-none}
+use Rattle.line.proofs.Named.{valuesNamed-append, valuesNamed-one, valuesNamed-none}
 use Rattle.convert.specs.Table.{Form, text, single, uri, phone, organization, Map}
 use Rattle.convert.specs.Model.{Entry, Kept}
 use Rattle.convert.specs.Value.{headOr, isTelUri, writtenType}

@@ -1,19 +1,19 @@
 -- The member that a JSPROP line makes.
 use mathlib.Core.Path.{_≡_, refl, sym, ap, subst, _∙_}
 use mathlib.Core.Bool.{Bool, true, false, _&&_, _||_, not}
-use mathlib.Core.List.{List, [], _∷_, _++_}
+use mathlib.Core.List.{List, [], _∷_}
 use mathlib.Core.Option.{Option, none, some}
 use Prim.Native.Nat.{ℕ}
-use lib.Dec.{eqb, ltb}
+use lib.Dec.{eqb}
 use borrow.Author.Tests.{eqb-true}
-use Rattle.text.specs.Choice.{pick, chain, provided}
+use Rattle.text.specs.Choice.{pick, provided}
 use Rattle.text.specs.Bytes.{Bytes, ascii, is, any, empty, among}
-use Rattle.text.specs.Utf8.{Due, start, next, run, utf8}
-use Rattle.text.proofs.Cases.{byBool, and-left, and-right, and-true, or-left, or-right, not-true, not-both}
+use Rattle.text.specs.Utf8.{Due, start, next, run}
+use Rattle.text.proofs.Cases.{byBool, and-left, and-right, or-left, or-right, not-true, not-both}
 use Rattle.text.proofs.Choices.{none-some, some-same, provided-inv, chain-inv}
 use Rattle.text.proofs.Lists.{any-none}
 use Rattle.text.proofs.Characters.{utf8-run, run-utf8, later}
-use Rattle.json.specs.Tree.{Json, Member, member}
+use Rattle.json.specs.Tree.{Json}
 use Rattle.json.specs.Read.{Reading, tree, refused, reading}
 use Rattle.json.proofs.Sound.{Sound}
 use Rattle.json.proofs.Given.{reading-sound}
@@ -24,9 +24,7 @@ use Rattle.line.specs.Text.{readText}
 use Rattle.convert.specs.Table.{reserved}
 use Rattle.convert.specs.Value.{filled}
 use Rattle.convert.specs.Pointer.{push, pointedFrom, pointed}
-use Rattle.convert.specs.Carry.{carriedRaw, carriedParam}
 use Rattle.convert.specs.Classify.{Seen, sole, treeOf, memberName, memberValue}
-use Rattle.home.specs.Proper.{ProperMember}
 use Rattle.home.proofs.Alls.{All}
 use Rattle.home.proofs.Clean.{isAscii, ascii-next, ascii-due, later-next}
 use Rattle.home.proofs.CleanLines.{CleanValue}

@@ -1,17 +1,17 @@
 -- A place found in a list is inside it, and what stands there passes the test.
-use mathlib.Core.Path.{_≡_, refl, sym, ap, subst, _∙_}
-use mathlib.Core.Bool.{Bool, true, false, _&&_, _||_, not}
-use mathlib.Core.List.{List, [], _∷_, _++_, map}
+use mathlib.Core.Path.{_≡_, refl, sym, ap, _∙_}
+use mathlib.Core.Bool.{Bool, true}
+use mathlib.Core.List.{List, [], _∷_, _++_}
 use mathlib.Core.Option.{Option, none, some}
-use Prim.Native.Nat.{ℕ, zero, suc, _+_, _<_, _≤_}
+use Prim.Native.Nat.{ℕ, zero, suc, _≤_}
 use native.Mathlib.Omega.{arith}
 use lib.ListN.{length, getD, take}
 use lib.Dec.{ltb, eqb}
 use borrow.Author.Tests.{eqb-true}
-use Rattle.text.specs.Choice.{with-some, pick}
+use Rattle.text.specs.Choice.{with-some}
 use Rattle.text.specs.Bytes.{Bytes, same, any, all, keep}
 use Rattle.text.proofs.Cases.{byBool, testing, not-both}
-use Rattle.text.proofs.Choices.{none-some, some-same, map-inv}
+use Rattle.text.proofs.Choices.{none-some, some-same}
 use Rattle.text.proofs.Same.{same-true}
 use Rattle.text.proofs.Lists.{all-head, all-tail, keep-passes, all-imply}
 use Rattle.convert.specs.Table.{position, inOrder, contextCodes, featureCodes}

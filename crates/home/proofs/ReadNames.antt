@@ -1,19 +1,18 @@
 -- What a clean value gives as N: seven parts of filled values, and some value.
 use mathlib.Core.Path.{_≡_, refl, sym, ap, subst, _∙_}
-use mathlib.Core.Bool.{Bool, true, false, _&&_, _||_, not}
+use mathlib.Core.Bool.{Bool, true, false, _&&_, not}
 use mathlib.Core.List.{List, [], _∷_}
-use mathlib.Core.Option.{Option, none, some, Option·map}
+use mathlib.Core.Option.{some}
 use Prim.Native.Nat.{ℕ, zero, suc, _≤_, _<_}
 use native.Mathlib.Omega.{arith}
-use lib.ListN.{length, getD}
-use lib.Dec.{leb, ltb}
-use borrow.Author.Tests.{leb-true, lt-ltb}
-use Rattle.text.specs.Choice.{chain, provided, both}
+use lib.ListN.{length}
+use lib.Dec.{leb}
+use Rattle.text.specs.Choice.{provided}
 use Rattle.text.specs.Bytes.{Bytes, any, all, empty, among, keep, each}
 use Rattle.text.specs.Utf8.{utf8}
-use Rattle.text.proofs.Cases.{byBool, tests, and-true, or-left, or-right, not-both, not-false}
-use Rattle.text.proofs.Choices.{some-same, provided-inv, chain-inv, map-inv, both-inv}
-use Rattle.text.proofs.Lists.{keep-passes, keep-all, each-length, not-full}
+use Rattle.text.proofs.Cases.{byBool, tests, and-true, or-left, or-right, not-both}
+use Rattle.text.proofs.Choices.{some-same, provided-inv, chain-inv, map-inv}
+use Rattle.text.proofs.Lists.{keep-passes, each-length, not-full}
 use Rattle.line.specs.Text.{readText, splitText}
 use Rattle.convert.specs.Model.{hasParts, part}
 use Rattle.convert.specs.Value.{filled, partValues, without, ownParts, readName}

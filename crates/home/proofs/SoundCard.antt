@@ -1,29 +1,25 @@
 -- The JSON tree of a proper card is sound: its strings are UTF-8, its names differ, its depth is at most 16.
-use mathlib.Core.Path.{_≡_, refl, sym, ap, subst, _∙_}
-use mathlib.Core.Bool.{Bool, true, false, _&&_, _||_, not}
-use mathlib.Core.List.{List, [], _∷_, _++_, map, append-nil}
-use mathlib.Core.Option.{Option, none, some}
-use Prim.Native.Nat.{ℕ, zero, suc}
-use lib.ListN.{length, getD}
-use lib.Dec.{eqb, ltb, leb}
-use Rattle.text.specs.Choice.{pick, is-some, with-some}
-use Rattle.text.specs.Bytes.{Bytes, ascii, is, any, all, empty, same, among, distinct, keep, flat, isDigit, between}
-use Rattle.text.specs.Utf8.{utf8}
+use mathlib.Core.Path.{_≡_, refl, ap, subst, _∙_}
+use mathlib.Core.Bool.{Bool, true, false, _&&_, not}
+use mathlib.Core.List.{List, [], _∷_, map, append-nil}
+use Prim.Native.Nat.{ℕ, suc}
+use lib.ListN.{length}
+use lib.Dec.{eqb, leb}
+use Rattle.text.specs.Bytes.{Bytes, is, all, distinct, isDigit, between}
 use Rattle.text.specs.Decimal as D
-use Rattle.text.specs.Reader.{Got, got, bind, on, some-of, first}
-use Rattle.text.proofs.Cases.{byBool, and-left, and-right, not-true, not-both, other}
-use Rattle.text.proofs.Lists.{all-head, all-tail, all-imply}
+use Rattle.text.specs.Reader.{got, on, some-of}
+use Rattle.text.proofs.Cases.{and-left, and-right, not-true, not-both, other}
+use Rattle.text.proofs.Lists.{all-head}
 use Rattle.text.proofs.Readers.{some-of-run}
-use Rattle.json.specs.Tree.{Json, jnull, jtrue, jfalse, jnum, jstr, jarr, jobj, Elems, Members, Member, member, nameOf, valueOf, fromMembers, fromElems, object, array}
+use Rattle.json.specs.Tree.{Json, Member, member, nameOf, fromMembers, fromElems, object, array}
 use Rattle.json.specs.Strings.{names}
 use Rattle.json.specs.Syntax.{opt, int, frac, exp, digits, number}
 use Rattle.json.specs.Grammar.{isE}
 use Rattle.json.proofs.Sound.{Sound, SoundElems, SoundMembers}
 use Rattle.json.proofs.Numbers.{Spelled}
 use Rattle.json.proofs.Fine.{digit-256}
-use Rattle.convert.specs.Table.{Map, typeNames, type-name, jsonType}
-use Rattle.convert.specs.Value.{filled, isPref}
-use Rattle.home.proofs.Alls.{All, all-joined, all-mono, test-all}
+use Rattle.convert.specs.Value.{isPref}
+use Rattle.home.proofs.Alls.{All}
 use Rattle.home.proofs.SoundLists.{SoundMember}
 
 -- ---- objects and arrays from lists

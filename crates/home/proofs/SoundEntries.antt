@@ -1,30 +1,26 @@
 -- The JSON of proper entries is sound.
 use mathlib.Core.Path.{_≡_, refl, sym, ap, subst, _∙_}
-use mathlib.Core.Bool.{Bool, true, false, _&&_, _||_, not}
+use mathlib.Core.Bool.{Bool, true, false, _&&_, not}
 use mathlib.Core.List.{List, [], _∷_, _++_, map, map-append}
 use Prim.Native.Nat.{ℕ, zero, suc}
 use lib.ListN.{length, getD}
-use lib.Dec.{eqb, ltb, leb}
-use Rattle.text.specs.Choice.{pick}
-use Rattle.text.specs.Bytes.{Bytes, ascii, any, all, empty, same, among, distinct, keep, isLetter, isDigit, isUpper, isLower, between}
+use lib.Dec.{eqb, leb}
+use Rattle.text.specs.Bytes.{Bytes, ascii, any, all, empty, among, distinct, keep}
 use Rattle.text.specs.Utf8.{utf8}
 use Rattle.text.proofs.Opened.{text-opened}
-use Rattle.text.proofs.Cases.{byBool, and-left, and-right, not-true, not-both, implied, tests, beyond}
+use Rattle.text.proofs.Cases.{byBool, and-right, not-both}
 use Rattle.text.proofs.Lists.{all-head, all-tail, all-imply, keep-swap}
-use Rattle.json.specs.Tree.{Json, jtrue, jnum, jstr, Member, member, nameOf, valueOf, object, array}
+use Rattle.json.specs.Tree.{Json, jtrue, jstr, Member, member, nameOf, object, array}
 use Rattle.json.proofs.Sound.{Sound}
-use Rattle.line.specs.Class.{isName, isKey}
+use Rattle.line.specs.Class.{isKey}
 use Rattle.convert.specs.Table.{Form, text, single, uri, phone, organization, Map, maps, typeNames, type-name, jsonType, contextCodes, featureCodes, inOrder}
-use Rattle.convert.specs.Model.{Entry}
-use Rattle.convert.specs.Value.{filled, isKeyText, headOr}
-use Rattle.convert.specs.ToJson.{where′, contentJson, flagsJson, entryJson, mapsJson}
-use Rattle.convert.proofs.Entries.{Proper}
-use Rattle.home.specs.Proper.{ProperEntry, ProperEntries, ProperMaps}
-use Rattle.home.proofs.Alls.{All, all-joined, all-test, test-all}
+use Rattle.convert.specs.Value.{filled, isKeyText}
+use Rattle.convert.specs.ToJson.{where′, contentJson}
+use Rattle.home.proofs.Alls.{All, all-joined, test-all}
 use Rattle.home.proofs.Clean.{isAscii, ascii-utf8, utf8-none, head-utf8}
 use Rattle.home.proofs.SoundLists.{SoundMember}
-use Rattle.home.proofs.Sublists.{Sub, none-of, left-out, taken-in, sub-nothing, sub-all, sub-append, sub-keep, sub-map, sub-distinct}
-use Rattle.home.proofs.SoundCard.{object-of, array-of, all-map, pref-spelled}
+use Rattle.home.proofs.Sublists.{Sub, none-of, left-out, taken-in, sub-nothing, sub-append, sub-keep, sub-map, sub-distinct}
+use Rattle.home.proofs.SoundCard.{object-of, array-of, all-map}
 use Rattle.home.proofs.Words.{no-key}
 
 -- ---- members that are there or not

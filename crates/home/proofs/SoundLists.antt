@@ -1,19 +1,18 @@
 -- A sound tree, as lists of members and elements.
 use mathlib.Core.Path.{_≡_, refl, sym, ap, subst, _∙_}
 use mathlib.Core.Logic.{_⊎_, inl, inr}
-use mathlib.Core.Bool.{Bool, true, false, _||_}
+use mathlib.Core.Bool.{true, false}
 use mathlib.Core.List.{List, [], _∷_, map}
 use mathlib.Core.Option.{Option, none, some}
 use Prim.Native.Nat.{ℕ, suc}
-use Rattle.text.specs.Choice.{pick, with-some, chain}
-use Rattle.text.specs.Bytes.{Bytes, any, all, same, among, distinct}
+use Rattle.text.specs.Choice.{with-some}
+use Rattle.text.specs.Bytes.{Bytes, same, among, distinct}
 use Rattle.text.specs.Utf8.{utf8}
 use Rattle.text.proofs.Cases.{byBool, not-both}
-use Rattle.text.proofs.Choices.{none-some, some-same, chain-inv}
+use Rattle.text.proofs.Choices.{none-some, some-same}
 use Rattle.text.proofs.Same.{same-true}
 use Rattle.text.proofs.Lists.{all-head, all-tail}
 use Rattle.json.specs.Tree.{Json, jnull, jtrue, jfalse, jnum, jstr, jarr, jobj, Elems, enil, econs, Members, mnil, mcons, Member, member, nameOf, valueOf, membersOf, elemsOf, field, asString, asArray, asObject}
-use Rattle.json.specs.Strings.{names}
 use Rattle.json.proofs.Sound.{Sound, SoundElems, SoundMembers}
 use Rattle.convert.specs.FromJson.{onlyMembers, optional}
 use Rattle.home.proofs.Alls.{All}

@@ -1,9 +1,8 @@
 -- What a standing kept entry is, taken apart and put together.
-use mathlib.Core.Path.{_≡_, refl, sym, ap, _∙_}
-use mathlib.Core.Bool.{Bool, true, false, _&&_, _||_, not}
-use mathlib.Core.List.{List, [], _∷_, map}
-use Rattle.text.specs.Bytes.{Bytes, ascii, all, same, among}
-use Rattle.text.proofs.Cases.{and-left, and-right, and-true, not-true, not-both}
+use mathlib.Core.Path.{_≡_, refl, sym}
+use mathlib.Core.Bool.{Bool, true, false, _&&_, not}
+use Rattle.text.specs.Bytes.{ascii, all, same, among}
+use Rattle.text.proofs.Cases.{and-left, and-right, not-true, not-both}
 use Rattle.line.specs.Grammar.{Param, paramName, fits}
 use Rattle.convert.specs.Model.{Kept}
 use Rattle.convert.specs.Classify.{Seen, classify, Class, as-version, as-uid, as-kind, as-dropped, as-full, as-parts, as-entry, as-member, as-kept}

@@ -1,10 +1,9 @@
 -- Names taken in order from a list of names that differ: they differ too.
-use mathlib.Core.Path.{_≡_, refl, sym, ap, _∙_}
-use mathlib.Core.Bool.{Bool, true, false, _&&_, _||_, not}
+use mathlib.Core.Path.{_≡_}
+use mathlib.Core.Bool.{Bool, true, false, not}
 use mathlib.Core.List.{List, [], _∷_, _++_, map}
-use Rattle.text.specs.Choice.{pick}
 use Rattle.text.specs.Bytes.{Bytes, any, all, same, among, distinct, keep}
-use Rattle.text.proofs.Cases.{byBool, and-left, and-right, and-true, or-left, or-right, not-true}
+use Rattle.text.proofs.Cases.{byBool, and-left, and-right, or-left, or-right, not-true}
 use Rattle.text.proofs.Same.{among-append}
 use Rattle.text.proofs.Lists.{all-head, all-tail}
 

@@ -1,12 +1,12 @@
 -- Words in lower case, and lists of parameters that are settled.
-use mathlib.Core.Path.{_≡_, refl, sym, ap, ap₂, _∙_}
-use mathlib.Core.Bool.{Bool, true, false, _&&_, _||_, not}
+use mathlib.Core.Path.{_≡_, refl, ap₂}
+use mathlib.Core.Bool.{Bool, true, false, _||_, not}
 use mathlib.Core.List.{List, [], _∷_, map}
-use Prim.Native.Nat.{ℕ, _+_}
+use Prim.Native.Nat.{ℕ}
 use lib.Dec.{eqb, ltb}
 use borrow.Author.Tests.{ne-eqb}
 use Rattle.text.specs.Choice.{pick}
-use Rattle.text.specs.Bytes.{Bytes, any, all, empty, same, among, distinct, between, isLower, isDigit, lower, lowered}
+use Rattle.text.specs.Bytes.{Bytes, any, all, empty, same, among, distinct, between, lower, lowered}
 use Rattle.text.proofs.Cases.{byBool, byBelow, tests, beyond, and-left, and-right, or-left, or-right, not-true, not-both}
 use Rattle.text.proofs.Same.{same-swap}
 use Rattle.text.proofs.Lists.{all-head, all-tail, all-imply}
