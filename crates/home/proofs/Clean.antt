@@ -8,9 +8,8 @@ use lib.Dec.{ltb}
 use Rattle.text.specs.Bytes.{Bytes, any, all, between}
 use Rattle.text.specs.Utf8.{Due, start, due, broken, lead, next, run, utf8}
 use Rattle.text.specs.Reader.{taken, past}
-use Rattle.text.proofs.Cases.{byBool, and-right, tests, below}
+use Rattle.text.proofs.Cases.{byBool, and-right, tests, below, or-left, or-right}
 use Rattle.text.proofs.Lists.{all-head, all-tail, all-append, any-append}
-use Rattle.text.proofs.Cases.{or-left, or-right}
 use Rattle.text.proofs.Characters.{run-append, utf8-run, run-utf8, not-start, later, later-lead, later-tails, later-bounds, isByte, utf8-bytes}
 use Rattle.line.specs.Class.{isControl}
 use Rattle.convert.specs.Value.{headOr}

@@ -11,18 +11,12 @@ use Rattle.text.specs.Choice.{with-some}
 use Rattle.text.specs.Bytes.{Bytes, same}
 use Rattle.text.proofs.Choices.{none-some, some-same}
 use Rattle.convert.specs.Table.{Map, maps, position, Slot, slotFrom, slotOf}
-use Rattle.home.proofs.Alls.{All}
 use Rattle.home.proofs.Positions.{position-inside}
 
 abbrev pub at : {A : Type 0} → ℕ → List A → Option A
 at i [] = none
 at zero (x ∷ xs) = some x
 at (suc i) (x ∷ xs) = at i xs
-
-pub at-all : {A : Type 0} (P : A → Type 0) (i : ℕ) (xs : List A) (x : A) → All P xs → at i xs ≡ some x → P x
-at-all P i [] x h e = none-some e
-at-all P zero (y ∷ xs) x h e = subst P (some-same e) (h .0)
-at-all P (suc i) (y ∷ xs) x h e = at-all P i xs x (h .1) e
 
 -- a slot, in rows from the place i on
 pub record InTable (i : ℕ) (ms : List Map) (w : Slot) : Type 0 where

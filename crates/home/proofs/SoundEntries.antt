@@ -48,9 +48,6 @@ key-utf8 k h = ascii-utf8 k (all-imply isKey isAscii key-ascii k (and-right (fil
 
 -- ---- strings
 
-string-member : (d : ℕ) (n v : Bytes) → utf8 n ≡ true → utf8 v ≡ true → SoundMember d (member n (jstr v))
-string-member d n v a b = (a, b)
-
 -- ---- contexts and features
 
 abbrev pub typeJson : ℕ → Bytes

@@ -17,10 +17,6 @@ module _ {A : Type 0} where
   sub-nothing [] = none-of
   sub-nothing (y ∷ ys) = left-out y (sub-nothing ys)
 
-  pub sub-all : (ys : List A) → Sub ys ys
-  sub-all [] = none-of
-  sub-all (y ∷ ys) = taken-in y (sub-all ys)
-
   pub sub-append : {xs ys us vs : List A} → Sub xs ys → Sub us vs → Sub (xs ++ us) (ys ++ vs)
   sub-append none-of t = t
   sub-append (left-out y s) t = left-out y (sub-append s t)
