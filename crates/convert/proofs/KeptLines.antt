@@ -32,7 +32,7 @@ pub record ProperKept (k : Kept) : Type 0 where
 
 -- ---- as a line
 
-abbrev valueParam : Bytes → List Param
+abbrev pub valueParam : Bytes → List Param
 valueParam t = pick (same t (ascii "unknown")) [] (param (ascii "value") (t ∷ []) ∷ [])
 
 value-named : same (lowered (ascii "value")) (ascii "value") ≡ true

@@ -23,6 +23,7 @@ use Rattle.convert.proofs.Proper as Readable
 use Rattle.home.specs.Proper.{ProperEntries, ProperMaps, ProperMembers, AllKeptFine, ProperCard}
 use Rattle.home.proofs.Stands.{stands-inv}
 use Rattle.home.proofs.KeptFacts.{proper-kept}
+use Rattle.home.proofs.Alls.{All}
 
 -- ---- entries: the kind tells which property, for every row of the table
 
@@ -30,10 +31,6 @@ abbrev Kinded : Map → Type 0
 Kinded m =
     (w : ℕ) → ltb w (length (m .properties)) ≡ true
     → pick (empty (m .kinds)) (some 0) (position (same (getD (m .kinds) w [])) (m .kinds)) ≡ some w
-
-abbrev AllKinded : List Map → Type 0
-AllKinded [] = Unit {0}
-AllKinded (m ∷ ms) = Kinded m × AllKinded ms
 
 one-property : (w : ℕ) → ltb w 1 ≡ true → some 0 ≡ some w
 one-property zero h = refl
@@ -45,14 +42,14 @@ two-kinds zero h = refl
 two-kinds (suc zero) h = refl
 two-kinds (suc (suc w)) h = absurd (omega tests)
 
-table-kinded : AllKinded maps
+table-kinded : All Kinded maps
 table-kinded = (one-property, (one-property, (one-property, (one-property, (one-property, (two-kinds, (one-property, tt)))))))
 
 entries-good : (m : Map) → Kinded m → (es : List Entry) → ProperEntries m es → Readable.AllGood m es
 entries-good m k [] g = tt
 entries-good m k (e ∷ es) g = (record { proper = g .0 .proper; kind = k (e .which) (g .0 .which); which = g .0 .which }, entries-good m k es (g .1))
 
-maps-good : (ms : List Map) → AllKinded ms → (ess : List (List Entry)) → ProperMaps ms ess → Readable.GoodMaps ms ess
+maps-good : (ms : List Map) → All Kinded ms → (ess : List (List Entry)) → ProperMaps ms ess → Readable.GoodMaps ms ess
 maps-good [] k [] g = tt
 maps-good [] k (es ∷ ess) g = g
 maps-good (m ∷ ms) k [] g = g

@@ -1,6 +1,6 @@
 -- The law: a written card reads back as its model, whole.
 use mathlib.Core.Path.{_≡_, refl, sym, ap, ap₂, _∙_}
-use mathlib.Core.Bool.{Bool, true, false, not}
+use mathlib.Core.Bool.{true, false, not}
 use mathlib.Core.List.{List, [], _∷_, _++_, map, append-nil}
 use mathlib.Core.Option.{Option, none, some}
 use Prim.Native.Nat.{ℕ, suc, _≤_}
@@ -19,6 +19,7 @@ use Rattle.convert.specs.Classify.{nothing, classedAfter, classed}
 use Rattle.convert.specs.FromCard.{Placed, placed, Gives, gathered, firstOf, orElse, inMap, withKeys, keyedEntries, mapsFrom, cardOfClassed, cardOfLines}
 use Rattle.convert.specs.ToCard.{cardLines}
 use Rattle.convert.proofs.Keyed.{keys-given}
+use Rattle.convert.proofs.Names.{full}
 use Rattle.home.specs.Proper.{ProperEntries, ProperMaps, ProperCard}
 use Rattle.home.proofs.Given.{noGives, plus, gathered-given, inMap-append}
 use Rattle.home.proofs.MapLines.{placedFrom, key-filled}
@@ -70,9 +71,6 @@ maps-back i (m ∷ ms) (es ∷ ess) ps h g =
     rw own (ap₂ _∷_ (keyed-back m es (g .0)) (maps-back (suc i) ms ess ps next (g .2)))
 
 -- ---- what may be absent
-
-abbrev full : List Bytes → Bool
-full vs = not (empty vs)
 
 -- as many empty lists as others
 all-empty : (ps qs : List (List Bytes)) → length ps ≡ length qs → any full ps ≡ false → any full qs ≡ false → ps ≡ qs

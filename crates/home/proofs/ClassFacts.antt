@@ -1,12 +1,12 @@
 -- What each line of a card becomes, and that it is new.
-use mathlib.Core.Path.{_≡_, refl, sym, ap}
+use mathlib.Core.Path.{_≡_, refl, ap}
 use mathlib.Core.Bool.{Bool, true, false, _&&_, _||_, not}
 use mathlib.Core.List.{List}
 use mathlib.Core.Option.{Option, none, some}
 use Rattle.text.specs.Choice.{with-some, provided}
 use Rattle.text.specs.Bytes.{Bytes, ascii, any, all, empty, same, among, lowered}
 use Rattle.text.specs.Utf8.{utf8}
-use Rattle.text.proofs.Cases.{byBool, and-true, or-left, or-right}
+use Rattle.text.proofs.Cases.{byBool, and-true, or-left, or-right, not-false}
 use Rattle.text.proofs.Choices.{provided-inv}
 use Rattle.json.specs.Tree.{Json, member}
 use Rattle.line.specs.Class.{isName}
@@ -130,11 +130,7 @@ unfolding emptied
 kind-word l e q =
     let a : same (lowered (l .name)) (ascii "kind") && (empty (l .value) || not (all isName (l .value))) ≡ false = or-right (isNamed (ascii "uid") l && empty (l .value)) _ e in
     let b : empty (l .value) || not (all isName (l .value)) ≡ false = rw q at a in
-    and-true (ap not (or-left (empty (l .value)) _ b)) (of-not (all isName (l .value)) (or-right (empty (l .value)) _ b))
-  where
-    of-not : (b : Bool) → not b ≡ false → b ≡ true
-    of-not true r = refl
-    of-not false r = sym r
+    and-true (ap not (or-left (empty (l .value)) _ b)) (not-false (all isName (l .value)) (or-right (empty (l .value)) _ b))
 
 -- ---- every line
 

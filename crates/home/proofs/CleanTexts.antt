@@ -42,7 +42,7 @@ escaped-inv c r v e =
     (λ m. none-some (rw (q, p, o, n, m) at e))))))
 
 -- after a backslash a character may start
-abbrev dueAt : Bool → Due → Due
+abbrev pub dueAt : Bool → Due → Due
 dueAt true d = start
 dueAt false d = d
 

@@ -6,7 +6,6 @@ use Prim.Native.Nat.{ℕ}
 use native.Mathlib.Omega.{arith}
 use lib.Dec.{eqb}
 use borrow.Author.Tests.{ltb-false, le-ltb, ne-eqb}
-use Rattle.text.specs.Choice.{pick}
 use Rattle.text.specs.Bytes.{Bytes, all, between}
 use Rattle.text.specs.Utf8.{Due, start, due, broken, lead, tails, next, run, utf8}
 use Rattle.text.proofs.Cases.{byBool, byBelow, between-true, not-both}
@@ -15,7 +14,7 @@ use Rattle.text.proofs.Characters.{run-append, utf8-run, run-utf8, not-start, l
 use Rattle.json.specs.Compact.{spelled, spelledAll}
 use Rattle.line.specs.Text.{escape, writeText}
 use Rattle.convert.specs.Pointer.{pointer}
-use Rattle.convert.proofs.Pointers.{no-pointer}
+use Rattle.convert.proofs.Pointers.{no-pointer, spelt}
 use Rattle.home.proofs.Clean.{isAscii, ascii-run}
 
 low-lead : (c : ℕ) → isAscii c ≡ true → lead c ≡ start
@@ -83,25 +82,22 @@ text-all k = expand-all (escape k) (writeText k) (text-none k) (text-step k)
 
 -- ---- JSPTR
 
-abbrev coded : ℕ → Bytes
-coded c = pick (eqb c 126) (126 ∷ 48 ∷ []) (pick (eqb c 47) (126 ∷ 49 ∷ []) (c ∷ []))
-
-pointer-step : (c : ℕ) (s : Bytes) → pointer (c ∷ s) ≡ coded c ++ pointer s
+pointer-step : (c : ℕ) (s : Bytes) → pointer (c ∷ s) ≡ spelt c ++ pointer s
 unfolding pointer
 pointer-step c s = refl
 
-coded-all : (q : ℕ → Bool) → q 126 ≡ true → q 48 ≡ true → q 49 ≡ true → (c : ℕ) → q c ≡ true → all q (coded c) ≡ true
+coded-all : (q : ℕ → Bool) → q 126 ≡ true → q 48 ≡ true → q 49 ≡ true → (c : ℕ) → q c ≡ true → all q (spelt c) ≡ true
 unfolding all
 coded-all q a b d c h = byBool (eqb c 126) (λ e. rw (e, a, b)) (λ e. byBool (eqb c 47) (λ f. rw (e, f, a, d)) (λ f. rw (e, f, h)))
 
-coded-high : (c : ℕ) → isAscii c ≡ false → coded c ≡ c ∷ []
+coded-high : (c : ℕ) → isAscii c ≡ false → spelt c ≡ c ∷ []
 coded-high c l = let h = ltb-false c 128 l in rw (ne-eqb c 126 (omega arith), ne-eqb c 47 (omega arith))
 
 pub pointer-utf8 : (s : Bytes) → utf8 s ≡ true → utf8 (pointer s) ≡ true
-pointer-utf8 = expand-utf8 coded pointer no-pointer pointer-step (coded-all isAscii refl refl refl) coded-high
+pointer-utf8 = expand-utf8 spelt pointer no-pointer pointer-step (coded-all isAscii refl refl refl) coded-high
 
 pub pointer-all : (q : ℕ → Bool) → q 126 ≡ true → q 48 ≡ true → q 49 ≡ true → (s : Bytes) → all q s ≡ true → all q (pointer s) ≡ true
-pointer-all q a b d = expand-all coded pointer no-pointer pointer-step q q (coded-all q a b d)
+pointer-all q a b d = expand-all spelt pointer no-pointer pointer-step q q (coded-all q a b d)
 
 -- ---- JSON strings
 

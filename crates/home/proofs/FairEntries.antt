@@ -9,7 +9,7 @@ use lib.Dec.{eqb, ltb, leb}
 use borrow.Author.Tests.{le-leb}
 use Rattle.text.specs.Choice.{pick}
 use Rattle.text.specs.Bytes.{Bytes, ascii, any, all, empty, same, among, between, lowered, isDigit}
-use Rattle.text.proofs.Cases.{byBool, byBelow, tests, and-left, and-right, and-true}
+use Rattle.text.proofs.Cases.{byBool, byBelow, tests, and-left, and-right, and-true, or-second}
 use Rattle.text.proofs.Lists.{all-head, all-tail, all-both, all-imply, any-tail, length-keep}
 use Rattle.line.specs.Class.{isName, isLowerName}
 use Rattle.line.specs.Grammar.{Param, param, valueCount, fits, isFrameName}
@@ -41,10 +41,6 @@ key-fair k h = keys-fair k (and-right (not (empty k) && leb (length k) 255) _ h)
 digit-name : (c : ℕ) → isDigit c ≡ true → isName c ≡ true
 unfolding isName
 digit-name c h = rw (or-second (between 65 90 c || between 97 122 c) (isDigit c) h)
-  where
-    or-second : (a b : Bool) → b ≡ true → a || b ≡ true
-    or-second true b h = refl
-    or-second false b h = h
 
 pref-digits : (p : Bytes) → isPref p ≡ true → all isDigit p ≡ true
 unfolding isPref

@@ -17,10 +17,11 @@ use Rattle.convert.specs.Value.{headOr, isTelUri, writeAs, writtenParts, writeN
 use Rattle.convert.specs.Carry.{carriedRaw, carriedText, carriedParam, carriedAs}
 use Rattle.convert.specs.Pointer.{pointer}
 use Rattle.home.proofs.Expanded.{pointer-utf8, pointer-all}
-use Rattle.home.proofs.WrittenClean.{Clean, AllClean, isPrinted, clean-joined, raw-clean, text-clean}
+use Rattle.home.proofs.WrittenClean.{isPrinted, clean-joined, raw-clean, text-clean}
 use Rattle.home.proofs.Fair.{fairValue}
-use Rattle.home.proofs.Clean.{isAscii, ascii-utf8, head-utf8}
+use Rattle.home.proofs.Clean.{isAscii, ascii-utf8, head-utf8, Clean}
 use Rattle.home.proofs.Words.{no-key}
+use Rattle.home.proofs.Alls.{All}
 
 -- ---- parameter values
 
@@ -71,7 +72,7 @@ both-textual (v ∷ vs) h k = rw (all-head utf8 v vs h, all-head carriedText v v
 pub textual-clean : (k : Bool) (v : Bytes) → textual v ≡ true → Clean (writeText k v)
 textual-clean k v h = text-clean k v (and-left (utf8 v) _ h) (and-right (utf8 v) _ h)
 
-texts-clean : (k : Bool) (vs : List Bytes) → all textual vs ≡ true → AllClean (map (writeText k) vs)
+texts-clean : (k : Bool) (vs : List Bytes) → all textual vs ≡ true → All Clean (map (writeText k) vs)
 texts-clean k [] h = tt
 texts-clean k (v ∷ vs) h = (textual-clean k v (all-head textual v vs h), texts-clean k vs (all-tail textual v vs h))
 
@@ -113,7 +114,7 @@ part-clean : (vs : List Bytes) → all textual vs ≡ true → Clean (writePart 
 unfolding writePart isControl all
 part-clean vs h = clean-joined (ascii ",") (map (writeText true) vs) refl (texts-clean true vs h)
 
-parts-clean : (pss : List (List Bytes)) → all (all textual) pss ≡ true → AllClean (map writePart pss)
+parts-clean : (pss : List (List Bytes)) → all (all textual) pss ≡ true → All Clean (map writePart pss)
 parts-clean [] h = tt
 parts-clean (vs ∷ pss) h = (part-clean vs (all-head (all textual) vs pss h), parts-clean pss (all-tail (all textual) vs pss h))
 

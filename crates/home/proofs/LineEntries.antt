@@ -2,7 +2,7 @@
 use mathlib.Core.Path.{_≡_, refl, sym, ap, subst, _∙_}
 use mathlib.Core.Bool.{Bool, true, false, _&&_, _||_, not}
 use mathlib.Core.List.{List, [], _∷_, map}
-use mathlib.Core.Option.{Option, some}
+use mathlib.Core.Option.{some}
 use Prim.Native.Nat.{ℕ}
 use lib.ListN.{length, take}
 use lib.Dec.{eqb, ltb}
@@ -14,12 +14,12 @@ use Rattle.text.proofs.Same.{same-true}
 use Rattle.text.proofs.Lists.{all-none, keep-none}
 use Rattle.line.specs.Grammar.{Param, paramName, Line}
 use Rattle.line.specs.Params.{named, valuesNamed, onlyNamed, valueType, besidesValue}
-use Rattle.convert.specs.Table.{Map, Slot, typeNames, vcardType, position, inOrder}
+use Rattle.convert.specs.Table.{Map, Slot, typeNames, vcardType, inOrder}
 use Rattle.convert.specs.Model.{Entry}
 use Rattle.convert.specs.Value.{isKeyText, isPref, readAs, takesType}
 use Rattle.convert.specs.Classify.{Seen, isId, keyFrom, prefFrom, typesFrom, allowed, entryOf}
 use Rattle.convert.proofs.Orders.{inOrder-again}
-use Rattle.convert.proofs.Types.{below}
+use Rattle.convert.proofs.Types.{below, codeOf}
 use Rattle.home.proofs.Alls.{All, all-test, each-gives}
 use Rattle.home.proofs.Positions.{position-inside, take-length, inOrder-all}
 use Rattle.home.proofs.CleanLines.{CleanLine}
@@ -73,17 +73,14 @@ pref-inv n ps p h e =
 
 -- ---- TYPE
 
-abbrev code : ℕ → Bytes → Option ℕ
-code n v = position (λ t. same (lowered v) (vcardType t)) (take n typeNames)
-
-code-below : (n : ℕ) (v : Bytes) (c : ℕ) → code n v ≡ some c → below n c ≡ true
+code-below : (n : ℕ) (v : Bytes) (c : ℕ) → codeOf n v ≡ some c → below n c ≡ true
 code-below n v c e = lt-ltb c n (omega (tests, position-inside (λ t. same (lowered v) (vcardType t)) (take n typeNames) c e, take-length n typeNames))
 
 types-inv : (n : ℕ) (vs : List Bytes) (ts : List ℕ) → typesFrom n vs ≡ some ts → (all (below n) ts ≡ true) × (inOrder ts ≡ ts)
 unfolding typesFrom
 types-inv n vs ts e =
-    let i = map-inv inOrder (each (code n) (flat (map (parts 44) vs))) e in
-    let b = all-test (below n) (i .0) (each-gives (code n) (λ v. Unit {0}) (λ c. below n c ≡ true) (λ v c u q. code-below n v c q) (flat (map (parts 44) vs)) (i .0) (units (flat (map (parts 44) vs))) (i .1)) in
+    let i = map-inv inOrder (each (codeOf n) (flat (map (parts 44) vs))) e in
+    let b = all-test (below n) (i .0) (each-gives (codeOf n) (λ v. Unit {0}) (λ c. below n c ≡ true) (λ v c u q. code-below n v c q) (flat (map (parts 44) vs)) (i .0) (units (flat (map (parts 44) vs))) (i .1)) in
     subst (λ (ts : List ℕ). (all (below n) ts ≡ true) × (inOrder ts ≡ ts)) (i .2) (inOrder-all (below n) (i .0) b, inOrder-again (i .0))
   where
     units : (vs : List Bytes) → All (λ v. Unit {0}) vs

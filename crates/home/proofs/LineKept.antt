@@ -8,10 +8,9 @@ use native.Mathlib.Omega.{arith}
 use lib.ListN.{length, length-append}
 use lib.Dec.{leb}
 use borrow.Author.Tests.{le-leb, leb-true}
-use Rattle.text.specs.Choice.{pick}
 use Rattle.text.specs.Bytes.{Bytes, ascii, any, all, empty, same, among, between, lower, lowered}
 use Rattle.text.specs.Utf8.{utf8}
-use Rattle.text.proofs.Cases.{byBool, implied, and-left, and-right, and-true, or-left, or-right, not-true, not-both}
+use Rattle.text.proofs.Cases.{byBool, implied, and-left, and-right, and-true, or-left, or-right, not-true, not-both, not-false}
 use Rattle.text.proofs.Letters.{lowered-lowered}
 use Rattle.text.proofs.Lists.{all-not}
 use Rattle.line.specs.Class.{isName, isLowerName}
@@ -26,7 +25,7 @@ use Rattle.convert.specs.Classify.{Seen, classify}
 use Rattle.convert.specs.FromCard.{keptLine}
 use Rattle.convert.specs.FromJson.{isLowerWord, isGroup, keptAsLine, neverKept}
 use Rattle.convert.specs.Answers.{isNamed, onlyUri, valueFits, misused}
-use Rattle.convert.proofs.KeptLines.{ProperKept, kept-line}
+use Rattle.convert.proofs.KeptLines.{ProperKept, kept-line, valueParam}
 use Rattle.home.specs.Proper.{KeptFine}
 use Rattle.home.proofs.Alls.{All, all-test, test-all, all-mono, all-two, all-kept, all-joined}
 use Rattle.home.proofs.Words.{or-word}
@@ -84,16 +83,9 @@ module _ (l : Line) where
 
   value-fits : misused l ≡ false → valueFits (valuesNamed (ascii "value") (l .params)) ≡ true
   unfolding misused
-  value-fits h = fits-of (valueFits (valuesNamed (ascii "value") (l .params))) (or-right (three || any (named (ascii "group")) (l .params)) _ h)
-    where
-      fits-of : (b : Bool) → not b ≡ false → b ≡ true
-      fits-of true e = refl
-      fits-of false e = sym e
+  value-fits h = not-false (valueFits (valuesNamed (ascii "value") (l .params))) (or-right (three || any (named (ascii "group")) (l .params)) _ h)
 
 -- ---- counts
-
-abbrev valueParam : Bytes → List Param
-valueParam t = pick (same t (ascii "unknown")) [] (param (ascii "value") (t ∷ []) ∷ [])
 
 -- VALUE stands there once more only where it stood
 value-less : (vs : List Bytes) (t : Bytes) → t ≡ lowered (firstOr (ascii "unknown") vs)

@@ -1,7 +1,7 @@
 -- The seven maps: the lines of each section with their keys.
 use mathlib.Core.Path.{_≡_, refl, sym, ap, ap₂, _∙_, fun-ext}
 use mathlib.Core.Bool.{true, false}
-use mathlib.Core.List.{List, [], _∷_, _++_, map}
+use mathlib.Core.List.{List, [], _∷_, _++_, map, map-map}
 use mathlib.Core.Option.{some}
 use Prim.Native.Nat.{ℕ, suc, _+_}
 use native.Mathlib.Omega.{arith}
@@ -20,7 +20,6 @@ use Rattle.convert.specs.FromCard.{Gives, gives, gathered, inMap, withKeys, key
 use Rattle.convert.specs.ToCard.{entryLine, mapsLines}
 use Rattle.convert.specs.NormalCard.{map-at, section, propId, entryForm, entryForms, mapForms}
 use Rattle.home.proofs.Known.{onSome}
-use Rattle.home.proofs.Images.{map-map}
 use Rattle.home.proofs.Classes.{Fact, Agrees, gathered-section}
 use Rattle.home.proofs.NormalCardEntries.{rekeyed, entry-key, entry-line}
 use Rattle.home.proofs.Given.{inMap-append}

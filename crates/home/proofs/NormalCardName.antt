@@ -1,7 +1,7 @@
 -- FN and N: the first that converts, and what is made where there is no FN.
 use mathlib.Core.Path.{_≡_, refl, sym, ap, _∙_}
 use mathlib.Core.Bool.{true, false}
-use mathlib.Core.List.{List, [], _∷_, map}
+use mathlib.Core.List.{List, [], _∷_, map, map-id}
 use Rattle.text.specs.Choice.{with-some}
 use Rattle.text.specs.Bytes.{Bytes, ascii, any, all, flat}
 use Rattle.text.proofs.Cases.{not-both}
@@ -15,7 +15,7 @@ use Rattle.convert.specs.FromCard.{Gives, gives, gathered, firstOf, orElse}
 use Rattle.convert.specs.ToCard.{property, lineWhere, derivedLine}
 use Rattle.convert.specs.NormalCard.{plainLine, renewed, nameValues, nameText, fulls, names, section, orMade, nameStrings, derivedForm}
 use Rattle.convert.proofs.CardParts.{has-no-parts}
-use Rattle.home.proofs.Images.{AtMostOne, map-id}
+use Rattle.home.proofs.Images.{AtMostOne}
 use Rattle.home.proofs.Classes.{Fact, Agrees, gathered-section, elsewhere}
 use Rattle.home.proofs.NormalCardParts.{name-read}
 use Rattle.home.proofs.Once.{ByFlag, few, one-seen, gathered-all}

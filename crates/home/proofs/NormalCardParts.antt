@@ -1,21 +1,21 @@
 -- N's value: the components that are read, as the normal form has them.
 use mathlib.Core.Path.{_≡_, refl, sym, ap, _∙_}
 use mathlib.Core.Bool.{Bool, true, false, _||_, not, or-true}
-use mathlib.Core.List.{List, [], _∷_, map}
+use mathlib.Core.List.{List, [], _∷_, map, map-id}
 use mathlib.Core.Option.{some}
 use lib.ListN.{length}
 use lib.Dec.{leb}
 use Rattle.text.specs.Bytes.{Bytes, any, empty, keep, each}
 use Rattle.text.proofs.Cases.{tests}
 use Rattle.text.proofs.Choices.{some-same}
-use Rattle.text.proofs.Lists.{each-length}
+use Rattle.text.proofs.Lists.{each-length, all-anything}
 use Rattle.line.specs.Text.{readText, splitText}
 use Rattle.convert.specs.Model.{hasParts, part}
 use Rattle.convert.specs.Value.{filled, partValues, without, ownParts, readName}
 use Rattle.convert.specs.NormalCard.{textOf, partTexts, nameValues}
-use Rattle.convert.proofs.Names.{without-none}
+use Rattle.convert.proofs.Names.{without-none, full}
 use Rattle.home.proofs.Known.{onProvided, onChain, onMap}
-use Rattle.home.proofs.Images.{each-same, map-id, all-anything}
+use Rattle.home.proofs.Images.{each-same}
 
 -- ---- the strings
 
@@ -32,9 +32,6 @@ parts-values : (ss : List Bytes) (ps : List (List Bytes)) → each partValues ss
 parts-values ss ps e = sym (map-id ps) ∙ each-same partValues (λ v. true) (λ t. t) partTexts (λ v t u r. part-values v t r) ss ps (all-anything ss) e
 
 -- ---- something is left of it
-
-abbrev full : List Bytes → Bool
-full vs = not (empty vs)
 
 still-full : (vs others : List Bytes) → full (without others vs) || full others ≡ full vs || full others
 still-full vs [] = rw (without-none vs)

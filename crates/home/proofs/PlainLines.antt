@@ -6,7 +6,7 @@ use mathlib.Core.Option.{Option, none, some}
 use Prim.Native.Nat.{ℕ, suc}
 use lib.ListN.{length}
 use lib.Dec.{ltb}
-use Rattle.text.specs.Choice.{pick, with-some}
+use Rattle.text.specs.Choice.{with-some}
 use Rattle.text.specs.Bytes.{Bytes, ascii, any, all, empty, same, among, lower, lowered, between, keep, flat}
 use Rattle.text.proofs.Cases.{byBool, and-left, and-right, and-true}
 use Rattle.text.proofs.Lists.{all-head, all-tail, any-head, any-tail, any-neither}
@@ -25,13 +25,13 @@ use Rattle.convert.specs.ToCard.{property, paramOf, lineWhere, derivedLine, ent
 use Rattle.convert.specs.Answers.{valueFits}
 use Rattle.convert.proofs.Types.{typeText}
 use Rattle.convert.proofs.Entries.{four, the-value, prefValues, entry-params}
-use Rattle.convert.proofs.KeptLines.{no-values}
+use Rattle.convert.proofs.KeptLines.{no-values, valueParam}
 use Rattle.home.specs.Proper.{ProperEntries, ProperMaps, KeptFine, AllKeptFine}
 use Rattle.home.proofs.Rows.{others, Row, Rows}
 use Rattle.home.proofs.KeptFacts.{no-value}
-use Rattle.home.proofs.Parted.{Each, each-append}
 use Rattle.home.proofs.Words.{word-lowered, names-lower}
 use Rattle.home.proofs.Stands.{stands-inv, Stands, lowerParam}
+use Rattle.home.proofs.Alls.{All, all-joined}
 
 -- lines that stand once, before the others
 abbrev pub heads : List Bytes
@@ -54,12 +54,12 @@ unfolding derivedLine among any same lowered lower between named valuesNamed kee
 full-plain (some v) pss = record { own = refl; group = refl; value = refl }
 full-plain none pss = record { own = refl; group = refl; value = refl }
 
-pub name-plain : (b : Bool) (v : Bytes) → Each Plain (lineWhere b (property (ascii "n") [] v))
+pub name-plain : (b : Bool) (v : Bytes) → All Plain (lineWhere b (property (ascii "n") [] v))
 unfolding among any same lowered lower between named valuesNamed keep flat
 name-plain true v = (record { own = refl; group = refl; value = refl }, tt)
 name-plain false v = tt
 
-pub members-plain : (ms : List Member) → Each Plain (map memberLine ms)
+pub members-plain : (ms : List Member) → All Plain (map memberLine ms)
 unfolding memberLine among any same lowered lower between named valuesNamed keep flat
 members-plain [] = tt
 members-plain (member n j ∷ ms) = (record { own = refl; group = refl; value = refl }, members-plain ms)
@@ -108,21 +108,18 @@ entry-plain i m e r =
       value = rw (entry-params m e, the-value (e .key ∷ []) (prefValues (e .pref)) ts vs) (written-fits (m .form) (e .texts));
     }
 
-entries-plain : (i : ℕ) (m : Map) (es : List Entry) → ((w : ℕ) → ltb w (length (m .properties)) ≡ true → Row i m w) → ProperEntries m es → Each Plain (map (entryLine m) es)
+entries-plain : (i : ℕ) (m : Map) (es : List Entry) → ((w : ℕ) → ltb w (length (m .properties)) ≡ true → Row i m w) → ProperEntries m es → All Plain (map (entryLine m) es)
 entries-plain i m [] r g = tt
 entries-plain i m (e ∷ es) r g = (entry-plain i m e (r (e .which) (g .0 .which)), entries-plain i m es r (g .1))
 
-pub maps-plain : (i : ℕ) (ms : List Map) (ess : List (List Entry)) → Rows i ms → ProperMaps ms ess → Each Plain (mapsLines ms ess)
+pub maps-plain : (i : ℕ) (ms : List Map) (ess : List (List Entry)) → Rows i ms → ProperMaps ms ess → All Plain (mapsLines ms ess)
 unfolding mapsLines
 maps-plain i [] [] r g = tt
 maps-plain i [] (es ∷ ess) r g = absurd g
 maps-plain i (m ∷ ms) [] r g = absurd g
-maps-plain i (m ∷ ms) (es ∷ ess) r g = each-append Plain (map (entryLine m) es) (mapsLines ms ess) (entries-plain i m es (r .0) (g .0)) (maps-plain (suc i) ms ess (r .1) (g .2))
+maps-plain i (m ∷ ms) (es ∷ ess) r g = all-joined Plain (map (entryLine m) es) (mapsLines ms ess) (entries-plain i m es (r .0) (g .0)) (maps-plain (suc i) ms ess (r .1) (g .2))
 
 -- ---- kept lines
-
-abbrev valueParam : Bytes → List Param
-valueParam t = pick (same t (ascii "unknown")) [] (param (ascii "value") (t ∷ []) ∷ [])
 
 never-own : (n : Bytes) → among n neverKept ≡ false → among n heads ≡ false
 unfolding among
@@ -157,6 +154,6 @@ kept-plain s k f t =
       value = rw (valuesNamed-append (ascii "value") (k .params) (valueParam (k .type)), no-values (k .params) (no-value (k .params) (t .params))) (type-fits (k .type) (t .type));
     }
 
-pub kepts-plain : (s : Seen) (ks : List Kept) → AllKeptFine ks → all (keptStands s) ks ≡ true → Each Plain (map keptAsLine ks)
+pub kepts-plain : (s : Seen) (ks : List Kept) → AllKeptFine ks → all (keptStands s) ks ≡ true → All Plain (map keptAsLine ks)
 kepts-plain s [] f h = tt
 kepts-plain s (k ∷ ks) f h = (kept-plain s k (f .0) (stands-inv s k (all-head (keptStands s) k ks h)), kepts-plain s ks (f .1) (all-tail (keptStands s) k ks h))

@@ -25,16 +25,14 @@ use Rattle.convert.specs.Table.{reserved}
 use Rattle.convert.specs.Value.{filled}
 use Rattle.convert.specs.Pointer.{push, pointedFrom, pointed}
 use Rattle.convert.specs.Classify.{Seen, sole, treeOf, memberName, memberValue}
+use Rattle.convert.proofs.Pointers.{push-inv}
 use Rattle.home.proofs.Alls.{All}
 use Rattle.home.proofs.Clean.{isAscii, ascii-next, ascii-due, later-next}
 use Rattle.home.proofs.CleanLines.{CleanValue}
 use Rattle.home.proofs.Merged.{named-hold}
+use Rattle.home.proofs.CleanTexts.{dueAt}
 
 -- ---- a pointer's name is as clean as the pointer
-
-push-inv : (c : ℕ) (x : Option Bytes) (n : Bytes) → push c x ≡ some n → (m : Bytes) × (x ≡ some m) × (c ∷ m ≡ n)
-push-inv c none n e = none-some e
-push-inv c (some m) n e = (m, refl, some-same e)
 
 -- what a digit after a tilde stands for
 tilde-inv : (c : ℕ) (x : Option Bytes) (n : Bytes) → pick (eqb c 48) (push 126 x) (pick (eqb c 49) (push 47 x) none) ≡ some n
@@ -42,10 +40,6 @@ tilde-inv : (c : ℕ) (x : Option Bytes) (n : Bytes) → pick (eqb c 48) (push 1
 tilde-inv c x n e =
     byBool (eqb c 48) (λ q. (rw (eqb-true c 48 q), (126, refl, rw q at e)))
     (λ q. byBool (eqb c 49) (λ r. (rw (eqb-true c 49 r), (47, refl, rw (q, r) at e))) (λ r. none-some (rw (q, r) at e)))
-
-abbrev dueAt : Bool → Due → Due
-dueAt true d = start
-dueAt false d = d
 
 either-ascii : (d : ℕ) → eqb d 126 || eqb d 47 ≡ true → isAscii d ≡ true
 either-ascii d h = byBool (eqb d 126) (λ q. rw (eqb-true d 126 q)) (λ q. let r : eqb d 47 ≡ true = rw q at h in rw (eqb-true d 47 r))
@@ -58,7 +52,7 @@ point-run true d (c ∷ s) n l u e =
     let i = tilde-inv c (pointedFrom false s) n e in
     let j = push-inv (i .1 .0) (pointedFrom false s) n (i .1 .2) in
     let t : run start (j .0) ≡ start = point-run false start s (j .0) refl (ap (λ (x : Due). run x s) (sym (ascii-next c (i .0))) ∙ u) (j .1) in
-    subst (λ (x : Bytes). run start x ≡ start) (j .2) (ap (λ (x : Due). run x (j .0)) (ascii-next (i .1 .0) (either-ascii (i .1 .0) (i .1 .1))) ∙ t)
+    subst (λ (x : Bytes). run start x ≡ start) (sym (j .2)) (ap (λ (x : Due). run x (j .0)) (ascii-next (i .1 .0) (either-ascii (i .1 .0) (i .1 .1))) ∙ t)
 point-run false d (c ∷ s) n l u e =
     byBool (eqb c 126)
     (λ q. let a : isAscii c ≡ true = rw (eqb-true c 126 q) in
@@ -67,7 +61,7 @@ point-run false d (c ∷ s) n l u e =
     subst (λ (x : Due). run x n ≡ start) (sym z) (point-run true start s n refl (ap (λ (x : Due). run x s) (sym (ascii-next c a)) ∙ w) (rw q at e)))
     (λ q. byBool (eqb c 47) (λ r. none-some (rw (q, r) at e))
     (λ r. let j = push-inv c (pointedFrom false s) n (rw (q, r) at e) in
-    subst (λ (x : Bytes). run d x ≡ start) (j .2) (point-run false (next d c) s (j .0) (later-next d c l) u (j .1))))
+    subst (λ (x : Bytes). run d x ≡ start) (sym (j .2)) (point-run false (next d c) s (j .0) (later-next d c l) u (j .1))))
 
 -- bytes that are neither a tilde nor a slash are not made
 module _ (p : ℕ → Bool) (t : p 126 ≡ false) (z : p 47 ≡ false) where
@@ -81,15 +75,15 @@ module _ (p : ℕ → Bool) (t : p 126 ≡ false) (z : p 47 ≡ false) where
   point-none true (c ∷ s) n h e =
       let i = tilde-inv c (pointedFrom false s) n e in
       let j = push-inv (i .1 .0) (pointedFrom false s) n (i .1 .2) in
-      subst (λ (x : Bytes). any p x ≡ false) (j .2) (any-none p (i .1 .0) (j .0) (either (i .1 .0) (i .1 .1)) (point-none false s (j .0) (or-right (p c) _ h) (j .1)))
+      subst (λ (x : Bytes). any p x ≡ false) (sym (j .2)) (any-none p (i .1 .0) (j .0) (either (i .1 .0) (i .1 .1)) (point-none false s (j .0) (or-right (p c) _ h) (j .1)))
   point-none false (c ∷ s) n h e =
       byBool (eqb c 126) (λ q. point-none true s n (or-right (p c) _ h) (rw q at e))
       (λ q. byBool (eqb c 47) (λ r. none-some (rw (q, r) at e))
       (λ r. let j = push-inv c (pointedFrom false s) n (rw (q, r) at e) in
-      subst (λ (x : Bytes). any p x ≡ false) (j .2) (any-none p c (j .0) (or-left (p c) _ h) (point-none false s (j .0) (or-right (p c) _ h) (j .1)))))
+      subst (λ (x : Bytes). any p x ≡ false) (sym (j .2)) (any-none p c (j .0) (or-left (p c) _ h) (point-none false s (j .0) (or-right (p c) _ h) (j .1)))))
 
 push-filled : (c : ℕ) (x : Option Bytes) (n : Bytes) → push c x ≡ some n → filled n ≡ true
-push-filled c x n e = let j = push-inv c x n e in rw (← j .2)
+push-filled c x n e = let j = push-inv c x n e in rw (j .2)
 
 tilde-filled : (s n : Bytes) → pointedFrom true s ≡ some n → filled n ≡ true
 unfolding pointedFrom

@@ -17,7 +17,7 @@ use Rattle.line.specs.Text.{readText, splitText}
 use Rattle.convert.specs.Model.{hasParts, part}
 use Rattle.convert.specs.Value.{filled, partValues, without, ownParts, readName}
 use Rattle.convert.specs.Carry.{carriedText, apart}
-use Rattle.convert.proofs.Names.{without-none}
+use Rattle.convert.proofs.Names.{without-none, full}
 use Rattle.home.proofs.Alls.{All, all-test, test-all, all-mono, all-two, all-kept, each-gives}
 use Rattle.home.proofs.Clean.{Clean}
 use Rattle.home.proofs.CleanTexts.{CleanText, text-clean, split-clean}
@@ -49,9 +49,6 @@ unfolding ownParts without apart
 own-apart ps = (keep-passes (λ v. not (among v (part ps 5))) (part ps 0), keep-passes (λ v. not (among v (part ps 6))) (part ps 4))
 
 -- ---- a value is left
-
-abbrev full : List Bytes → Bool
-full vs = not (empty vs)
 
 none-full : (ps : List (List Bytes)) (n : ℕ) → length ps ≤ n → ((i : ℕ) → i < n → part ps i ≡ []) → any full ps ≡ false
 unfolding any

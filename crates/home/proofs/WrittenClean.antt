@@ -8,9 +8,9 @@ use lib.Dec.{ltb}
 use borrow.Author.Tests.{ltb-false, le-ltb, ne-eqb}
 use Rattle.text.specs.Choice.{pick}
 use Rattle.text.specs.Bytes.{Bytes, ascii, is, any, all, between, joined}
-use Rattle.text.specs.Utf8.{run, utf8}
+use Rattle.text.specs.Utf8.{utf8}
 use Rattle.text.proofs.Cases.{byBelow, implied, beyond, and-left, and-right, not-true}
-use Rattle.text.proofs.Lists.{all-not, all-imply, any-imply, any-neither}
+use Rattle.text.proofs.Lists.{all-not, all-imply, any-imply, any-neither, all-anything}
 use Rattle.text.proofs.Characters.{utf8-append}
 use Rattle.json.specs.Tree.{Json, jnull, jtrue, jfalse, jnum, jstr, jarr, jobj, Elems, enil, econs, Members, mnil, mcons}
 use Rattle.json.specs.Compact.{spelled, spelledAll, quoted, written, writtenElems, elemsAfter, writtenMembers, membersAfter, compact}
@@ -22,10 +22,8 @@ use Rattle.line.specs.Text.{escape, writeText}
 use Rattle.convert.specs.Carry.{carriedRaw, carriedText}
 use Rattle.home.proofs.Expanded.{escape-high, text-utf8, text-all, spelled-high, spelled-utf8, spelled-all}
 use Rattle.home.proofs.NumberBytes.{isNumber, number-fits}
-use Rattle.home.proofs.Clean.{isAscii, ascii-utf8}
-
-abbrev pub Clean : Bytes → Type 0
-Clean s = (utf8 s ≡ true) × (any isControl s ≡ false)
+use Rattle.home.proofs.Clean.{isAscii, ascii-utf8, Clean, clean-none}
+use Rattle.home.proofs.Alls.{All}
 
 -- printed in ASCII
 abbrev pub isPrinted : ℕ → Bool
@@ -36,10 +34,6 @@ quiet c = not (isControl c)
 
 none-any : (s : Bytes) → all quiet s ≡ true → any isControl s ≡ false
 none-any s h = not-true (any isControl s) (sym (all-not isControl s) ∙ h)
-
-pub clean-none : Clean []
-unfolding utf8 run any
-clean-none = (refl, refl)
 
 pub clean-append : (s t : Bytes) → Clean s → Clean t → Clean (s ++ t)
 clean-append s t a b = (utf8-append s t (a .0) (b .0), any-neither isControl s t (a .1) (b .1))
@@ -52,11 +46,7 @@ clean-printed s h =
 pub clean-before : (s t : Bytes) → all isPrinted s ≡ true → Clean t → Clean (s ++ t)
 clean-before s t h c = clean-append s t (clean-printed s h) c
 
-abbrev pub AllClean : List Bytes → Type 0
-AllClean [] = Unit {0}
-AllClean (s ∷ ss) = Clean s × AllClean ss
-
-pub clean-joined : (d : Bytes) (ss : List Bytes) → all isPrinted d ≡ true → AllClean ss → Clean (joined d ss)
+pub clean-joined : (d : Bytes) (ss : List Bytes) → all isPrinted d ≡ true → All Clean ss → Clean (joined d ss)
 unfolding joined
 clean-joined d [] h c = clean-none
 clean-joined d (s ∷ []) h c = c .0
@@ -110,13 +100,8 @@ spelled-quiet : (c : ℕ) → all quiet (spelled c) ≡ true
 unfolding spelled all isControl
 spelled-quiet c = byBelow (λ c. all quiet (spelled c)) (λ c. true) c 128 refl (λ l. high-spelled c l)
 
-every : (s : Bytes) → all (λ c. true) s ≡ true
-unfolding all
-every [] = refl
-every (c ∷ s) = every s
-
 spelled-clean : (s : Bytes) → utf8 s ≡ true → Clean (spelledAll s)
-spelled-clean s u = (spelled-utf8 s u, none-any (spelledAll s) (spelled-all (λ c. true) quiet (λ c h. spelled-quiet c) s (every s)))
+spelled-clean s u = (spelled-utf8 s u, none-any (spelledAll s) (spelled-all (λ c. true) quiet (λ c h. spelled-quiet c) s (all-anything s)))
 
 high-number : (c : ℕ) → isAscii c ≡ false → isNumber c ≡ false
 unfolding isNumber isE

@@ -140,6 +140,11 @@ each-both f (x ∷ xs) ys us vs p q =
     let i = both-inv _∷_ (f x) (each f xs) p in
     rw (i .2, each-both f xs ys (i .1) vs (i .3) q) (ap (λ l. some (l ++ vs)) (i .4))
 
+pub all-anything : {A : Type 0} (xs : List A) → all (λ x. true) xs ≡ true
+unfolding all
+all-anything [] = refl
+all-anything (x ∷ xs) = all-anything xs
+
 -- a list that is not filled
 pub not-full : {A : Type 0} (xs : List A) → not (empty xs) ≡ false → xs ≡ []
 not-full [] e = refl
