@@ -1,6 +1,6 @@
 -- A proper card's written lines, section by section: what each gives to the model, and what is seen after it.
 use mathlib.Core.Path.{_≡_, refl, ap, _∙_}
-use mathlib.Core.Bool.{Bool, true, false, _||_}
+use mathlib.Core.Bool.{Bool, true, false, _||_, or-false}
 use mathlib.Core.List.{List, [], _∷_, map, append-nil}
 use mathlib.Core.Option.{Option, none, some}
 use native.Mathlib.Omega.{arith}
@@ -123,10 +123,6 @@ sections-give c = simp append-nil
 abbrev pub seenBefore : Card → Seen
 seenBefore c = seen (is-some (c .full)) (hasParts (c .parts)) (idsAll 0 (c .maps) []) (namesOnto (c .members) [])
 
-or-none : (b : Bool) → b || false ≡ b
-or-none true = refl
-or-none false = refl
-
 -- what is seen before the kept lines, as far as classes depend on it
 before-alike : (c : Card) → Alike (seenBefore c) (seenIn c)
 unfolding seenIn any
@@ -134,8 +130,8 @@ before-alike c =
     record {
       full = refl;
       parts = refl;
-      ids = λ i k. any-all (isId i k) 0 (c .maps) [] ∙ or-none (any (isId i k) (idsFrom 0 (c .maps)));
-      members = λ n. among-onto n (c .members) [] ∙ ap (λ (b : Bool). among n (map nameOf (c .members)) || b) (among-none n) ∙ or-none (among n (map nameOf (c .members)));
+      ids = λ i k. any-all (isId i k) 0 (c .maps) [] ∙ or-false (any (isId i k) (idsFrom 0 (c .maps)));
+      members = λ n. among-onto n (c .members) [] ∙ ap (λ (b : Bool). among n (map nameOf (c .members)) || b) (among-none n) ∙ or-false (among n (map nameOf (c .members)));
     }
 
 pub card-classed : (c : Card) → ProperCard c → Section nothing (cardLines c) (cardGives c) (seenBefore c)

@@ -9,9 +9,8 @@ use lib.ListN.{length}
 use lib.Dec.{eqb}
 use borrow.Author.Tests.{eq-eqb, ne-eqb}
 use Rattle.text.specs.Choice.{pick}
-use Rattle.text.specs.Bytes.{Bytes, any, all, empty}
+use Rattle.text.specs.Bytes.{Bytes, all, empty}
 use Rattle.text.proofs.Cases.{byBool}
-use Rattle.text.proofs.Lists.{any-head, any-tail, not-full}
 use Rattle.line.proofs.Lines.{upperLine}
 use Rattle.convert.specs.Table.{Map, maps}
 use Rattle.convert.specs.Model.{Entry, Card, hasParts, noParts}
@@ -20,15 +19,13 @@ use Rattle.convert.specs.FromCard.{Placed, placed, Gives, gathered, firstOf, or
 use Rattle.convert.specs.ToCard.{cardLines}
 use Rattle.convert.proofs.Keyed.{keys-given}
 use Rattle.convert.proofs.Names.{full}
+use Rattle.convert.proofs.NameJson.{no-parts}
 use Rattle.home.specs.Proper.{ProperEntries, ProperMaps, ProperCard}
 use Rattle.home.proofs.Given.{noGives, plus, gathered-given, inMap-append}
-use Rattle.home.proofs.MapLines.{placedFrom, key-filled}
-use Rattle.home.proofs.CardClasses.{optional, cardGives, card-classed}
+use Rattle.home.proofs.MapLines.{placedFrom, key-filled, keyOf}
+use Rattle.home.proofs.CardClasses.{optional, cardGives, card-classed, seven}
 
 -- ---- maps
-
-abbrev keyOf : Entry → Bytes
-keyOf e = e .key
 
 keys-filled : (m : Map) (es : List Entry) → ProperEntries m es → all (λ k. not (empty k)) (map keyOf es) ≡ true
 unfolding all
@@ -72,20 +69,11 @@ maps-back i (m ∷ ms) (es ∷ ess) ps h g =
 
 -- ---- what may be absent
 
--- as many empty lists as others
-all-empty : (ps qs : List (List Bytes)) → length ps ≡ length qs → any full ps ≡ false → any full qs ≡ false → ps ≡ qs
-all-empty [] [] q h k = refl
-all-empty [] (y ∷ qs) q h k = absurd (omega arith)
-all-empty (x ∷ ps) [] q h k = absurd (omega arith)
-all-empty (x ∷ ps) (y ∷ qs) q h k =
-    ap₂ _∷_ (not-full x (any-head full x ps h) ∙ sym (not-full y (any-head full y qs k))) (all-empty ps qs (omega arith) (any-tail full x ps h) (any-tail full y qs k))
-
-no-parts : (ps : List (List Bytes)) → length ps ≡ 7 → hasParts ps ≡ false → noParts ≡ ps
-unfolding hasParts any
-no-parts ps q h = all-empty noParts ps (sym q) refl h
+none-parts : (ps : List (List Bytes)) → length ps ≡ 7 → hasParts ps ≡ false → noParts ≡ ps
+none-parts = seven (λ ps. hasParts ps ≡ false → noParts ≡ ps) (λ a b c d e f g h. sym (no-parts a b c d e f g h))
 
 parts-back : (ps : List (List Bytes)) → length ps ≡ 7 → orElse (firstOf (pick (hasParts ps) (ps ∷ []) [])) noParts ≡ ps
-parts-back ps q = byBool (hasParts ps) (λ e. rw e) (λ e. rw e (no-parts ps q e))
+parts-back ps q = byBool (hasParts ps) (λ e. rw e) (λ e. rw e (none-parts ps q e))
 
 kind-back : (k : Bytes) → orElse (firstOf (pick (empty k) [] (k ∷ []))) [] ≡ k
 kind-back [] = refl

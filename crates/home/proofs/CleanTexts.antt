@@ -25,7 +25,7 @@ push-inv c none v e = none-some e
 push-inv c (some u) v e = (u, refl, some-same e)
 
 -- an escape stands for one ASCII byte: one of those allowed in TEXT
-abbrev isPlain : ℕ → Bool
+abbrev pub isPlain : ℕ → Bool
 isPlain c = not (isControl c && not (is 10 c))
 
 abbrev Escaped : Option Bytes → Bytes → Type 0

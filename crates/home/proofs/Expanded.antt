@@ -15,11 +15,7 @@ use Rattle.json.specs.Compact.{spelled, spelledAll}
 use Rattle.line.specs.Text.{escape, writeText}
 use Rattle.convert.specs.Pointer.{pointer}
 use Rattle.convert.proofs.Pointers.{no-pointer, spelt}
-use Rattle.home.proofs.Clean.{isAscii, ascii-run}
-
-low-lead : (c : ℕ) → isAscii c ≡ true → lead c ≡ start
-unfolding lead
-low-lead c e = rw e
+use Rattle.home.proofs.Clean.{isAscii, ascii-run, ascii-next}
 
 due-step : (a b k c : ℕ) (s : Bytes) → between a b c ≡ true → run (due a b k) (c ∷ s) ≡ run (tails k) s
 unfolding run next
@@ -37,7 +33,7 @@ module _ (f : ℕ → Bytes) (F : Bytes → Bytes) (none : F [] ≡ []) (step : 
     expand-run d [] l u = rw none u
     expand-run start (c ∷ s) l u =
         byBool (isAscii c)
-        (λ e. rw (step c s, run-append start (f c) (F s), ascii-run (f c) (low c e)) (expand-run start s refl (ap (λ (d : Due). run d s) (sym (low-lead c e)) ∙ u)))
+        (λ e. rw (step c s, run-append start (f c) (F s), ascii-run (f c) (low c e)) (expand-run start s refl (ap (λ (d : Due). run d s) (sym (ascii-next c e)) ∙ u)))
         (λ e. rw (step c s, high c e) (expand-run (lead c) s (later-lead c) u))
     expand-run (due a b k) (c ∷ s) l u =
         let m = later-bounds a b k l in

@@ -26,6 +26,7 @@ use Rattle.home.proofs.Alls.{All, all-test, test-all, all-mono, each-gi
 use Rattle.home.proofs.SoundLists.{SoundMember, object-sound, optional-inv, optional-holds, no-field}
 use Rattle.home.proofs.Positions.{position-inside, inOrder-all}
 use Rattle.home.proofs.JsonTexts.{content-formed}
+use Rattle.home.proofs.MapLines.{keyOf}
 
 -- ---- rows of the table: what an entry may have agrees with how many values of TYPE the row takes
 
@@ -182,9 +183,6 @@ entries-all m [] h = tt
 entries-all m (e ∷ es) h = (h .0, entries-all m es (h .1))
 
 -- ---- maps
-
-abbrev keyOf : Entry → Bytes
-keyOf e = e .key
 
 abbrev MapFine : Map → List Entry → Type 0
 MapFine m es = ProperEntries m es × (distinct (map keyOf es) ≡ true)

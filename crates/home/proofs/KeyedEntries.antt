@@ -30,9 +30,7 @@ use Rattle.home.proofs.Alls.{All, In}
 use Rattle.home.proofs.Slots.{at}
 use Rattle.home.proofs.LineEntries.{Drawn}
 use Rattle.home.proofs.MadeKeys.{isPrefix, isIdText, keys-texts, keys-length}
-
-abbrev pub keyOf : Entry → Bytes
-keyOf e = e .key
+use Rattle.home.proofs.MapLines.{keyOf}
 
 -- ---- with keys
 

@@ -16,10 +16,11 @@ use Rattle.convert.specs.Classify.{Class, as-version, as-uid, as-kind, as-dropp
 use Rattle.convert.specs.FromCard.{Gives, gives, gathered, Placed, placed, inMap}
 use Rattle.convert.specs.Answers.{emptied}
 use Rattle.home.proofs.Alls.{All}
-use Rattle.home.proofs.KeyedEntries.{keyOf, given}
+use Rattle.home.proofs.KeyedEntries.{given}
 use Rattle.home.proofs.LineKept.{LineFine}
 use Rattle.home.proofs.Covered.{Covers, CoversClass, covers-see}
 use Rattle.home.proofs.ClassFacts.{WellClass, NewClass, class-fit}
+use Rattle.home.proofs.MapLines.{keyOf}
 
 abbrev pub LineGood : Line → Type 0
 LineGood l = LineFine l × (emptied l ≡ false)

@@ -1,5 +1,5 @@
 -- Clean bytes: UTF-8 without a control but tab. What is put together of clean bytes is clean; compact JSON is.
-use mathlib.Core.Path.{_≡_, refl, sym, ap, _∙_}
+use mathlib.Core.Path.{_≡_, refl, sym, _∙_}
 use mathlib.Core.Bool.{Bool, true, false, _&&_, not}
 use mathlib.Core.List.{List, [], _∷_, _++_}
 use Prim.Native.Nat.{ℕ}
@@ -10,7 +10,7 @@ use Rattle.text.specs.Choice.{pick}
 use Rattle.text.specs.Bytes.{Bytes, ascii, is, any, all, between, joined}
 use Rattle.text.specs.Utf8.{utf8}
 use Rattle.text.proofs.Cases.{byBelow, implied, beyond, and-left, and-right, not-true}
-use Rattle.text.proofs.Lists.{all-not, all-imply, any-imply, any-neither, all-anything}
+use Rattle.text.proofs.Lists.{all-not, all-imply, any-neither, all-anything}
 use Rattle.text.proofs.Characters.{utf8-append}
 use Rattle.json.specs.Tree.{Json, jnull, jtrue, jfalse, jnum, jstr, jarr, jobj, Elems, enil, econs, Members, mnil, mcons}
 use Rattle.json.specs.Compact.{spelled, spelledAll, quoted, written, writtenElems, elemsAfter, writtenMembers, membersAfter, compact}
@@ -24,6 +24,7 @@ use Rattle.home.proofs.Expanded.{escape-high, text-utf8, text-all, spel
 use Rattle.home.proofs.NumberBytes.{isNumber, number-fits}
 use Rattle.home.proofs.Clean.{isAscii, ascii-utf8, Clean, clean-none}
 use Rattle.home.proofs.Alls.{All}
+use Rattle.home.proofs.CleanTexts.{isPlain, clean-text as clean-carried}
 
 -- printed in ASCII
 abbrev pub isPrinted : ℕ → Bool
@@ -62,33 +63,26 @@ high-quiet : (c : ℕ) → isAscii c ≡ false → isControl c ≡ false
 unfolding isControl
 high-quiet c l = let h = ltb-false c 128 l in rw (le-ltb c 32 (omega arith), ne-eqb c 127 (omega arith))
 
--- what TEXT carries: no control but tab and LF
-abbrev carriable : ℕ → Bool
-carriable c = not (isControl c && not (is 10 c))
-
-high-escape : (k : Bool) (c : ℕ) → isAscii c ≡ false → pick (carriable c) (all quiet (escape k c)) true ≡ true
+high-escape : (k : Bool) (c : ℕ) → isAscii c ≡ false → pick (isPlain c) (all quiet (escape k c)) true ≡ true
 unfolding all
 high-escape k c l = rw (escape-high k c l, high-quiet c l)
 
-escape-quiet : (k : Bool) (c : ℕ) → pick (carriable c) (all quiet (escape k c)) true ≡ true
+escape-quiet : (k : Bool) (c : ℕ) → pick (isPlain c) (all quiet (escape k c)) true ≡ true
 unfolding escape all isControl
-escape-quiet true c = byBelow (λ c. pick (carriable c) (all quiet (escape true c)) true) (λ c. true) c 128 refl (high-escape true c)
-escape-quiet false c = byBelow (λ c. pick (carriable c) (all quiet (escape false c)) true) (λ c. true) c 128 refl (high-escape false c)
+escape-quiet true c = byBelow (λ c. pick (isPlain c) (all quiet (escape true c)) true) (λ c. true) c 128 refl (high-escape true c)
+escape-quiet false c = byBelow (λ c. pick (isPlain c) (all quiet (escape false c)) true) (λ c. true) c 128 refl (high-escape false c)
 
-escape-carried : (k : Bool) (c : ℕ) → carriable c ≡ true → all quiet (escape k c) ≡ true
+escape-carried : (k : Bool) (c : ℕ) → isPlain c ≡ true → all quiet (escape k c) ≡ true
 escape-carried k c h = let r = escape-quiet k c in rw h at r
 
 pub text-clean : (k : Bool) (s : Bytes) → utf8 s ≡ true → carriedText s ≡ true → Clean (writeText k s)
 unfolding carriedText
-text-clean k s u h = (text-utf8 k s u, none-any (writeText k s) (text-all k carriable quiet (escape-carried k) s (all-not (λ c. isControl c && not (is 10 c)) s ∙ h)))
-
-quiet-carriable : (c : ℕ) → isControl c ≡ false → isControl c && not (is 10 c) ≡ false
-quiet-carriable c h = rw h
+text-clean k s u h = (text-utf8 k s u, none-any (writeText k s) (text-all k isPlain quiet (escape-carried k) s (all-not (λ c. isControl c && not (is 10 c)) s ∙ h)))
 
 -- what is clean may be written as TEXT
 pub clean-text : (k : Bool) (s : Bytes) → Clean s → Clean (writeText k s)
 unfolding carriedText
-clean-text k s c = text-clean k s (c .0) (ap not (any-imply isControl (λ c. isControl c && not (is 10 c)) quiet-carriable s (c .1)))
+clean-text k s c = text-clean k s (c .0) (clean-carried s c .1)
 
 -- ---- compact JSON
 
