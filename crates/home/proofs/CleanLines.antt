@@ -10,7 +10,7 @@ use lib.Dec.{eqb, ltb}
 use borrow.Author.Tests.{eqb-true}
 use Rattle.text.specs.Bytes.{Bytes, is, any, all, empty, between}
 use Rattle.text.specs.Reader.{Got, got, bad, bind, first, on, Step, more, last, after, turns, loop, one, some-of, run-of, taken, past}
-use Rattle.text.proofs.Cases.{byBool, tests, beyond, not-both, implied, or-second}
+use Rattle.text.proofs.Cases.{byBool, not-both, implied, or-second}
 use Rattle.text.proofs.Choices.{none-some, some-same, provided-inv}
 use Rattle.text.proofs.Lists.{all-imply, all-none}
 use Rattle.text.proofs.Readers.{not-bad, got-rest, got-what, bind-inv, under-inv, on-inv, when-inv, Keeps, some-of-inv, taken-all}
@@ -19,15 +19,9 @@ use Rattle.line.specs.Grammar.{Param, paramName, paramValues, Line, word, param
 use Rattle.line.proofs.Parameters.{isWord}
 use Rattle.home.proofs.Alls.{All}
 use Rattle.home.proofs.Clean.{isAscii, Clean, clean-right, clean-tail, ascii-utf8, taken-past, taken-clean}
+use Rattle.home.proofs.Words.{no-name}
 
 -- ---- classes
-
-no-name : (c : ℕ) → isAscii c ≡ false → isName c ≡ false
-unfolding isName
-no-name c l = rw (beyond 65 90 c (omega tests), beyond 97 122 c (omega tests), beyond 48 57 c (omega tests), hyphen)
-  where
-    hyphen : eqb c 45 ≡ false
-    hyphen = byBool (eqb c 45) (λ e. absurd (omega tests)) (λ e. e)
 
 pub name-ascii : (c : ℕ) → isName c ≡ true → isAscii c ≡ true
 name-ascii c h = byBool (isAscii c) (λ e. e) (λ e. not-both h (no-name c e))
