@@ -55,6 +55,10 @@ unfolding each
 each-kept [] g = refl
 each-kept (k ∷ ks) g = rw (kept-json k (g .0), each-kept ks (g .1))
 
+pub has-no-parts : hasParts noParts ≡ false
+unfolding hasParts any
+has-no-parts = refl
+
 name-back : (full : Option Bytes) (ps : List (List Bytes)) → Seven ps → with-some (pick (is-some full || hasParts ps) (some (nameJson full ps)) none) nameFrom (some nameless) ≡ some (record { full = full; parts = ps })
 name-back full ps s =
     let a = s .0 in let b = s .1 in let c = s .2 in let d = s .3 in let e = s .4 in let f = s .5 in let g = s .6 in

@@ -23,7 +23,7 @@ derived-upper (param n (v ∷ []) ∷ []) = rw (lowered-uppered n)
 derived-upper (param n (v ∷ []) ∷ (p ∷ ps)) = rw (lowered-uppered n)
 derived-upper (param n (v ∷ (w ∷ ws)) ∷ ps) = refl
 
-empty-upper : (ps : List Param) → empty (map upperParam ps) ≡ empty ps
+pub empty-upper : (ps : List Param) → empty (map upperParam ps) ≡ empty ps
 empty-upper [] = refl
 empty-upper (p ∷ ps) = refl
 

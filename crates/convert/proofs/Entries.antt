@@ -33,11 +33,11 @@ pub record Proper (m : Map) (e : Entry) : Type 0 where
 
 -- ---- a parameter that is there where it has values
 
-of-same : (n : Bytes) (vs : List Bytes) → same (lowered n) n ≡ true → valuesNamed n (paramOf n vs) ≡ vs
+pub of-same : (n : Bytes) (vs : List Bytes) → same (lowered n) n ≡ true → valuesNamed n (paramOf n vs) ≡ vs
 of-same n [] e = valuesNamed-none n
 of-same n (v ∷ vs) e = valuesNamed-one n n (v ∷ vs) e
 
-of-other : (n m : Bytes) (vs : List Bytes) → same (lowered m) n ≡ false → valuesNamed n (paramOf m vs) ≡ []
+pub of-other : (n m : Bytes) (vs : List Bytes) → same (lowered m) n ≡ false → valuesNamed n (paramOf m vs) ≡ []
 of-other n m [] e = valuesNamed-none n
 of-other n m (v ∷ vs) e = valuesNamed-other n m (v ∷ vs) e
 
@@ -97,7 +97,7 @@ module _ (ks ps ts vs : List Bytes) where
       values-three (ascii "type")
       ∙ rw (of-other (ascii "type") (ascii "prop-id") ks refl, of-other (ascii "type") (ascii "pref") ps refl, of-same (ascii "type") ts refl)
 
-  the-value : valuesNamed (ascii "value") four ≡ vs
+  pub the-value : valuesNamed (ascii "value") four ≡ vs
   unfolding same lowered lower between
   the-value =
       rw (
@@ -131,7 +131,7 @@ module _ (ks ps ts vs : List Bytes) where
 
 -- ---- the entry
 
-prefValues : Bytes → List Bytes
+pub prefValues : Bytes → List Bytes
 prefValues p = pick (empty p) [] (p ∷ [])
 
 pref-param : (p : Bytes) → pick (empty p) [] (param (ascii "pref") (p ∷ []) ∷ []) ≡ paramOf (ascii "pref") (prefValues p)
@@ -139,7 +139,7 @@ unfolding prefValues
 pref-param [] = refl
 pref-param (c ∷ p) = refl
 
-entry-params : (m : Map) (e : Entry) → entryLine m e .params ≡ four (e .key ∷ []) (prefValues (e .pref)) (map typeText (e .types)) (writtenType (m .form) (e .texts))
+pub entry-params : (m : Map) (e : Entry) → entryLine m e .params ≡ four (e .key ∷ []) (prefValues (e .pref)) (map typeText (e .types)) (writtenType (m .form) (e .texts))
 unfolding entryLine
 entry-params m e = rw (pref-param (e .pref))
 

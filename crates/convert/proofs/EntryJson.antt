@@ -28,7 +28,7 @@ use Rattle.convert.proofs.EntryParts.{right-none, where-same, where-oth
 
 -- ---- the strings
 
-abbrev unitJson : Bytes → Json
+abbrev pub unitJson : Bytes → Json
 unitJson u = object (member (ascii "name") (jstr u) ∷ [])
 
 unit-back : (u : Bytes) → unitFrom (unitJson u) ≡ some u

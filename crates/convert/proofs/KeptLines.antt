@@ -32,7 +32,7 @@ pub record ProperKept (k : Kept) : Type 0 where
 
 -- ---- as a line
 
-abbrev valueParam : Bytes → List Param
+abbrev pub valueParam : Bytes → List Param
 valueParam t = pick (same t (ascii "unknown")) [] (param (ascii "value") (t ∷ []) ∷ [])
 
 value-named : same (lowered (ascii "value")) (ascii "value") ≡ true
@@ -45,7 +45,7 @@ type-values t =
     (λ e. rw (e, valuesNamed-none (ascii "value")) (sym (same-true t (ascii "unknown") e)))
     (λ e. rw (e, valuesNamed-one (ascii "value") (ascii "value") (t ∷ []) value-named))
 
-no-values : (ps : List Param) → any (named (ascii "value")) ps ≡ false → valuesNamed (ascii "value") ps ≡ []
+pub no-values : (ps : List Param) → any (named (ascii "value")) ps ≡ false → valuesNamed (ascii "value") ps ≡ []
 unfolding valuesNamed flat
 no-values ps h = rw (keep-none (named (ascii "value")) ps h)
 

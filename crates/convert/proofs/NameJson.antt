@@ -21,10 +21,10 @@ use Rattle.convert.specs.ToJson.{componentsOf, nameJson}
 
 -- ---- components
 
-abbrev kindAt : ℕ → Bytes
+abbrev pub kindAt : ℕ → Bytes
 kindAt i = getD componentKinds i []
 
-abbrev componentJson : Bytes → Bytes → Json
+abbrev pub componentJson : Bytes → Bytes → Json
 componentJson k v = object (member (ascii "kind") (jstr k) ∷ member (ascii "value") (jstr v) ∷ [])
 
 kind-found : (i : ℕ) → ltb i 7 ≡ true → position (same (kindAt i)) componentKinds ≡ some i

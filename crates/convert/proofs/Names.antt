@@ -7,7 +7,7 @@ use Rattle.text.specs.Choice.{both}
 use Rattle.text.specs.Bytes.{Bytes, ascii, any, all, empty, among, joined, keep, each}
 use Rattle.text.proofs.Cases.{and-left, and-right}
 use Rattle.text.proofs.Same.{among-all}
-use Rattle.text.proofs.Lists.{all-head, all-tail, all-both, any-not, keep-all, keep-none, keep-append}
+use Rattle.text.proofs.Lists.{all-head, all-tail, all-both, any-not, keep-all, keep-none, keep-append, all-anything}
 use Rattle.line.specs.Text.{readText, splitText, splitFrom, textFrom, writeText}
 use Rattle.line.proofs.Texts.{AllSealed, read-written, split-written, split-joined, sealed-joined, all-sealed}
 use Rattle.convert.specs.Model.{hasParts, part}
@@ -35,6 +35,11 @@ each-part (vs ∷ pss) h = rw (part-read vs (all-head (all filled) vs pss h), ea
 
 -- ---- what reading leaves out
 
+-- all is left without none
+pub without-none : (vs : List Bytes) → without [] vs ≡ vs
+unfolding without among any
+without-none vs = keep-all (λ v. true) vs (all-anything vs)
+
 -- nothing is left of the others themselves
 without-self : (others : List Bytes) → without others others ≡ []
 unfolding without
@@ -55,7 +60,7 @@ own vs others h = rw (without-append others vs others, without-apart vs others h
 
 -- ---- seven parts
 
-abbrev full : List Bytes → Bool
+abbrev pub full : List Bytes → Bool
 full vs = not (empty vs)
 
 full-append : (vs ws : List Bytes) → full (vs ++ ws) ≡ full vs || full ws

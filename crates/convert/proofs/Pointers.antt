@@ -12,7 +12,7 @@ use Rattle.text.proofs.Cases.{byBool, byKeys}
 use Rattle.text.proofs.Choices.{none-some, some-same, provided-inv}
 use Rattle.convert.specs.Pointer.{push, pointedFrom, pointed, pointer}
 
-abbrev spelt : ℕ → Bytes
+abbrev pub spelt : ℕ → Bytes
 spelt c = pick (eqb c 126) (126 ∷ 48 ∷ []) (pick (eqb c 47) (126 ∷ 49 ∷ []) (c ∷ []))
 
 point-step : (r : Bytes) (c : ℕ) → pointedFrom false (spelt c ++ r) ≡ push c (pointedFrom false r)
@@ -35,7 +35,7 @@ pointed-pointer n h = rw (not-empty n h) (pointed-from n)
 
 -- ---- and back
 
-push-inv : (c : ℕ) (x : Option Bytes) (n : Bytes) → push c x ≡ some n → (m : Bytes) × (x ≡ some m) × (n ≡ c ∷ m)
+pub push-inv : (c : ℕ) (x : Option Bytes) (n : Bytes) → push c x ≡ some n → (m : Bytes) × (x ≡ some m) × (n ≡ c ∷ m)
 push-inv c none n e = none-some e
 push-inv c (some m) n e = (m, refl, sym (some-same e))
 
@@ -51,7 +51,7 @@ slash-pointer : (m : Bytes) → pointer (47 ∷ m) ≡ 126 ∷ 49 ∷ pointer m
 unfolding pointer
 slash-pointer m = refl
 
-no-pointer : pointer [] ≡ []
+pub no-pointer : pointer [] ≡ []
 unfolding pointer
 no-pointer = refl
 

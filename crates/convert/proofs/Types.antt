@@ -16,7 +16,7 @@ use Rattle.convert.specs.Classify.{typesFrom}
 abbrev pub typeText : ℕ → Bytes
 typeText t = vcardType (getD typeNames t (type-name [] []))
 
-abbrev codeOf : ℕ → Bytes → Option ℕ
+abbrev pub codeOf : ℕ → Bytes → Option ℕ
 codeOf n v = position (λ t. same (lowered v) (vcardType t)) (take n typeNames)
 
 -- every code below n, for every n up to 9, all by computation

@@ -1,16 +1,14 @@
 -- What an accepted card and an accepted JSON are: their answers, taken apart.
-use mathlib.Core.Path.{_≡_, refl, sym, ap, _∙_}
-use mathlib.Core.Bool.{Bool, true, false, _&&_, _||_, not}
+use mathlib.Core.Path.{_≡_, refl, ap, _∙_}
+use mathlib.Core.Bool.{Bool, true, false, _&&_, not}
 use mathlib.Core.List.{List, [], _∷_}
 use mathlib.Core.Option.{Option, none, some}
 use Prim.Native.Nat.{ℕ}
-use native.Mathlib.Omega.{arith}
 use lib.ListN.{length}
 use lib.Dec.{ltb}
 use Rattle.text.specs.Choice.{pick, is-some, both, with-some}
 use Rattle.text.specs.Bytes.{Bytes, ascii, any, each}
-use Rattle.text.proofs.Cases.{byBool, and-left, and-right, not-true, not-false, not-both, or-left, or-right}
-use Rattle.text.proofs.Choices.{none-some}
+use Rattle.text.proofs.Cases.{and-left, and-right, not-false, not-both, or-left, or-right}
 use Rattle.json.specs.Tree.{Json}
 use Rattle.json.specs.Read.{Reading, tree, refused, reading}
 use Rattle.line.specs.Physical.{sizeOf}
@@ -21,8 +19,8 @@ use Rattle.convert.specs.ToJson.{printJson}
 use Rattle.convert.specs.FromJson.{cardFromJson}
 use Rattle.convert.specs.Carry.{carried}
 use Rattle.convert.specs.ToCard.{cardLines, printCard}
-use Rattle.convert.specs.Answers.{Answer, no, yes, Test, fine, seek, given, givenAt, atLine, cardRoom, lineRoom, jsonRoom, isStemText, isCardNumber, garbled, ungrammatical, isNamed, versionFirst, misused, secondFrom, emptied, rawLines, orNone, linesOf, lineTests, fitted, convertLines, convertCard, cardToJson, convertModel, convertTree, jsonToCard}
-use Rattle.home.proofs.Seeking.{no-yes, yes-same, seek-fine, given-false, given-none, at-line-none, fitted-inv}
+use Rattle.convert.specs.Answers.{Answer, no, yes, Test, seek, given, givenAt, atLine, cardRoom, lineRoom, jsonRoom, isStemText, isCardNumber, garbled, ungrammatical, isNamed, versionFirst, misused, secondFrom, emptied, rawLines, orNone, linesOf, lineTests, fitted, convertLines, convertCard, cardToJson, convertModel, convertTree, jsonToCard}
+use Rattle.home.proofs.Seeking.{no-yes, seek-fine, given-false, given-none, at-line-none, fitted-inv}
 
 -- the lines of an accepted card, unfolded and read
 pub record GoodLines (raw : List Bytes) (ls : List Line) : Type 0 where

@@ -4,8 +4,9 @@ use mathlib.Core.Bool.{_&&_, not}
 use mathlib.Core.List.{List, [], _∷_}
 use mathlib.Core.Option.{Option, none, some}
 use Prim.Native.Nat.{ℕ}
-use Rattle.text.specs.Choice.{with-some, chain, provided}
+use Rattle.text.specs.Choice.{with-some, provided}
 use Rattle.text.specs.Bytes.{Bytes, ascii, any, among, lowered}
+use Rattle.text.proofs.Choices.{chain-same}
 use Rattle.line.specs.Grammar.{Param, Line}
 use Rattle.line.specs.Params.{valuesNamed, onlyNamed, besidesValue}
 use Rattle.convert.specs.Table.{Slot, slotOf, reserved}
@@ -17,10 +18,6 @@ pub record Alike (s t : Seen) : Type 0 where
   pub parts : s .parts ≡ t .parts
   pub ids : (i : ℕ) (k : Bytes) → any (isId i k) (s .ids) ≡ any (isId i k) (t .ids)
   pub members : (n : Bytes) → among n (s .members) ≡ among n (t .members)
-
-chain-same : {A B : Type 0} (x : Option A) (f g : A → Option B) → ((a : A) → f a ≡ g a) → chain x f ≡ chain x g
-chain-same (some a) f g h = h a
-chain-same none f g h = refl
 
 with-same : {A B : Type 0} (x : Option A) (f g : A → B) (b : B) → ((a : A) → f a ≡ g a) → with-some x f b ≡ with-some x g b
 with-same (some a) f g b h = h a

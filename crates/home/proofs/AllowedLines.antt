@@ -30,14 +30,16 @@ use Rattle.home.specs.Allowed.{plain, withKey, Allowed, uid, kind, full,
 use Rattle.home.proofs.Known.{onProvided, onChain}
 use Rattle.home.proofs.CleanLines.{CleanLine}
 use Rattle.home.proofs.ReadNames.{name-well}
-use Rattle.home.proofs.CardClasses.{filled-parts, name-back}
+use Rattle.home.proofs.Bridge.{all-filled}
+use Rattle.home.proofs.CardClasses.{name-back}
 use Rattle.home.proofs.NormalCardParts.{name-read}
 use Rattle.home.proofs.NormalCardRest.{values-besides}
 use Rattle.home.proofs.NormalCardEntries.{entry-key, entry-which, entry-line}
 use Rattle.home.proofs.Slots.{slot-row}
 use Rattle.home.proofs.LineEntries.{entry-drawn}
 use Rattle.home.proofs.Pointed.{value-sound}
-use Rattle.home.proofs.Merged.{merged-none, none-left}
+use Rattle.line.proofs.Merging.{none-left}
+use Rattle.home.proofs.Merged.{merged-none}
 use Rattle.home.proofs.LineKept.{LineFine, fine}
 
 plain-line : (n v : Bytes) → plain (plainLine n [] v) ≡ true
@@ -91,7 +93,7 @@ parts-back l ps c e =
     let w = name-well (l .value) ps (c .value) e in
     ap (λ (x : List (List Bytes)). readName (nameText x)) (sym (name-read (l .value) ps e .0))
     ∙ ap readName (written-name ps)
-    ∙ name-back ps (w .0 .seven) (filled-parts ps (w .0 .whole)) (w .0 .apart-0) (w .0 .apart-4) (w .1)
+    ∙ name-back ps (w .0 .seven) (all-filled ps (w .0 .whole)) (w .0 .apart-0) (w .0 .apart-4) (w .1)
 
 pub parts-allowed : (l : Line) (ps : List (List Bytes)) → CleanLine l → isNamed (ascii "n") l ≡ true → plain l ≡ true → readName (l .value) ≡ some ps → Allowed l (plainLine (ascii "n") [] (nameText (nameValues (l .value))))
 unfolding same lowered lower between

@@ -1,9 +1,9 @@
 -- A statement about every element of a list; what each of them gives.
 use mathlib.Core.Path.{_≡_, refl, sym, ap, ap₂, subst, _∙_}
 use mathlib.Core.Logic.{_⊎_, inl, inr}
-use mathlib.Core.Bool.{Bool, true, false, _&&_, _||_, not}
+use mathlib.Core.Bool.{Bool, true, false, not}
 use mathlib.Core.List.{List, [], _∷_, _++_, map}
-use mathlib.Core.Option.{Option, none, some}
+use mathlib.Core.Option.{Option, some}
 use Rattle.text.specs.Bytes.{Bytes, any, all, same, among, distinct, keep, flat, each}
 use Rattle.text.proofs.Cases.{byBool, and-left, and-right, or-left, or-right, not-true}
 use Rattle.text.proofs.Choices.{some-same, both-inv}

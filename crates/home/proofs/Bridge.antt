@@ -1,31 +1,29 @@
 -- A proper card meets what the laws about JSON trees ask of one.
-use mathlib.Core.Path.{_≡_, refl, sym, ap, _∙_}
-use mathlib.Core.Bool.{Bool, true, false, _&&_, _||_, not}
-use mathlib.Core.List.{List, [], _∷_, map}
+use mathlib.Core.Path.{_≡_, refl}
+use mathlib.Core.Bool.{Bool, true, _&&_, not}
+use mathlib.Core.List.{List, [], _∷_}
 use mathlib.Core.Option.{some}
-use Prim.Native.Nat.{ℕ, zero, suc, _<_}
+use Prim.Native.Nat.{ℕ, zero, suc}
 use native.Mathlib.Omega.{arith}
 use lib.ListN.{length, getD}
 use lib.Dec.{ltb}
 use Rattle.text.specs.Choice.{pick, with-some}
-use Rattle.text.specs.Bytes.{Bytes, ascii, any, all, empty, same, among, distinct, lowered}
+use Rattle.text.specs.Bytes.{Bytes, ascii, all, empty, same, among}
 use Rattle.text.specs.Utf8.{utf8}
 use Rattle.text.proofs.Cases.{and-left, and-right, not-true, tests}
-use Rattle.text.proofs.Lists.{all-head, all-tail, all-imply, all-none}
+use Rattle.text.proofs.Lists.{all-head, all-tail, all-imply}
 use Rattle.json.specs.Tree.{Member, member, nameOf}
-use Rattle.line.specs.Grammar.{Param, param, paramName}
-use Rattle.line.specs.Params.{named}
 use Rattle.convert.specs.Table.{Map, maps, position, reserved}
 use Rattle.convert.specs.Model.{Entry, Kept, Card, part}
 use Rattle.convert.specs.Value.{filled}
 use Rattle.convert.specs.Classify.{Seen}
-use Rattle.convert.specs.FromJson.{isLowerWord, keptStands}
+use Rattle.convert.specs.FromJson.{keptStands}
 use Rattle.convert.specs.Carry.{carriedRaw, carriedText, carriedMaps, carriedParam, carriedKept, apart, carried}
-use Rattle.convert.proofs.KeptLines.{ProperKept}
 use Rattle.convert.proofs.Proper as Readable
-use Rattle.home.specs.Proper.{ProperEntry, ProperEntries, ProperMaps, ProperMember, ProperMembers, KeptFine, AllKeptFine, ProperCard}
-use Rattle.home.proofs.Words.{word-lowered}
-use Rattle.home.proofs.Stands.{lowerParam, Stands, stands-inv}
+use Rattle.home.specs.Proper.{ProperEntries, ProperMaps, ProperMembers, AllKeptFine, ProperCard}
+use Rattle.home.proofs.Stands.{stands-inv}
+use Rattle.home.proofs.KeptFacts.{proper-kept}
+use Rattle.home.proofs.Alls.{All}
 
 -- ---- entries: the kind tells which property, for every row of the table
 
@@ -33,10 +31,6 @@ abbrev Kinded : Map → Type 0
 Kinded m =
     (w : ℕ) → ltb w (length (m .properties)) ≡ true
     → pick (empty (m .kinds)) (some 0) (position (same (getD (m .kinds) w [])) (m .kinds)) ≡ some w
-
-abbrev AllKinded : List Map → Type 0
-AllKinded [] = Unit {0}
-AllKinded (m ∷ ms) = Kinded m × AllKinded ms
 
 one-property : (w : ℕ) → ltb w 1 ≡ true → some 0 ≡ some w
 one-property zero h = refl
@@ -48,14 +42,14 @@ two-kinds zero h = refl
 two-kinds (suc zero) h = refl
 two-kinds (suc (suc w)) h = absurd (omega tests)
 
-table-kinded : AllKinded maps
+table-kinded : All Kinded maps
 table-kinded = (one-property, (one-property, (one-property, (one-property, (one-property, (two-kinds, (one-property, tt)))))))
 
 entries-good : (m : Map) → Kinded m → (es : List Entry) → ProperEntries m es → Readable.AllGood m es
 entries-good m k [] g = tt
 entries-good m k (e ∷ es) g = (record { proper = g .0 .proper; kind = k (e .which) (g .0 .which); which = g .0 .which }, entries-good m k es (g .1))
 
-maps-good : (ms : List Map) → AllKinded ms → (ess : List (List Entry)) → ProperMaps ms ess → Readable.GoodMaps ms ess
+maps-good : (ms : List Map) → All Kinded ms → (ess : List (List Entry)) → ProperMaps ms ess → Readable.GoodMaps ms ess
 maps-good [] k [] g = tt
 maps-good [] k (es ∷ ess) g = g
 maps-good (m ∷ ms) k [] g = g
@@ -74,7 +68,7 @@ seven-parts (a ∷ (b ∷ (c ∷ (d ∷ (e ∷ (g ∷ [])))))) l f x y = absurd 
 seven-parts (a ∷ (b ∷ (c ∷ (d ∷ (e ∷ (g ∷ (h ∷ []))))))) l f x y = (a, b, c, d, e, g, h, refl, f, x, y)
 seven-parts (a ∷ (b ∷ (c ∷ (d ∷ (e ∷ (g ∷ (h ∷ (i ∷ ps)))))))) l f x y = absurd (omega arith)
 
-all-filled : (ps : List (List Bytes)) → all (all (λ v. filled v && utf8 v)) ps ≡ true → all (all filled) ps ≡ true
+pub all-filled : (ps : List (List Bytes)) → all (all (λ v. filled v && utf8 v)) ps ≡ true → all (all filled) ps ≡ true
 all-filled ps h = all-imply (all (λ v. filled v && utf8 v)) (all filled) (λ vs g. all-imply (λ v. filled v && utf8 v) filled (λ v e. and-left (filled v) (utf8 v) e) vs g) ps h
 
 -- what `carried` says of components that N writes together
@@ -97,34 +91,9 @@ members-good (member n j ∷ ms) g =
     let h : filled n && not (among n reserved) ≡ true = and-left (filled n && not (among n reserved)) (utf8 n) (g .0 .name) in
     (not-true (empty n) (and-left (filled n) _ h), not-true (among n reserved) (and-right (filled n) _ h), g .0 .value, members-good ms (g .1))
 
-no-value : (ps : List Param) → all lowerParam ps ≡ true → any (named (ascii "value")) ps ≡ false
-unfolding named
-no-value ps h =
-    all-none lowerParam (named (ascii "value"))
-    (λ p e. ap (λ (n : Bytes). same n (ascii "value")) (word-lowered (paramName p) (and-left _ _ e)) ∙ not-true (same (paramName p) (ascii "value")) (and-right (isLowerWord (paramName p)) _ e)) ps h
-
-group-lowered : (g : Bytes) → empty g || isLowerWord g ≡ true → lowered g ≡ g
-unfolding lowered
-group-lowered [] h = refl
-group-lowered (c ∷ g) h = word-lowered (c ∷ g) h
-
-kept-proper : (s : Seen) (k : Kept) → KeptFine k → keptStands s k ≡ true → ProperKept k
-kept-proper s k g h =
-    let t = stands-inv s k h in
-    record {
-      name = word-lowered (k .name) (t .name);
-      group = group-lowered (k .group) (g .group);
-      word = g .group;
-      type = word-lowered (k .type) (t .type);
-      params = g .params;
-      no-value = no-value (k .params) (t .params);
-      no-group = g .no-group;
-      values = g .values;
-    }
-
 all-kept : (s : Seen) (ks : List Kept) → AllKeptFine ks → all (keptStands s) ks ≡ true → Readable.AllKept ks
 all-kept s [] g h = tt
-all-kept s (k ∷ ks) g h = (kept-proper s k (g .0) (all-head (keptStands s) k ks h), all-kept s ks (g .1) (all-tail (keptStands s) k ks h))
+all-kept s (k ∷ ks) g h = (proper-kept s k (g .0) (stands-inv s k (all-head (keptStands s) k ks h)), all-kept s ks (g .1) (all-tail (keptStands s) k ks h))
 
 -- ---- the whole
 

@@ -1,16 +1,14 @@
 -- A proper card's written lines, section by section: what each gives to the model, and what is seen after it.
 use mathlib.Core.Path.{_≡_, refl, ap, _∙_}
-use mathlib.Core.Bool.{Bool, true, false, _&&_, _||_}
+use mathlib.Core.Bool.{Bool, true, false, _||_, or-false}
 use mathlib.Core.List.{List, [], _∷_, map, append-nil}
 use mathlib.Core.Option.{Option, none, some}
 use native.Mathlib.Omega.{arith}
 use lib.ListN.{length}
 use Rattle.text.specs.Choice.{pick, with-some, is-some}
 use Rattle.text.specs.Bytes.{Bytes, ascii, any, all, empty, among}
-use Rattle.text.specs.Utf8.{utf8}
-use Rattle.text.proofs.Cases.{byBool, and-left}
+use Rattle.text.proofs.Cases.{byBool}
 use Rattle.text.proofs.Same.{among-none}
-use Rattle.text.proofs.Lists.{all-imply}
 use Rattle.json.specs.Tree.{nameOf}
 use Rattle.line.specs.Grammar.{Line}
 use Rattle.line.specs.Text.{writeText}
@@ -28,11 +26,12 @@ use Rattle.home.specs.Proper.{ProperCard}
 use Rattle.home.proofs.Given.{noGives, plus, Section, no-lines, one-line, both-sections, section-to}
 use Rattle.home.proofs.Alike.{Alike, classify-alike}
 use Rattle.home.proofs.Rows.{rows}
-use Rattle.home.proofs.LowerWords.{lower-word}
 use Rattle.home.proofs.Carried.{Carried, is-carried}
 use Rattle.home.proofs.MapLines.{placedFrom, idsAll, placedGives, any-all, maps-section}
 use Rattle.home.proofs.MemberLines.{namesOnto, memberGives, among-onto, members-section}
 use Rattle.home.proofs.KeptFacts.{keptGives, kept-section}
+use Rattle.home.proofs.Words.{word-lowered}
+use Rattle.home.proofs.Bridge.{all-filled}
 
 abbrev pub seen : Bool → Bool → List Id → List Bytes → Seen
 seen f p is ns = record { full = f; parts = p; ids = is; members = ns }
@@ -51,7 +50,7 @@ fullGives v = record { uid = []; kind = []; full = optional v; parts = []; entry
 
 pub kind-section : (s : Seen) (k : Bytes) → empty k || isLowerWord k ≡ true → Section s (whereFilled k (property (ascii "kind") [] k)) (kindGives k) s
 kind-section s [] h = no-lines s
-kind-section s (c ∷ k) h = one-line s (property (ascii "kind") [] (c ∷ k)) (as-kind (c ∷ k)) (kind-class s [] (c ∷ k) (lower-word (c ∷ k) h))
+kind-section s (c ∷ k) h = one-line s (property (ascii "kind") [] (c ∷ k)) (as-kind (c ∷ k)) (kind-class s [] (c ∷ k) (word-lowered (c ∷ k) h))
 
 fn-some : (s : Seen) (v : Bytes) → s .full ≡ false → classify s (property (ascii "fn") [] (writeText false v)) ≡ as-full v
 fn-some s v e = full-class s [] (writeText false v) ∙ full-written s v e
@@ -124,10 +123,6 @@ sections-give c = simp append-nil
 abbrev pub seenBefore : Card → Seen
 seenBefore c = seen (is-some (c .full)) (hasParts (c .parts)) (idsAll 0 (c .maps) []) (namesOnto (c .members) [])
 
-or-none : (b : Bool) → b || false ≡ b
-or-none true = refl
-or-none false = refl
-
 -- what is seen before the kept lines, as far as classes depend on it
 before-alike : (c : Card) → Alike (seenBefore c) (seenIn c)
 unfolding seenIn any
@@ -135,18 +130,15 @@ before-alike c =
     record {
       full = refl;
       parts = refl;
-      ids = λ i k. any-all (isId i k) 0 (c .maps) [] ∙ or-none (any (isId i k) (idsFrom 0 (c .maps)));
-      members = λ n. among-onto n (c .members) [] ∙ ap (λ (b : Bool). among n (map nameOf (c .members)) || b) (among-none n) ∙ or-none (among n (map nameOf (c .members)));
+      ids = λ i k. any-all (isId i k) 0 (c .maps) [] ∙ or-false (any (isId i k) (idsFrom 0 (c .maps)));
+      members = λ n. among-onto n (c .members) [] ∙ ap (λ (b : Bool). among n (map nameOf (c .members)) || b) (among-none n) ∙ or-false (among n (map nameOf (c .members)));
     }
-
-pub filled-parts : (pss : List (List Bytes)) → all (all (λ v. filled v && utf8 v)) pss ≡ true → all (all filled) pss ≡ true
-filled-parts pss h = all-imply (all (λ v. filled v && utf8 v)) (all filled) (λ vs k. all-imply (λ v. filled v && utf8 v) filled (λ v e. and-left (filled v) _ e) vs k) pss h
 
 pub card-classed : (c : Card) → ProperCard c → Section nothing (cardLines c) (cardGives c) (seenBefore c)
 unfolding cardLines fullLine any
 card-classed c p =
     let r : Carried c = is-carried c (p .carries) in
-    let name : hasParts (c .parts) ≡ true → readName (writeName (c .parts)) ≡ some (c .parts) = name-back (c .parts) (p .seven) (filled-parts (c .parts) (p .parts)) (r .surnames) (r .suffixes) in
+    let name : hasParts (c .parts) ≡ true → readName (writeName (c .parts)) ≡ some (c .parts) = name-back (c .parts) (p .seven) (all-filled (c .parts) (p .parts)) (r .surnames) (r .suffixes) in
     section-to
     (both-sections
     (both-sections (one-line nothing (property (ascii "version") [] (ascii "4.0")) as-version (version-class nothing [] (ascii "4.0"))) (one-line nothing (property (ascii "uid") [] (c .uid)) (as-uid (c .uid)) (uid-class nothing [] (c .uid))))

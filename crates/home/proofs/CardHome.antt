@@ -1,6 +1,6 @@
 -- The law: a written card reads back as its model, whole.
 use mathlib.Core.Path.{_≡_, refl, sym, ap, ap₂, _∙_}
-use mathlib.Core.Bool.{Bool, true, false, not}
+use mathlib.Core.Bool.{true, false, not}
 use mathlib.Core.List.{List, [], _∷_, _++_, map, append-nil}
 use mathlib.Core.Option.{Option, none, some}
 use Prim.Native.Nat.{ℕ, suc, _≤_}
@@ -9,9 +9,8 @@ use lib.ListN.{length}
 use lib.Dec.{eqb}
 use borrow.Author.Tests.{eq-eqb, ne-eqb}
 use Rattle.text.specs.Choice.{pick}
-use Rattle.text.specs.Bytes.{Bytes, any, all, empty}
-use Rattle.text.proofs.Cases.{byBool, not-both}
-use Rattle.text.proofs.Lists.{any-head, any-tail}
+use Rattle.text.specs.Bytes.{Bytes, all, empty}
+use Rattle.text.proofs.Cases.{byBool}
 use Rattle.line.proofs.Lines.{upperLine}
 use Rattle.convert.specs.Table.{Map, maps}
 use Rattle.convert.specs.Model.{Entry, Card, hasParts, noParts}
@@ -19,15 +18,14 @@ use Rattle.convert.specs.Classify.{nothing, classedAfter, classed}
 use Rattle.convert.specs.FromCard.{Placed, placed, Gives, gathered, firstOf, orElse, inMap, withKeys, keyedEntries, mapsFrom, cardOfClassed, cardOfLines}
 use Rattle.convert.specs.ToCard.{cardLines}
 use Rattle.convert.proofs.Keyed.{keys-given}
+use Rattle.convert.proofs.Names.{full}
+use Rattle.convert.proofs.NameJson.{no-parts}
 use Rattle.home.specs.Proper.{ProperEntries, ProperMaps, ProperCard}
-use Rattle.home.proofs.Given.{noGives, plus, gathered-given}
-use Rattle.home.proofs.MapLines.{placedFrom, key-filled}
-use Rattle.home.proofs.CardClasses.{optional, cardGives, card-classed}
+use Rattle.home.proofs.Given.{noGives, plus, gathered-given, inMap-append}
+use Rattle.home.proofs.MapLines.{placedFrom, key-filled, keyOf}
+use Rattle.home.proofs.CardClasses.{optional, cardGives, card-classed, seven}
 
 -- ---- maps
-
-abbrev keyOf : Entry → Bytes
-keyOf e = e .key
 
 keys-filled : (m : Map) (es : List Entry) → ProperEntries m es → all (λ k. not (empty k)) (map keyOf es) ≡ true
 unfolding all
@@ -41,11 +39,6 @@ own-keys (e ∷ es) = ap (λ (l : List Entry). e ∷ l) (own-keys es)
 
 pub keyed-back : (m : Map) (es : List Entry) → ProperEntries m es → keyedEntries m es ≡ es
 keyed-back m es g = rw (keys-given (m .prefix) (map keyOf es) (keys-filled m es g)) (own-keys es)
-
-in-append : (j : ℕ) (ps qs : List Placed) → inMap j (ps ++ qs) ≡ inMap j ps ++ inMap j qs
-unfolding inMap
-in-append j [] qs = refl
-in-append j (placed i e ∷ ps) qs = byBool (eqb j i) (λ q. rw q (ap (λ (l : List Entry). e ∷ l) (in-append j ps qs))) (λ q. rw q (in-append j ps qs))
 
 in-own : (i : ℕ) (es : List Entry) → inMap i (map (placed i) es) ≡ es
 unfolding inMap
@@ -61,7 +54,7 @@ in-other i j (e ∷ es) h = rw h (in-other i j es h)
 in-later : (i j : ℕ) (ess : List (List Entry)) → suc j ≤ i → inMap j (placedFrom i ess) ≡ []
 unfolding placedFrom inMap
 in-later i j [] h = refl
-in-later i j (es ∷ ess) h = rw (in-append j (map (placed i) es) (placedFrom (suc i) ess), in-other i j es (ne-eqb j i (omega arith)), in-later (suc i) j ess (omega arith))
+in-later i j (es ∷ ess) h = rw (inMap-append j (map (placed i) es) (placedFrom (suc i) ess), in-other i j es (ne-eqb j i (omega arith)), in-later (suc i) j ess (omega arith))
 
 pub maps-back : (i : ℕ) (ms : List Map) (ess : List (List Entry)) (ps : List Placed) → ((j : ℕ) → i ≤ j → inMap j ps ≡ inMap j (placedFrom i ess)) → ProperMaps ms ess → mapsFrom i ms ps ≡ ess
 unfolding mapsFrom placedFrom
@@ -69,34 +62,18 @@ maps-back i [] [] ps h g = refl
 maps-back i [] (es ∷ ess) ps h g = absurd g
 maps-back i (m ∷ ms) [] ps h g = absurd g
 maps-back i (m ∷ ms) (es ∷ ess) ps h g =
-    let own : inMap i ps ≡ es = h i (omega arith) ∙ in-append i (map (placed i) es) (placedFrom (suc i) ess) ∙ ap₂ _++_ (in-own i es) (in-later (suc i) i ess (omega arith)) ∙ append-nil es in
+    let own : inMap i ps ≡ es = h i (omega arith) ∙ inMap-append i (map (placed i) es) (placedFrom (suc i) ess) ∙ ap₂ _++_ (in-own i es) (in-later (suc i) i ess (omega arith)) ∙ append-nil es in
     let next : (j : ℕ) → suc i ≤ j → inMap j ps ≡ inMap j (placedFrom (suc i) ess) =
-    λ j l. h j (omega arith) ∙ in-append j (map (placed i) es) (placedFrom (suc i) ess) ∙ ap (λ (l : List Entry). l ++ inMap j (placedFrom (suc i) ess)) (in-other i j es (ne-eqb j i (omega arith))) in
+    λ j l. h j (omega arith) ∙ inMap-append j (map (placed i) es) (placedFrom (suc i) ess) ∙ ap (λ (l : List Entry). l ++ inMap j (placedFrom (suc i) ess)) (in-other i j es (ne-eqb j i (omega arith))) in
     rw own (ap₂ _∷_ (keyed-back m es (g .0)) (maps-back (suc i) ms ess ps next (g .2)))
 
 -- ---- what may be absent
 
-abbrev full : List Bytes → Bool
-full vs = not (empty vs)
-
-empty-none : (vs : List Bytes) → full vs ≡ false → vs ≡ []
-empty-none [] h = refl
-empty-none (v ∷ vs) h = not-both refl h
-
--- as many empty lists as others
-all-empty : (ps qs : List (List Bytes)) → length ps ≡ length qs → any full ps ≡ false → any full qs ≡ false → ps ≡ qs
-all-empty [] [] q h k = refl
-all-empty [] (y ∷ qs) q h k = absurd (omega arith)
-all-empty (x ∷ ps) [] q h k = absurd (omega arith)
-all-empty (x ∷ ps) (y ∷ qs) q h k =
-    ap₂ _∷_ (empty-none x (any-head full x ps h) ∙ sym (empty-none y (any-head full y qs k))) (all-empty ps qs (omega arith) (any-tail full x ps h) (any-tail full y qs k))
-
-no-parts : (ps : List (List Bytes)) → length ps ≡ 7 → hasParts ps ≡ false → noParts ≡ ps
-unfolding hasParts any
-no-parts ps q h = all-empty noParts ps (sym q) refl h
+none-parts : (ps : List (List Bytes)) → length ps ≡ 7 → hasParts ps ≡ false → noParts ≡ ps
+none-parts = seven (λ ps. hasParts ps ≡ false → noParts ≡ ps) (λ a b c d e f g h. sym (no-parts a b c d e f g h))
 
 parts-back : (ps : List (List Bytes)) → length ps ≡ 7 → orElse (firstOf (pick (hasParts ps) (ps ∷ []) [])) noParts ≡ ps
-parts-back ps q = byBool (hasParts ps) (λ e. rw e) (λ e. rw e (no-parts ps q e))
+parts-back ps q = byBool (hasParts ps) (λ e. rw e) (λ e. rw e (none-parts ps q e))
 
 kind-back : (k : Bytes) → orElse (firstOf (pick (empty k) [] (k ∷ []))) [] ≡ k
 kind-back [] = refl

@@ -27,19 +27,21 @@ use Rattle.convert.specs.FromJson.{isLowerWord, keptAsLine, keptStands, seenIn}
 use Rattle.convert.specs.ToCard.{property, whereFilled, lineWhere, derivedLine, fullLine, entryLine, mapsLines, memberLine, cardLines, printCard}
 use Rattle.convert.specs.Answers.{rawLines, linesOf}
 use Rattle.home.specs.Proper.{ProperEntries, ProperMaps, ProperMembers, AllKeptFine, ProperCard}
-use Rattle.home.proofs.LowerWords.{names-lower}
 use Rattle.home.proofs.Rows.{Row, Rows, rows}
 use Rattle.home.proofs.Carried.{Carried, is-carried}
-use Rattle.home.proofs.WrittenClean.{Clean, isPrinted, clean-printed, raw-clean}
+use Rattle.home.proofs.WrittenClean.{isPrinted, clean-printed, raw-clean}
 use Rattle.home.proofs.Fair.{Fair, fairParam, fair-sendable, name-printed}
 use Rattle.home.proofs.FairValues.{safe-fair, textual, textual-clean, name-clean, made-clean}
 use Rattle.home.proofs.FairEntries.{entry-fair}
 use Rattle.home.proofs.FairKept.{member-fair, kept-fair}
-use Rattle.home.proofs.KeptFacts.{stands}
-use Rattle.home.proofs.Parted.{versionLine, uidLine, kindLines, laterLines, card-parted, Each, each-append, later-each}
+use Rattle.home.proofs.Parted.{versionLine, uidLine, kindLines, laterLines, card-parted, later-each}
+use Rattle.home.proofs.Words.{names-lower}
+use Rattle.home.proofs.Stands.{stands-inv}
+use Rattle.home.proofs.Alls.{All, all-joined}
+use Rattle.home.proofs.Clean.{Clean}
 
 abbrev pub AllFair : List Line → Type 0
-AllFair ls = Each Fair ls
+AllFair ls = All Fair ls
 
 -- ---- lines with no parameters
 
@@ -113,7 +115,7 @@ maps-fair i [] [] r g h = tt
 maps-fair i [] (es ∷ ess) r g h = absurd g
 maps-fair i (m ∷ ms) [] r g h = absurd g
 maps-fair i (m ∷ ms) (es ∷ ess) r g h =
-    each-append Fair (map (entryLine m) es) (mapsLines ms ess) (entries-fair i m es (r .0) (g .0) (and-left _ _ h)) (maps-fair (suc i) ms ess (r .1) (g .2) (and-right (all (λ (e : Entry). carriedAs (m .form) (e .texts)) es) _ h))
+    all-joined Fair (map (entryLine m) es) (mapsLines ms ess) (entries-fair i m es (r .0) (g .0) (and-left _ _ h)) (maps-fair (suc i) ms ess (r .1) (g .2) (and-right (all (λ (e : Entry). carriedAs (m .form) (e .texts)) es) _ h))
 
 members-fair : (ms : List Member) → ProperMembers ms → all (λ m. carriedParam (nameOf m)) ms ≡ true → AllFair (map memberLine ms)
 members-fair [] g h = tt
@@ -122,7 +124,7 @@ members-fair (m ∷ ms) g h = (member-fair m (g .0) (all-head (λ m. carriedPara
 kepts-fair : (s : Seen) (ks : List Kept) → AllKeptFine ks → all (keptStands s) ks ≡ true → all carriedKept ks ≡ true → AllFair (map keptAsLine ks)
 kepts-fair s [] f t h = tt
 kepts-fair s (k ∷ ks) f t h =
-    (kept-fair s k (f .0) (stands s k (all-head (keptStands s) k ks t)) (all-head carriedKept k ks h), kepts-fair s ks (f .1) (all-tail (keptStands s) k ks t) (all-tail carriedKept k ks h))
+    (kept-fair s k (f .0) (stands-inv s k (all-head (keptStands s) k ks t)) (all-head carriedKept k ks h), kepts-fair s ks (f .1) (all-tail (keptStands s) k ks t) (all-tail carriedKept k ks h))
 
 -- ---- the card
 
@@ -134,7 +136,7 @@ parted-fair c p =
     let later : AllFair (laterLines c) =
     later-each Fair c (full-fair (c .full) (c .parts) (p .full) (r .full) t) (name-fair (c .parts) (hasParts (c .parts)) t) (maps-fair 0 maps (c .maps) rows (p .entries) (r .maps))
     (members-fair (c .members) (p .members) (r .members)) (kepts-fair (seenIn c) (c .kept) (p .kept) (p .stand) (r .kept)) in
-    (version-fair, (uid-fair (c .uid) (raw-clean (c .uid) (and-right (filled (c .uid)) _ (p .uid)) (r .uid)), each-append Fair (kindLines c) (laterLines c) (kind-fair (c .kind) (p .kind)) later))
+    (version-fair, (uid-fair (c .uid) (raw-clean (c .uid) (and-right (filled (c .uid)) _ (p .uid)) (r .uid)), all-joined Fair (kindLines c) (laterLines c) (kind-fair (c .kind) (p .kind)) later))
 
 pub card-fair : (c : Card) → ProperCard c → AllFair (cardLines c)
 card-fair c p = subst AllFair (sym (card-parted c)) (parted-fair c p)

@@ -1,51 +1,47 @@
 -- A card from lines is proper.
-use mathlib.Core.Path.{_≡_, refl, sym, ap, subst, _∙_}
-use mathlib.Core.Logic.{_⊎_, inl, inr}
+use mathlib.Core.Path.{_≡_, refl, ap}
+use mathlib.Core.Logic.{inl}
 use mathlib.Core.Bool.{Bool, true, false, _&&_, _||_, not}
-use mathlib.Core.List.{List, [], _∷_, _++_, map}
-use mathlib.Core.Option.{Option, none, some}
-use Prim.Native.Nat.{ℕ, suc, _+_, _≤_}
+use mathlib.Core.List.{List, [], _∷_, _++_}
+use mathlib.Core.Option.{none, some}
+use Prim.Native.Nat.{ℕ, _≤_}
 use native.Mathlib.Omega.{arith}
 use lib.ListN.{length}
-use lib.Dec.{eqb, ltb, leb}
+use lib.Dec.{eqb, leb}
 use borrow.Author.Tests.{leb-true}
-use Rattle.text.specs.Choice.{is-some, with-some}
-use Rattle.text.specs.Bytes.{Bytes, any, all, empty, among, isDigit, between, distinct, each}
+use Rattle.text.specs.Choice.{with-some}
+use Rattle.text.specs.Bytes.{Bytes, any, all, empty, among, isDigit, between, each}
 use Rattle.text.specs.Decimal.{decimal}
 use Rattle.text.specs.Utf8.{utf8}
 use Rattle.text.proofs.Cases.{byBool, tests, implied, beyond, and-left, and-right, and-true, or-left, or-right, not-both}
-use Rattle.text.proofs.Choices.{some-same}
-use Rattle.text.proofs.Lists.{all-imply, all-none, all-both, all-cons, any-head, any-tail}
+use Rattle.text.proofs.Lists.{all-imply, all-both, all-cons, any-head, any-tail}
 use Rattle.text.proofs.Decimals.{decimal-digits}
-use Rattle.json.specs.Tree.{Json, Member, member, nameOf}
+use Rattle.json.specs.Tree.{Member, member, nameOf}
 use Rattle.line.specs.Class.{isName, isKey, isStem, isControl}
 use Rattle.line.specs.Grammar.{Line, accepted, readLine}
 use Rattle.convert.specs.Table.{maps}
-use Rattle.convert.specs.Model.{Entry, Kept, Card, hasParts, noParts, part}
+use Rattle.convert.specs.Model.{Kept, Card, hasParts, noParts}
 use Rattle.convert.specs.Value.{filled}
 use Rattle.convert.specs.Carry.{carriedRaw, carriedText, carriedParam, carriedMaps, carriedKept, apart, carried}
-use Rattle.convert.specs.Classify.{Class, as-version, as-uid, as-kind, as-dropped, as-full, as-parts, as-entry, as-member, as-kept, isId, Seen, nothing, Classed, classedAfter, classed, classify}
-use Rattle.convert.specs.FromCard.{Placed, placed, Gives, gives, gathered, firstOf, orElse, mapsFrom, madeUid, cardOfClassed, cardOfLines}
-use Rattle.convert.specs.FromJson.{isLowerWord, keptStands, idsFrom, seenIn}
+use Rattle.convert.specs.Classify.{Class, as-version, as-uid, as-kind, as-dropped, as-full, as-parts, as-entry, as-member, as-kept, Seen, nothing, Classed, classedAfter, classed, classify}
+use Rattle.convert.specs.FromCard.{placed, Gives, gathered, firstOf, orElse, mapsFrom, madeUid, cardOfClassed, cardOfLines}
+use Rattle.convert.specs.FromJson.{isLowerWord, keptStands, seenIn}
 use Rattle.convert.specs.Answers.{isStemText, garbled, misused, secondFrom, emptied}
 use Rattle.home.specs.Proper.{ProperMember, ProperMembers, KeptFine, AllKeptFine, ProperMaps, ProperCard}
 use Rattle.home.proofs.Alls.{All, all-test, all-mono, all-two, each-gives, In, in-all, all-in, in-among}
 use Rattle.home.proofs.Words.{or-word}
-use Rattle.home.proofs.Clean.{isAscii, Clean, ascii-utf8}
+use Rattle.home.proofs.Clean.{isAscii, Clean}
 use Rattle.home.proofs.CleanLines.{name-ascii, CleanLine, read-clean}
 use Rattle.home.proofs.CleanTexts.{CleanText}
 use Rattle.home.proofs.ReadNames.{NameWell}
 use Rattle.home.proofs.KeyedEntries.{PlacedWell, placed-proper, ids-cover}
 use Rattle.home.proofs.LineKept.{LineFine}
 use Rattle.home.proofs.Covered.{Covers, CoversClass}
-use Rattle.home.proofs.ClassFacts.{WellClass}
 use Rattle.home.proofs.Ordered.{LineGood, classed-well, covered, classed-length, members-new, ids-new}
 use Rattle.home.proofs.Gathered.{gathered-all, in-gathered, Well, UidFine, uid-given, kind-given, full-given, SomeName, parts-given, entry-given, MemberFine, member-given, KeptGood, kept-given, Stood, stand-given, entries-length, or-else, first-in, is-first}
+use Rattle.home.proofs.WrittenClean.{isPrinted, clean-printed}
 
 -- ---- a made UID
-
-abbrev isPlain : ℕ → Bool
-isPlain c = isAscii c && not (isControl c)
 
 no-stem : (c : ℕ) → isAscii c ≡ false → isStem c ≡ false
 unfolding isStem isKey
@@ -57,15 +53,15 @@ no-stem c l = rw (off, other 95 refl, other 58 refl)
     other : (b : ℕ) → isAscii b ≡ true → eqb c b ≡ false
     other b a = byBool (eqb c b) (λ e. absurd (omega tests)) (λ e. e)
 
-stem-plain : (c : ℕ) → isStem c ≡ true → isPlain c ≡ true
+stem-plain : (c : ℕ) → isStem c ≡ true → isPrinted c ≡ true
 unfolding isStem isKey isName between isControl
-stem-plain c h = implied isStem isPlain 128 c refl (λ l. no-stem c l) h
+stem-plain c h = implied isStem isPrinted 128 c refl (λ l. no-stem c l) h
 
-digit-plain : (c : ℕ) → isDigit c ≡ true → isPlain c ≡ true
+digit-plain : (c : ℕ) → isDigit c ≡ true → isPrinted c ≡ true
 unfolding between isControl
-digit-plain c h = implied isDigit isPlain 128 c refl (λ l. beyond 48 57 c (omega tests)) h
+digit-plain c h = implied isDigit isPrinted 128 c refl (λ l. beyond 48 57 c (omega tests)) h
 
-hyphen-plain : isPlain 45 ≡ true
+hyphen-plain : isPrinted 45 ≡ true
 unfolding isControl
 hyphen-plain = refl
 
@@ -77,15 +73,13 @@ made-fine : (stem : Bytes) (n : ℕ) → isStemText stem ≡ true → UidFine (m
 unfolding isStemText madeUid carriedRaw
 made-fine stem n h =
     let a = and-left (filled stem && leb (length stem) 200) _ h in
-    let s = all-imply isStem isPlain stem-plain stem (and-right (filled stem && leb (length stem) 200) _ h) in
-    let d = all-cons isPlain 45 (decimal n) hyphen-plain (all-imply isDigit isPlain digit-plain (decimal n) (decimal-digits n)) in
-    let u = all-both isPlain stem (45 ∷ decimal n) s d in
-    let t : Bytes = stem ++ 45 ∷ decimal n in
-    (and-true (append-filled stem (45 ∷ decimal n) (and-left (filled stem) _ a)) (ascii-utf8 t (all-imply isPlain isAscii (λ c e. and-left (isAscii c) _ e) t u)),
-     ap not (all-none isPlain isControl plain-control t u))
-  where
-    plain-control : (c : ℕ) → isPlain c ≡ true → isControl c ≡ false
-    plain-control c e = byBool (isControl c) (λ q. not-both (and-right (isAscii c) _ e) (ap not q)) (λ q. q)
+    let s = all-imply isStem isPrinted stem-plain stem (and-right (filled stem && leb (length stem) 200) _ h) in
+    let d = all-cons isPrinted 45 (decimal n) hyphen-plain (all-imply isDigit isPrinted digit-plain (decimal n) (decimal-digits n)) in
+    let u = all-both isPrinted stem (45 ∷ decimal n) s d in
+    let c : Clean (stem ++ 45 ∷ decimal n) = clean-printed (stem ++ 45 ∷ decimal n) u in (
+      and-true (append-filled stem (45 ∷ decimal n) (and-left (filled stem) _ a)) (c .0),
+      ap not (c .1),
+    )
 
 -- ---- the model
 

@@ -1,10 +1,10 @@
 -- A proper card's written lines pass every test of a card but the count of lines.
-use mathlib.Core.Path.{_≡_, refl, sym, ap, subst, _∙_}
+use mathlib.Core.Path.{_≡_, refl, sym, subst, _∙_}
 use mathlib.Core.Bool.{Bool, true, false, _&&_, _||_}
 use mathlib.Core.List.{List, [], _∷_, _++_, map}
 use mathlib.Core.Option.{Option, none, some}
 use Prim.Native.Nat.{ℕ, suc}
-use lib.ListN.{length}
+use lib.ListN.{length, length-map}
 use lib.Dec.{ltb}
 use Rattle.text.specs.Choice.{with-some}
 use Rattle.text.specs.Bytes.{Bytes, ascii, any, all, empty, same, among, lower, lowered, upper, uppered, between, keep, flat}
@@ -25,27 +25,25 @@ use Rattle.convert.specs.Value.{filled, writeName}
 use Rattle.convert.specs.FromJson.{isLowerWord, seenIn}
 use Rattle.convert.specs.ToCard.{property, whereFilled, derivedLine, fullLine, cardLines}
 use Rattle.convert.specs.Answers.{Answer, fine, lineRoom, seek, given, firstFrom, atLine, garbled, ungrammatical, isNamed, isVersionLine, versionFirst, onlyUri, misused, secondFrom, emptied, lineTests}
+use Rattle.convert.proofs.Cases.{empty-upper}
 use Rattle.home.specs.Proper.{ProperCard}
-use Rattle.home.proofs.LowerWords.{names-lower}
 use Rattle.home.proofs.Rows.{rows}
 use Rattle.home.proofs.Fair.{Fair, fair-garbled, fair-grammatical}
-use Rattle.home.proofs.Parted.{versionLine, uidLine, kindLines, laterLines, card-parted, Each, each-append, later-each}
+use Rattle.home.proofs.Parted.{versionLine, uidLine, kindLines, laterLines, card-parted, later-each}
 use Rattle.home.proofs.CardLines.{card-fair}
 use Rattle.home.proofs.PlainLines.{heads, Plain, full-plain, name-plain, members-plain, maps-plain, kepts-plain}
+use Rattle.home.proofs.Words.{names-lower}
+use Rattle.home.proofs.Alls.{All, all-joined, all-mono}
 
 -- ---- a test that no line fails
 
-first-none : {A : Type 0} (i : ℕ) (p : A → Bool) (f : Line → A) (ls : List Line) → Each (λ l. p (f l) ≡ false) ls → firstFrom i p (map f ls) ≡ none
+first-none : {A : Type 0} (i : ℕ) (p : A → Bool) (f : Line → A) (ls : List Line) → All (λ l. p (f l) ≡ false) ls → firstFrom i p (map f ls) ≡ none
 unfolding firstFrom
 first-none i p f [] h = refl
 first-none i p f (l ∷ ls) h = rw (h .0) (first-none (suc i) p f ls (h .1))
 
-no-line : {A : Type 0} (n : ℕ) (p : A → Bool) (f : Line → A) (ls : List Line) → Each (λ l. p (f l) ≡ false) ls → atLine n p (map f ls) ≡ fine
+no-line : {A : Type 0} (n : ℕ) (p : A → Bool) (f : Line → A) (ls : List Line) → All (λ l. p (f l) ≡ false) ls → atLine n p (map f ls) ≡ fine
 no-line n p f ls h = rw (first-none 1 p f ls h)
-
-each-imply : (P Q : Line → Type 0) → ((l : Line) → P l → Q l) → (ls : List Line) → Each P ls → Each Q ls
-each-imply P Q h [] e = tt
-each-imply P Q h (l ∷ ls) e = (h l (e .0), each-imply P Q h ls (e .1))
 
 -- ---- upper-case names
 
@@ -54,18 +52,14 @@ unfolding any named
 upper-named n [] = refl
 upper-named n (param m vs ∷ ps) = rw (lowered-uppered m, upper-named n ps)
 
-upper-empty : (ps : List Param) → empty (map upperParam ps) ≡ empty ps
-upper-empty [] = refl
-upper-empty (p ∷ ps) = refl
-
 misused-upper : (l : Line) → misused (upperLine l) ≡ misused l
 unfolding misused onlyUri
 misused-upper l =
     rw (
       lowered-uppered (l .name),
-      upper-empty (l .params),
+      empty-upper (l .params),
       besidesValue-upper (l .params),
-      upper-empty (besidesValue (l .params)),
+      empty-upper (besidesValue (l .params)),
       valueType-upper (l .params),
       upper-named (ascii "group") (l .params),
       valuesNamed-upper (ascii "value") (l .params),
@@ -93,7 +87,7 @@ plain-emptied : (l : Line) → Plain l → emptied l ≡ false
 unfolding emptied
 plain-emptied l p = rw (not-uid (lowered (l .name)) (p .own), not-kind (lowered (l .name)) (p .own))
 
-later-plain : (c : Card) → ProperCard c → Each Plain (laterLines c)
+later-plain : (c : Card) → ProperCard c → All Plain (laterLines c)
 unfolding fullLine
 later-plain c p =
     later-each Plain c (full-plain (c .full) (c .parts)) (name-plain (hasParts (c .parts)) (writeName (c .parts))) (maps-plain 0 maps (c .maps) rows (p .entries)) (members-plain (c .members))
@@ -128,21 +122,21 @@ passes : (l : Line) → misused l ≡ false → emptied l ≡ false → Passes l
 unfolding Passes
 passes l m e = (misused-upper l ∙ m, emptied-upper l ∙ e)
 
-kind-passes : (k : Bytes) → empty k || isLowerWord k ≡ true → Each Passes (whereFilled k (property (ascii "kind") [] k))
+kind-passes : (k : Bytes) → empty k || isLowerWord k ≡ true → All Passes (whereFilled k (property (ascii "kind") [] k))
 kind-passes [] h = tt
 kind-passes (c ∷ k) h = (passes (property (ascii "kind") [] (c ∷ k)) (kind-used (c ∷ k)) (kind-filled (c ∷ k) refl (names-lower (c ∷ k) h)), tt)
 
-parted-passes : (c : Card) → ProperCard c → Each Passes (versionLine ∷ uidLine c ∷ (kindLines c ++ laterLines c))
+parted-passes : (c : Card) → ProperCard c → All Passes (versionLine ∷ uidLine c ∷ (kindLines c ++ laterLines c))
 parted-passes c p = (
   passes versionLine (version-passes .0) (version-passes .1),
   (
     passes (uidLine c) (uid-used (c .uid)) (uid-filled (c .uid) (not-true (empty (c .uid)) (and-left (filled (c .uid)) _ (p .uid)))),
-    each-append Passes (kindLines c) (laterLines c) (kind-passes (c .kind) (p .kind)) (each-imply Plain Passes (λ l q. passes l (plain-misused l q) (plain-emptied l q)) (laterLines c) (later-plain c p)),
+    all-joined Passes (kindLines c) (laterLines c) (kind-passes (c .kind) (p .kind)) (all-mono Plain Passes (λ l q. passes l (plain-misused l q) (plain-emptied l q)) (laterLines c) (later-plain c p)),
   ),
 )
 
-card-passes : (c : Card) → ProperCard c → Each Passes (cardLines c)
-card-passes c p = subst (Each Passes) (sym (card-parted c)) (parted-passes c p)
+card-passes : (c : Card) → ProperCard c → All Passes (cardLines c)
+card-passes c p = subst (All Passes) (sym (card-parted c)) (parted-passes c p)
 
 -- ---- no second VERSION, UID or KIND (8)
 
@@ -155,7 +149,7 @@ second-none : (i : ℕ) (before : List Bytes) → secondFrom i before [] ≡ non
 unfolding secondFrom
 second-none i before = refl
 
-second-plain : (i : ℕ) (before : List Bytes) (ls : List Line) → Each Plain ls → secondFrom i before (map upperLine ls) ≡ none
+second-plain : (i : ℕ) (before : List Bytes) (ls : List Line) → All Plain ls → secondFrom i before (map upperLine ls) ≡ none
 second-plain i before [] h = second-none i before
 second-plain i before (l ∷ ls) h = second-step i before l (map upperLine ls) (rw (h .0 .own)) ∙ second-plain (suc i) (lowered (l .name) ∷ before) ls (h .1)
 
@@ -171,7 +165,7 @@ kind-new : among (lowered (ascii "kind")) heads && among (lowered (ascii "kind")
 unfolding among any same lowered lower between
 kind-new = refl
 
-kind-second : (k : Bytes) (ls : List Line) → Each Plain ls → secondFrom 3 (lowered (ascii "uid") ∷ lowered (ascii "version") ∷ []) (map upperLine (whereFilled k (property (ascii "kind") [] k) ++ ls)) ≡ none
+kind-second : (k : Bytes) (ls : List Line) → All Plain ls → secondFrom 3 (lowered (ascii "uid") ∷ lowered (ascii "version") ∷ []) (map upperLine (whereFilled k (property (ascii "kind") [] k) ++ ls)) ≡ none
 kind-second [] ls h = second-plain 3 _ ls h
 kind-second (c ∷ k) ls h = second-step 3 _ (property (ascii "kind") [] (c ∷ k)) (map upperLine ls) kind-new ∙ second-plain 4 _ ls h
 
@@ -208,34 +202,30 @@ fn-there c =
 
 -- ---- all tests
 
-length-map : {A B : Type 0} (f : A → B) (xs : List A) → length (map f xs) ≡ length xs
-length-map f [] = refl
-length-map f (x ∷ xs) = ap suc (length-map f xs)
-
 module _ (c : Card) (p : ProperCard c) where
   none-garbled : atLine 4 garbled (map writeLine (cardLines c)) ≡ fine
-  none-garbled = no-line 4 garbled writeLine (cardLines c) (each-imply Fair (λ l. garbled (writeLine l) ≡ false) fair-garbled (cardLines c) (card-fair c p))
+  none-garbled = no-line 4 garbled writeLine (cardLines c) (all-mono Fair (λ l. garbled (writeLine l) ≡ false) fair-garbled (cardLines c) (card-fair c p))
 
   all-grammatical : atLine 5 ungrammatical (map writeLine (cardLines c)) ≡ fine
-  all-grammatical = no-line 5 ungrammatical writeLine (cardLines c) (each-imply Fair (λ l. ungrammatical (writeLine l) ≡ false) fair-grammatical (cardLines c) (card-fair c p))
+  all-grammatical = no-line 5 ungrammatical writeLine (cardLines c) (all-mono Fair (λ l. ungrammatical (writeLine l) ≡ false) fair-grammatical (cardLines c) (card-fair c p))
 
   versioned : versionFirst (map upperLine (cardLines c)) ≡ true
   versioned = rw (card-parted c) (version-first (uidLine c ∷ (kindLines c ++ laterLines c)))
 
   none-misused : atLine 7 misused (map upperLine (cardLines c)) ≡ fine
   unfolding Passes
-  none-misused = no-line 7 misused upperLine (cardLines c) (each-imply Passes (λ l. misused (upperLine l) ≡ false) (λ l q. q .0) (cardLines c) (card-passes c p))
+  none-misused = no-line 7 misused upperLine (cardLines c) (all-mono Passes (λ l. misused (upperLine l) ≡ false) (λ l q. q .0) (cardLines c) (card-passes c p))
 
   no-second : secondFrom 1 [] (map upperLine (cardLines c)) ≡ none
   no-second = rw (card-parted c) (parted-second c p)
 
   none-emptied : atLine 9 emptied (map upperLine (cardLines c)) ≡ fine
   unfolding Passes
-  none-emptied = no-line 9 emptied upperLine (cardLines c) (each-imply Passes (λ l. emptied (upperLine l) ≡ false) (λ l q. q .1) (cardLines c) (card-passes c p))
+  none-emptied = no-line 9 emptied upperLine (cardLines c) (all-mono Passes (λ l. emptied (upperLine l) ≡ false) (λ l q. q .1) (cardLines c) (card-passes c p))
 
   pub card-tests : lineTests (map writeLine (cardLines c)) (map upperLine (cardLines c)) ≡ given 3 (ltb lineRoom (length (cardLines c))) ∷ fine ∷ fine ∷ fine ∷ fine ∷ fine ∷ fine ∷ fine ∷ []
   unfolding lineTests
-  card-tests = rw (length-map writeLine (cardLines c), none-garbled, all-grammatical, versioned, none-misused, no-second, none-emptied, fn-there c)
+  card-tests = rw (length-map (cardLines c) writeLine, none-garbled, all-grammatical, versioned, none-misused, no-second, none-emptied, fn-there c)
 
   -- where the lines are not too many, no test stops the answer
   pub card-answered : ltb lineRoom (length (cardLines c)) ≡ false → (a : Answer) → seek (lineTests (map writeLine (cardLines c)) (map upperLine (cardLines c))) a ≡ a

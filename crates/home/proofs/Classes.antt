@@ -1,7 +1,7 @@
 -- What is known of a line by its class, and the lines of a section by what they give to the model.
 use mathlib.Core.Path.{_≡_, refl, ap₂, _∙_}
 use mathlib.Core.Bool.{true, false, _&&_, not}
-use mathlib.Core.List.{List, [], _∷_, _++_, map}
+use mathlib.Core.List.{List, [], _∷_, _++_, map, map-append}
 use mathlib.Core.Option.{some}
 use Prim.Native.Nat.{ℕ, _+_}
 use lib.Dec.{eqb, ltb}
@@ -17,9 +17,12 @@ use Rattle.convert.specs.Classify.{Class, as-version, as-uid, as-kind, as-dropp
 use Rattle.convert.specs.FromCard.{Gives, gives, gathered}
 use Rattle.convert.specs.NormalCard.{Section, sectionOf, sectionNumber, section}
 use Rattle.home.proofs.Known.{onProvided, onSome}
-use Rattle.home.proofs.Images.{map-append}
 
 -- ---- what a class says of its line, after what was seen
+
+-- neither VERSION nor UID nor KIND
+abbrev pub Later : Line → Type 0
+Later l = (same (lowered (l .name)) (ascii "version") ≡ false) × (same (lowered (l .name)) (ascii "uid") ≡ false) × (same (lowered (l .name)) (ascii "kind") ≡ false)
 
 abbrev pub Fact : Seen → Line → Class → Type 0
 Fact s l as-version = Unit {0}
@@ -29,37 +32,37 @@ Fact s l as-dropped = Unit {0}
 Fact s l (as-full v) = (readText (l .value) ≡ some v) × (s .full ≡ false)
 Fact s l (as-parts ps) = (readName (l .value) ≡ some ps) × (s .parts ≡ false)
 Fact s l (as-entry i e) = (w : Slot) × (slotOf (lowered (l .name)) ≡ some w) × (w .index ≡ i) × (entryOf s w l ≡ some e)
-Fact s l (as-member n j) = memberName s (besidesValue (l .params)) ≡ some n
-Fact s l as-kept = Unit {0}
+Fact s l (as-member n j) = (memberName s (besidesValue (l .params)) ≡ some n) × (memberValue (l .value) ≡ some j)
+Fact s l as-kept = Later l
 
-full-fact : (s : Seen) (l : Line) → Fact s l (fullClass s l)
+full-fact : (s : Seen) (l : Line) → Later l → Fact s l (fullClass s l)
 unfolding fullClass
-full-fact s l =
+full-fact s l k =
     byBool (bare l && isDerived (besidesValue (l .params))) (λ e. rw e tt)
     (λ e. rw e (onSome (provided (bare l && empty (besidesValue (l .params)) && not (s .full)) (readText (l .value)))
-    (λ n. rw n tt)
+    (λ n. rw n k)
     (λ v h. rw h (onProvided (bare l && empty (besidesValue (l .params)) && not (s .full)) (readText (l .value)) h λ t r. (r, not-true (s .full) (and-right (bare l && empty (besidesValue (l .params))) _ t))))))
 
-parts-fact : (s : Seen) (l : Line) → Fact s l (partsClass s l)
+parts-fact : (s : Seen) (l : Line) → Later l → Fact s l (partsClass s l)
 unfolding partsClass
-parts-fact s l =
+parts-fact s l k =
     onSome (provided (bare l && empty (besidesValue (l .params)) && not (s .parts)) (readName (l .value)))
-    (λ n. rw n tt)
+    (λ n. rw n k)
     (λ v h. rw h (onProvided (bare l && empty (besidesValue (l .params)) && not (s .parts)) (readName (l .value)) h λ t r. (r, not-true (s .parts) (and-right (bare l && empty (besidesValue (l .params))) _ t))))
 
-member-fact : (s : Seen) (l : Line) → Fact s l (memberClass s l)
+member-fact : (s : Seen) (l : Line) → Later l → Fact s l (memberClass s l)
 unfolding memberClass
-member-fact s l =
+member-fact s l k =
     onSome (provided (bare l) (memberName s (besidesValue (l .params))))
-    (λ n. rw n tt)
-    (λ n h. onSome (memberValue (l .value)) (λ v. rw (h, v) tt) (λ j v. rw (h, v) (onProvided (bare l) (memberName s (besidesValue (l .params))) h λ t r. r)))
+    (λ n. rw n k)
+    (λ n h. onSome (memberValue (l .value)) (λ v. rw (h, v) k) (λ j v. rw (h, v) (onProvided (bare l) (memberName s (besidesValue (l .params))) h λ t r. (r, v))))
 
-entry-fact : (s : Seen) (l : Line) → Fact s l (with-some (slotOf (lowered (l .name))) (λ w. entryClass s w l) as-kept)
+entry-fact : (s : Seen) (l : Line) → Later l → Fact s l (with-some (slotOf (lowered (l .name))) (λ w. entryClass s w l) as-kept)
 unfolding entryClass
-entry-fact s l =
+entry-fact s l k =
     onSome (slotOf (lowered (l .name)))
-    (λ n. rw n tt)
-    (λ w h. onSome (entryOf s w l) (λ n. rw (h, n) tt) (λ e q. rw (h, q) (w, h, refl, q)))
+    (λ n. rw n k)
+    (λ w h. onSome (entryOf s w l) (λ n. rw (h, n) k) (λ e q. rw (h, q) (w, h, refl, q)))
 
 pub class-fact : (s : Seen) (l : Line) → Fact s l (classify s l)
 unfolding classify
@@ -67,10 +70,10 @@ class-fact s l =
     byBool (same (lowered (l .name)) (ascii "version")) (λ a. rw a tt) λ a.
     byBool (same (lowered (l .name)) (ascii "uid")) (λ b. rw (a, b) (b, refl)) λ b.
     byBool (same (lowered (l .name)) (ascii "kind")) (λ c. rw (a, b, c) (c, refl)) λ c.
-    byBool (same (lowered (l .name)) (ascii "fn")) (λ d. rw (a, b, c, d) (full-fact s l)) λ d.
-    byBool (same (lowered (l .name)) (ascii "n")) (λ e. rw (a, b, c, d, e) (parts-fact s l)) λ e.
-    byBool (same (lowered (l .name)) (ascii "jsprop")) (λ f. rw (a, b, c, d, e, f) (member-fact s l)) λ f.
-    rw (a, b, c, d, e, f) (entry-fact s l)
+    byBool (same (lowered (l .name)) (ascii "fn")) (λ d. rw (a, b, c, d) (full-fact s l (a, b, c))) λ d.
+    byBool (same (lowered (l .name)) (ascii "n")) (λ e. rw (a, b, c, d, e) (parts-fact s l (a, b, c))) λ e.
+    byBool (same (lowered (l .name)) (ascii "jsprop")) (λ f. rw (a, b, c, d, e, f) (member-fact s l (a, b, c))) λ f.
+    rw (a, b, c, d, e, f) (entry-fact s l (a, b, c))
 
 -- ---- what lines give, by sections
 

@@ -1,19 +1,18 @@
 -- Texts in UTF-8 without controls: they may be cut at ASCII bytes.
 use mathlib.Core.Path.{_≡_, refl, sym, ap, subst, _∙_}
-use mathlib.Core.Bool.{Bool, true, false, _&&_, _||_, not}
+use mathlib.Core.Bool.{Bool, true, false, _&&_}
 use mathlib.Core.List.{List, [], _∷_, _++_, append-nil}
-use Prim.Native.Nat.{ℕ, suc, _≤_}
+use Prim.Native.Nat.{ℕ}
 use native.Mathlib.Omega.{arith}
-use lib.Dec.{eqb, ltb, leb}
-use Rattle.text.specs.Choice.{pick}
+use lib.Dec.{ltb}
 use Rattle.text.specs.Bytes.{Bytes, any, all, between}
-use Rattle.text.specs.Utf8.{Due, start, due, broken, lead, tails, next, run, utf8}
-use Rattle.text.specs.Reader.{taken, past, first}
-use Rattle.text.proofs.Cases.{byBool, and-left, and-right, tests, not-both, below}
-use Rattle.text.proofs.Lists.{all-head, all-tail, all-append, any-append, any-head, any-tail}
-use Rattle.text.proofs.Cases.{or-left, or-right}
+use Rattle.text.specs.Utf8.{Due, start, due, broken, lead, next, run, utf8}
+use Rattle.text.specs.Reader.{taken, past}
+use Rattle.text.proofs.Cases.{byBool, and-right, tests, below, or-left, or-right}
+use Rattle.text.proofs.Lists.{all-head, all-tail, all-append, any-append}
 use Rattle.text.proofs.Characters.{run-append, utf8-run, run-utf8, not-start, later, later-lead, later-tails, later-bounds, isByte, utf8-bytes}
 use Rattle.line.specs.Class.{isControl}
+use Rattle.convert.specs.Value.{headOr}
 
 -- ---- what is due after some bytes
 
@@ -59,13 +58,17 @@ pub utf8-none : utf8 [] ≡ true
 unfolding utf8 run
 utf8-none = refl
 
-ascii-run : (s : Bytes) → all isAscii s ≡ true → run start s ≡ start
+pub ascii-run : (s : Bytes) → all isAscii s ≡ true → run start s ≡ start
 unfolding run
 ascii-run [] h = refl
 ascii-run (c ∷ s) h = ap (λ (d : Due). run d s) (ascii-next c (all-head isAscii c s h)) ∙ ascii-run s (all-tail isAscii c s h)
 
 pub ascii-utf8 : (s : Bytes) → all isAscii s ≡ true → utf8 s ≡ true
 ascii-utf8 s h = run-utf8 s (ascii-run s h)
+
+pub head-utf8 : (vs : List Bytes) → all utf8 vs ≡ true → utf8 (headOr [] vs) ≡ true
+head-utf8 [] h = utf8-none
+head-utf8 (v ∷ vs) h = all-head utf8 v vs h
 
 -- ---- clean texts
 

@@ -2,34 +2,26 @@
 use mathlib.Core.Path.{_≡_, refl, sym, ap, subst, _∙_}
 use mathlib.Core.Logic.{_⊎_, inl, inr}
 use mathlib.Core.Bool.{Bool, true, false, _&&_, _||_, not}
-use mathlib.Core.List.{List, [], _∷_, _++_, tail}
-use mathlib.Core.Option.{Option, none, some}
+use mathlib.Core.List.{List, [], _∷_, tail}
+use mathlib.Core.Option.{some}
 use Prim.Native.Nat.{ℕ, zero, suc}
-use native.Mathlib.Omega.{arith}
 use lib.ListN.{length}
 use lib.Dec.{eqb, ltb}
 use borrow.Author.Tests.{eqb-true}
-use Rattle.text.specs.Choice.{pick, provided}
 use Rattle.text.specs.Bytes.{Bytes, is, any, all, empty, between}
-use Rattle.text.specs.Reader.{Got, got, bad, bind, under, first, on, Step, more, last, after, turns, loop, one, some-of, run-of, taken, past}
-use Rattle.text.proofs.Cases.{byBool, byBelow, upTo, tests, beyond, and-left, and-right, and-true, not-true, not-both, implied}
+use Rattle.text.specs.Reader.{Got, got, bad, bind, first, on, Step, more, last, after, turns, loop, one, some-of, run-of, taken, past}
+use Rattle.text.proofs.Cases.{byBool, not-both, implied, or-second}
 use Rattle.text.proofs.Choices.{none-some, some-same, provided-inv}
 use Rattle.text.proofs.Lists.{all-imply, all-none}
 use Rattle.text.proofs.Readers.{not-bad, got-rest, got-what, bind-inv, under-inv, on-inv, when-inv, Keeps, some-of-inv, taken-all}
-use Rattle.line.specs.Class.{isName, isBare, isQuotable, isControl}
-use Rattle.line.specs.Grammar.{Param, param, paramName, paramValues, Line, word, paramValue, valueTurn, parameter, paramTurn, afterName, lineReader, fits, isFrameName, accepted, ofGot, readLine}
+use Rattle.line.specs.Class.{isName, isBare, isQuotable}
+use Rattle.line.specs.Grammar.{Param, paramName, paramValues, Line, word, paramValue, valueTurn, parameter, paramTurn, afterName, lineReader, accepted, ofGot, readLine}
 use Rattle.line.proofs.Parameters.{isWord}
 use Rattle.home.proofs.Alls.{All}
 use Rattle.home.proofs.Clean.{isAscii, Clean, clean-right, clean-tail, ascii-utf8, taken-past, taken-clean}
+use Rattle.home.proofs.Words.{no-name}
 
 -- ---- classes
-
-no-name : (c : ℕ) → isAscii c ≡ false → isName c ≡ false
-unfolding isName
-no-name c l = rw (beyond 65 90 c (omega tests), beyond 97 122 c (omega tests), beyond 48 57 c (omega tests), hyphen)
-  where
-    hyphen : eqb c 45 ≡ false
-    hyphen = byBool (eqb c 45) (λ e. absurd (omega tests)) (λ e. e)
 
 pub name-ascii : (c : ℕ) → isName c ≡ true → isAscii c ≡ true
 name-ascii c h = byBool (isAscii c) (λ e. e) (λ e. not-both h (no-name c e))
@@ -192,10 +184,6 @@ after-name g n s l t a b h e =
     let k = loop-clean paramTurn (All CleanParam) param-turn s (i .0) (i .1) h (i .2) in
     subst CleanLine (got-what (i .3)) (record { group = a; name = b; params = k .0; value = k .1 })
 
-or-right-true : (a b : Bool) → b ≡ true → a || b ≡ true
-or-right-true true b e = refl
-or-right-true false b e = e
-
 line-clean : (s : Bytes) (l : Line) (t : Bytes) → Clean s → lineReader s ≡ got l t → CleanLine l
 unfolding lineReader
 line-clean s l t h e =
@@ -210,7 +198,7 @@ line-clean s l t h e =
     grouped g u a k e =
         let i = bind-inv (word u) _ e in
         let w = word-clean u (i .0) (i .1) k (i .2) in
-        after-name g (i .0) (i .1) l t (or-right-true (empty g) (isWord g) a) (w .0) (w .1) (i .3)
+        after-name g (i .0) (i .1) l t (or-second (empty g) (isWord g) a) (w .0) (w .1) (i .3)
 
 pub read-clean : (s : Bytes) (l : Line) → Clean s → readLine s ≡ some l → CleanLine l × (accepted l ≡ true)
 unfolding readLine

@@ -1,19 +1,17 @@
 -- Clean values read as TEXT, and split at bare separators.
 use mathlib.Core.Path.{_≡_, refl, sym, ap, subst, _∙_}
-use mathlib.Core.Bool.{Bool, true, false, _&&_, _||_, not}
-use mathlib.Core.List.{List, [], _∷_, _++_}
+use mathlib.Core.Bool.{Bool, true, false, _&&_, not}
+use mathlib.Core.List.{List, [], _∷_}
 use mathlib.Core.Option.{Option, none, some}
 use Prim.Native.Nat.{ℕ}
-use native.Mathlib.Omega.{arith}
-use lib.Dec.{eqb, ltb}
+use lib.Dec.{eqb}
 use borrow.Author.Tests.{eqb-true}
-use Rattle.text.specs.Choice.{pick}
-use Rattle.text.specs.Bytes.{Bytes, is, any, all, onHead}
-use Rattle.text.specs.Utf8.{Due, start, due, broken, next, run, utf8}
-use Rattle.text.proofs.Cases.{byBool, tests, or-left, or-right, not-both}
+use Rattle.text.specs.Bytes.{Bytes, is, any, onHead}
+use Rattle.text.specs.Utf8.{Due, start, next, run, utf8}
+use Rattle.text.proofs.Cases.{byBool, or-left, or-right, not-both}
 use Rattle.text.proofs.Choices.{none-some, some-same}
-use Rattle.text.proofs.Lists.{any-head, any-tail, any-none, any-imply}
-use Rattle.text.proofs.Characters.{utf8-run, run-utf8, later, later-lead}
+use Rattle.text.proofs.Lists.{any-none, any-imply}
+use Rattle.text.proofs.Characters.{utf8-run, run-utf8, later}
 use Rattle.line.specs.Class.{isControl}
 use Rattle.line.specs.Text.{push, escaped, textFrom, readText, splitFrom, splitText}
 use Rattle.convert.specs.Carry.{carriedText, carriedRaw}
@@ -27,7 +25,7 @@ push-inv c none v e = none-some e
 push-inv c (some u) v e = (u, refl, some-same e)
 
 -- an escape stands for one ASCII byte: one of those allowed in TEXT
-abbrev isPlain : ℕ → Bool
+abbrev pub isPlain : ℕ → Bool
 isPlain c = not (isControl c && not (is 10 c))
 
 abbrev Escaped : Option Bytes → Bytes → Type 0
@@ -44,7 +42,7 @@ escaped-inv c r v e =
     (λ m. none-some (rw (q, p, o, n, m) at e))))))
 
 -- after a backslash a character may start
-abbrev dueAt : Bool → Due → Due
+abbrev pub dueAt : Bool → Due → Due
 dueAt true d = start
 dueAt false d = d
 

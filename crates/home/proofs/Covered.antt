@@ -1,25 +1,22 @@
 -- A line that is kept stays kept where more was seen.
-use mathlib.Core.Path.{_≡_, refl, sym, ap, subst, _∙_}
+use mathlib.Core.Path.{_≡_, refl, ap}
 use mathlib.Core.Logic.{_⊎_, inl, inr}
-use mathlib.Core.Bool.{Bool, true, false, _&&_, _||_, not}
-use mathlib.Core.List.{List, [], _∷_, _++_}
+use mathlib.Core.Bool.{Bool, true, false, _&&_, not, and-false}
+use mathlib.Core.List.{List, [], _∷_}
 use mathlib.Core.Option.{Option, none, some}
 use Prim.Native.Nat.{ℕ}
 use lib.Dec.{eqb}
 use borrow.Author.Tests.{eqb-true}
-use Rattle.text.specs.Choice.{pick, with-some, chain, provided}
+use Rattle.text.specs.Choice.{with-some, chain, provided}
 use Rattle.text.specs.Bytes.{Bytes, ascii, any, empty, same, among, lowered}
 use Rattle.text.proofs.Cases.{byBool, and-left, and-right, not-both}
 use Rattle.text.proofs.Same.{same-true}
-use Rattle.json.specs.Tree.{Json}
 use Rattle.line.specs.Grammar.{Param, Line}
 use Rattle.line.specs.Params.{valuesNamed, onlyNamed, valueType, besidesValue}
-use Rattle.line.specs.Text.{readText}
 use Rattle.convert.specs.Table.{Slot, slotOf, reserved}
-use Rattle.convert.specs.Model.{Entry}
 use Rattle.convert.specs.Value.{isKeyText, takesType}
 use Rattle.convert.specs.Pointer.{pointed}
-use Rattle.convert.specs.Classify.{Class, as-version, as-uid, as-kind, as-dropped, as-full, as-parts, as-entry, as-member, as-kept, Id, id, isId, withId, Seen, see, bare, isDerived, fullClass, partsClass, sole, memberName, memberValue, memberClass, keyFrom, prefFrom, typesFrom, allowed, entryOf, entryClass, classify}
+use Rattle.convert.specs.Classify.{Class, as-version, as-uid, as-kind, as-dropped, as-full, as-parts, as-entry, as-member, as-kept, Id, isId, withId, Seen, see, bare, isDerived, fullClass, partsClass, sole, memberName, memberClass, keyFrom, allowed, entryOf, entryClass, classify}
 use Rattle.convert.specs.FromJson.{isKept}
 
 -- all that was seen in s was seen in t
@@ -32,10 +29,6 @@ pub record Covers (t s : Seen) : Type 0 where
 -- what is not seen in t was not seen in s
 unseen : {a b : Bool} → (a ≡ true → b ≡ true) → b ≡ false → a ≡ false
 unseen {a} {b} f e = byBool a (λ q. not-both (f q) e) (λ q. q)
-
-and-false : (a : Bool) → a && false ≡ false
-and-false true = refl
-and-false false = refl
 
 not-kept {ℓ} : {P : Type ℓ} {c : Class} → isKept c ≡ false → c ≡ as-kept → P
 not-kept q e = not-both (ap isKept e) q

@@ -14,7 +14,7 @@ use Rattle.convert.specs.Answers.{lineRoom}
 use Rattle.home.specs.Allowed.{AllStand, carriedLines, newLines}
 use Rattle.home.proofs.Alls.{All}
 use Rattle.home.proofs.Accepted.{GoodLines}
-use Rattle.home.proofs.NormalCardParts.{each-length}
+use Rattle.text.proofs.Lists.{each-length}
 use Rattle.home.proofs.Ordered.{LineGood, classed-length}
 use Rattle.home.proofs.CardProper.{lines-good}
 use Rattle.home.proofs.LineSays.{class-says}

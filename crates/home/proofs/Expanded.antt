@@ -2,11 +2,10 @@
 use mathlib.Core.Path.{_≡_, refl, sym, ap, _∙_}
 use mathlib.Core.Bool.{Bool, true, false, _&&_}
 use mathlib.Core.List.{[], _∷_, _++_}
-use Prim.Native.Nat.{ℕ, _+_}
+use Prim.Native.Nat.{ℕ}
 use native.Mathlib.Omega.{arith}
-use lib.Dec.{eqb, ltb}
+use lib.Dec.{eqb}
 use borrow.Author.Tests.{ltb-false, le-ltb, ne-eqb}
-use Rattle.text.specs.Choice.{pick}
 use Rattle.text.specs.Bytes.{Bytes, all, between}
 use Rattle.text.specs.Utf8.{Due, start, due, broken, lead, tails, next, run, utf8}
 use Rattle.text.proofs.Cases.{byBool, byBelow, between-true, not-both}
@@ -15,21 +14,8 @@ use Rattle.text.proofs.Characters.{run-append, utf8-run, run-utf8, not-start, l
 use Rattle.json.specs.Compact.{spelled, spelledAll}
 use Rattle.line.specs.Text.{escape, writeText}
 use Rattle.convert.specs.Pointer.{pointer}
-
-abbrev pub isAscii : ℕ → Bool
-isAscii c = ltb c 128
-
-ascii-run : (s : Bytes) → all isAscii s ≡ true → run start s ≡ start
-unfolding run next lead
-ascii-run [] h = refl
-ascii-run (c ∷ s) h = rw (all-head isAscii c s h) (ascii-run s (all-tail isAscii c s h))
-
-pub ascii-utf8 : (s : Bytes) → all isAscii s ≡ true → utf8 s ≡ true
-ascii-utf8 s h = run-utf8 s (ascii-run s h)
-
-low-lead : (c : ℕ) → isAscii c ≡ true → lead c ≡ start
-unfolding lead
-low-lead c e = rw e
+use Rattle.convert.proofs.Pointers.{no-pointer, spelt}
+use Rattle.home.proofs.Clean.{isAscii, ascii-run, ascii-next}
 
 due-step : (a b k c : ℕ) (s : Bytes) → between a b c ≡ true → run (due a b k) (c ∷ s) ≡ run (tails k) s
 unfolding run next
@@ -47,7 +33,7 @@ module _ (f : ℕ → Bytes) (F : Bytes → Bytes) (none : F [] ≡ []) (step : 
     expand-run d [] l u = rw none u
     expand-run start (c ∷ s) l u =
         byBool (isAscii c)
-        (λ e. rw (step c s, run-append start (f c) (F s), ascii-run (f c) (low c e)) (expand-run start s refl (ap (λ (d : Due). run d s) (sym (low-lead c e)) ∙ u)))
+        (λ e. rw (step c s, run-append start (f c) (F s), ascii-run (f c) (low c e)) (expand-run start s refl (ap (λ (d : Due). run d s) (sym (ascii-next c e)) ∙ u)))
         (λ e. rw (step c s, high c e) (expand-run (lead c) s (later-lead c) u))
     expand-run (due a b k) (c ∷ s) l u =
         let m = later-bounds a b k l in
@@ -92,29 +78,22 @@ text-all k = expand-all (escape k) (writeText k) (text-none k) (text-step k)
 
 -- ---- JSPTR
 
-abbrev coded : ℕ → Bytes
-coded c = pick (eqb c 126) (126 ∷ 48 ∷ []) (pick (eqb c 47) (126 ∷ 49 ∷ []) (c ∷ []))
-
-pointer-none : pointer [] ≡ []
-unfolding pointer
-pointer-none = refl
-
-pointer-step : (c : ℕ) (s : Bytes) → pointer (c ∷ s) ≡ coded c ++ pointer s
+pointer-step : (c : ℕ) (s : Bytes) → pointer (c ∷ s) ≡ spelt c ++ pointer s
 unfolding pointer
 pointer-step c s = refl
 
-coded-all : (q : ℕ → Bool) → q 126 ≡ true → q 48 ≡ true → q 49 ≡ true → (c : ℕ) → q c ≡ true → all q (coded c) ≡ true
+coded-all : (q : ℕ → Bool) → q 126 ≡ true → q 48 ≡ true → q 49 ≡ true → (c : ℕ) → q c ≡ true → all q (spelt c) ≡ true
 unfolding all
 coded-all q a b d c h = byBool (eqb c 126) (λ e. rw (e, a, b)) (λ e. byBool (eqb c 47) (λ f. rw (e, f, a, d)) (λ f. rw (e, f, h)))
 
-coded-high : (c : ℕ) → isAscii c ≡ false → coded c ≡ c ∷ []
+coded-high : (c : ℕ) → isAscii c ≡ false → spelt c ≡ c ∷ []
 coded-high c l = let h = ltb-false c 128 l in rw (ne-eqb c 126 (omega arith), ne-eqb c 47 (omega arith))
 
 pub pointer-utf8 : (s : Bytes) → utf8 s ≡ true → utf8 (pointer s) ≡ true
-pointer-utf8 = expand-utf8 coded pointer pointer-none pointer-step (coded-all isAscii refl refl refl) coded-high
+pointer-utf8 = expand-utf8 spelt pointer no-pointer pointer-step (coded-all isAscii refl refl refl) coded-high
 
 pub pointer-all : (q : ℕ → Bool) → q 126 ≡ true → q 48 ≡ true → q 49 ≡ true → (s : Bytes) → all q s ≡ true → all q (pointer s) ≡ true
-pointer-all q a b d = expand-all coded pointer pointer-none pointer-step q q (coded-all q a b d)
+pointer-all q a b d = expand-all spelt pointer no-pointer pointer-step q q (coded-all q a b d)
 
 -- ---- JSON strings
 

@@ -19,8 +19,9 @@ use Rattle.line.proofs.Cards.{lfFree, lfFreeLine, sendable}
 use Rattle.convert.specs.Carry.{carriedRaw, carriedParam}
 use Rattle.convert.specs.FromJson.{isLowerWord}
 use Rattle.convert.specs.Answers.{garbled, ungrammatical}
-use Rattle.home.proofs.LowerWords.{names-lower, word-lower, group-lower}
-use Rattle.home.proofs.WrittenClean.{Clean, isPrinted, raw-clean, clean-append, clean-before}
+use Rattle.home.proofs.WrittenClean.{isPrinted, raw-clean, clean-append, clean-before}
+use Rattle.home.proofs.Words.{names-lower, word-lower, group-lower}
+use Rattle.home.proofs.Clean.{Clean}
 
 abbrev pub fairValue : Bytes → Bool
 fairValue v = utf8 v && carriedParam v

@@ -2,17 +2,18 @@
 use mathlib.Core.Path.{_≡_, refl, ap}
 use mathlib.Core.Bool.{Bool, true, false, _&&_, _||_, not}
 use mathlib.Core.List.{List, [], _∷_, _++_, map}
-use Prim.Native.Nat.{ℕ, suc, _+_, _≤_}
+use Prim.Native.Nat.{ℕ, _≤_}
 use native.Mathlib.Omega.{arith}
-use lib.ListN.{length}
+use lib.ListN.{length, length-append, length-map}
 use lib.Dec.{eqb, ltb, leb}
 use borrow.Author.Tests.{le-leb}
 use Rattle.text.specs.Choice.{pick}
-use Rattle.text.specs.Bytes.{Bytes, ascii, any, all, empty, same, among, between, lowered, isDigit, keep}
-use Rattle.text.proofs.Cases.{byBool, byBelow, tests, and-left, and-right, and-true}
-use Rattle.text.proofs.Lists.{all-head, all-tail, all-both, all-imply, any-tail}
+use Rattle.text.specs.Bytes.{Bytes, ascii, any, all, empty, same, among, between, lowered, isDigit}
+use Rattle.text.proofs.Cases.{byBool, byBelow, tests, and-left, and-right, and-true, or-second}
+use Rattle.text.proofs.Lists.{all-head, all-tail, all-both, all-imply, any-tail, length-keep}
 use Rattle.line.specs.Class.{isName, isLowerName}
 use Rattle.line.specs.Grammar.{Param, param, valueCount, fits, isFrameName}
+use Rattle.line.proofs.Lines.{count-append}
 use Rattle.convert.specs.Table.{Form, text, single, uri, phone, organization, Map, inOrder, contextCodes, featureCodes}
 use Rattle.convert.specs.Model.{Entry}
 use Rattle.convert.specs.Value.{headOr, isKeyText, isPref, isTelUri, writtenType}
@@ -40,10 +41,6 @@ key-fair k h = keys-fair k (and-right (not (empty k) && leb (length k) 255) _ h)
 digit-name : (c : ℕ) → isDigit c ≡ true → isName c ≡ true
 unfolding isName
 digit-name c h = rw (or-second (between 65 90 c || between 97 122 c) (isDigit c) h)
-  where
-    or-second : (a b : Bool) → b ≡ true → a || b ≡ true
-    or-second true b h = refl
-    or-second false b h = h
 
 pref-digits : (p : Bytes) → isPref p ≡ true → all isDigit p ≡ true
 unfolding isPref
@@ -85,15 +82,6 @@ written-fair organization vs = refl
 
 -- ---- counts
 
-count-append : (ps qs : List Param) → valueCount (ps ++ qs) ≡ valueCount ps + valueCount qs
-unfolding valueCount
-count-append [] qs = omega arith
-count-append (param n vs ∷ ps) qs = omega (arith, count-append ps qs)
-
-length-append : (ps qs : List Param) → length (ps ++ qs) ≡ length ps + length qs
-length-append [] qs = omega arith
-length-append (p ∷ ps) qs = omega (arith, length-append ps qs)
-
 count-of : (n : Bytes) (vs : List Bytes) → (length (paramOf n vs) ≤ 1) × (valueCount (paramOf n vs) ≤ length vs)
 unfolding valueCount
 count-of n [] = (omega arith, omega arith)
@@ -112,19 +100,10 @@ count-written uri vs = omega arith
 count-written phone vs = byBool (isTelUri (headOr [] vs)) (λ e. rw e (omega arith)) (λ e. rw e (omega arith))
 count-written organization vs = omega arith
 
-length-keep : {A : Type 0} (p : A → Bool) (xs : List A) → length (keep p xs) ≤ length xs
-unfolding keep
-length-keep p [] = omega arith
-length-keep p (x ∷ xs) = byBool (p x) (λ e. rw e (omega (arith, length-keep p xs))) (λ e. rw e (omega (arith, length-keep p xs)))
-
 -- at most the nine codes
 length-types : (ts : List ℕ) → inOrder ts ≡ ts → length ts ≤ 9
 unfolding inOrder
 length-types ts o = omega (arith, length-keep (λ c. any (eqb c) ts) (contextCodes ++ featureCodes), ap length o)
-
-length-map : {A B : Type 0} (f : A → B) (xs : List A) → length (map f xs) ≡ length xs
-length-map f [] = refl
-length-map f (x ∷ xs) = ap suc (length-map f xs)
 
 -- ---- the line
 
@@ -154,7 +133,7 @@ params-fit m e g =
     let v = count-of (ascii "value") (writtenType (m .form) (e .texts)) in
     let w = count-written (m .form) (e .texts) in
     let k = length-types (e .types) (g .order) in
-    let l = length-map typeText (e .types) in
+    let l = length-map (e .types) typeText in
     and-true
     (le-leb (length (param (ascii "prop-id") (e .key ∷ []) ∷ (ps ++ ts ++ vs))) 32 (omega (arith, length-append (ps ++ ts) vs, length-append ps ts, p .0, t .0, v .0)))
     (le-leb (valueCount (param (ascii "prop-id") (e .key ∷ []) ∷ (ps ++ ts ++ vs))) 64 (omega (arith, count-append (ps ++ ts) vs, count-append ps ts, p .1, t .1, v .1, w, k, l)))

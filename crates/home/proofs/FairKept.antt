@@ -20,11 +20,11 @@ use Rattle.convert.specs.Carry.{carriedParam, carriedKept}
 use Rattle.convert.specs.FromJson.{isLowerWord, neverKept, keptAsLine}
 use Rattle.convert.specs.ToCard.{memberLine}
 use Rattle.home.specs.Proper.{ProperMember, KeptFine}
-use Rattle.home.proofs.LowerWords.{lower-word, names-lower}
 use Rattle.home.proofs.WrittenClean.{raw-clean, clean-text, compact-clean}
 use Rattle.home.proofs.Fair.{Fair, fairValue, fairParam}
 use Rattle.home.proofs.FairValues.{names-fair, pointer-fair}
-use Rattle.home.proofs.KeptFacts.{Stands, paramStands}
+use Rattle.home.proofs.Words.{word-lowered, names-lower}
+use Rattle.home.proofs.Stands.{Stands, lowerParam}
 
 -- ---- JSPROP
 
@@ -68,16 +68,16 @@ utf8Values p = all utf8 (paramValues p)
 abbrev carriedValues : Param → Bool
 carriedValues p = all carriedParam (paramValues p)
 
-params-fair : (ps : List Param) → all paramStands ps ≡ true → all someValue ps ≡ true → all utf8Values ps ≡ true → all carriedValues ps ≡ true → all fairParam ps ≡ true
+params-fair : (ps : List Param) → all lowerParam ps ≡ true → all someValue ps ≡ true → all utf8Values ps ≡ true → all carriedValues ps ≡ true → all fairParam ps ≡ true
 unfolding all
 params-fair [] a b c d = refl
 params-fair (p ∷ ps) a b c d =
     rw (
-      and-left (isLowerWord (paramName p)) _ (all-head paramStands p ps a),
+      and-left (isLowerWord (paramName p)) _ (all-head lowerParam p ps a),
       all-head someValue p ps b,
       values-fair (paramValues p) (all-head utf8Values p ps c) (all-head carriedValues p ps d),
     )
-    (params-fair ps (all-tail paramStands p ps a) (all-tail someValue p ps b) (all-tail utf8Values p ps c) (all-tail carriedValues p ps d))
+    (params-fair ps (all-tail lowerParam p ps a) (all-tail someValue p ps b) (all-tail utf8Values p ps c) (all-tail carriedValues p ps d))
 
 value-word : isLowerWord (ascii "value") ≡ true
 unfolding all isLowerName between
@@ -103,8 +103,8 @@ kept-fair s k f t h =
     record {
       group = f .group;
       name = t .name;
-      frame = no-frame (k .name) (lower-word (k .name) (t .name)) (t .never);
+      frame = no-frame (k .name) (word-lowered (k .name) (t .name)) (t .never);
       params = all-both fairParam (k .params) _ (params-fair (k .params) (t .params) (f .values) (f .params-utf8) (and-left (all carriedValues (k .params)) _ h)) (type-fair (k .type) (t .type));
-      fits = t .fits;
+      fits = t .fit;
       value = raw-clean (k .value) (f .value-utf8) (and-right (all carriedValues (k .params)) _ h);
     }

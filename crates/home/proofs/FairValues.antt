@@ -3,11 +3,10 @@ use mathlib.Core.Path.{_≡_, refl, sym, _∙_}
 use mathlib.Core.Bool.{Bool, true, false, _&&_, not}
 use mathlib.Core.List.{List, [], _∷_, _++_, map}
 use Prim.Native.Nat.{ℕ, zero, suc}
-use lib.Dec.{eqb, ltb}
-use borrow.Author.Tests.{ne-eqb}
+use lib.Dec.{eqb}
 use Rattle.text.specs.Bytes.{Bytes, ascii, is, any, all, between, begins, joined, flat}
 use Rattle.text.specs.Utf8.{utf8, run}
-use Rattle.text.proofs.Cases.{byBool, implied, beyond, tests, and-left, and-right, and-true}
+use Rattle.text.proofs.Cases.{byBool, implied, and-left, and-right, and-true}
 use Rattle.text.proofs.Lists.{all-head, all-tail, all-not, all-both, all-imply}
 use Rattle.line.specs.Class.{isName, isKey, isControl}
 use Rattle.line.specs.Text.{escape, writeText}
@@ -17,9 +16,12 @@ use Rattle.convert.specs.Model.{part}
 use Rattle.convert.specs.Value.{headOr, isTelUri, writeAs, writtenParts, writeName}
 use Rattle.convert.specs.Carry.{carriedRaw, carriedText, carriedParam, carriedAs}
 use Rattle.convert.specs.Pointer.{pointer}
-use Rattle.home.proofs.Expanded.{isAscii, ascii-utf8, pointer-utf8, pointer-all}
-use Rattle.home.proofs.WrittenClean.{Clean, AllClean, isPrinted, clean-joined, raw-clean, text-clean}
+use Rattle.home.proofs.Expanded.{pointer-utf8, pointer-all}
+use Rattle.home.proofs.WrittenClean.{isPrinted, clean-joined, raw-clean, text-clean}
 use Rattle.home.proofs.Fair.{fairValue}
+use Rattle.home.proofs.Clean.{isAscii, ascii-utf8, head-utf8, Clean}
+use Rattle.home.proofs.Words.{no-key}
+use Rattle.home.proofs.Alls.{All}
 
 -- ---- parameter values
 
@@ -34,13 +36,9 @@ safe-fair v h =
     (and-true (sym (all-not isControl v) ∙ all-imply isSafe (λ c. not (isControl c)) (λ c e. and-right (isAscii c) _ (and-left (isPrinted c) _ e)) v h)
     (sym (all-not (is 34) v) ∙ all-imply isSafe (λ c. not (eqb c 34)) (λ c e. and-right (isPrinted c) _ e) v h))
 
-high-key : (c : ℕ) → ltb c 128 ≡ false → isKey c ≡ false
-unfolding isKey isName
-high-key c l = rw (beyond 65 90 c (omega tests), beyond 97 122 c (omega tests), beyond 48 57 c (omega tests), ne-eqb c 45 (omega tests), ne-eqb c 95 (omega tests))
-
 key-safe : (c : ℕ) → isKey c ≡ true → isSafe c ≡ true
 unfolding isKey isName isControl between
-key-safe c h = implied isKey isSafe 128 c refl (high-key c) h
+key-safe c h = implied isKey isSafe 128 c refl (no-key c) h
 
 pub keys-fair : (v : Bytes) → all isKey v ≡ true → fairValue v ≡ true
 keys-fair v h = safe-fair v (all-imply isKey isSafe key-safe v h)
@@ -74,7 +72,7 @@ both-textual (v ∷ vs) h k = rw (all-head utf8 v vs h, all-head carriedText v v
 pub textual-clean : (k : Bool) (v : Bytes) → textual v ≡ true → Clean (writeText k v)
 textual-clean k v h = text-clean k v (and-left (utf8 v) _ h) (and-right (utf8 v) _ h)
 
-texts-clean : (k : Bool) (vs : List Bytes) → all textual vs ≡ true → AllClean (map (writeText k) vs)
+texts-clean : (k : Bool) (vs : List Bytes) → all textual vs ≡ true → All Clean (map (writeText k) vs)
 texts-clean k [] h = tt
 texts-clean k (v ∷ vs) h = (textual-clean k v (all-head textual v vs h), texts-clean k vs (all-tail textual v vs h))
 
@@ -85,11 +83,6 @@ no-text = refl
 head-textual : (vs : List Bytes) → all textual vs ≡ true → textual (headOr [] vs) ≡ true
 head-textual [] h = no-text
 head-textual (v ∷ vs) h = all-head textual v vs h
-
-head-utf8 : (vs : List Bytes) → all utf8 vs ≡ true → utf8 (headOr [] vs) ≡ true
-unfolding utf8 run
-head-utf8 [] h = refl
-head-utf8 (v ∷ vs) h = all-head utf8 v vs h
 
 head-raw : (vs : List Bytes) → all carriedRaw vs ≡ true → carriedRaw (headOr [] vs) ≡ true
 unfolding carriedRaw any
@@ -121,7 +114,7 @@ part-clean : (vs : List Bytes) → all textual vs ≡ true → Clean (writePart 
 unfolding writePart isControl all
 part-clean vs h = clean-joined (ascii ",") (map (writeText true) vs) refl (texts-clean true vs h)
 
-parts-clean : (pss : List (List Bytes)) → all (all textual) pss ≡ true → AllClean (map writePart pss)
+parts-clean : (pss : List (List Bytes)) → all (all textual) pss ≡ true → All Clean (map writePart pss)
 parts-clean [] h = tt
 parts-clean (vs ∷ pss) h = (part-clean vs (all-head (all textual) vs pss h), parts-clean pss (all-tail (all textual) vs pss h))
 

@@ -1,29 +1,27 @@
 -- What the lines of a card give to each part of the model.
-use mathlib.Core.Path.{_≡_, refl, sym, ap, subst, _∙_}
-use mathlib.Core.Logic.{_⊎_, inl, inr}
-use mathlib.Core.Bool.{Bool, true, false, _&&_, _||_, not}
-use mathlib.Core.List.{List, [], _∷_, _++_, map}
-use mathlib.Core.Option.{Option, none, some}
-use Prim.Native.Nat.{ℕ, suc, _+_, _≤_}
+use mathlib.Core.Path.{_≡_, refl, sym, subst, _∙_}
+use mathlib.Core.Bool.{true, _&&_}
+use mathlib.Core.List.{List, [], _∷_, _++_}
+use Prim.Native.Nat.{suc, _≤_}
 use native.Mathlib.Omega.{arith}
 use lib.ListN.{length}
-use Rattle.text.specs.Choice.{is-some, with-some}
-use Rattle.text.specs.Bytes.{Bytes, empty, among, flat}
+use Rattle.text.specs.Choice.{is-some}
+use Rattle.text.specs.Bytes.{Bytes, among, flat}
 use Rattle.text.specs.Utf8.{utf8}
 use Rattle.text.proofs.Choices.{some-same}
+use Rattle.text.proofs.Cases.{not-true}
 use Rattle.json.specs.Tree.{Member, member, nameOf}
 use Rattle.line.specs.Grammar.{Line}
-use Rattle.convert.specs.Table.{Map, maps}
-use Rattle.convert.specs.Model.{Entry, Kept, hasParts, noParts}
+use Rattle.convert.specs.Table.{Map}
+use Rattle.convert.specs.Model.{Kept, hasParts}
 use Rattle.convert.specs.Value.{filled}
 use Rattle.convert.specs.Carry.{carriedRaw, carriedParam, carriedKept}
 use Rattle.convert.specs.Classify.{Class, as-version, as-uid, as-kind, as-dropped, as-full, as-parts, as-entry, as-member, as-kept, Seen, classify, Classed}
-use Rattle.convert.specs.FromCard.{keptLine, Placed, placed, Gives, gives, gathered, firstOf, orElse}
-use Rattle.convert.specs.FromJson.{isLowerWord, isKept, keptStands, keptAsLine}
+use Rattle.convert.specs.FromCard.{keptLine, Placed, Gives, gives, gathered, firstOf, orElse}
+use Rattle.convert.specs.FromJson.{isLowerWord, keptStands, keptAsLine, neverKept}
 use Rattle.home.specs.Proper.{ProperMember, KeptFine}
 use Rattle.home.proofs.Alls.{All, all-flat, In, in-flat}
-use Rattle.home.proofs.Slots.{at}
-use Rattle.home.proofs.Stands.{Stands, stands}
+use Rattle.home.proofs.Stands.{stands}
 use Rattle.home.proofs.CleanTexts.{CleanText}
 use Rattle.home.proofs.ReadNames.{NameWell}
 use Rattle.home.proofs.LineEntries.{Drawn}
@@ -138,8 +136,8 @@ kept-given l as-kept h = ((fine l (h .0), carry l (h .0)), tt)
 
 -- ---- kept lines stand in what covers all that was seen before them
 
-kept-class : (t u : Seen) (l : Line) → LineFine l → Covers t u → classify u l ≡ as-kept → isKept (classify t (keptAsLine (keptLine l))) ≡ true
-kept-class t u l h k e = ap isKept (same-class l h t ∙ still-kept t u k l e)
+kept-class : (t u : Seen) (l : Line) → LineFine l → Covers t u → classify u l ≡ as-kept → classify t (keptAsLine (keptLine l)) ≡ as-kept
+kept-class t u l h k e = same-class l h t ∙ still-kept t u k l e
 
 module _ (t : Seen) where
   abbrev pub Stood : Line → Class → Type 0
@@ -155,15 +153,17 @@ module _ (t : Seen) where
   stand-given l (as-entry i e) h = tt
   stand-given l (as-member n j) h = tt
   stand-given l as-kept h =
-      let f = h .0 .0 in
-      (stands t (keptLine l) (record {
-        name = name-word l f;
-        other = h .0 .1;
-        type = type-lower l f;
-        params = params-lower l f;
-        fit = params-fit l f;
-        kept = kept-class t (h .1 .0) l f (h .1 .1) (h .1 .2);
-      }), tt)
+      let f = h .0 .0 in (
+        stands t (keptLine l) (record {
+          name = name-word l f;
+          never = not-true (among (keptLine l .name) neverKept) (h .0 .1);
+          type = type-lower l f;
+          params = params-lower l f;
+          fit = params-fit l f;
+          class = kept-class t (h .1 .0) l f (h .1 .1) (h .1 .2);
+        }),
+        tt,
+      )
 
 -- ---- how many entries
 

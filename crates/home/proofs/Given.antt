@@ -1,12 +1,16 @@
 -- What lines give to the model and leave behind, for lists put together of sections.
 use mathlib.Core.Path.{_≡_, refl, sym, ap, ap₂, _∙_}
 use mathlib.Core.List.{List, [], _∷_, _++_, map, append-assoc, append-nil}
+use Prim.Native.Nat.{ℕ}
+use lib.Dec.{eqb}
 use Rattle.text.specs.Bytes.{flat}
+use Rattle.text.proofs.Cases.{byBool}
 use Rattle.line.specs.Grammar.{Line}
 use Rattle.line.proofs.Lines.{upperLine}
 use Rattle.convert.specs.Classify.{Class, as-version, as-uid, as-kind, as-dropped, as-full, as-parts, as-entry, as-member, as-kept, Seen, see, classify, classedAfter}
-use Rattle.convert.specs.FromCard.{Gives, gives, gathered}
+use Rattle.convert.specs.FromCard.{Gives, gives, gathered, inMap, Placed, placed}
 use Rattle.convert.proofs.Cases.{classify-upper, kept-upper}
+use Rattle.convert.specs.Model.{Entry}
 
 abbrev pub noGives : Gives
 noGives = record { uid = []; kind = []; full = []; parts = []; entry = []; member = []; kept = [] }
@@ -126,3 +130,10 @@ gathered-given f z p s [] = sym z
 gathered-given f z p s (l ∷ ls) =
     rw (classify-upper s l, gives-upper l (classify s l), p (gives l (classify s l)) (given (see s (classify s l)) ls))
     (ap (λ x. f (gives l (classify s l)) ++ x) (gathered-given f z p (see s (classify s l)) ls))
+
+-- ---- entries, map by map
+
+pub inMap-append : (i : ℕ) (xs ys : List Placed) → inMap i (xs ++ ys) ≡ inMap i xs ++ inMap i ys
+unfolding inMap
+inMap-append i [] ys = refl
+inMap-append i (placed j e ∷ xs) ys = byBool (eqb i j) (λ t. rw t (ap (λ (x : List Entry). e ∷ x) (inMap-append i xs ys))) (λ t. rw t (inMap-append i xs ys))

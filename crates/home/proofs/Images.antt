@@ -1,8 +1,10 @@
 -- each: what holds of every element and its image holds of the lists.
 use mathlib.Core.Path.{_≡_, refl, ap, ap₂}
 use mathlib.Core.Bool.{Bool, true}
-use mathlib.Core.List.{List, [], _∷_, _++_, map}
+pub use mathlib.Core.List.{map-append, map-id, map-map}
+use mathlib.Core.List.{List, [], _∷_, map}
 use mathlib.Core.Option.{Option, some}
+pub use Rattle.text.proofs.Lists.{all-anything}
 use Rattle.text.specs.Bytes.{all, empty, keep, each}
 use Rattle.text.proofs.Cases.{byBool}
 use Rattle.text.proofs.Lists.{all-head, all-tail}
@@ -31,26 +33,9 @@ AtMostOne [] = Unit {0}
 AtMostOne (x ∷ []) = Unit {0}
 AtMostOne (x ∷ (y ∷ ys)) = ⊥
 
-pub map-id : {A : Type 0} (xs : List A) → map (λ x. x) xs ≡ xs
-map-id [] = refl
-map-id {A} (x ∷ xs) = ap (λ (l : List A). x ∷ l) (map-id xs)
-
-pub all-anything : {A : Type 0} (xs : List A) → all (λ x. true) xs ≡ true
-unfolding all
-all-anything [] = refl
-all-anything (x ∷ xs) = all-anything xs
-
 pub empty-map : {A B : Type 0} (f : A → B) (xs : List A) → empty (map f xs) ≡ empty xs
 empty-map f [] = refl
 empty-map f (x ∷ xs) = refl
-
-pub map-append : {A B : Type 0} (f : A → B) (xs ys : List A) → map f (xs ++ ys) ≡ map f xs ++ map f ys
-map-append f [] ys = refl
-map-append {A} {B} f (x ∷ xs) ys = ap (λ (l : List B). f x ∷ l) (map-append f xs ys)
-
-pub map-map : {A B C : Type 0} (g : B → C) (f : A → B) (xs : List A) → map g (map f xs) ≡ map (λ x. g (f x)) xs
-map-map g f [] = refl
-map-map {A} {B} {C} g f (x ∷ xs) = ap (λ (l : List C). g (f x) ∷ l) (map-map g f xs)
 
 -- what is kept of images
 pub keep-map : {A B : Type 0} (p : B → Bool) (f : A → B) (xs : List A) → keep p (map f xs) ≡ map f (keep (λ x. p (f x)) xs)

@@ -1,33 +1,32 @@
 -- Entries of the maps from sound JSON are proper.
 use mathlib.Core.Path.{_≡_, refl, sym, ap, subst, _∙_}
-use mathlib.Core.Logic.{_⊎_, inl, inr}
-use mathlib.Core.Bool.{Bool, true, false, _&&_, _||_, not}
+use mathlib.Core.Logic.{inl, inr}
+use mathlib.Core.Bool.{Bool, true, _&&_, _||_, not}
 use mathlib.Core.List.{List, [], _∷_, _++_, map}
-use mathlib.Core.Option.{Option, none, some, Option·map}
-use Prim.Native.Nat.{ℕ, _+_, _<_}
-use native.Mathlib.Omega.{arith}
+use mathlib.Core.Option.{Option, some, Option·map}
+use Prim.Native.Nat.{ℕ, _+_}
 use lib.ListN.{length, take, drop}
 use lib.Dec.{eqb, leb, ltb}
-use borrow.Author.Tests.{lt-ltb, leb-true, eqb-true}
-use Rattle.text.specs.Choice.{pick, with-some, chain, provided, both}
-use Rattle.text.specs.Bytes.{Bytes, ascii, any, all, empty, same, among, distinct, keep, each}
-use Rattle.text.proofs.Cases.{byBool, and-left, and-right, and-true, not-true, not-both, tests}
+use borrow.Author.Tests.{lt-ltb}
+use Rattle.text.specs.Choice.{chain, provided}
+use Rattle.text.specs.Bytes.{Bytes, ascii, any, all, empty, same, among, distinct, each}
+use Rattle.text.proofs.Cases.{byBool, and-left, and-right, tests}
 use Rattle.text.proofs.Choices.{none-some, some-same, provided-inv, chain-inv, map-inv, both-inv}
 use Rattle.text.proofs.Lists.{all-both, all-imply}
-use Rattle.json.specs.Tree.{Json, Member, member, nameOf, valueOf, field, asString, asNumber, asObject}
+use Rattle.json.specs.Tree.{Json, Member, member, nameOf, field, asString, asNumber, asObject}
 use Rattle.json.proofs.Sound.{Sound}
-use Rattle.convert.specs.Table.{Map, maps, TypeName, typeNames, jsonType, position, inOrder}
+use Rattle.convert.specs.Table.{Map, maps, TypeName, typeNames, jsonType, position}
 use Rattle.convert.specs.Model.{Entry}
 use Rattle.convert.specs.Value.{isKeyText, isPref}
 use Rattle.convert.specs.FromJson.{onlyMembers, optional, isTrue, flagOf, flagsFrom, contentFrom, entryMembers, entryFrom, mapFrom}
-use Rattle.convert.proofs.Entries.{Proper}
 use Rattle.convert.proofs.Orders.{inOrder-again}
 use Rattle.convert.proofs.Types.{below}
 use Rattle.home.specs.Proper.{ProperEntry, ProperEntries, ProperMaps}
 use Rattle.home.proofs.Alls.{All, all-test, test-all, all-mono, each-gives, each-called}
-use Rattle.home.proofs.SoundLists.{SoundMember, object-sound, field-sound, optional-inv, optional-holds, no-field}
-use Rattle.home.proofs.Places.{position-below, inOrder-all}
+use Rattle.home.proofs.SoundLists.{SoundMember, object-sound, optional-inv, optional-holds, no-field}
+use Rattle.home.proofs.Positions.{position-inside, inOrder-all}
 use Rattle.home.proofs.JsonTexts.{content-formed}
+use Rattle.home.proofs.MapLines.{keyOf}
 
 -- ---- rows of the table: what an entry may have agrees with how many values of TYPE the row takes
 
@@ -79,7 +78,7 @@ flag-below : (i n : ℕ) (ts : List TypeName) → i + length ts ≡ n → (m : M
 flag-below i n ts l (member k j) c e =
     let p = provided-inv (isTrue j) (Option·map (λ k. i + k) (position (λ t. same k (jsonType t)) ts)) e in
     let q = map-inv (λ k. i + k) (position (λ t. same k (jsonType t)) ts) (p .1) in
-    lt-ltb c n (omega (arith, position-below (λ t. same k (jsonType t)) ts (q .0) (q .1), q .2))
+    lt-ltb c n (omega (tests, position-inside (λ t. same k (jsonType t)) ts (q .0) (q .1), q .2))
 
 flags-below : (i n : ℕ) (ts : List TypeName) → i + length ts ≡ n → (j : Json) (cs : List ℕ) → flagsFrom i ts j ≡ some cs → all (below n) cs ≡ true
 unfolding flagsFrom
@@ -133,7 +132,7 @@ module _ (m : Map) (r : Row m) (ms : List Member) (o : onlyMembers (entryMembers
       there : (j : Json) → chain (asString j) (λ s. position (same s) (m .kinds)) ≡ some w → ltb w (length (m .properties)) ≡ true
       there j g =
           let c = chain-inv (asString j) (λ s. position (same s) (m .kinds)) g in
-          lt-ltb w (length (m .properties)) (omega (tests, r .kinds, position-below (same (c .0)) (m .kinds) w (c .2)))
+          lt-ltb w (length (m .properties)) (omega (tests, r .kinds, position-inside (same (c .0)) (m .kinds) w (c .2)))
 
 -- ---- entries
 
@@ -184,9 +183,6 @@ entries-all m [] h = tt
 entries-all m (e ∷ es) h = (h .0, entries-all m es (h .1))
 
 -- ---- maps
-
-abbrev keyOf : Entry → Bytes
-keyOf e = e .key
 
 abbrev MapFine : Map → List Entry → Type 0
 MapFine m es = ProperEntries m es × (distinct (map keyOf es) ≡ true)

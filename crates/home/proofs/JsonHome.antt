@@ -3,31 +3,28 @@ use mathlib.Core.Path.{_≡_, refl, sym, ap, subst, _∙_}
 use mathlib.Core.Bool.{Bool, true, false, _&&_, _||_, not}
 use mathlib.Core.List.{List, [], _∷_, _++_, map, map-append}
 use mathlib.Core.Option.{some}
-use Prim.Native.Nat.{ℕ, zero, suc}
 use Rattle.text.specs.Choice.{is-some}
 use Rattle.text.specs.Bytes.{Bytes, ascii, any, all, empty, same, among, distinct}
 use Rattle.text.specs.Utf8.{utf8}
 use Rattle.text.proofs.Opened.{text-opened}
-use Rattle.text.proofs.Cases.{byBool, and-left, and-right, not-true, not-both, or-left, or-right}
-use Rattle.text.proofs.Same.{same-true, same-swap}
+use Rattle.text.proofs.Cases.{byBool, and-left, and-right, not-true, not-both}
+use Rattle.text.proofs.Same.{same-true}
 use Rattle.text.proofs.Lists.{all-imply, all-both}
-use Rattle.json.specs.Tree.{Json, jstr, Member, member, nameOf, object, array}
-use Rattle.json.specs.Read.{Reading, tree, reading}
-use Rattle.json.specs.Compact.{compact}
+use Rattle.json.specs.Tree.{jstr, Member, member, nameOf, object, array}
+use Rattle.json.specs.Read.{tree, reading}
 use Rattle.json.proofs.Sound.{Sound}
 use Rattle.json.proofs.Trees.{reading-compact}
 use Rattle.convert.specs.Table.{Map, maps, reserved}
-use Rattle.convert.specs.Model.{Kept, Card, hasParts}
+use Rattle.convert.specs.Model.{Card, hasParts}
 use Rattle.convert.specs.Value.{filled}
-use Rattle.convert.specs.FromJson.{isLowerWord, seenIn, cardFromJson}
+use Rattle.convert.specs.FromJson.{seenIn, cardFromJson}
 use Rattle.convert.specs.ToJson.{where′, mapsJson, nameJson, keptJson, membersJson, printJson}
 use Rattle.convert.proofs.CardJson.{card-json}
-use Rattle.home.specs.Proper.{ProperMember, ProperMembers, ProperCard}
+use Rattle.home.specs.Proper.{ProperMembers, ProperCard}
 use Rattle.home.proofs.Alls.{All, all-joined, all-test, test-all}
-use Rattle.home.proofs.Clean.{utf8-none}
-use Rattle.home.proofs.Words.{name-utf8}
+use Rattle.home.proofs.Words.{group-utf8}
 use Rattle.home.proofs.SoundLists.{SoundMember}
-use Rattle.home.proofs.Sublists.{Sub, none-of, left-out, taken-in, sub-append, sub-distinct, sub-among, distinct-append}
+use Rattle.home.proofs.Sublists.{Sub, taken-in, sub-distinct, sub-among, distinct-append}
 use Rattle.home.proofs.SoundCard.{object-of, array-of}
 use Rattle.home.proofs.SoundEntries.{sub-where, all-where, sub-names, sub-every, rows}
 use Rattle.home.proofs.SoundTree.{maps-sound, maps-sub}
@@ -84,10 +81,6 @@ words = (refl, refl, refl, refl, refl, refl, refl)
 props-utf8 : utf8 (ascii "vCardProps") ≡ true
 unfolding text-opened
 props-utf8 = refl
-
-kind-utf8 : (k : Bytes) → empty k || isLowerWord k ≡ true → utf8 k ≡ true
-kind-utf8 [] h = utf8-none
-kind-utf8 (b ∷ k) h = name-utf8 (b ∷ k) h
 
 module _ (c : Card) (g : ProperCard c) where
   abbrev kindMember : Member
@@ -178,7 +171,7 @@ module _ (c : Card) (g : ProperCard c) where
         (words .2, and-right (filled (c .uid)) _ (g .uid)),
         all-joined S (where′ (filled (c .kind)) kindMember ++ where′ named nameMember) (mapsJson maps (c .maps))
             (all-joined S (where′ (filled (c .kind)) kindMember) (where′ named nameMember)
-            (all-where S (filled (c .kind)) kindMember (λ b. (words .3, kind-utf8 (c .kind) (g .kind))))
+            (all-where S (filled (c .kind)) kindMember (λ b. (words .3, group-utf8 (c .kind) (g .kind))))
             (all-where S named nameMember (λ b. (words .4, name-sound 12 (c .full) (c .parts) (g .full) (g .parts)))))
             (maps-sound 11 maps rows (c .maps) (g .entries)),
       ),

@@ -1,13 +1,13 @@
 -- Kept entries from sound JSON.
 use mathlib.Core.Path.{_≡_, refl, sym, ap, subst, _∙_}
-use mathlib.Core.Bool.{Bool, true, false, _&&_, _||_, not}
-use mathlib.Core.List.{List, [], _∷_, _++_, map}
-use mathlib.Core.Option.{Option, none, some, Option·map}
+use mathlib.Core.Bool.{true, false, _||_, not}
+use mathlib.Core.List.{List, [], _∷_, map}
+use mathlib.Core.Option.{some}
 use Prim.Native.Nat.{ℕ}
-use Rattle.text.specs.Choice.{pick, chain, provided}
-use Rattle.text.specs.Bytes.{Bytes, ascii, any, all, empty, same, distinct, lowered, keep, each}
+use Rattle.text.specs.Choice.{chain, provided}
+use Rattle.text.specs.Bytes.{Bytes, any, all, empty, distinct, lowered, keep, each}
 use Rattle.text.specs.Utf8.{utf8}
-use Rattle.text.proofs.Cases.{byBool, and-left, and-right, and-true, not-true, not-false}
+use Rattle.text.proofs.Cases.{and-left, not-true}
 use Rattle.text.proofs.Choices.{none-some, some-same, provided-inv, chain-inv, map-inv}
 use Rattle.text.proofs.Lists.{all-cons, all-not, keep-passes}
 use Rattle.json.specs.Tree.{Json, jnull, jtrue, jfalse, jnum, jstr, jarr, jobj, Member, member, nameOf, asString, asArray, asObject, elemsOf}
@@ -17,7 +17,7 @@ use Rattle.convert.specs.Model.{Kept}
 use Rattle.convert.specs.Classify.{Seen}
 use Rattle.convert.specs.FromJson.{isLowerWord, strings, paramFrom, isGroup, groupFrom, keptFromFour, keptFrom, keptStands}
 use Rattle.home.specs.Proper.{KeptFine}
-use Rattle.home.proofs.Alls.{All, all-test, test-all, all-mono, all-two, all-kept, each-gives, each-called, kept-distinct}
+use Rattle.home.proofs.Alls.{All, all-test, test-all, all-mono, all-kept, each-gives, each-called, kept-distinct}
 use Rattle.home.proofs.SoundLists.{SoundMember, string-sound, array-sound, object-sound}
 use Rattle.home.proofs.Words.{word-lowered, or-word, distinct-settled}
 use Rattle.home.proofs.Stands.{Stands, stands-inv, lowerParam}

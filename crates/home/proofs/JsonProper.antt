@@ -1,32 +1,32 @@
 -- A card from JSON is proper.
 use mathlib.Core.Path.{_≡_, refl, sym, ap, subst, _∙_}
 use mathlib.Core.Bool.{Bool, true, false, _&&_, _||_, not}
-use mathlib.Core.List.{List, [], _∷_, _++_, map}
-use mathlib.Core.Option.{Option, none, some, Option·map}
-use Prim.Native.Nat.{ℕ, suc}
+use mathlib.Core.List.{List, [], _∷_, map}
+use mathlib.Core.Option.{some}
+use Prim.Native.Nat.{ℕ}
 use native.Mathlib.Omega.{arith}
-use Rattle.text.specs.Choice.{pick, with-some, chain, provided}
-use Rattle.text.specs.Bytes.{Bytes, ascii, any, all, empty, among, distinct, keep, each}
+use Rattle.text.specs.Choice.{with-some, chain, provided}
+use Rattle.text.specs.Bytes.{Bytes, ascii, all, empty, among, distinct, keep, each}
 use Rattle.text.specs.Utf8.{utf8}
-use Rattle.text.proofs.Cases.{byBool, and-left, and-right, and-true}
+use Rattle.text.proofs.Cases.{byBool, and-right, and-true}
 use Rattle.text.proofs.Choices.{some-same, provided-inv, chain-inv}
-use Rattle.text.proofs.Lists.{all-head, all-tail, keep-passes}
-use Rattle.json.specs.Tree.{Json, Member, member, nameOf, valueOf, field, asString, asArray, asObject}
+use Rattle.text.proofs.Lists.{all-head, all-tail}
+use Rattle.json.specs.Tree.{Json, Member, nameOf, field, asString, asArray, asObject}
 use Rattle.json.specs.Read.{reading, tree}
 use Rattle.json.proofs.Sound.{Sound}
 use Rattle.json.proofs.Given.{reading-sound}
 use Rattle.convert.specs.Table.{maps, reserved}
-use Rattle.convert.specs.Model.{Entry, Kept, Card}
+use Rattle.convert.specs.Model.{Kept, Card}
 use Rattle.convert.specs.Value.{filled}
 use Rattle.convert.specs.Carry.{carried}
 use Rattle.convert.specs.Classify.{Seen}
-use Rattle.convert.specs.FromJson.{required, optional, isLowerWord, isText, Name, nameless, nameFrom, mapFrom, keptFrom, keptStands, seenIn, standing, otherMembers, cardFromMembers, cardFromJson}
+use Rattle.convert.specs.FromJson.{required, optional, isLowerWord, isText, nameless, nameFrom, mapFrom, keptFrom, keptStands, seenIn, standing, otherMembers, cardFromMembers, cardFromJson}
 use Rattle.home.specs.Proper.{ProperMember, ProperMembers, KeptFine, AllKeptFine, ProperCard}
-use Rattle.home.proofs.Alls.{All, all-test, test-all, all-two, all-kept, each-gives, kept-distinct}
+use Rattle.home.proofs.Alls.{All, each-gives, kept-distinct}
 use Rattle.home.proofs.SoundLists.{SoundMember, string-sound, array-sound, object-sound, field-sound, optional-holds}
 use Rattle.home.proofs.Words.{or-word}
 use Rattle.home.proofs.JsonTexts.{Named, nameless-named, name-named}
-use Rattle.home.proofs.JsonEntries.{Row, rows, maps-proper}
+use Rattle.home.proofs.JsonEntries.{rows, maps-proper}
 use Rattle.home.proofs.JsonKept.{kept-fine}
 
 -- ---- uid and kind

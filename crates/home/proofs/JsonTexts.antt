@@ -1,27 +1,26 @@
 -- Strings of a card from sound JSON: the name and what an entry holds.
-use mathlib.Core.Path.{_≡_, refl, sym, ap, subst, _∙_}
-use mathlib.Core.Logic.{_⊎_, inl, inr}
-use mathlib.Core.Bool.{Bool, true, false, _&&_, _||_, not}
-use mathlib.Core.List.{List, [], _∷_, _++_, map}
+use mathlib.Core.Path.{_≡_, refl, subst}
+use mathlib.Core.Bool.{Bool, true, _&&_, _||_}
+use mathlib.Core.List.{List, [], _∷_, map}
 use mathlib.Core.Option.{Option, none, some, Option·map}
 use Prim.Native.Nat.{ℕ}
 use lib.ListN.{length}
 use lib.Dec.{eqb}
-use Rattle.text.specs.Choice.{pick, with-some, is-some, both, chain, provided}
+use Rattle.text.specs.Choice.{with-some, is-some, chain}
 use Rattle.text.specs.Bytes.{Bytes, ascii, any, all, same, keep, flat, each}
-use Rattle.text.specs.Utf8.{run, utf8}
-use Rattle.text.proofs.Cases.{byBool, and-left, and-right, and-true}
-use Rattle.text.proofs.Choices.{none-some, some-same, provided-inv, chain-inv, map-inv, both-inv}
-use Rattle.text.proofs.Lists.{all-head, all-tail, all-cons, keep-passes}
+use Rattle.text.specs.Utf8.{utf8}
+use Rattle.text.proofs.Cases.{byBool, and-right, and-true}
+use Rattle.text.proofs.Choices.{some-same, provided-inv, chain-inv, map-inv, both-inv}
+use Rattle.text.proofs.Lists.{all-cons, keep-passes}
 use Rattle.json.specs.Tree.{Json, Member, field, asString, asArray, asObject}
 use Rattle.json.proofs.Sound.{Sound}
 use Rattle.convert.specs.Table.{Form, text, single, uri, phone, organization, componentKinds, position}
-use Rattle.convert.specs.Model.{noParts}
 use Rattle.convert.specs.Value.{filled}
 use Rattle.convert.specs.FromJson.{onlyMembers, required, optional, Component, component, componentOf, ofKind, byKind, Name, nameless, isFalse, nameFrom, unitFrom, organizationFrom, contentFrom}
 use Rattle.convert.proofs.Forms.{formed}
-use Rattle.home.proofs.Alls.{All, all-test, test-all, all-kept, all-flat, each-gives}
+use Rattle.home.proofs.Alls.{All, all-test, all-kept, all-flat, each-gives}
 use Rattle.home.proofs.SoundLists.{SoundMember, string-sound, array-sound, object-sound, field-sound, optional-holds}
+use Rattle.home.proofs.Clean.{utf8-none}
 
 -- ---- one string
 
@@ -117,10 +116,6 @@ units-utf8 d j us h e =
     let i = chain-inv (asArray j) (each unitFrom) e in
     let o = array-sound d j (i .0) h (i .1) in
     each-gives unitFrom (Sound (o .0)) (λ u. utf8 u ≡ true) (unit-utf8 (o .0)) (i .0) us (o .2) (i .2)
-
-utf8-none : utf8 [] ≡ true
-unfolding utf8 run
-utf8-none = refl
 
 organization-formed : (d : ℕ) (ms : List Member) (vs : List Bytes) → All (SoundMember d) ms → organizationFrom ms ≡ some vs → (formed organization vs ≡ true) × (all utf8 vs ≡ true)
 unfolding organizationFrom formed

@@ -1,15 +1,16 @@
 -- Lines that are kept as the same entry are classed alike.
-use mathlib.Core.Path.{_≡_, refl, sym, ap, subst, _∙_}
-use mathlib.Core.Bool.{Bool, true, false, _&&_, not}
-use mathlib.Core.List.{List, [], _∷_, _++_, map}
+use mathlib.Core.Path.{_≡_, refl, sym, ap, _∙_}
+use mathlib.Core.Bool.{not}
+use mathlib.Core.List.{List, [], _∷_}
 use mathlib.Core.Option.{Option, none, some}
-use Rattle.text.specs.Choice.{pick, with-some, chain, provided}
-use Rattle.text.specs.Bytes.{Bytes, ascii, empty, same, lowered}
-use Rattle.line.specs.Grammar.{Param, param, Line}
+use Rattle.text.specs.Choice.{with-some}
+use Rattle.text.specs.Bytes.{Bytes, ascii, empty, lowered}
+use Rattle.text.proofs.Letters.{lowered-empty}
+use Rattle.line.specs.Grammar.{Param, Line}
 use Rattle.line.specs.Params.{named, valuesNamed, lacking, onlyNamed, valueType, besidesValue, merged}
 use Rattle.convert.specs.Table.{Slot, slotOf}
 use Rattle.convert.specs.Model.{Kept}
-use Rattle.convert.specs.Classify.{Class, as-kept, Seen, isDerived, fullClass, partsClass, memberName, memberClass, entryOf, entryClass, classify}
+use Rattle.convert.specs.Classify.{as-kept, Seen, isDerived, fullClass, partsClass, memberName, memberClass, entryOf, entryClass, classify}
 use Rattle.convert.specs.FromCard.{keptLine}
 use Rattle.home.proofs.Alls.{All, all-kept}
 use Rattle.home.proofs.Merged.{Filled, merged-values, merged-only, merged-empty, merged-derived}
@@ -56,11 +57,6 @@ module _ (s : Seen) (l m : Line) (a : Alike l m) where
 pub filled-besides : (ps : List Param) → All Filled ps → All Filled (besidesValue ps)
 unfolding besidesValue lacking
 filled-besides ps h = all-kept Filled (λ p. not (named (ascii "value") p)) ps h
-
-lowered-empty : (s : Bytes) → empty (lowered s) ≡ empty s
-unfolding lowered
-lowered-empty [] = refl
-lowered-empty (c ∷ s) = refl
 
 pub kept-alike : (l m : Line) → All Filled (l .params) → All Filled (m .params) → keptLine l ≡ keptLine m → Alike l m
 unfolding keptLine

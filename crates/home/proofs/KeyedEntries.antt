@@ -1,39 +1,36 @@
 -- Entries drawn from lines are proper once they have their keys.
-use mathlib.Core.Path.{_≡_, refl, sym, ap, ap₂, subst, _∙_}
-use mathlib.Core.Logic.{_⊎_, inl, inr}
+use mathlib.Core.Path.{_≡_, refl, sym, ap, subst, _∙_}
+use mathlib.Core.Logic.{inl, inr}
 use mathlib.Core.Bool.{Bool, true, false, _&&_, _||_, not}
 use mathlib.Core.List.{List, [], _∷_, _++_, map}
-use mathlib.Core.Option.{Option, none, some}
+use mathlib.Core.Option.{some}
 use Prim.Native.Nat.{ℕ, zero, suc, _+_, _≤_}
 use native.Mathlib.Omega.{arith}
 use lib.ListN.{length}
-use lib.Dec.{eqb, ltb, leb}
+use lib.Dec.{eqb, ltb}
 use borrow.Author.Tests.{eqb-true, eq-eqb}
 use Rattle.text.specs.Choice.{pick}
 use Rattle.text.specs.Bytes.{Bytes, any, all, empty, same, among, distinct, between, keep}
-use Rattle.text.proofs.Cases.{byBool, and-left, and-right, and-true, not-both}
+use Rattle.text.proofs.Cases.{byBool, and-left, and-right, and-true, or-second}
 use Rattle.text.proofs.Same.{same-true, same-self, among-head, among-later}
-use Rattle.text.proofs.Choices.{none-some, some-same}
-use Rattle.text.proofs.Lists.{all-head, all-tail, all-cons, any-append}
+use Rattle.text.proofs.Choices.{none-some}
+use Rattle.text.proofs.Lists.{all-head, all-tail, any-append}
 use Rattle.line.specs.Class.{isName, isKey}
 use Rattle.convert.specs.Table.{Map, maps}
 use Rattle.convert.specs.Model.{Entry}
 use Rattle.convert.specs.Value.{isKeyText}
 use Rattle.convert.specs.Keys.{fresh, keysAfter, keys}
 use Rattle.convert.specs.Carry.{carriedAs, carriedMaps}
-use Rattle.convert.specs.Classify.{Id, id, isId}
+use Rattle.convert.specs.Classify.{id, isId}
 use Rattle.convert.specs.FromCard.{Placed, placed, inMap, withKeys, keyedEntries, mapsFrom}
 use Rattle.convert.specs.FromJson.{idsFrom}
 use Rattle.convert.proofs.Keyed.{keys-distinct}
-use Rattle.convert.proofs.Entries.{Proper}
-use Rattle.home.specs.Proper.{ProperEntry, ProperEntries, ProperMaps}
-use Rattle.home.proofs.Alls.{All, all-test, test-all, In}
-use Rattle.home.proofs.Slots.{at, at-all}
+use Rattle.home.specs.Proper.{ProperEntries, ProperMaps}
+use Rattle.home.proofs.Alls.{All, In}
+use Rattle.home.proofs.Slots.{at}
 use Rattle.home.proofs.LineEntries.{Drawn}
 use Rattle.home.proofs.MadeKeys.{isPrefix, isIdText, keys-texts, keys-length}
-
-abbrev pub keyOf : Entry → Bytes
-keyOf e = e .key
+use Rattle.home.proofs.MapLines.{keyOf}
 
 -- ---- with keys
 
@@ -43,12 +40,14 @@ module _ (m : Map) (t : ltb (m .types) 10 ≡ true) where
   with-proper [] es h d = tt
   with-proper (k ∷ ks) [] h d = tt
   with-proper (k ∷ ks) (e ∷ es) h d =
-      let f = d .0 in
-      (record {
-        proper = record { key = all-head isKeyText k ks h; texts = f .texts .form; codes = f .codes; order = f .order; table = t; pref = f .pref };
-        which = f .which;
-        texts-utf8 = f .texts .in-utf8;
-      }, with-proper ks es (all-tail isKeyText k ks h) (d .1))
+      let f = d .0 in (
+        record {
+          proper = record { key = all-head isKeyText k ks h; texts = f .texts .form; codes = f .codes; order = f .order; table = t; pref = f .pref };
+          which = f .which;
+          texts-utf8 = f .texts .in-utf8;
+        },
+        with-proper ks es (all-tail isKeyText k ks h) (d .1),
+      )
 
   with-carried : (ks : List Bytes) (es : List Entry) → All (Drawn m) es → all (λ (e : Entry). carriedAs (m .form) (e .texts)) (withKeys ks es) ≡ true
   unfolding withKeys all
@@ -125,9 +124,10 @@ maps-from i (m ∷ ms) ps x r h l d =
     let t : ltb (m .types) 10 ≡ true = and-left (ltb (m .types) 10) _ f in
     let g = in-map m i ps (suffix-head i m ms x) h in
     let later = maps-from (suc i) ms ps (suffix-later i m ms x) (all-tail fitRow m ms r) h l d in
-    let texts = keys-texts (m .prefix) (map keyOf es) (and-right (ltb (m .types) 10) _ f) (omega (arith, map-length es, in-length i ps)) (drawn-ids m es g) in
-    ((with-proper m t (keys (m .prefix) (map keyOf es)) es texts g, ap distinct (keyed-keys m es) ∙ keys-distinct (m .prefix) (map keyOf es) (d i), later .0),
-     and-true (with-carried m t (keys (m .prefix) (map keyOf es)) es g) (later .1))
+    let texts = keys-texts (m .prefix) (map keyOf es) (and-right (ltb (m .types) 10) _ f) (omega (arith, map-length es, in-length i ps)) (drawn-ids m es g) in (
+      (with-proper m t (keys (m .prefix) (map keyOf es)) es texts g, ap distinct (keyed-keys m es) ∙ keys-distinct (m .prefix) (map keyOf es) (d i), later .0),
+      and-true (with-carried m t (keys (m .prefix) (map keyOf es)) es g) (later .1),
+    )
 
 whole : Suffix 0 maps
 whole k m e = let z : 0 + k ≡ k = omega arith in ap (λ (x : ℕ). at x maps) z ∙ e
@@ -156,10 +156,6 @@ id-here i k (e ∷ es) h = byBool (same k (e .key)) (λ q. rw (eq-eqb i i refl, 
 or-first : (a b : Bool) → a ≡ true → a || b ≡ true
 or-first a b e = rw e
 
-or-second : (a b : Bool) → b ≡ true → a || b ≡ true
-or-second true b e = refl
-or-second false b e = e
-
 ids-have : (j n : ℕ) (ms : List Map) (m : Map) (ps : List Placed) (k : Bytes) → at n ms ≡ some m → empty k ≡ false → among k (map keyOf (inMap (j + n) ps)) ≡ true
     → any (isId (j + n) k) (idsFrom j (mapsFrom j ms ps)) ≡ true
 unfolding idsFrom mapsFrom keys
@@ -169,7 +165,7 @@ ids-have j zero (o ∷ ms) m ps k a e h =
     let h′ : among k (map keyOf (inMap j ps)) ≡ true = subst (λ (x : ℕ). among k (map keyOf (inMap x ps)) ≡ true) z h in
     let es : List Entry = keyedEntries o (inMap j ps) in
     let q : among k (map keyOf es) ≡ true =
-        ap (among k) (keyed-keys o (inMap j ps)) ∙ keys-keep (o .prefix) (keep (λ k. not (empty k)) (map keyOf (inMap j ps))) (map keyOf (inMap j ps)) k e h′ in
+    ap (among k) (keyed-keys o (inMap j ps)) ∙ keys-keep (o .prefix) (keep (λ k. not (empty k)) (map keyOf (inMap j ps))) (map keyOf (inMap j ps)) k e h′ in
     subst (λ (x : ℕ). any (isId x k) (map (λ (e : Entry). id j (e .key)) es ++ idsFrom (suc j) (mapsFrom (suc j) ms ps)) ≡ true) (sym z)
     (any-append (isId j k) (map (λ (e : Entry). id j (e .key)) es) (idsFrom (suc j) (mapsFrom (suc j) ms ps)) ∙ or-first _ _ (id-here j k es q))
 ids-have j (suc n) (o ∷ ms) m ps k a e h =

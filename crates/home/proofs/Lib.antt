@@ -1,6 +1,6 @@
 pub mod Alls
 pub mod SoundLists
-pub mod Places
+pub mod Positions
 pub mod JsonTexts
 pub mod JsonEntries
 pub mod Words
@@ -21,7 +21,6 @@ pub mod Seeking
 pub mod Accepted
 pub mod Known
 pub mod Images
-pub mod Positions
 pub mod Shapes
 pub mod NormalJsonName
 pub mod NormalJsonFlags
@@ -42,7 +41,6 @@ pub mod NormalCard
 pub mod Given
 pub mod Alike
 pub mod Rows
-pub mod LowerWords
 pub mod Carried
 pub mod MapLines
 pub mod KeptFacts

@@ -1,29 +1,27 @@
 -- The entry that a line gives: proper but for its key, which may be empty until one is made.
 use mathlib.Core.Path.{_≡_, refl, sym, ap, subst, _∙_}
 use mathlib.Core.Bool.{Bool, true, false, _&&_, _||_, not}
-use mathlib.Core.List.{List, [], _∷_, _++_, map}
-use mathlib.Core.Option.{Option, none, some, Option·map}
-use Prim.Native.Nat.{ℕ, _<_}
-use native.Mathlib.Omega.{arith}
+use mathlib.Core.List.{List, [], _∷_, map}
+use mathlib.Core.Option.{some}
+use Prim.Native.Nat.{ℕ}
 use lib.ListN.{length, take}
 use lib.Dec.{eqb, ltb}
 use borrow.Author.Tests.{lt-ltb}
-use Rattle.text.specs.Choice.{pick, chain, provided}
-use Rattle.text.specs.Bytes.{Bytes, ascii, any, all, empty, same, among, lowered, parts, flat, keep, each}
-use Rattle.text.proofs.Cases.{byBool, and-left, and-right, not-both}
+use Rattle.text.specs.Bytes.{Bytes, ascii, any, all, empty, same, among, lowered, parts, flat, each}
+use Rattle.text.proofs.Cases.{byBool, and-left, and-right, not-both, or-second, tests}
 use Rattle.text.proofs.Choices.{none-some, some-same, provided-inv, chain-inv, map-inv}
 use Rattle.text.proofs.Same.{same-true}
 use Rattle.text.proofs.Lists.{all-none, keep-none}
 use Rattle.line.specs.Grammar.{Param, paramName, Line}
 use Rattle.line.specs.Params.{named, valuesNamed, onlyNamed, valueType, besidesValue}
-use Rattle.convert.specs.Table.{Map, Slot, TypeName, typeNames, vcardType, position, inOrder}
+use Rattle.convert.specs.Table.{Map, Slot, typeNames, vcardType, inOrder}
 use Rattle.convert.specs.Model.{Entry}
 use Rattle.convert.specs.Value.{isKeyText, isPref, readAs, takesType}
 use Rattle.convert.specs.Classify.{Seen, isId, keyFrom, prefFrom, typesFrom, allowed, entryOf}
 use Rattle.convert.proofs.Orders.{inOrder-again}
-use Rattle.convert.proofs.Types.{below}
+use Rattle.convert.proofs.Types.{below, codeOf}
 use Rattle.home.proofs.Alls.{All, all-test, each-gives}
-use Rattle.home.proofs.Places.{position-below, take-length, inOrder-all}
+use Rattle.home.proofs.Positions.{position-inside, take-length, inOrder-all}
 use Rattle.home.proofs.CleanLines.{CleanLine}
 use Rattle.home.proofs.ReadForms.{ReadWell, read-well}
 
@@ -37,17 +35,13 @@ pub record Drawn (m : Map) (e : Entry) : Type 0 where
 
 -- ---- PROP-ID: none, or a key text that is new
 
-or-later : (a b : Bool) → b ≡ true → a || b ≡ true
-or-later true b e = refl
-or-later false b e = e
-
 pub key-inv : (s : Seen) (i : ℕ) (ks : List Bytes) (k : Bytes) → keyFrom s i ks ≡ some k
     → (empty k || isKeyText k ≡ true) × (empty k || not (any (isId i k) (s .ids)) ≡ true)
 key-inv s i [] k e = subst (λ (k : Bytes). (empty k || isKeyText k ≡ true) × (empty k || not (any (isId i k) (s .ids)) ≡ true)) (some-same e) (refl, refl)
 key-inv s i (j ∷ []) k e =
     let p = provided-inv (isKeyText j && not (any (isId i j) (s .ids))) (some j) e in
     subst (λ (k : Bytes). (empty k || isKeyText k ≡ true) × (empty k || not (any (isId i k) (s .ids)) ≡ true)) (some-same (p .1))
-    (or-later (empty j) _ (and-left (isKeyText j) _ (p .0)), or-later (empty j) _ (and-right (isKeyText j) _ (p .0)))
+    (or-second (empty j) _ (and-left (isKeyText j) _ (p .0)), or-second (empty j) _ (and-right (isKeyText j) _ (p .0)))
 key-inv s i (j ∷ (l ∷ ks)) k e = none-some e
 
 -- ---- PREF: none where the map takes no types
@@ -61,7 +55,7 @@ pref-text : (vs : List Bytes) (p : Bytes) → prefFrom vs ≡ some p → empty p
 pref-text [] p e = ap (λ (p : Bytes). empty p || isPref p) (sym (some-same e))
 pref-text (q ∷ []) p e =
     let i = provided-inv (isPref q) (some q) e in
-    or-later (empty p) (isPref p) (ap isPref (sym (some-same (i .1))) ∙ i .0)
+    or-second (empty p) (isPref p) (ap isPref (sym (some-same (i .1))) ∙ i .0)
 pref-text (q ∷ (r ∷ rs)) p e = none-some e
 
 no-pref : (vs : List Bytes) (p : Bytes) → vs ≡ [] → prefFrom vs ≡ some p → empty p ≡ true
@@ -79,17 +73,14 @@ pref-inv n ps p h e =
 
 -- ---- TYPE
 
-abbrev code : ℕ → Bytes → Option ℕ
-code n v = position (λ t. same (lowered v) (vcardType t)) (take n typeNames)
-
-code-below : (n : ℕ) (v : Bytes) (c : ℕ) → code n v ≡ some c → below n c ≡ true
-code-below n v c e = lt-ltb c n (omega (arith, position-below (λ t. same (lowered v) (vcardType t)) (take n typeNames) c e, take-length n typeNames))
+code-below : (n : ℕ) (v : Bytes) (c : ℕ) → codeOf n v ≡ some c → below n c ≡ true
+code-below n v c e = lt-ltb c n (omega (tests, position-inside (λ t. same (lowered v) (vcardType t)) (take n typeNames) c e, take-length n typeNames))
 
 types-inv : (n : ℕ) (vs : List Bytes) (ts : List ℕ) → typesFrom n vs ≡ some ts → (all (below n) ts ≡ true) × (inOrder ts ≡ ts)
 unfolding typesFrom
 types-inv n vs ts e =
-    let i = map-inv inOrder (each (code n) (flat (map (parts 44) vs))) e in
-    let b = all-test (below n) (i .0) (each-gives (code n) (λ v. Unit {0}) (λ c. below n c ≡ true) (λ v c u q. code-below n v c q) (flat (map (parts 44) vs)) (i .0) (units (flat (map (parts 44) vs))) (i .1)) in
+    let i = map-inv inOrder (each (codeOf n) (flat (map (parts 44) vs))) e in
+    let b = all-test (below n) (i .0) (each-gives (codeOf n) (λ v. Unit {0}) (λ c. below n c ≡ true) (λ v c u q. code-below n v c q) (flat (map (parts 44) vs)) (i .0) (units (flat (map (parts 44) vs))) (i .1)) in
     subst (λ (ts : List ℕ). (all (below n) ts ≡ true) × (inOrder ts ≡ ts)) (i .2) (inOrder-all (below n) (i .0) b, inOrder-again (i .0))
   where
     units : (vs : List Bytes) → All (λ v. Unit {0}) vs
@@ -113,12 +104,14 @@ entry-drawn s w l e h o q =
     let key = key-inv s (w .index) (valuesNamed (ascii "prop-id") ps) (k .0) (k .1) in
     let types = types-inv (w .map .types) (valuesNamed (ascii "type") ps) (t .0) (t .1) in
     let only = and-right (empty (l .group)) (onlyNamed (allowed (w .map .types)) ps) (and-left n (takesType (w .map .form) type) (a .0)) in
-    subst (λ (e : Entry). Drawn (w .map) e × (empty (e .key) || not (any (isId (w .index) (e .key)) (s .ids)) ≡ true)) (some-same (v .2))
-    (record {
-      key = key .0;
-      texts = read-well (w .map .form) type (l .value) (v .0) (h .value) (v .1);
-      codes = types .0;
-      order = types .1;
-      pref = pref-inv (w .map .types) ps (p .0) only (p .1);
-      which = o;
-    }, key .1)
+    subst (λ (e : Entry). Drawn (w .map) e × (empty (e .key) || not (any (isId (w .index) (e .key)) (s .ids)) ≡ true)) (some-same (v .2)) (
+      record {
+        key = key .0;
+        texts = read-well (w .map .form) type (l .value) (v .0) (h .value) (v .1);
+        codes = types .0;
+        order = types .1;
+        pref = pref-inv (w .map .types) ps (p .0) only (p .1);
+        which = o;
+      },
+      key .1,
+    )

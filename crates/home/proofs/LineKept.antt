@@ -1,41 +1,38 @@
 -- The kept entry of a clean line.
-use mathlib.Core.Path.{_≡_, refl, sym, ap, subst, _∙_}
+use mathlib.Core.Path.{_≡_, refl, sym, ap, _∙_}
 use mathlib.Core.Logic.{_⊎_, inl, inr}
 use mathlib.Core.Bool.{Bool, true, false, _&&_, _||_, not}
-use mathlib.Core.List.{List, [], _∷_, _++_, map}
-use Prim.Native.Nat.{ℕ, suc, _+_, _≤_}
+use mathlib.Core.List.{List, [], _∷_, _++_}
+use Prim.Native.Nat.{ℕ, _≤_}
 use native.Mathlib.Omega.{arith}
-use lib.ListN.{length}
-use lib.Dec.{eqb, ltb, leb}
+use lib.ListN.{length, length-append}
+use lib.Dec.{leb}
 use borrow.Author.Tests.{le-leb, leb-true}
-use Rattle.text.specs.Choice.{pick}
-use Rattle.text.specs.Bytes.{Bytes, ascii, is, any, all, empty, same, among, between, lower, lowered}
+use Rattle.text.specs.Bytes.{Bytes, ascii, any, all, empty, same, among, between, lower, lowered}
 use Rattle.text.specs.Utf8.{utf8}
-use Rattle.text.proofs.Cases.{byBool, tests, implied, beyond, and-left, and-right, and-true, or-left, or-right, not-true, not-both}
+use Rattle.text.proofs.Cases.{byBool, implied, and-left, and-right, and-true, or-left, or-right, not-true, not-both, not-false}
 use Rattle.text.proofs.Letters.{lowered-lowered}
-use Rattle.text.proofs.Same.{same-true}
 use Rattle.text.proofs.Lists.{all-not}
-use Rattle.line.specs.Class.{isName, isLowerName, isControl}
+use Rattle.line.specs.Class.{isName, isLowerName}
 use Rattle.line.specs.Grammar.{Param, param, paramName, paramValues, Line, valueCount, fits, isFrameName, accepted}
 use Rattle.line.specs.Params.{named, valuesNamed, lacking, firstOr, valueType, besidesValue, merged}
-use Rattle.line.proofs.Merging.{Settled, merged-settled}
+use Rattle.line.proofs.Merging.{Settled, merged-settled, none-left}
 use Rattle.line.proofs.Parameters.{isWord}
-use Rattle.convert.specs.Model.{Kept}
+use Rattle.line.proofs.Lines.{count-append}
 use Rattle.convert.specs.Value.{filled}
-use Rattle.convert.specs.Carry.{carriedRaw, carriedParam, carriedKept}
+use Rattle.convert.specs.Carry.{carriedParam, carriedKept}
 use Rattle.convert.specs.Classify.{Seen, classify}
 use Rattle.convert.specs.FromCard.{keptLine}
 use Rattle.convert.specs.FromJson.{isLowerWord, isGroup, keptAsLine, neverKept}
 use Rattle.convert.specs.Answers.{isNamed, onlyUri, valueFits, misused}
-use Rattle.convert.proofs.KeptLines.{ProperKept, kept-line}
+use Rattle.convert.proofs.KeptLines.{ProperKept, kept-line, valueParam}
 use Rattle.home.specs.Proper.{KeptFine}
 use Rattle.home.proofs.Alls.{All, all-test, test-all, all-mono, all-two, all-kept, all-joined}
-use Rattle.home.proofs.Words.{or-word, word-lowered}
+use Rattle.home.proofs.Words.{or-word}
 use Rattle.home.proofs.Stands.{lowerParam}
-use Rattle.home.proofs.Clean.{isAscii, Clean}
 use Rattle.home.proofs.CleanLines.{name-ascii, CleanValue, CleanParam, CleanLine}
 use Rattle.home.proofs.CleanTexts.{clean-raw}
-use Rattle.home.proofs.Merged.{Holds, Filled, none-left, lacking-none, merged-none, merged-hold, split-count, lacking-length, lacking-one-less, merged-length, merged-count}
+use Rattle.home.proofs.Merged.{Holds, Filled, lacking-none, merged-none, merged-hold, split-count, lacking-length, lacking-one-less, merged-length, merged-count}
 use Rattle.home.proofs.KeptAlike.{class-alike, kept-alike}
 
 -- a line that no refusal names
@@ -86,28 +83,12 @@ module _ (l : Line) where
 
   value-fits : misused l ≡ false → valueFits (valuesNamed (ascii "value") (l .params)) ≡ true
   unfolding misused
-  value-fits h = fits-of (valueFits (valuesNamed (ascii "value") (l .params))) (or-right (three || any (named (ascii "group")) (l .params)) _ h)
-    where
-      fits-of : (b : Bool) → not b ≡ false → b ≡ true
-      fits-of true e = refl
-      fits-of false e = sym e
+  value-fits h = not-false (valueFits (valuesNamed (ascii "value") (l .params))) (or-right (three || any (named (ascii "group")) (l .params)) _ h)
 
 -- ---- counts
 
-abbrev valueParam : Bytes → List Param
-valueParam t = pick (same t (ascii "unknown")) [] (param (ascii "value") (t ∷ []) ∷ [])
-
-length-append : (ps qs : List Param) → length (ps ++ qs) ≡ length ps + length qs
-length-append [] qs = omega arith
-length-append (p ∷ ps) qs = omega (arith, length-append ps qs)
-
-count-append : (ps qs : List Param) → valueCount (ps ++ qs) ≡ valueCount ps + valueCount qs
-unfolding valueCount
-count-append [] qs = omega arith
-count-append (param n vs ∷ ps) qs = omega (arith, count-append ps qs)
-
 -- VALUE stands there once more only where it stood
-value-less : (vs : List Bytes) (t : Bytes) → t ≡ lowered (firstOr (ascii "unknown") vs) 
+value-less : (vs : List Bytes) (t : Bytes) → t ≡ lowered (firstOr (ascii "unknown") vs)
     → ((length (valueParam t) ≡ 0) × (valueCount (valueParam t) ≡ 0)) ⊎ ((empty vs ≡ false) × (length (valueParam t) ≡ 1) × (valueCount (valueParam t) ≡ 1))
 unfolding valueCount lowered lower between same
 value-less [] t e = inl (rw e (refl, refl))
@@ -124,8 +105,8 @@ kept-fits ps h =
     let d = count-append (merged qs) (valueParam t) in
     let e = length-append (merged qs) (valueParam t) in
     elim (value-less (valuesNamed (ascii "value") ps) t refl) [
-      inl q ↦ and-true (le-leb (length (merged qs ++ valueParam t)) 32 (omega (arith, a, e, q .0, merged-length qs, lacking-length (ascii "value") ps))) (le-leb (valueCount (merged qs ++ valueParam t)) 64 (omega (arith, b, c, d, q .1, merged-count qs)))
-    | inr q ↦ and-true (le-leb (length (merged qs ++ valueParam t)) 32 (omega (arith, a, e, q .1, merged-length qs, lacking-one-less (ascii "value") ps (q .0)))) (le-leb (valueCount (merged qs ++ valueParam t)) 64 (omega (arith, b, c, d, q .2, merged-count qs, some-length (valuesNamed (ascii "value") ps) (q .0))))
+      | inl q ↦ and-true (le-leb (length (merged qs ++ valueParam t)) 32 (omega (arith, a, e, q .0, merged-length qs, lacking-length (ascii "value") ps))) (le-leb (valueCount (merged qs ++ valueParam t)) 64 (omega (arith, b, c, d, q .1, merged-count qs)))
+      | inr q ↦ and-true (le-leb (length (merged qs ++ valueParam t)) 32 (omega (arith, a, e, q .1, merged-length qs, lacking-one-less (ascii "value") ps (q .0)))) (le-leb (valueCount (merged qs ++ valueParam t)) 64 (omega (arith, b, c, d, q .2, merged-count qs, some-length (valuesNamed (ascii "value") ps) (q .0))))
     ]
   where
     some-length : (vs : List Bytes) → empty vs ≡ false → 1 ≤ length vs

@@ -1,21 +1,21 @@
 -- Keys are key texts, in a card of at most 512 lines.
-use mathlib.Core.Path.{_≡_, refl, sym, ap, subst, _∙_}
+use mathlib.Core.Path.{_≡_, refl, sym, ap, subst}
 use mathlib.Core.Bool.{Bool, true, false, _&&_, _||_, not}
-use mathlib.Core.List.{List, [], _∷_, _++_, map}
+use mathlib.Core.List.{List, [], _∷_, _++_}
 use Prim.Native.Nat.{ℕ, zero, suc, _+_, _≤_, _<_}
 use native.Mathlib.Omega.{arith}
-use lib.ListN.{length}
-use lib.Dec.{eqb, ltb, leb}
-use borrow.Author.Tests.{le-leb, leb-true, lt-ltb}
+use lib.ListN.{length, length-append}
+use lib.Dec.{leb}
+use borrow.Author.Tests.{le-leb}
 use Rattle.text.specs.Choice.{pick}
-use Rattle.text.specs.Bytes.{Bytes, any, all, empty, among, isDigit, between, keep}
+use Rattle.text.specs.Bytes.{Bytes, all, empty, among, isDigit, between, keep}
 use Rattle.text.specs.Decimal.{digitsBefore, decimal}
-use Rattle.text.proofs.Cases.{byBool, byBelow, upTo, tests, and-true, and-left, and-right, not-true, implied, beyond}
-use Rattle.text.proofs.Lists.{all-both, all-imply, all-head, all-tail, all-cons}
+use Rattle.text.proofs.Cases.{byBool, byBelow, tests, and-true, and-left, and-right, implied, beyond}
+use Rattle.text.proofs.Lists.{all-both, all-imply, all-cons, length-keep}
 use Rattle.text.proofs.Decimals.{decimal-digits}
 use Rattle.line.specs.Class.{isName, isKey}
-use Rattle.convert.specs.Value.{filled, isKeyText}
-use Rattle.convert.specs.Keys.{numbered, fresh, freshFrom, keysAfter, keys}
+use Rattle.convert.specs.Value.{isKeyText}
+use Rattle.convert.specs.Keys.{numbered, fresh, keysAfter, keys}
 use Rattle.convert.proofs.Fresh.{numberFrom, fresh-numbered, fresh-filled}
 
 -- ---- the number of a made key
@@ -30,10 +30,6 @@ number-bound (suc f) p n used =
 short : (n : ℕ) → n < 1100 → leb (length (decimal n)) 4 ≡ true
 unfolding decimal digitsBefore
 short n l = byBelow (λ n. leb (length (decimal n)) 4) (λ n. true) n 1100 refl (λ h. absurd (omega tests))
-
-length-append : (s t : Bytes) → length (s ++ t) ≡ length s + length t
-length-append [] t = omega arith
-length-append (c ∷ s) t = omega (arith, length-append s t)
 
 digit-key : (c : ℕ) → isDigit c ≡ true → isKey c ≡ true
 unfolding isKey isName between
@@ -83,14 +79,9 @@ keys-after p used (k ∷ ks) h l a =
     given : empty k ≡ false → isKeyText k ≡ true
     given e = rw e at (and-left (isIdText k) _ a)
 
-pub keep-length : {A : Type 0} (p : A → Bool) (xs : List A) → length (keep p xs) ≤ length xs
-unfolding keep
-keep-length p [] = omega arith
-keep-length p (x ∷ xs) = byBool (p x) (λ e. rw e (omega (arith, keep-length p xs))) (λ e. rw e (omega (arith, keep-length p xs)))
-
 pub keys-texts : (p : Bytes) (ids : List Bytes) → isPrefix p ≡ true → length ids ≤ 512 → all isIdText ids ≡ true → all isKeyText (keys p ids) ≡ true
 unfolding keys
-keys-texts p ids h l a = keys-after p (keep (λ k. not (empty k)) ids) ids h (omega (arith, keep-length (λ k. not (empty k)) ids)) a
+keys-texts p ids h l a = keys-after p (keep (λ k. not (empty k)) ids) ids h (omega (arith, length-keep (λ k. not (empty k)) ids)) a
 
 after-length : (p : Bytes) (used ks : List Bytes) → length (keysAfter p used ks) ≡ length ks
 unfolding keysAfter

@@ -72,7 +72,7 @@ unfoldable pub idsOnto : ℕ → List Entry → List Id → List Id
 idsOnto i [] ids = ids
 idsOnto i (e ∷ es) ids = idsOnto i es (id i (e .key) ∷ ids)
 
-abbrev keyOf : Entry → Bytes
+abbrev pub keyOf : Entry → Bytes
 keyOf e = e .key
 
 pub key-filled : (k : Bytes) → isKeyText k ≡ true → empty k ≡ false

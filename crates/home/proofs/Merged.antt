@@ -1,16 +1,16 @@
 -- Equal-named parameters as one: what stays the same.
-use mathlib.Core.Path.{_≡_, refl, sym, ap, ap₂, subst, _∙_}
-use mathlib.Core.Bool.{Bool, true, false, _&&_, _||_, not}
+use mathlib.Core.Path.{_≡_, refl, sym, ap, _∙_}
+use mathlib.Core.Bool.{Bool, true, false, _&&_, not}
 use mathlib.Core.List.{List, [], _∷_, _++_, map, append-nil}
-use Prim.Native.Nat.{ℕ, suc, _+_, _≤_}
+use Prim.Native.Nat.{suc, _+_, _≤_}
 use native.Mathlib.Omega.{arith}
-use lib.ListN.{length}
+use lib.ListN.{length, length-append}
 use Rattle.text.specs.Choice.{pick}
 use Rattle.text.specs.Bytes.{Bytes, ascii, any, all, empty, same, among, lowered, flat, keep}
-use Rattle.text.proofs.Cases.{byBool, and-left, and-right, or-left, or-right, not-true, not-both}
+use Rattle.text.proofs.Cases.{byBool, or-left, or-right, not-both}
 use Rattle.text.proofs.Letters.{lowered-lowered}
 use Rattle.text.proofs.Same.{same-true, same-self}
-use Rattle.text.proofs.Lists.{any-head, any-tail, any-none, keep-passes, all-not}
+use Rattle.text.proofs.Lists.{any-head, any-tail}
 use Rattle.line.specs.Grammar.{Param, param, paramName, paramValues, valueCount}
 use Rattle.line.specs.Params.{named, valuesNamed, lacking, onlyNamed, merged}
 use Rattle.convert.specs.Classify.{isDerived}
@@ -47,10 +47,6 @@ lacking-none n m [] h = refl
 lacking-none n m (p ∷ ps) h =
     let t = lacking-none n m ps (any-tail (named n) p ps h) in
     byBool (not (named m p)) (λ e. rw (e, any-head (named n) p ps h) t) (λ e. rw e t)
-
-pub none-left : (n : Bytes) (ps : List Param) → any (named n) (lacking n ps) ≡ false
-unfolding lacking
-none-left n ps = not-true (any (named n) (keep (λ p. not (named n p)) ps)) (sym (all-not (named n) (keep (λ p. not (named n p)) ps)) ∙ keep-passes (λ p. not (named n p)) ps)
 
 -- ---- merged
 
@@ -129,9 +125,10 @@ pub merged-hold : (M N W : Bytes → Type 0) → ((n : Bytes) → M n → N (low
 unfolding merged lacking
 merged-hold M N W f [] h = tt
 merged-hold M N W f (param n vs ∷ ps) h =
-    let t = merged-hold M N W f ps (h .1) in
-    ((f n (h .0 .0), more-filled vs (valuesNamed (lowered n) (merged ps)) (h .0 .1), all-joined W vs (valuesNamed (lowered n) (merged ps)) (h .0 .2) (named-hold W (lowered n) (merged ps) (all-values N W (merged ps) t))),
-     all-kept (Holds N W) (λ p. not (named (lowered n) p)) (merged ps) t)
+    let t = merged-hold M N W f ps (h .1) in (
+      (f n (h .0 .0), more-filled vs (valuesNamed (lowered n) (merged ps)) (h .0 .1), all-joined W vs (valuesNamed (lowered n) (merged ps)) (h .0 .2) (named-hold W (lowered n) (merged ps) (all-values N W (merged ps) t))),
+      all-kept (Holds N W) (λ p. not (named (lowered n) p)) (merged ps) t,
+    )
 
 -- ---- DERIVED=TRUE alone
 
@@ -170,10 +167,6 @@ split-length : (n : Bytes) (ps : List Param) → length (lacking n ps) + length 
 unfolding lacking keep
 split-length n [] = refl
 split-length n (p ∷ ps) = byBool (named n p) (λ e. rw e (omega (arith, split-length n ps))) (λ e. rw e (omega (arith, split-length n ps)))
-
-length-append : (s t : List Bytes) → length (s ++ t) ≡ length s + length t
-length-append [] t = omega arith
-length-append (c ∷ s) t = omega (arith, length-append s t)
 
 pub split-count : (n : Bytes) (ps : List Param) → valueCount (lacking n ps) + length (valuesNamed n ps) ≡ valueCount ps
 unfolding lacking keep valuesNamed flat valueCount

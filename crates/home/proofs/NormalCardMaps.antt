@@ -1,28 +1,27 @@
 -- The seven maps: the lines of each section with their keys.
 use mathlib.Core.Path.{_≡_, refl, sym, ap, ap₂, _∙_, fun-ext}
 use mathlib.Core.Bool.{true, false}
-use mathlib.Core.List.{List, [], _∷_, _++_, map}
+use mathlib.Core.List.{List, [], _∷_, _++_, map, map-map}
 use mathlib.Core.Option.{some}
 use Prim.Native.Nat.{ℕ, suc, _+_}
 use native.Mathlib.Omega.{arith}
-use lib.ListN.{getD}
 use lib.Dec.{eqb, ltb}
 use borrow.Author.Tests.{eqb-true, eq-eqb}
-use Rattle.text.specs.Bytes.{Bytes, same, lowered, flat}
+use Rattle.text.specs.Bytes.{Bytes, lowered, flat}
 use Rattle.text.proofs.Cases.{byBool, testing}
-use Rattle.text.proofs.Choices.{none-some, some-same}
+use Rattle.text.proofs.Choices.{some-same}
 use Rattle.line.specs.Grammar.{Line}
-use Rattle.convert.specs.Table.{Map, text, Slot, slotFrom, slotOf, position, maps}
+use Rattle.convert.specs.Table.{Map, Slot, slotOf, maps}
 use Rattle.convert.specs.Model.{Entry}
 use Rattle.convert.specs.Keys.{keys}
 use Rattle.convert.specs.Classify.{Class, as-version, as-uid, as-kind, as-dropped, as-full, as-parts, as-entry, as-member, as-kept, Seen, Classed, classedAfter}
-use Rattle.convert.specs.FromCard.{Placed, placed, Gives, gives, gathered, inMap, withKeys, keyedEntries, mapsFrom}
+use Rattle.convert.specs.FromCard.{Gives, gives, gathered, inMap, withKeys, keyedEntries, mapsFrom}
 use Rattle.convert.specs.ToCard.{entryLine, mapsLines}
 use Rattle.convert.specs.NormalCard.{map-at, section, propId, entryForm, entryForms, mapForms}
-use Rattle.home.proofs.Known.{onSome}
-use Rattle.home.proofs.Images.{map-map}
 use Rattle.home.proofs.Classes.{Fact, Agrees, gathered-section}
 use Rattle.home.proofs.NormalCardEntries.{rekeyed, entry-key, entry-line}
+use Rattle.home.proofs.Given.{inMap-append}
+use Rattle.home.proofs.Slots.{at, slot-row}
 
 -- ---- rows of the table
 
@@ -34,23 +33,11 @@ abbrev AllAt : ℕ → List Map → Type 0
 AllAt i [] = Unit {0}
 AllAt i (m ∷ ms) = At i m × AllAt (suc i) ms
 
-abbrev no-row : Map
-no-row = record { member = []; prefix = []; properties = []; kinds = []; content = []; form = text; types = 0 }
-
-slot-row : (i : ℕ) (ms : List Map) (n : Bytes) (w : Slot) → slotFrom i ms n ≡ some w → (k : ℕ) × (w .index ≡ i + k) × (w .map ≡ getD ms k no-row)
-unfolding slotFrom
-slot-row i [] n w e = none-some e
-slot-row i (m ∷ ms) n w e =
-    onSome (position (same n) (m .properties))
-    (λ p. let v = slot-row (suc i) ms n w (rw p at e) in let q = v .1 in (suc (v .0), omega arith, v .2))
-    (λ k p. let q = some-same (rw p at e) in (0, ap (λ (x : Slot). x .index) (sym q) ∙ omega arith, ap (λ (x : Slot). x .map) (sym q)))
-
-row-at : (i : ℕ) → At i (getD maps i no-row)
-unfolding slotOf
-row-at i n w e q = let v = slot-row 0 maps n w e in let r = v .1 in let z : v .0 ≡ i = omega arith in v .2 ∙ ap (λ (x : ℕ). getD maps x no-row) z
+row-at : (i : ℕ) (m : Map) → at i maps ≡ some m → At i m
+row-at i m a n w e q = some-same (sym (slot-row n w e .0) ∙ ap (λ (x : ℕ). at x maps) q ∙ a)
 
 all-at : AllAt 0 maps
-all-at = (row-at 0, (row-at 1, (row-at 2, (row-at 3, (row-at 4, (row-at 5, (row-at 6, tt)))))))
+all-at = (row-at 0 _ refl, (row-at 1 _ refl, (row-at 2 _ refl, (row-at 3 _ refl, (row-at 4 _ refl, (row-at 5 _ refl, (row-at 6 _ refl, tt)))))))
 
 -- ---- entries and lines of one map
 
@@ -126,11 +113,6 @@ entries-form m es ls h =
     ∙ sym (put-lines m (keys (m .prefix) (map propId ls)) ls)
 
 -- ---- all maps
-
-inMap-append : (i : ℕ) (xs ys : List Placed) → inMap i (xs ++ ys) ≡ inMap i xs ++ inMap i ys
-unfolding inMap
-inMap-append i [] ys = refl
-inMap-append i (placed j e ∷ xs) ys = byBool (eqb i j) (λ t. rw t (ap (λ (x : List Entry). e ∷ x) (inMap-append i xs ys))) (λ t. rw t (inMap-append i xs ys))
 
 inMap-gathered : (i : ℕ) (cs : List Classed) → inMap i (gathered (λ (g : Gives). g .entry) cs) ≡ gathered (λ (g : Gives). inMap i (g .entry)) cs
 unfolding gathered flat inMap

@@ -1,7 +1,7 @@
 -- FN and N: the first that converts, and what is made where there is no FN.
 use mathlib.Core.Path.{_≡_, refl, sym, ap, _∙_}
 use mathlib.Core.Bool.{true, false}
-use mathlib.Core.List.{List, [], _∷_, map}
+use mathlib.Core.List.{List, [], _∷_, map, map-id}
 use Rattle.text.specs.Choice.{with-some}
 use Rattle.text.specs.Bytes.{Bytes, ascii, any, all, flat}
 use Rattle.text.proofs.Cases.{not-both}
@@ -14,7 +14,8 @@ use Rattle.convert.specs.Classify.{Class, as-version, as-uid, as-kind, as-dropp
 use Rattle.convert.specs.FromCard.{Gives, gives, gathered, firstOf, orElse}
 use Rattle.convert.specs.ToCard.{property, lineWhere, derivedLine}
 use Rattle.convert.specs.NormalCard.{plainLine, renewed, nameValues, nameText, fulls, names, section, orMade, nameStrings, derivedForm}
-use Rattle.home.proofs.Images.{AtMostOne, map-id}
+use Rattle.convert.proofs.CardParts.{has-no-parts}
+use Rattle.home.proofs.Images.{AtMostOne}
 use Rattle.home.proofs.Classes.{Fact, Agrees, gathered-section, elsewhere}
 use Rattle.home.proofs.NormalCardParts.{name-read}
 use Rattle.home.proofs.Once.{ByFlag, few, one-seen, gathered-all}
@@ -106,10 +107,6 @@ parts-form : (s : Seen) (ls : List Line) → gathered (λ (g : Gives). g .parts)
 parts-form s ls =
     sym (map-id (gathered (λ (g : Gives). g .parts) (classedAfter s ls))) ∙ gathered-section (λ (g : Gives). g .parts) names (λ ps. ps) (λ (l : Line). nameValues (l .value)) parts-agrees s ls
 
-no-parts : hasParts noParts ≡ false
-unfolding hasParts any
-no-parts = refl
-
 written-name : (ps : List (List Bytes)) → writeName ps ≡ nameText ps
 unfolding writeName writtenParts nameText
 written-name ps = refl
@@ -125,7 +122,7 @@ derived-lines (l ∷ ls) = refl
 
 name-lines : (ns : List Line) → AtMostOne (values ns) → all hasParts (values ns) ≡ true
     → lineWhere (hasParts (orElse (firstOf (values ns)) noParts)) (property (ascii "n") [] (writeName (orElse (firstOf (values ns)) noParts))) ≡ map (λ (l : Line). plainLine (ascii "n") [] (nameText (nameValues (l .value)))) ns
-name-lines [] o h = rw no-parts
+name-lines [] o h = rw has-no-parts
 name-lines (l ∷ []) o h = rw (all-head hasParts (nameValues (l .value)) [] h, written-name (nameValues (l .value)))
 name-lines (l ∷ (k ∷ ls)) o h = absurd o
 

@@ -1,21 +1,21 @@
 -- N's value: the components that are read, as the normal form has them.
 use mathlib.Core.Path.{_≡_, refl, sym, ap, _∙_}
-use mathlib.Core.Bool.{Bool, true, false, _||_, not}
-use mathlib.Core.List.{List, [], _∷_, map}
-use mathlib.Core.Option.{Option, some}
-use Prim.Native.Nat.{suc}
+use mathlib.Core.Bool.{Bool, true, false, _||_, not, or-true}
+use mathlib.Core.List.{List, [], _∷_, map, map-id}
+use mathlib.Core.Option.{some}
 use lib.ListN.{length}
 use lib.Dec.{leb}
-use Rattle.text.specs.Bytes.{Bytes, any, all, empty, among, keep, each}
+use Rattle.text.specs.Bytes.{Bytes, any, empty, keep, each}
 use Rattle.text.proofs.Cases.{tests}
 use Rattle.text.proofs.Choices.{some-same}
-use Rattle.text.proofs.Lists.{keep-all}
+use Rattle.text.proofs.Lists.{each-length, all-anything}
 use Rattle.line.specs.Text.{readText, splitText}
 use Rattle.convert.specs.Model.{hasParts, part}
 use Rattle.convert.specs.Value.{filled, partValues, without, ownParts, readName}
 use Rattle.convert.specs.NormalCard.{textOf, partTexts, nameValues}
-use Rattle.home.proofs.Known.{onProvided, onChain, onMap, onNone, onEach}
-use Rattle.home.proofs.Images.{each-same, map-id, all-anything}
+use Rattle.convert.proofs.Names.{without-none, full}
+use Rattle.home.proofs.Known.{onProvided, onChain, onMap}
+use Rattle.home.proofs.Images.{each-same}
 
 -- ---- the strings
 
@@ -31,28 +31,10 @@ part-values s vs e =
 parts-values : (ss : List Bytes) (ps : List (List Bytes)) → each partValues ss ≡ some ps → ps ≡ map partTexts ss
 parts-values ss ps e = sym (map-id ps) ∙ each-same partValues (λ v. true) (λ t. t) partTexts (λ v t u r. part-values v t r) ss ps (all-anything ss) e
 
-pub each-length : {A B : Type 0} (f : A → Option B) (xs : List A) (ys : List B) → each f xs ≡ some ys → length ys ≡ length xs
-each-length f [] ys e = onNone f e λ n. rw (← n)
-each-length f (x ∷ xs) ys e = onEach f x xs e λ z zs p q r. rw (← r) (ap suc (each-length f xs zs q))
-
 -- ---- something is left of it
 
-abbrev full : List Bytes → Bool
-full vs = not (empty vs)
-
-nothing-out : (vs : List Bytes) → without [] vs ≡ vs
-unfolding without
-nothing-out vs = keep-all (λ v. not (among v [])) vs (all-out vs)
-  where
-    all-out : (vs : List Bytes) → all (λ v. not (among v [])) vs ≡ true
-    all-out vs = unfold among any in all-anything vs
-
-or-true : (a : Bool) → a || true ≡ true
-or-true true = refl
-or-true false = refl
-
 still-full : (vs others : List Bytes) → full (without others vs) || full others ≡ full vs || full others
-still-full vs [] = rw (nothing-out vs)
+still-full vs [] = rw (without-none vs)
 still-full vs (o ∷ os) = or-true (full (without (o ∷ os) vs)) ∙ sym (or-true (full vs))
 
 -- the tests made variables

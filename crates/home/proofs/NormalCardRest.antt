@@ -60,7 +60,7 @@ member-agrees s l as-dropped h = refl
 member-agrees s l (as-full v) h = refl
 member-agrees s l (as-parts ps) h = refl
 member-agrees s l (as-entry i e) h = refl
-member-agrees s l (as-member n j) h = ap (λ (x : List Bytes). property (ascii "jsprop") (param (ascii "jsptr") x ∷ []) (writeText false (compact j)) ∷ []) (pointer-given s (l .params) n h)
+member-agrees s l (as-member n j) h = ap (λ (x : List Bytes). property (ascii "jsprop") (param (ascii "jsptr") x ∷ []) (writeText false (compact j)) ∷ []) (pointer-given s (l .params) n (h .0))
 member-agrees s l as-kept h = refl
 
 pub members-part : (s : Seen) (ls : List Line) → map memberLine (gathered (λ (g : Gives). g .member) (classedAfter s ls)) ≡ flat (map memberForm (classedAfter s ls))

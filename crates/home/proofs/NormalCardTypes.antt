@@ -1,24 +1,21 @@
 -- TYPE: codes in the table's order are the table's values that are given.
 use mathlib.Core.Path.{_≡_, refl, sym, ap, ap₂, _∙_}
 use mathlib.Core.Bool.{true, _||_}
-use mathlib.Core.List.{List, [], _∷_, _++_, map}
-use mathlib.Core.Option.{Option, some}
+use mathlib.Core.List.{List, [], _∷_, map}
+use mathlib.Core.Option.{some}
 use Prim.Native.Nat.{ℕ}
-use lib.ListN.{take}
 use lib.Dec.{eqb, ltb}
 use Rattle.text.specs.Bytes.{Bytes, any, all, same, among, lowered, parts, flat, each}
 use Rattle.text.proofs.Cases.{byBelow, upTo, not-both}
 use Rattle.text.proofs.Same.{same-true}
-use Rattle.convert.specs.Table.{type-name, typeNames, vcardType, contextCodes, featureCodes, inOrder, position}
+use Rattle.convert.specs.Table.{type-name, typeNames, vcardType, inOrder, position}
 use Rattle.convert.specs.Classify.{typesFrom}
 use Rattle.convert.specs.NormalCard.{typeForm}
-use Rattle.convert.proofs.Types.{typeText}
+use Rattle.convert.proofs.Types.{typeText, codeOf}
+use Rattle.convert.proofs.Orders.{codes}
 use Rattle.home.proofs.Known.{onMap, onNone, onEach}
 use Rattle.home.proofs.Images.{keep-map, keep-agree}
 use Rattle.home.proofs.Positions.{position-passes, position-inside, position-take}
-
-abbrev codeOf : ℕ → Bytes → Option ℕ
-codeOf n v = position (λ t. same (lowered v) (vcardType t)) (take n typeNames)
 
 -- the values differ
 same-type : (c d : ℕ) → ltb c 9 ≡ true → ltb d 9 ≡ true → same (typeText c) (typeText d) ≡ eqb c d
@@ -37,9 +34,6 @@ given-codes : (n c : ℕ) → ltb c 9 ≡ true → (vs : List Bytes) (cs : List 
 unfolding any among
 given-codes n c h [] cs e = onNone (codeOf n) e λ r. rw (← r)
 given-codes n c h (v ∷ vs) cs e = onEach (codeOf n) v vs e λ d ds p q r. rw (← r) (ap₂ _||_ (code-value n v d c p h) (given-codes n c h vs ds q))
-
-abbrev codes : List ℕ
-codes = contextCodes ++ featureCodes
 
 all-codes : all (λ c. ltb c 9) codes ≡ true
 unfolding all

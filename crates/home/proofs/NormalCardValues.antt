@@ -9,13 +9,13 @@ use lib.Dec.{eqb}
 use Rattle.text.specs.Bytes.{Bytes, ascii, any, empty, same, begins, joined, each}
 use Rattle.text.proofs.Cases.{byBool, not-both}
 use Rattle.text.proofs.Choices.{some-same}
-use Rattle.text.proofs.Lists.{keep-same}
+use Rattle.text.proofs.Lists.{keep-same, all-anything}
 use Rattle.line.specs.Text.{readText, splitText, escape, writeText}
 use Rattle.convert.specs.Table.{Form, text, single, uri, phone, organization}
 use Rattle.convert.specs.Value.{filled, organized, readAs, isTelUri, writeAs, writtenType}
 use Rattle.convert.specs.NormalCard.{renewed, unitsGone, orgText, telNumber, isTelUriForm, entryValue, valueForm}
 use Rattle.home.proofs.Known.{onProvided, onChain, onMap}
-use Rattle.home.proofs.Images.{each-same, all-anything, keep-map}
+use Rattle.home.proofs.Images.{each-same, keep-map}
 
 -- what a line's value becomes, and its VALUE
 abbrev pub Written : Form → Bytes → Bytes → List Bytes → Type 0

@@ -1,10 +1,10 @@
 -- What the converter prints of a JSON card is that card's normal form.
-use mathlib.Core.Path.{_≡_, refl, sym, ap, ap₂, _∙_}
+use mathlib.Core.Path.{_≡_, sym, ap, ap₂, _∙_}
 use mathlib.Core.Bool.{true, false, _&&_, _||_}
 use mathlib.Core.List.{List, [], _∷_, _++_}
 use mathlib.Core.Option.{some}
 use Rattle.text.specs.Choice.{with-some, is-some, chain, provided}
-use Rattle.text.specs.Bytes.{Bytes, ascii, any, all, each}
+use Rattle.text.specs.Bytes.{Bytes, ascii, all, each}
 use Rattle.text.proofs.Cases.{and-left, and-right, not-both}
 use Rattle.text.proofs.Choices.{some-same}
 use Rattle.text.proofs.Same.{same-true}
@@ -15,11 +15,12 @@ use Rattle.json.specs.Read.{tree, reading}
 use Rattle.json.proofs.Sound.{sound-names}
 use Rattle.json.proofs.Given.{reading-sound}
 use Rattle.convert.specs.Table.{maps}
-use Rattle.convert.specs.Model.{Card, hasParts, noParts}
+use Rattle.convert.specs.Model.{Card, hasParts}
 use Rattle.convert.specs.Value.{filled}
 use Rattle.convert.specs.FromJson.{isLowerWord, isText, Name, nameless, nameFrom, mapFrom, keptFrom, standing, seenIn, keptStands, otherMembers, cardFromMembers, cardFromJson}
 use Rattle.convert.specs.ToJson.{where′, nameJson, membersJson, printJson}
 use Rattle.convert.specs.NormalJson.{as-is, unlessGone, nameForm, membersForm, normalTree, normalJson}
+use Rattle.convert.proofs.CardParts.{has-no-parts}
 use Rattle.home.proofs.Known.{onProvided, onChain, onOptional, onSome}
 use Rattle.home.proofs.Shapes.{string-inv, fields-distinct}
 use Rattle.home.proofs.NormalJsonName.{name-form}
@@ -47,15 +48,11 @@ kind-part ms k e =
 
 -- ---- name
 
-no-parts : hasParts noParts ≡ false
-unfolding hasParts any
-no-parts = refl
-
 name-part : (ms : List Member) (n : Name) → with-some (field (ascii "name") ms) nameFrom (some nameless) ≡ some n
     → where′ (is-some (n .full) || hasParts (n .parts)) (member (ascii "name") (nameJson (n .full) (n .parts))) ≡ unlessGone (ascii "name") object (with-some (field (ascii "name") ms) nameForm [])
 name-part ms n e =
     onOptional (field (ascii "name") ms) nameless nameFrom e
-    (λ a d. rw (a, ← d, no-parts))
+    (λ a d. rw (a, ← d, has-no-parts))
     (λ j h q. rw h (name-form j n q))
 
 -- ---- the whole

@@ -1,7 +1,7 @@
 -- Entries of the maps: kind, content, contexts, features, pref, as the normal form has them.
 use mathlib.Core.Path.{_≡_, refl, sym, ap, ap₂, _∙_}
 use mathlib.Core.Bool.{Bool, true, false, _||_, not}
-use mathlib.Core.List.{List, [], _∷_, _++_, map}
+use mathlib.Core.List.{List, [], _∷_, _++_, map, map-id}
 use mathlib.Core.Option.{some, Option·map}
 use Prim.Native.Nat.{ℕ}
 use lib.ListN.{getD, take, drop}
@@ -18,11 +18,13 @@ use Rattle.convert.specs.Value.{filled, headOr, isKeyText, isPref}
 use Rattle.convert.specs.FromJson.{onlyMembers, flagsFrom, unitFrom, organizationFrom, contentFrom, entryMembers, entryFrom, mapFrom}
 use Rattle.convert.specs.ToJson.{where′, contentJson, entryJson, mapsJson}
 use Rattle.convert.specs.NormalJson.{fieldsOf, itemsOf, isEmptyText, as-is, unlessGone, isOrganization, isUnit, contentForm, entryTree, mapTree}
+use Rattle.convert.proofs.EntryJson.{unitJson}
 use Rattle.home.proofs.Known.{onProvided, onChain, onMap, onEach, onOptional}
-use Rattle.home.proofs.Images.{each-keep, each-same, map-id, empty-map}
+use Rattle.home.proofs.Images.{each-keep, each-same, empty-map}
 use Rattle.home.proofs.Positions.{position-name, pref-filled}
 use Rattle.home.proofs.Shapes.{string-inv, number-inv, gone, object-distinct, fields-distinct, field-items, field-fields}
 use Rattle.home.proofs.NormalJsonFlags.{flags-read, Given, contexts-form, features-form}
+use Rattle.home.proofs.Alls.{All}
 
 -- ---- what the law needs of a row of the table
 
@@ -39,8 +41,7 @@ pub record Row (m : Map) : Type 0 where
   pub content : not (isOrganizationForm (m .form)) || same (m .content) (ascii "name") ≡ true
 
 abbrev pub Rows : List Map → Type 0
-Rows [] = Unit {0}
-Rows (m ∷ ms) = Row m × Rows ms
+Rows ms = All Row ms
 
 pub rows : Rows maps
 unfolding same
@@ -85,9 +86,6 @@ one-part n ms vs e =
 
 -- ---- an organisation
 
-abbrev unit : Bytes → Json
-unit s = object (member (ascii "name") (jstr s) ∷ [])
-
 among-one : (n x : Bytes) → among n (x ∷ []) ≡ true → same n x ≡ true
 unfolding among any
 among-one n x h = byBool (same n x) (λ e. e) (λ e. not-both h (rw e))
@@ -96,9 +94,9 @@ same-among : (n m : Bytes) (ns : List Bytes) → same n m ≡ true → among n (
 unfolding among any
 same-among n m ns h = rw h
 
--- a unit has one member: with distinct names there is nothing else in it
+-- a unitJson has one member: with distinct names there is nothing else in it
 unit-object : (os : Members) (v : Json) (s : Bytes) → distinct (map nameOf (membersOf os)) ≡ true → onlyMembers (ascii "name" ∷ []) (membersOf os) ≡ true → field (ascii "name") (membersOf os) ≡ some v → asString v ≡ some s
-    → jobj os ≡ unit s
+    → jobj os ≡ unitJson s
 unfolding membersOf fromMembers field onlyMembers distinct all
 unit-object mnil v s d o f a = none-some f
 unit-object (mcons n j mnil) v s d o f a =
@@ -110,7 +108,7 @@ unit-object (mcons n j (mcons m k os)) v s d o f a =
     let r = among-one m (ascii "name") (and-left _ _ (and-right (among n (ascii "name" ∷ [])) _ o)) in
     not-both (same-among n m (map nameOf (membersOf os)) (same-eq (same-true n (ascii "name") q ∙ sym (same-true m (ascii "name") r)))) (not-true _ (and-left _ _ d))
 
-unit-read : (j : Json) (s : Bytes) → distinctNames j ≡ true → unitFrom j ≡ some s → j ≡ unit s
+unit-read : (j : Json) (s : Bytes) → distinctNames j ≡ true → unitFrom j ≡ some s → j ≡ unitJson s
 unfolding unitFrom
 unit-read jnull s d e = none-some e
 unit-read jtrue s d e = none-some e
@@ -123,11 +121,11 @@ unit-read (jobj os) s d e =
     onChain (field (ascii "name") (membersOf os)) asString r λ v f a.
     unit-object os v s (object-distinct os d .0) o f a
 
-unit-filled : (s : Bytes) → filled s ≡ isUnit (unit s)
+unit-filled : (s : Bytes) → filled s ≡ isUnit (unitJson s)
 unfolding isUnit membersOf fromMembers field same
 unit-filled s = refl
 
-unit-shown : (j : Json) (s : Bytes) → distinctNames j ≡ true → unitFrom j ≡ some s → (filled s ≡ isUnit j) × (unit s ≡ j)
+unit-shown : (j : Json) (s : Bytes) → distinctNames j ≡ true → unitFrom j ≡ some s → (filled s ≡ isUnit j) × (unitJson s ≡ j)
 unit-shown j s d e = let q = unit-read j s d e in (unit-filled s ∙ ap isUnit (sym q), sym q)
 
 units-read : (ms : List Member) (us : List Bytes) → with-some (field (ascii "units") ms) (λ v. chain (asArray v) (each unitFrom)) (some []) ≡ some us
@@ -139,11 +137,11 @@ units-read ms us e =
     (λ j h q. onChain (asArray j) (each unitFrom) q (λ js p r. rw (h, p) r))
 
 units-part : (ms : List Member) (us : List Bytes) → all (λ m. distinctNames (valueOf m)) ms ≡ true → with-some (field (ascii "units") ms) (λ v. chain (asArray v) (each unitFrom)) (some []) ≡ some us
-    → where′ (not (empty (keep filled us))) (member (ascii "units") (array (map unit (keep filled us)))) ≡ unlessGone (ascii "units") array (keep isUnit (with-some (field (ascii "units") ms) itemsOf []))
+    → where′ (not (empty (keep filled us))) (member (ascii "units") (array (map unitJson (keep filled us)))) ≡ unlessGone (ascii "units") array (keep isUnit (with-some (field (ascii "units") ms) itemsOf []))
 units-part ms us d e =
-    gone (ascii "units") array (map unit (keep filled us)) (not (empty (keep filled us))) (ap not (sym (empty-map unit (keep filled us))))
+    gone (ascii "units") array (map unitJson (keep filled us)) (not (empty (keep filled us))) (ap not (sym (empty-map unitJson (keep filled us))))
     ∙ ap (unlessGone (ascii "units") array)
-    (each-keep unitFrom distinctNames unit (λ j. j) filled isUnit unit-shown (with-some (field (ascii "units") ms) itemsOf []) us (field-items (ascii "units") ms d) (units-read ms us e)
+    (each-keep unitFrom distinctNames unitJson (λ j. j) filled isUnit unit-shown (with-some (field (ascii "units") ms) itemsOf []) us (field-items (ascii "units") ms d) (units-read ms us e)
     ∙ map-id (keep isUnit (with-some (field (ascii "units") ms) itemsOf [])))
 
 where-pick : (b : Bool) (m : Member) → where′ b m ≡ pick b (m ∷ []) []

@@ -4,7 +4,6 @@ use mathlib.Core.Bool.{Bool, true, false, _&&_, _||_, not}
 use mathlib.Core.List.{List, [], _∷_, _++_, map}
 use mathlib.Core.Option.{Option, none, some, Option·map}
 use Prim.Native.Nat.{ℕ}
-use lib.ListN.{getD}
 use lib.Dec.{eqb, ltb}
 use borrow.Author.Tests.{eqb-true}
 use Rattle.text.specs.Choice.{with-some, is-some, chain}
@@ -17,15 +16,10 @@ use Rattle.convert.specs.Value.{filled}
 use Rattle.convert.specs.FromJson.{onlyMembers, Component, component, componentOf, ofKind, byKind, Name, isFalse, nameFrom}
 use Rattle.convert.specs.ToJson.{where′, whereSome, componentsOf, nameJson}
 use Rattle.convert.specs.NormalJson.{itemsOf, as-is, unlessGone, isComponent, componentTree, componentsForm, nameForm}
+use Rattle.convert.proofs.NameJson.{kindAt, componentJson}
 use Rattle.home.proofs.Known.{onProvided, onChain, onMap, onBoth, onNone, onEach, onOptional}
 use Rattle.home.proofs.Positions.{position-inside, position-name}
 use Rattle.home.proofs.Shapes.{string-inv, gone}
-
-abbrev kindAt : ℕ → Bytes
-kindAt i = getD componentKinds i []
-
-abbrev component-json : Bytes → Bytes → Json
-component-json k v = object (member (ascii "kind") (jstr k) ∷ member (ascii "value") (jstr v) ∷ [])
 
 -- ---- one component
 
@@ -37,7 +31,7 @@ same-kind i k h l =
 
 -- the object that a component is, seen through its members
 abbrev Shown : Json → ℕ → Bytes → Type 0
-Shown j k v = ((i : ℕ) → ltb i 7 ≡ true → isComponent (kindAt i) j ≡ eqb i k && filled v) × (componentTree j ≡ component-json (kindAt k) v)
+Shown j k v = ((i : ℕ) → ltb i 7 ≡ true → isComponent (kindAt i) j ≡ eqb i k && filled v) × (componentTree j ≡ componentJson (kindAt k) v)
 
 shown : (j : Json) (ms : List Member) (kj vj : Json) (s v : Bytes) (k : ℕ) → asObject j ≡ some ms → field (ascii "kind") ms ≡ some kj → asString kj ≡ some s → position (same s) componentKinds ≡ some k
     → field (ascii "value") ms ≡ some vj → asString vj ≡ some v → Shown j k v
@@ -62,7 +56,7 @@ onComponent j c e go =
 -- ---- all of one kind
 
 of-kind : (i : ℕ) → ltb i 7 ≡ true → (js : List Json) (cs : List Component) → each componentOf js ≡ some cs
-    → map (component-json (kindAt i)) (flat (map (ofKind i) cs)) ≡ map componentTree (keep (isComponent (kindAt i)) js)
+    → map (componentJson (kindAt i)) (flat (map (ofKind i) cs)) ≡ map componentTree (keep (isComponent (kindAt i)) js)
 unfolding flat keep
 of-kind i l [] cs e = onNone componentOf e (λ n. rw (← n))
 of-kind i l (j ∷ js) cs e =
@@ -71,7 +65,7 @@ of-kind i l (j ∷ js) cs e =
     let ih = of-kind i l js cs q in
     rw (← r, ← s, w .0 i l)
     (byBool (eqb i k && filled v)
-    (λ t. rw t (ap₂ _∷_ (ap (λ (x : ℕ). component-json (kindAt x) v) (eqb-true i k (and-left _ _ t)) ∙ sym (w .1)) ih))
+    (λ t. rw t (ap₂ _∷_ (ap (λ (x : ℕ). componentJson (kindAt x) v) (eqb-true i k (and-left _ _ t)) ∙ sym (w .1)) ih))
     (λ t. rw t ih))
 
 -- ---- all components

@@ -10,6 +10,7 @@ use Rattle.text.specs.Bytes.{Bytes, is, all, between, isDigit}
 use Rattle.text.specs.Reader.{got, bind, under, first}
 use Rattle.text.proofs.Lists.{all-cons, all-both, all-imply}
 use Rattle.text.proofs.Readers.{got-what, bind-inv, under-inv, on-inv, some-of-inv}
+use Rattle.text.proofs.Cases.{or-second}
 use Rattle.json.specs.Grammar.{isE}
 use Rattle.json.specs.Syntax.{opt, digits, int, frac, sign, exp, number}
 use Rattle.json.proofs.Numbers.{Spelled}
@@ -26,10 +27,6 @@ none-fits = refl
 
 one-fits : (c : ℕ) (x : Bytes) → isNumber c ≡ true → Fits x → Fits (c ∷ x)
 one-fits = all-cons isNumber
-
-or-second : (a b : Bool) → b ≡ true → a || b ≡ true
-or-second true b h = refl
-or-second false b h = h
 
 digit-fits : (c : ℕ) → isDigit c ≡ true → isNumber c ≡ true
 unfolding isNumber

@@ -1,16 +1,13 @@
 -- The lines of a card in order: no member's name and no PROP-ID of a map comes twice; what was seen before a line was seen in all.
-use mathlib.Core.Path.{_≡_, refl, sym, ap, subst, _∙_}
-use mathlib.Core.Bool.{Bool, true, false, _&&_, _||_, not}
+use mathlib.Core.Path.{_≡_, refl, sym, ap, subst}
+use mathlib.Core.Bool.{true, false, _&&_, _||_, not}
 use mathlib.Core.List.{List, [], _∷_, _++_, map}
-use mathlib.Core.Option.{Option, none, some}
-use Prim.Native.Nat.{ℕ, suc, _≤_}
-use native.Mathlib.Omega.{arith}
+use Prim.Native.Nat.{ℕ, suc}
 use lib.ListN.{length}
 use lib.Dec.{eqb}
-use borrow.Author.Tests.{eqb-true, eq-eqb}
-use Rattle.text.specs.Choice.{pick}
+use borrow.Author.Tests.{eqb-true}
 use Rattle.text.specs.Bytes.{Bytes, any, empty, same, among, distinct, flat, keep}
-use Rattle.text.proofs.Cases.{byBool, and-true, not-true, not-both}
+use Rattle.text.proofs.Cases.{byBool, not-true, not-both}
 use Rattle.text.proofs.Same.{same-true, same-self, among-head, among-later}
 use Rattle.json.specs.Tree.{Member, member, nameOf}
 use Rattle.line.specs.Grammar.{Line}
@@ -19,10 +16,11 @@ use Rattle.convert.specs.Classify.{Class, as-version, as-uid, as-kind, as-dropp
 use Rattle.convert.specs.FromCard.{Gives, gives, gathered, Placed, placed, inMap}
 use Rattle.convert.specs.Answers.{emptied}
 use Rattle.home.proofs.Alls.{All}
-use Rattle.home.proofs.KeyedEntries.{keyOf, given}
+use Rattle.home.proofs.KeyedEntries.{given}
 use Rattle.home.proofs.LineKept.{LineFine}
 use Rattle.home.proofs.Covered.{Covers, CoversClass, covers-see}
 use Rattle.home.proofs.ClassFacts.{WellClass, NewClass, class-fit}
+use Rattle.home.proofs.MapLines.{keyOf}
 
 abbrev pub LineGood : Line → Type 0
 LineGood l = LineFine l × (emptied l ≡ false)
@@ -126,8 +124,10 @@ new-entry i s j e ps n h =
     byBool (eqb i j)
     (λ p. let z : i ≡ j = eqb-true i j p in
     let here : among (e .key) (idsIn i ps) ≡ false = h .1 (e .key) (rw q (seen-here i j (e .key) (s .ids) p)) in
-    rw (p, q) (one-more (e .key) (idsIn i ps) here (h .0),
-    λ k r. not-among k (e .key) (idsIn i ps) (byBool (same k (e .key)) (λ v. not-both (subst (λ (x : Bytes). any (isId i x) (s .ids) ≡ true) (same-true k (e .key) v) r) (subst (λ (x : ℕ). any (isId x (e .key)) (s .ids) ≡ false) (sym z) u)) (λ v. v)) (t k r)))
+    rw (p, q) (
+      one-more (e .key) (idsIn i ps) here (h .0),
+      λ k r. not-among k (e .key) (idsIn i ps) (byBool (same k (e .key)) (λ v. not-both (subst (λ (x : Bytes). any (isId i x) (s .ids) ≡ true) (same-true k (e .key) v) r) (subst (λ (x : ℕ). any (isId x (e .key)) (s .ids) ≡ false) (sym z) u)) (λ v. v)) (t k r),
+    ))
     (λ p. rw p (h .0, t)))
 
 new-id : (i : ℕ) (s : Seen) (l : Line) (c : Class) (ps : List Placed) → NewClass s c → NewIds i (see s c) ps → NewIds i s (gives l c .entry ++ ps)

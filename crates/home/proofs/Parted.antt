@@ -8,6 +8,7 @@ use Rattle.convert.specs.Model.{Card, hasParts}
 use Rattle.convert.specs.Value.{writeName}
 use Rattle.convert.specs.FromJson.{keptAsLine}
 use Rattle.convert.specs.ToCard.{property, whereFilled, lineWhere, fullLine, mapsLines, memberLine, cardLines}
+use Rattle.home.proofs.Alls.{All, all-joined}
 
 abbrev pub versionLine : Line
 versionLine = property (ascii "version") [] (ascii "4.0")
@@ -30,15 +31,7 @@ card-parted c = simp append-assoc
 
 -- ---- what holds of each line
 
-abbrev pub Each : (Line → Type 0) → List Line → Type 0
-Each P [] = Unit {0}
-Each P (l ∷ ls) = P l × Each P ls
-
-pub each-append : (P : Line → Type 0) (ls ms : List Line) → Each P ls → Each P ms → Each P (ls ++ ms)
-each-append P [] ms a b = b
-each-append P (l ∷ ls) ms a b = (a .0, each-append P ls ms (a .1) b)
-
-pub later-each : (P : Line → Type 0) (c : Card) → P (fullLine c) → Each P (nameLines c) → Each P (mapsLines maps (c .maps)) → Each P (map memberLine (c .members)) → Each P (map keptAsLine (c .kept))
-    → Each P (laterLines c)
+pub later-each : (P : Line → Type 0) (c : Card) → P (fullLine c) → All P (nameLines c) → All P (mapsLines maps (c .maps)) → All P (map memberLine (c .members)) → All P (map keptAsLine (c .kept))
+    → All P (laterLines c)
 later-each P c f n m j k =
-    (f, each-append P (nameLines c) _ n (each-append P (mapsLines maps (c .maps)) _ m (each-append P (map memberLine (c .members)) (map keptAsLine (c .kept)) j k)))
+    (f, all-joined P (nameLines c) _ n (all-joined P (mapsLines maps (c .maps)) _ m (all-joined P (map memberLine (c .members)) (map keptAsLine (c .kept)) j k)))

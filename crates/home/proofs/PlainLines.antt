@@ -6,16 +6,16 @@ use mathlib.Core.Option.{Option, none, some}
 use Prim.Native.Nat.{ℕ, suc}
 use lib.ListN.{length}
 use lib.Dec.{ltb}
-use Rattle.text.specs.Choice.{pick, with-some}
+use Rattle.text.specs.Choice.{with-some}
 use Rattle.text.specs.Bytes.{Bytes, ascii, any, all, empty, same, among, lower, lowered, between, keep, flat}
 use Rattle.text.proofs.Cases.{byBool, and-left, and-right, and-true}
-use Rattle.text.proofs.Lists.{all-head, all-tail, any-head, any-tail, any-neither, keep-none}
+use Rattle.text.proofs.Lists.{all-head, all-tail, any-head, any-tail, any-neither}
 use Rattle.json.specs.Tree.{Member, member}
 use Rattle.line.specs.Class.{isName}
 use Rattle.line.specs.Grammar.{Param, param, Line}
 use Rattle.line.specs.Params.{named, valuesNamed}
 use Rattle.line.specs.Text.{writeText}
-use Rattle.line.proofs.Named.{valuesNamed-append, valuesNamed-one, valuesNamed-other, valuesNamed-none}
+use Rattle.line.proofs.Named.{valuesNamed-append, valuesNamed-one, valuesNamed-none}
 use Rattle.convert.specs.Table.{Form, text, single, uri, phone, organization, Map}
 use Rattle.convert.specs.Model.{Entry, Kept}
 use Rattle.convert.specs.Value.{headOr, isTelUri, writtenType}
@@ -24,11 +24,14 @@ use Rattle.convert.specs.FromJson.{isLowerWord, isGroup, neverKept, keptAsLine,
 use Rattle.convert.specs.ToCard.{property, paramOf, lineWhere, derivedLine, entryLine, mapsLines, memberLine}
 use Rattle.convert.specs.Answers.{valueFits}
 use Rattle.convert.proofs.Types.{typeText}
+use Rattle.convert.proofs.Entries.{four, the-value, prefValues, entry-params}
+use Rattle.convert.proofs.KeptLines.{no-values, valueParam}
 use Rattle.home.specs.Proper.{ProperEntries, ProperMaps, KeptFine, AllKeptFine}
-use Rattle.home.proofs.LowerWords.{lower-word, names-lower}
 use Rattle.home.proofs.Rows.{others, Row, Rows}
-use Rattle.home.proofs.KeptFacts.{Stands, stands, paramStands, no-value}
-use Rattle.home.proofs.Parted.{Each, each-append}
+use Rattle.home.proofs.KeptFacts.{no-value}
+use Rattle.home.proofs.Words.{word-lowered, names-lower}
+use Rattle.home.proofs.Stands.{stands-inv, Stands, lowerParam}
+use Rattle.home.proofs.Alls.{All, all-joined}
 
 -- lines that stand once, before the others
 abbrev pub heads : List Bytes
@@ -51,12 +54,12 @@ unfolding derivedLine among any same lowered lower between named valuesNamed kee
 full-plain (some v) pss = record { own = refl; group = refl; value = refl }
 full-plain none pss = record { own = refl; group = refl; value = refl }
 
-pub name-plain : (b : Bool) (v : Bytes) → Each Plain (lineWhere b (property (ascii "n") [] v))
+pub name-plain : (b : Bool) (v : Bytes) → All Plain (lineWhere b (property (ascii "n") [] v))
 unfolding among any same lowered lower between named valuesNamed keep flat
 name-plain true v = (record { own = refl; group = refl; value = refl }, tt)
 name-plain false v = tt
 
-pub members-plain : (ms : List Member) → Each Plain (map memberLine ms)
+pub members-plain : (ms : List Member) → All Plain (map memberLine ms)
 unfolding memberLine among any same lowered lower between named valuesNamed keep flat
 members-plain [] = tt
 members-plain (member n j ∷ ms) = (record { own = refl; group = refl; value = refl }, members-plain ms)
@@ -68,22 +71,6 @@ unfolding any named
 of-group n [] h = refl
 of-group n (v ∷ vs) h = rw h
 
-of-value : (n : Bytes) (vs : List Bytes) → same (lowered n) (ascii "value") ≡ false → valuesNamed (ascii "value") (paramOf n vs) ≡ []
-of-value n [] h = valuesNamed-none (ascii "value")
-of-value n (v ∷ vs) h = valuesNamed-other (ascii "value") n (v ∷ vs) h
-
-the-value : (vs : List Bytes) → valuesNamed (ascii "value") (paramOf (ascii "value") vs) ≡ vs
-unfolding same lowered lower between
-the-value [] = valuesNamed-none (ascii "value")
-the-value (v ∷ vs) = valuesNamed-one (ascii "value") (ascii "value") (v ∷ vs) refl
-
-abbrev prefValues : Bytes → List Bytes
-prefValues p = pick (empty p) [] (p ∷ [])
-
-pref-param : (p : Bytes) → pick (empty p) [] (param (ascii "pref") (p ∷ []) ∷ []) ≡ paramOf (ascii "pref") (prefValues p)
-pref-param [] = refl
-pref-param (c ∷ p) = refl
-
 written-fits : (f : Form) (vs : List Bytes) → valueFits (writtenType f vs) ≡ true
 unfolding writtenType all isName between
 written-fits text vs = refl
@@ -93,32 +80,12 @@ written-fits phone vs = byBool (isTelUri (headOr [] vs)) (λ e. rw e) (λ e. rw 
 written-fits organization vs = refl
 
 module _ (ks ps ts vs : List Bytes) where
-  abbrev four : List Param
-  four = paramOf (ascii "prop-id") ks ++ (paramOf (ascii "pref") ps ++ paramOf (ascii "type") ts ++ paramOf (ascii "value") vs)
-
-  four-group : any (named (ascii "group")) four ≡ false
+  four-group : any (named (ascii "group")) (four ks ps ts vs) ≡ false
   unfolding same lowered lower between
   four-group =
       any-neither (named (ascii "group")) (paramOf (ascii "prop-id") ks) _ (of-group (ascii "prop-id") ks refl)
       (any-neither (named (ascii "group")) (paramOf (ascii "pref") ps ++ paramOf (ascii "type") ts) (paramOf (ascii "value") vs)
       (any-neither (named (ascii "group")) (paramOf (ascii "pref") ps) (paramOf (ascii "type") ts) (of-group (ascii "pref") ps refl) (of-group (ascii "type") ts refl)) (of-group (ascii "value") vs refl))
-
-  four-value : valuesNamed (ascii "value") four ≡ vs
-  unfolding same lowered lower between
-  four-value =
-      rw (
-        valuesNamed-append (ascii "value") (paramOf (ascii "prop-id") ks) (paramOf (ascii "pref") ps ++ paramOf (ascii "type") ts ++ paramOf (ascii "value") vs),
-        valuesNamed-append (ascii "value") (paramOf (ascii "pref") ps ++ paramOf (ascii "type") ts) (paramOf (ascii "value") vs),
-        valuesNamed-append (ascii "value") (paramOf (ascii "pref") ps) (paramOf (ascii "type") ts),
-        of-value (ascii "prop-id") ks refl,
-        of-value (ascii "pref") ps refl,
-        of-value (ascii "type") ts refl,
-        the-value vs,
-      )
-
-entry-params : (m : Map) (e : Entry) → entryLine m e .params ≡ four (e .key ∷ []) (prefValues (e .pref)) (map typeText (e .types)) (writtenType (m .form) (e .texts))
-unfolding entryLine
-entry-params m e = rw (pref-param (e .pref))
 
 row-own : (n : Bytes) → among n others ≡ false → among n heads ≡ false
 unfolding among
@@ -138,24 +105,21 @@ entry-plain i m e r =
     record {
       own = entry-own i m e r;
       group = rw (entry-params m e) (four-group (e .key ∷ []) (prefValues (e .pref)) ts vs);
-      value = rw (entry-params m e, four-value (e .key ∷ []) (prefValues (e .pref)) ts vs) (written-fits (m .form) (e .texts));
+      value = rw (entry-params m e, the-value (e .key ∷ []) (prefValues (e .pref)) ts vs) (written-fits (m .form) (e .texts));
     }
 
-entries-plain : (i : ℕ) (m : Map) (es : List Entry) → ((w : ℕ) → ltb w (length (m .properties)) ≡ true → Row i m w) → ProperEntries m es → Each Plain (map (entryLine m) es)
+entries-plain : (i : ℕ) (m : Map) (es : List Entry) → ((w : ℕ) → ltb w (length (m .properties)) ≡ true → Row i m w) → ProperEntries m es → All Plain (map (entryLine m) es)
 entries-plain i m [] r g = tt
 entries-plain i m (e ∷ es) r g = (entry-plain i m e (r (e .which) (g .0 .which)), entries-plain i m es r (g .1))
 
-pub maps-plain : (i : ℕ) (ms : List Map) (ess : List (List Entry)) → Rows i ms → ProperMaps ms ess → Each Plain (mapsLines ms ess)
+pub maps-plain : (i : ℕ) (ms : List Map) (ess : List (List Entry)) → Rows i ms → ProperMaps ms ess → All Plain (mapsLines ms ess)
 unfolding mapsLines
 maps-plain i [] [] r g = tt
 maps-plain i [] (es ∷ ess) r g = absurd g
 maps-plain i (m ∷ ms) [] r g = absurd g
-maps-plain i (m ∷ ms) (es ∷ ess) r g = each-append Plain (map (entryLine m) es) (mapsLines ms ess) (entries-plain i m es (r .0) (g .0)) (maps-plain (suc i) ms ess (r .1) (g .2))
+maps-plain i (m ∷ ms) (es ∷ ess) r g = all-joined Plain (map (entryLine m) es) (mapsLines ms ess) (entries-plain i m es (r .0) (g .0)) (maps-plain (suc i) ms ess (r .1) (g .2))
 
 -- ---- kept lines
-
-abbrev valueParam : Bytes → List Param
-valueParam t = pick (same t (ascii "unknown")) [] (param (ascii "value") (t ∷ []) ∷ [])
 
 never-own : (n : Bytes) → among n neverKept ≡ false → among n heads ≡ false
 unfolding among
@@ -163,20 +127,16 @@ never-own n h =
     let e = any-tail (same n) (ascii "begin") _ h in
     any-tail (same n) (ascii "end") _ e
 
-no-group : (ps : List Param) → all paramStands ps ≡ true → any isGroup ps ≡ false → any (named (ascii "group")) ps ≡ false
+no-group : (ps : List Param) → all lowerParam ps ≡ true → any isGroup ps ≡ false → any (named (ascii "group")) ps ≡ false
 unfolding any named
 no-group [] s h = refl
 no-group (param n vs ∷ ps) s h =
-    rw (lower-word n (and-left (isLowerWord n) _ (all-head paramStands (param n vs) ps s)), any-head isGroup (param n vs) ps h)
-    (no-group ps (all-tail paramStands (param n vs) ps s) (any-tail isGroup (param n vs) ps h))
+    rw (word-lowered n (and-left (isLowerWord n) _ (all-head lowerParam (param n vs) ps s)), any-head isGroup (param n vs) ps h)
+    (no-group ps (all-tail lowerParam (param n vs) ps s) (any-tail isGroup (param n vs) ps h))
 
 value-group : (t : Bytes) → any (named (ascii "group")) (valueParam t) ≡ false
 unfolding any named same lowered lower between
 value-group t = byBool (same t (ascii "unknown")) (λ e. rw e) (λ e. rw e)
-
-no-values : (ps : List Param) → any (named (ascii "value")) ps ≡ false → valuesNamed (ascii "value") ps ≡ []
-unfolding valuesNamed flat
-no-values ps h = rw (keep-none (named (ascii "value")) ps h)
 
 type-fits : (t : Bytes) → isLowerWord t ≡ true → valueFits (valuesNamed (ascii "value") (valueParam t)) ≡ true
 unfolding same lowered lower between
@@ -189,11 +149,11 @@ kept-plain : (s : Seen) (k : Kept) → KeptFine k → Stands s k → Plain (kept
 unfolding keptAsLine
 kept-plain s k f t =
     record {
-      own = rw (lower-word (k .name) (t .name)) (never-own (k .name) (t .never));
+      own = rw (word-lowered (k .name) (t .name)) (never-own (k .name) (t .never));
       group = any-neither (named (ascii "group")) (k .params) (valueParam (k .type)) (no-group (k .params) (t .params) (f .no-group)) (value-group (k .type));
       value = rw (valuesNamed-append (ascii "value") (k .params) (valueParam (k .type)), no-values (k .params) (no-value (k .params) (t .params))) (type-fits (k .type) (t .type));
     }
 
-pub kepts-plain : (s : Seen) (ks : List Kept) → AllKeptFine ks → all (keptStands s) ks ≡ true → Each Plain (map keptAsLine ks)
+pub kepts-plain : (s : Seen) (ks : List Kept) → AllKeptFine ks → all (keptStands s) ks ≡ true → All Plain (map keptAsLine ks)
 kepts-plain s [] f h = tt
-kepts-plain s (k ∷ ks) f h = (kept-plain s k (f .0) (stands s k (all-head (keptStands s) k ks h)), kepts-plain s ks (f .1) (all-tail (keptStands s) k ks h))
+kepts-plain s (k ∷ ks) f h = (kept-plain s k (f .0) (stands-inv s k (all-head (keptStands s) k ks h)), kepts-plain s ks (f .1) (all-tail (keptStands s) k ks h))

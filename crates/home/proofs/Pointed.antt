@@ -1,19 +1,19 @@
 -- The member that a JSPROP line makes.
 use mathlib.Core.Path.{_≡_, refl, sym, ap, subst, _∙_}
 use mathlib.Core.Bool.{Bool, true, false, _&&_, _||_, not}
-use mathlib.Core.List.{List, [], _∷_, _++_}
+use mathlib.Core.List.{List, [], _∷_}
 use mathlib.Core.Option.{Option, none, some}
 use Prim.Native.Nat.{ℕ}
-use lib.Dec.{eqb, ltb}
+use lib.Dec.{eqb}
 use borrow.Author.Tests.{eqb-true}
-use Rattle.text.specs.Choice.{pick, chain, provided}
+use Rattle.text.specs.Choice.{pick, provided}
 use Rattle.text.specs.Bytes.{Bytes, ascii, is, any, empty, among}
-use Rattle.text.specs.Utf8.{Due, start, next, run, utf8}
-use Rattle.text.proofs.Cases.{byBool, and-left, and-right, and-true, or-left, or-right, not-true, not-both}
+use Rattle.text.specs.Utf8.{Due, start, next, run}
+use Rattle.text.proofs.Cases.{byBool, and-left, and-right, or-left, or-right, not-true, not-both}
 use Rattle.text.proofs.Choices.{none-some, some-same, provided-inv, chain-inv}
 use Rattle.text.proofs.Lists.{any-none}
 use Rattle.text.proofs.Characters.{utf8-run, run-utf8, later}
-use Rattle.json.specs.Tree.{Json, Member, member}
+use Rattle.json.specs.Tree.{Json}
 use Rattle.json.specs.Read.{Reading, tree, refused, reading}
 use Rattle.json.proofs.Sound.{Sound}
 use Rattle.json.proofs.Given.{reading-sound}
@@ -24,19 +24,15 @@ use Rattle.line.specs.Text.{readText}
 use Rattle.convert.specs.Table.{reserved}
 use Rattle.convert.specs.Value.{filled}
 use Rattle.convert.specs.Pointer.{push, pointedFrom, pointed}
-use Rattle.convert.specs.Carry.{carriedRaw, carriedParam}
 use Rattle.convert.specs.Classify.{Seen, sole, treeOf, memberName, memberValue}
-use Rattle.home.specs.Proper.{ProperMember}
+use Rattle.convert.proofs.Pointers.{push-inv}
 use Rattle.home.proofs.Alls.{All}
 use Rattle.home.proofs.Clean.{isAscii, ascii-next, ascii-due, later-next}
 use Rattle.home.proofs.CleanLines.{CleanValue}
 use Rattle.home.proofs.Merged.{named-hold}
+use Rattle.home.proofs.CleanTexts.{dueAt}
 
 -- ---- a pointer's name is as clean as the pointer
-
-push-inv : (c : ℕ) (x : Option Bytes) (n : Bytes) → push c x ≡ some n → (m : Bytes) × (x ≡ some m) × (c ∷ m ≡ n)
-push-inv c none n e = none-some e
-push-inv c (some m) n e = (m, refl, some-same e)
 
 -- what a digit after a tilde stands for
 tilde-inv : (c : ℕ) (x : Option Bytes) (n : Bytes) → pick (eqb c 48) (push 126 x) (pick (eqb c 49) (push 47 x) none) ≡ some n
@@ -44,10 +40,6 @@ tilde-inv : (c : ℕ) (x : Option Bytes) (n : Bytes) → pick (eqb c 48) (push 1
 tilde-inv c x n e =
     byBool (eqb c 48) (λ q. (rw (eqb-true c 48 q), (126, refl, rw q at e)))
     (λ q. byBool (eqb c 49) (λ r. (rw (eqb-true c 49 r), (47, refl, rw (q, r) at e))) (λ r. none-some (rw (q, r) at e)))
-
-abbrev dueAt : Bool → Due → Due
-dueAt true d = start
-dueAt false d = d
 
 either-ascii : (d : ℕ) → eqb d 126 || eqb d 47 ≡ true → isAscii d ≡ true
 either-ascii d h = byBool (eqb d 126) (λ q. rw (eqb-true d 126 q)) (λ q. let r : eqb d 47 ≡ true = rw q at h in rw (eqb-true d 47 r))
@@ -60,7 +52,7 @@ point-run true d (c ∷ s) n l u e =
     let i = tilde-inv c (pointedFrom false s) n e in
     let j = push-inv (i .1 .0) (pointedFrom false s) n (i .1 .2) in
     let t : run start (j .0) ≡ start = point-run false start s (j .0) refl (ap (λ (x : Due). run x s) (sym (ascii-next c (i .0))) ∙ u) (j .1) in
-    subst (λ (x : Bytes). run start x ≡ start) (j .2) (ap (λ (x : Due). run x (j .0)) (ascii-next (i .1 .0) (either-ascii (i .1 .0) (i .1 .1))) ∙ t)
+    subst (λ (x : Bytes). run start x ≡ start) (sym (j .2)) (ap (λ (x : Due). run x (j .0)) (ascii-next (i .1 .0) (either-ascii (i .1 .0) (i .1 .1))) ∙ t)
 point-run false d (c ∷ s) n l u e =
     byBool (eqb c 126)
     (λ q. let a : isAscii c ≡ true = rw (eqb-true c 126 q) in
@@ -69,7 +61,7 @@ point-run false d (c ∷ s) n l u e =
     subst (λ (x : Due). run x n ≡ start) (sym z) (point-run true start s n refl (ap (λ (x : Due). run x s) (sym (ascii-next c a)) ∙ w) (rw q at e)))
     (λ q. byBool (eqb c 47) (λ r. none-some (rw (q, r) at e))
     (λ r. let j = push-inv c (pointedFrom false s) n (rw (q, r) at e) in
-    subst (λ (x : Bytes). run d x ≡ start) (j .2) (point-run false (next d c) s (j .0) (later-next d c l) u (j .1))))
+    subst (λ (x : Bytes). run d x ≡ start) (sym (j .2)) (point-run false (next d c) s (j .0) (later-next d c l) u (j .1))))
 
 -- bytes that are neither a tilde nor a slash are not made
 module _ (p : ℕ → Bool) (t : p 126 ≡ false) (z : p 47 ≡ false) where
@@ -83,15 +75,15 @@ module _ (p : ℕ → Bool) (t : p 126 ≡ false) (z : p 47 ≡ false) where
   point-none true (c ∷ s) n h e =
       let i = tilde-inv c (pointedFrom false s) n e in
       let j = push-inv (i .1 .0) (pointedFrom false s) n (i .1 .2) in
-      subst (λ (x : Bytes). any p x ≡ false) (j .2) (any-none p (i .1 .0) (j .0) (either (i .1 .0) (i .1 .1)) (point-none false s (j .0) (or-right (p c) _ h) (j .1)))
+      subst (λ (x : Bytes). any p x ≡ false) (sym (j .2)) (any-none p (i .1 .0) (j .0) (either (i .1 .0) (i .1 .1)) (point-none false s (j .0) (or-right (p c) _ h) (j .1)))
   point-none false (c ∷ s) n h e =
       byBool (eqb c 126) (λ q. point-none true s n (or-right (p c) _ h) (rw q at e))
       (λ q. byBool (eqb c 47) (λ r. none-some (rw (q, r) at e))
       (λ r. let j = push-inv c (pointedFrom false s) n (rw (q, r) at e) in
-      subst (λ (x : Bytes). any p x ≡ false) (j .2) (any-none p c (j .0) (or-left (p c) _ h) (point-none false s (j .0) (or-right (p c) _ h) (j .1)))))
+      subst (λ (x : Bytes). any p x ≡ false) (sym (j .2)) (any-none p c (j .0) (or-left (p c) _ h) (point-none false s (j .0) (or-right (p c) _ h) (j .1)))))
 
 push-filled : (c : ℕ) (x : Option Bytes) (n : Bytes) → push c x ≡ some n → filled n ≡ true
-push-filled c x n e = let j = push-inv c x n e in rw (← j .2)
+push-filled c x n e = let j = push-inv c x n e in rw (j .2)
 
 tilde-filled : (s n : Bytes) → pointedFrom true s ≡ some n → filled n ≡ true
 unfolding pointedFrom
@@ -112,10 +104,13 @@ no-control = (refl, refl)
 pub pointed-clean : (p n : Bytes) → CleanValue p → pointed p ≡ some n → (filled n ≡ true) × CleanValue n
 unfolding pointed
 pointed-clean p n h e =
-    let i = provided-inv (not (empty p)) (pointedFrom false p) e in
-    (point-filled p n (i .0) (i .1),
-     ((run-utf8 n (point-run false start p n refl (utf8-run p (h .0 .0)) (i .1)), point-none isControl (no-control .0) (no-control .1) false p n (h .0 .1) (i .1)),
-      point-none (is 34) refl refl false p n (h .1) (i .1)))
+    let i = provided-inv (not (empty p)) (pointedFrom false p) e in (
+      point-filled p n (i .0) (i .1),
+      (
+        (run-utf8 n (point-run false start p n refl (utf8-run p (h .0 .0)) (i .1)), point-none isControl (no-control .0) (no-control .1) false p n (h .0 .1) (i .1)),
+        point-none (is 34) refl refl false p n (h .1) (i .1),
+      ),
+    )
 
 -- ---- the member
 

@@ -1,11 +1,11 @@
 -- What a clean value gives by each form.
-use mathlib.Core.Path.{_≡_, refl, sym, ap, subst, _∙_}
-use mathlib.Core.Bool.{Bool, true, false, _&&_, _||_, not}
-use mathlib.Core.List.{List, [], _∷_, tail}
-use mathlib.Core.Option.{Option, none, some, Option·map}
+use mathlib.Core.Path.{_≡_, refl, subst}
+use mathlib.Core.Bool.{true}
+use mathlib.Core.List.{List, [], _∷_}
+use mathlib.Core.Option.{some}
 use lib.ListN.{length}
 use lib.Dec.{eqb}
-use Rattle.text.specs.Choice.{pick, chain, provided}
+use Rattle.text.specs.Choice.{provided}
 use Rattle.text.specs.Bytes.{Bytes, ascii, any, all, same, begins, keep, each}
 use Rattle.text.specs.Utf8.{utf8}
 use Rattle.text.proofs.Cases.{byBool, and-true, not-both}
@@ -13,8 +13,8 @@ use Rattle.text.proofs.Choices.{some-same, provided-inv, chain-inv, map-inv}
 use Rattle.text.proofs.Lists.{all-cons, keep-passes}
 use Rattle.line.specs.Text.{readText, splitText}
 use Rattle.convert.specs.Table.{Form, text, single, uri, phone, organization}
-use Rattle.convert.specs.Value.{filled, headOr, organized, alone, readAs}
-use Rattle.convert.specs.Carry.{carriedRaw, carriedText, carriedAs}
+use Rattle.convert.specs.Value.{filled, organized, alone, readAs}
+use Rattle.convert.specs.Carry.{carriedText, carriedAs}
 use Rattle.convert.proofs.Forms.{formed}
 use Rattle.home.proofs.Alls.{All, all-test, all-mono, all-kept, each-gives}
 use Rattle.home.proofs.JsonTexts.{any-head-kept}

@@ -1,23 +1,23 @@
 -- What a clean value gives as N: seven parts of filled values, and some value.
 use mathlib.Core.Path.{_≡_, refl, sym, ap, subst, _∙_}
-use mathlib.Core.Bool.{Bool, true, false, _&&_, _||_, not}
+use mathlib.Core.Bool.{Bool, true, false, _&&_, not}
 use mathlib.Core.List.{List, [], _∷_}
-use mathlib.Core.Option.{Option, none, some, Option·map}
+use mathlib.Core.Option.{some}
 use Prim.Native.Nat.{ℕ, zero, suc, _≤_, _<_}
 use native.Mathlib.Omega.{arith}
-use lib.ListN.{length, getD}
-use lib.Dec.{leb, ltb}
-use borrow.Author.Tests.{leb-true, lt-ltb}
-use Rattle.text.specs.Choice.{chain, provided, both}
+use lib.ListN.{length}
+use lib.Dec.{leb}
+use Rattle.text.specs.Choice.{provided}
 use Rattle.text.specs.Bytes.{Bytes, any, all, empty, among, keep, each}
 use Rattle.text.specs.Utf8.{utf8}
-use Rattle.text.proofs.Cases.{byBool, tests, and-true, or-left, or-right, not-both, not-false}
-use Rattle.text.proofs.Choices.{some-same, provided-inv, chain-inv, map-inv, both-inv}
-use Rattle.text.proofs.Lists.{keep-passes, keep-all}
+use Rattle.text.proofs.Cases.{byBool, tests, and-true, or-left, or-right, not-both}
+use Rattle.text.proofs.Choices.{some-same, provided-inv, chain-inv, map-inv}
+use Rattle.text.proofs.Lists.{keep-passes, each-length, not-full}
 use Rattle.line.specs.Text.{readText, splitText}
 use Rattle.convert.specs.Model.{hasParts, part}
 use Rattle.convert.specs.Value.{filled, partValues, without, ownParts, readName}
 use Rattle.convert.specs.Carry.{carriedText, apart}
+use Rattle.convert.proofs.Names.{without-none, full}
 use Rattle.home.proofs.Alls.{All, all-test, test-all, all-mono, all-two, all-kept, each-gives}
 use Rattle.home.proofs.Clean.{Clean}
 use Rattle.home.proofs.CleanTexts.{CleanText, text-clean, split-clean}
@@ -50,13 +50,6 @@ own-apart ps = (keep-passes (λ v. not (among v (part ps 5))) (part ps 0), keep-
 
 -- ---- a value is left
 
-abbrev full : List Bytes → Bool
-full vs = not (empty vs)
-
-not-full : (vs : List Bytes) → full vs ≡ false → vs ≡ []
-not-full [] e = refl
-not-full (v ∷ vs) e = not-both refl e
-
 none-full : (ps : List (List Bytes)) (n : ℕ) → length ps ≤ n → ((i : ℕ) → i < n → part ps i ≡ []) → any full ps ≡ false
 unfolding any
 none-full [] n l h = refl
@@ -64,16 +57,6 @@ none-full (p ∷ ps) zero l h = absurd (omega arith)
 none-full (p ∷ ps) (suc n) l h =
     let z : p ≡ [] = h 0 (omega arith) in
     rw z (none-full ps n (omega arith) (λ i k. h (suc i) (omega arith)))
-
--- what is left of values without none
-none-among : (vs : List Bytes) → All (λ v. not (among v []) ≡ true) vs
-unfolding among any
-none-among [] = tt
-none-among (v ∷ vs) = (refl, none-among vs)
-
-without-none : (vs : List Bytes) → without [] vs ≡ vs
-unfolding without
-without-none vs = keep-all (λ v. not (among v [])) vs (all-test (λ v. not (among v [])) vs (none-among vs))
 
 still : (ps : List (List Bytes)) → hasParts (ownParts ps) ≡ false → (i : ℕ) → i < 7 → part ps i ≡ []
 unfolding hasParts ownParts any
@@ -103,13 +86,6 @@ still ps e =
 
 own-parts : (ps : List (List Bytes)) → length ps ≤ 7 → any full ps ≡ true → hasParts (ownParts ps) ≡ true
 own-parts ps l h = byBool (hasParts (ownParts ps)) (λ e. e) (λ e. not-both h (none-full ps 7 l (still ps e)))
-
-each-length : {A B : Type 0} (f : A → Option B) (xs : List A) (ys : List B) → each f xs ≡ some ys → length ys ≡ length xs
-unfolding each
-each-length f [] ys e = ap length (sym (some-same e))
-each-length f (x ∷ xs) ys e =
-    let i = both-inv _∷_ (f x) (each f xs) e in
-    ap length (sym (i .4)) ∙ ap suc (each-length f xs (i .1) (i .3))
 
 -- ---- the name
 

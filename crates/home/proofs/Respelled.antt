@@ -1,23 +1,20 @@
 -- Refolding, other line ends, and other letter case in names and groups change nothing of what a card says.
-use mathlib.Core.Path.{_≡_, refl, sym, ap, ap₂, _∙_}
-use mathlib.Core.Bool.{Bool, true, false, _&&_, not}
+use mathlib.Core.Path.{_≡_, refl, sym, ap, _∙_}
 use mathlib.Core.List.{List, [], _∷_, map, map-map}
 use mathlib.Core.Option.{Option, none, some}
 use Prim.Native.Nat.{ℕ}
-use Rattle.text.specs.Choice.{pick, with-some}
-use Rattle.text.specs.Bytes.{Bytes, empty, lowered, flat}
-use Rattle.text.proofs.Letters.{lowered-lowered}
-use Rattle.line.specs.Grammar.{Param, param, Line}
-use Rattle.line.proofs.Parameters.{upperParam}
+use Rattle.text.specs.Choice.{with-some}
+use Rattle.text.specs.Bytes.{Bytes, lowered, flat}
+use Rattle.text.proofs.Letters.{lowered-lowered, lowered-empty}
+use Rattle.line.specs.Grammar.{Line}
 use Rattle.line.proofs.Lines.{upperLine}
 use Rattle.convert.specs.Table.{Slot, slotOf}
-use Rattle.convert.specs.Model.{Card}
 use Rattle.convert.specs.Classify.{Class, as-version, as-uid, as-kind, as-dropped, as-full, as-parts, as-entry, as-member, as-kept, Seen, nothing, see, fullClass, partsClass, memberClass, entryOf, entryClass, classify, Classed, classedAfter, classed}
 use Rattle.convert.specs.FromCard.{Gives, gives, keptLine, gathered, cardOfClassed, cardOfLines}
 use Rattle.convert.specs.ToJson.{printJson}
-use Rattle.convert.specs.Answers.{Answer, yes, cardToJson, jsonToCard, jsonRoom, rawLines, linesOf, orNone}
+use Rattle.convert.specs.Answers.{yes, cardToJson, jsonRoom, rawLines, linesOf, orNone}
 use Rattle.convert.proofs.Cases.{classify-upper, kept-upper}
-use Rattle.home.proofs.Accepted.{AcceptedCard, accepted-card}
+use Rattle.home.proofs.Accepted.{accepted-card}
 
 -- a line with its group in lower case, and names in upper case: what is left of its letter case
 abbrev pub lowerGroup : Line → Line
@@ -28,19 +25,14 @@ caseless l = upperLine (lowerGroup l)
 
 -- ---- the class of a line
 
-empty-lowered : (g : Bytes) → empty (lowered g) ≡ empty g
-unfolding lowered
-empty-lowered [] = refl
-empty-lowered (c ∷ g) = refl
-
 slot-group : (s : Seen) (l : Line) (w : Option Slot) → with-some w (λ w. entryClass s w (lowerGroup l)) as-kept ≡ with-some w (λ w. entryClass s w l) as-kept
 unfolding entryClass entryOf
-slot-group s l (some w) = rw (empty-lowered (l .group))
+slot-group s l (some w) = rw (lowered-empty (l .group))
 slot-group s l none = refl
 
 classify-group : (s : Seen) (l : Line) → classify s (lowerGroup l) ≡ classify s l
 unfolding classify fullClass partsClass memberClass
-classify-group s l = rw (empty-lowered (l .group), slot-group s l (slotOf (lowered (l .name))))
+classify-group s l = rw (lowered-empty (l .group), slot-group s l (slotOf (lowered (l .name))))
 
 kept-group : (l : Line) → keptLine (lowerGroup l) ≡ keptLine l
 unfolding keptLine

@@ -13,6 +13,7 @@ use Rattle.text.specs.Bytes.{Bytes, ascii, all, empty, lowered, keep, flat, bet
 use Rattle.text.specs.Decimal.{decimal}
 use Rattle.text.proofs.Cases.{byBool, and-true, and-left, and-right}
 use Rattle.text.proofs.Choices.{some-same}
+use Rattle.text.proofs.Lists.{length-keep}
 use Rattle.line.specs.Class.{isName, isKey}
 use Rattle.line.specs.Grammar.{Line}
 use Rattle.convert.specs.Table.{Map, maps}
@@ -24,7 +25,7 @@ use Rattle.home.specs.Allowed.{Allowed, here, AllStand, no-more, one-mor
 use Rattle.home.proofs.Alls.{All}
 use Rattle.home.proofs.Classes.{elsewhere}
 use Rattle.home.proofs.Slots.{at, at-all, slot-row}
-use Rattle.home.proofs.MadeKeys.{isPrefix, isIdText, keep-length, keys-texts}
+use Rattle.home.proofs.MadeKeys.{isPrefix, isIdText, keys-texts}
 use Rattle.home.proofs.LineEntries.{entry-drawn}
 use Rattle.home.proofs.LineKept.{LineFine}
 use Rattle.home.proofs.NormalCardEntries.{entry-key}
@@ -160,7 +161,7 @@ section-length : (n : Section) (cs : List Classed) → length (section n cs) ≤
 unfolding section
 section-length n cs =
     let p : Classed → Bool = λ (c : Classed). eqb (sectionNumber (sectionOf (c .class))) (sectionNumber n) in
-    omega (arith, length-map (λ (c : Classed). c .line) (keep p cs), keep-length p cs)
+    omega (arith, length-map (λ (c : Classed). c .line) (keep p cs), length-keep p cs)
 
 module _ (cs : List Classed) (h : All ClassedFine cs) (few : length cs ≤ 512) where
   map-stands : (i : ℕ) (m : Map) → at i maps ≡ some m → AllStand [] (section (map-at i) cs) (entryForms m (keys (m .prefix) (map propId (section (map-at i) cs))) (section (map-at i) cs))

@@ -1,17 +1,15 @@
 -- What is known of an answer that is a result: every test before it was fine. And the other way round.
-use mathlib.Core.Path.{_≡_, refl, sym, ap, _∙_}
-use mathlib.Core.Bool.{Bool, true, false, _&&_, _||_, not}
+use mathlib.Core.Path.{_≡_, refl, sym}
+use mathlib.Core.Bool.{Bool, true, false}
 use mathlib.Core.List.{List, [], _∷_}
 use mathlib.Core.Option.{Option, none, some}
 use Prim.Native.Nat.{ℕ, suc}
 use native.Mathlib.Omega.{arith}
 use lib.ListN.{length}
 use lib.Dec.{ltb}
-use Rattle.text.specs.Choice.{pick}
 use Rattle.text.specs.Bytes.{Bytes, any}
-use Rattle.text.proofs.Cases.{byBool, not-both, or-left, or-right}
+use Rattle.text.proofs.Cases.{byBool, or-left, or-right}
 use Rattle.text.proofs.Choices.{none-some}
-use Rattle.text.proofs.Lists.{any-none}
 use Rattle.convert.specs.Answers.{Answer, no, yes, Test, fine, fails, seek, given, firstFrom, givenAt, atLine, fitted}
 
 pub no-yes {ℓ} : {P : Type ℓ} {n p : ℕ} {b : Bytes} → no n p ≡ yes b → P

@@ -1,19 +1,18 @@
 -- The row of the table that a property's slot has.
-use mathlib.Core.Path.{_≡_, refl, sym, ap, subst, _∙_}
-use mathlib.Core.Bool.{Bool, true, false}
+use mathlib.Core.Path.{_≡_, refl, ap, subst, _∙_}
+use mathlib.Core.Bool.{true}
 use mathlib.Core.List.{List, [], _∷_}
 use mathlib.Core.Option.{Option, none, some}
-use Prim.Native.Nat.{ℕ, zero, suc, _+_, _<_}
+use Prim.Native.Nat.{ℕ, zero, suc, _+_}
 use native.Mathlib.Omega.{arith}
 use lib.ListN.{length}
 use lib.Dec.{ltb}
-use borrow.Author.Tests.{lt-ltb}
 use Rattle.text.specs.Choice.{with-some}
 use Rattle.text.specs.Bytes.{Bytes, same}
 use Rattle.text.proofs.Choices.{none-some, some-same}
 use Rattle.convert.specs.Table.{Map, maps, position, Slot, slotFrom, slotOf}
 use Rattle.home.proofs.Alls.{All}
-use Rattle.home.proofs.Places.{position-below}
+use Rattle.home.proofs.Positions.{position-inside}
 
 abbrev pub at : {A : Type 0} → ℕ → List A → Option A
 at i [] = none
@@ -43,7 +42,7 @@ slot-from i (m ∷ ms) n w e = by (position (same n) (m .properties)) refl (λ q
     by : (o : Option ℕ) → position (same n) (m .properties) ≡ o → (slotFrom (suc i) ms n ≡ some w → InTable (suc i) ms w)
         → with-some o (λ k. some (record { index = i; map = m; which = k })) (slotFrom (suc i) ms n) ≡ some w → InTable i (m ∷ ms) w
     by (some k) q r f =
-        subst (InTable i (m ∷ ms)) (some-same f) (record { place = 0; index = omega arith; row = refl; which = lt-ltb k (length (m .properties)) (position-below (same n) (m .properties) k q) })
+        subst (InTable i (m ∷ ms)) (some-same f) (record { place = 0; index = omega arith; row = refl; which = position-inside (same n) (m .properties) k q })
     by none q r f = later i m ms w (r f)
 
 pub slot-row : (n : Bytes) (w : Slot) → slotOf n ≡ some w → (at (w .index) maps ≡ some (w .map)) × (ltb (w .which) (length (w .map .properties)) ≡ true)

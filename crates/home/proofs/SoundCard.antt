@@ -1,28 +1,25 @@
 -- The JSON tree of a proper card is sound: its strings are UTF-8, its names differ, its depth is at most 16.
-use mathlib.Core.Path.{_≡_, refl, sym, ap, subst, _∙_}
-use mathlib.Core.Bool.{Bool, true, false, _&&_, _||_, not}
-use mathlib.Core.List.{List, [], _∷_, _++_, map, append-nil}
-use mathlib.Core.Option.{Option, none, some}
-use Prim.Native.Nat.{ℕ, zero, suc}
-use lib.ListN.{length, getD}
-use lib.Dec.{eqb, ltb, leb}
-use Rattle.text.specs.Choice.{pick, is-some, with-some}
-use Rattle.text.specs.Bytes.{Bytes, ascii, is, any, all, empty, same, among, distinct, keep, flat, isDigit, between}
-use Rattle.text.specs.Utf8.{utf8}
+use mathlib.Core.Path.{_≡_, refl, ap, subst, _∙_}
+use mathlib.Core.Bool.{Bool, true, false, _&&_, not}
+use mathlib.Core.List.{List, [], _∷_, map, append-nil}
+use Prim.Native.Nat.{ℕ, suc}
+use lib.ListN.{length}
+use lib.Dec.{eqb, leb}
+use Rattle.text.specs.Bytes.{Bytes, is, all, distinct, isDigit, between}
 use Rattle.text.specs.Decimal as D
-use Rattle.text.specs.Reader.{Got, got, bind, on, some-of, first}
-use Rattle.text.proofs.Cases.{byBool, and-left, and-right, not-true, not-both, other}
-use Rattle.text.proofs.Lists.{all-head, all-tail, all-imply}
+use Rattle.text.specs.Reader.{got, on, some-of}
+use Rattle.text.proofs.Cases.{and-left, and-right, not-true, not-both, other}
+use Rattle.text.proofs.Lists.{all-head}
 use Rattle.text.proofs.Readers.{some-of-run}
-use Rattle.json.specs.Tree.{Json, jnull, jtrue, jfalse, jnum, jstr, jarr, jobj, Elems, Members, Member, member, nameOf, valueOf, fromMembers, fromElems, object, array}
+use Rattle.json.specs.Tree.{Json, Member, member, nameOf, fromMembers, fromElems, object, array}
 use Rattle.json.specs.Strings.{names}
 use Rattle.json.specs.Syntax.{opt, int, frac, exp, digits, number}
 use Rattle.json.specs.Grammar.{isE}
 use Rattle.json.proofs.Sound.{Sound, SoundElems, SoundMembers}
 use Rattle.json.proofs.Numbers.{Spelled}
-use Rattle.convert.specs.Table.{Map, typeNames, type-name, jsonType}
-use Rattle.convert.specs.Value.{filled, isPref}
-use Rattle.home.proofs.Alls.{All, all-joined, all-mono, test-all}
+use Rattle.json.proofs.Fine.{digit-256}
+use Rattle.convert.specs.Value.{isPref}
+use Rattle.home.proofs.Alls.{All}
 use Rattle.home.proofs.SoundLists.{SoundMember}
 
 -- ---- objects and arrays from lists
@@ -55,14 +52,9 @@ all-map P Q f k (x ∷ xs) h = (k x (h .0), all-map P Q f k xs (h .1))
 
 -- ---- PREF is a number that JSON spells so
 
--- digits alone, the first of them not 0
-no-digit : isDigit 256 ≡ false
-unfolding between
-no-digit = refl
-
 digits-read : (c : ℕ) (s : Bytes) → all isDigit (c ∷ s) ≡ true → digits (c ∷ s) ≡ got (c ∷ s) []
 unfolding digits
-digits-read c s h = subst (λ (t : Bytes). some-of isDigit (c ∷ t) ≡ got (c ∷ s) []) (append-nil s) (some-of-run isDigit c s [] h no-digit)
+digits-read c s h = subst (λ (t : Bytes). some-of isDigit (c ∷ t) ≡ got (c ∷ s) []) (append-nil s) (some-of-run isDigit c s [] h digit-256)
 
 digits-number : (c : ℕ) (s : Bytes) → eqb c 45 ≡ false → eqb c 48 ≡ false → all isDigit (c ∷ s) ≡ true → number (c ∷ s) ≡ got (c ∷ s) []
 unfolding number opt int frac exp on isE

@@ -1,30 +1,27 @@
 -- The JSON of proper entries is sound.
 use mathlib.Core.Path.{_≡_, refl, sym, ap, subst, _∙_}
-use mathlib.Core.Bool.{Bool, true, false, _&&_, _||_, not}
+use mathlib.Core.Bool.{Bool, true, false, _&&_, not}
 use mathlib.Core.List.{List, [], _∷_, _++_, map, map-append}
 use Prim.Native.Nat.{ℕ, zero, suc}
 use lib.ListN.{length, getD}
-use lib.Dec.{eqb, ltb, leb}
-use Rattle.text.specs.Choice.{pick}
-use Rattle.text.specs.Bytes.{Bytes, ascii, any, all, empty, same, among, distinct, keep, isLetter, isDigit, isUpper, isLower, between}
+use lib.Dec.{eqb, leb}
+use Rattle.text.specs.Bytes.{Bytes, ascii, any, all, empty, among, distinct, keep}
 use Rattle.text.specs.Utf8.{utf8}
 use Rattle.text.proofs.Opened.{text-opened}
-use Rattle.text.proofs.Cases.{byBool, and-left, and-right, not-true, not-both, implied, tests, beyond}
+use Rattle.text.proofs.Cases.{byBool, and-right, not-both}
 use Rattle.text.proofs.Lists.{all-head, all-tail, all-imply, keep-swap}
-use Rattle.json.specs.Tree.{Json, jtrue, jnum, jstr, Member, member, nameOf, valueOf, object, array}
+use Rattle.json.specs.Tree.{Json, jtrue, jstr, Member, member, nameOf, object, array}
 use Rattle.json.proofs.Sound.{Sound}
-use Rattle.line.specs.Class.{isName, isKey}
+use Rattle.line.specs.Class.{isKey}
 use Rattle.convert.specs.Table.{Form, text, single, uri, phone, organization, Map, maps, typeNames, type-name, jsonType, contextCodes, featureCodes, inOrder}
-use Rattle.convert.specs.Model.{Entry}
-use Rattle.convert.specs.Value.{filled, isKeyText, headOr}
-use Rattle.convert.specs.ToJson.{where′, contentJson, flagsJson, entryJson, mapsJson}
-use Rattle.convert.proofs.Entries.{Proper}
-use Rattle.home.specs.Proper.{ProperEntry, ProperEntries, ProperMaps}
-use Rattle.home.proofs.Alls.{All, all-joined, all-test, test-all}
-use Rattle.home.proofs.Clean.{isAscii, ascii-utf8, utf8-none}
+use Rattle.convert.specs.Value.{filled, isKeyText}
+use Rattle.convert.specs.ToJson.{where′, contentJson}
+use Rattle.home.proofs.Alls.{All, all-joined, test-all}
+use Rattle.home.proofs.Clean.{isAscii, ascii-utf8, utf8-none, head-utf8}
 use Rattle.home.proofs.SoundLists.{SoundMember}
-use Rattle.home.proofs.Sublists.{Sub, none-of, left-out, taken-in, sub-nothing, sub-all, sub-append, sub-keep, sub-map, sub-distinct}
-use Rattle.home.proofs.SoundCard.{object-of, array-of, all-map, pref-spelled}
+use Rattle.home.proofs.Sublists.{Sub, none-of, left-out, taken-in, sub-nothing, sub-append, sub-keep, sub-map, sub-distinct}
+use Rattle.home.proofs.SoundCard.{object-of, array-of, all-map}
+use Rattle.home.proofs.Words.{no-key}
 
 -- ---- members that are there or not
 
@@ -42,17 +39,6 @@ sub-names xs ys {us} {vs} s t = subst (λ (ns : List Bytes). Sub ns (us ++ vs)) 
 
 -- ---- keys
 
-no-key : (c : ℕ) → ltb c 128 ≡ false → isKey c ≡ false
-unfolding isKey isName
-no-key c l =
-    rw (beyond 65 90 c (omega tests), beyond 97 122 c (omega tests), beyond 48 57 c (omega tests), hyphen, low-line)
-  where
-    hyphen : eqb c 45 ≡ false
-    hyphen = byBool (eqb c 45) (λ e. absurd (omega tests)) (λ e. e)
-
-    low-line : eqb c 95 ≡ false
-    low-line = byBool (eqb c 95) (λ e. absurd (omega tests)) (λ e. e)
-
 key-ascii : (c : ℕ) → isKey c ≡ true → isAscii c ≡ true
 key-ascii c h = byBool (isAscii c) (λ e. e) (λ e. not-both h (no-key c e))
 
@@ -61,13 +47,6 @@ unfolding isKeyText
 key-utf8 k h = ascii-utf8 k (all-imply isKey isAscii key-ascii k (and-right (filled k && leb (length k) 255) (all isKey k) h))
 
 -- ---- strings
-
-string-member : (d : ℕ) (n v : Bytes) → utf8 n ≡ true → utf8 v ≡ true → SoundMember d (member n (jstr v))
-string-member d n v a b = (a, b)
-
-head-utf8 : (vs : List Bytes) → all utf8 vs ≡ true → utf8 (headOr [] vs) ≡ true
-head-utf8 [] h = utf8-none
-head-utf8 (v ∷ vs) h = all-head utf8 v vs h
 
 -- ---- contexts and features
 

@@ -1,22 +1,22 @@
 -- A sound tree, as lists of members and elements.
 use mathlib.Core.Path.{_≡_, refl, sym, ap, subst, _∙_}
 use mathlib.Core.Logic.{_⊎_, inl, inr}
-use mathlib.Core.Bool.{Bool, true, false, _||_}
+use mathlib.Core.Bool.{true, false}
 use mathlib.Core.List.{List, [], _∷_, map}
 use mathlib.Core.Option.{Option, none, some}
 use Prim.Native.Nat.{ℕ, suc}
-use Rattle.text.specs.Choice.{pick, with-some, chain}
-use Rattle.text.specs.Bytes.{Bytes, any, all, same, among, distinct}
+use Rattle.text.specs.Choice.{with-some}
+use Rattle.text.specs.Bytes.{Bytes, same, among, distinct}
 use Rattle.text.specs.Utf8.{utf8}
 use Rattle.text.proofs.Cases.{byBool, not-both}
-use Rattle.text.proofs.Choices.{none-some, some-same, chain-inv}
+use Rattle.text.proofs.Choices.{none-some, some-same}
 use Rattle.text.proofs.Same.{same-true}
 use Rattle.text.proofs.Lists.{all-head, all-tail}
 use Rattle.json.specs.Tree.{Json, jnull, jtrue, jfalse, jnum, jstr, jarr, jobj, Elems, enil, econs, Members, mnil, mcons, Member, member, nameOf, valueOf, membersOf, elemsOf, field, asString, asArray, asObject}
-use Rattle.json.specs.Strings.{names}
 use Rattle.json.proofs.Sound.{Sound, SoundElems, SoundMembers}
 use Rattle.convert.specs.FromJson.{onlyMembers, optional}
 use Rattle.home.proofs.Alls.{All}
+use Rattle.home.proofs.Shapes.{names-of}
 
 abbrev pub SoundMember : ℕ → Member → Type 0
 SoundMember d m = (utf8 (nameOf m) ≡ true) × Sound d (valueOf m)
@@ -30,11 +30,6 @@ elems-sound : (d : ℕ) (es : Elems) → SoundElems d es → All (Sound d) (elem
 unfolding elemsOf
 elems-sound d enil h = tt
 elems-sound d (econs j es) h = (h .0, elems-sound d es (h .1))
-
-names-listed : (ms : Members) → names ms ≡ map nameOf (membersOf ms)
-unfolding names membersOf
-names-listed mnil = refl
-names-listed (mcons n j ms) = ap (λ (x : List Bytes). n ∷ x) (names-listed ms)
 
 -- ---- by the kind of value
 
@@ -64,7 +59,7 @@ object-sound d (jnum x) ms h e = none-some e
 object-sound d (jstr t) ms h e = none-some e
 object-sound d (jarr es) ms h e = none-some e
 object-sound d (jobj os) ms h e =
-    let n : distinct (map nameOf (membersOf os)) ≡ true = ap distinct (sym (names-listed os)) ∙ h .2 in
+    let n : distinct (map nameOf (membersOf os)) ≡ true = ap distinct (sym (names-of os)) ∙ h .2 in
     (h .0, h .1, subst (λ (x : List Member). distinct (map nameOf x) ≡ true) (some-same e) n, subst (All (SoundMember (h .0))) (some-same e) (members-sound (h .0) os (h .3)))
 
 -- ---- members by name

@@ -1,31 +1,23 @@
 -- The JSON tree of a proper card is sound: its entries, name, kept lines, and the whole.
-use mathlib.Core.Path.{_≡_, refl, sym, ap, subst, _∙_}
-use mathlib.Core.Bool.{Bool, true, false, _&&_, _||_, not}
-use mathlib.Core.List.{List, [], _∷_, _++_, map, map-append}
-use mathlib.Core.Option.{Option, none, some}
-use Prim.Native.Nat.{ℕ, zero, suc}
+use mathlib.Core.Path.{_≡_, refl, ap, _∙_}
+use mathlib.Core.Bool.{Bool, true, _&&_, _||_, not}
+use mathlib.Core.List.{List, [], _∷_, _++_, map}
+use Prim.Native.Nat.{ℕ, suc}
 use lib.ListN.{getD}
 use lib.Dec.{eqb}
-use Rattle.text.specs.Choice.{pick, with-some, is-some}
-use Rattle.text.specs.Bytes.{Bytes, ascii, any, all, empty, same, among, distinct, keep, lowered}
-use Rattle.text.specs.Utf8.{utf8}
-use Rattle.text.proofs.Opened.{text-opened}
-use Rattle.text.proofs.Cases.{byBool, and-left, and-right, not-true, not-both, or-left, or-right}
-use Rattle.text.proofs.Lists.{all-head, all-tail, all-imply}
-use Rattle.json.specs.Tree.{Json, jtrue, jnum, jstr, Member, member, nameOf, valueOf, object, array}
-use Rattle.json.proofs.Sound.{Sound}
-use Rattle.line.specs.Grammar.{Param, param, paramName, paramValues}
-use Rattle.convert.specs.Table.{Map, maps, reserved, contextCodes, featureCodes, componentKinds}
-use Rattle.convert.specs.Model.{Entry, Kept, Card, hasParts}
+use Rattle.text.specs.Bytes.{Bytes, ascii, empty, distinct, keep}
+use Rattle.text.proofs.Cases.{and-right, not-both}
+use Rattle.json.specs.Tree.{jtrue, jnum, jstr, Member, member, nameOf, object}
+use Rattle.convert.specs.Table.{Map, contextCodes, featureCodes}
+use Rattle.convert.specs.Model.{Entry}
 use Rattle.convert.specs.Value.{filled, isPref}
-use Rattle.convert.specs.FromJson.{isLowerWord, keptStands}
-use Rattle.convert.specs.ToJson.{where′, whereSome, contentJson, flagsJson, entryJson, mapsJson, componentsOf, nameJson, valuesJson, paramJson, keptJson, membersJson}
-use Rattle.home.specs.Proper.{ProperEntry, ProperEntries, ProperMaps, ProperMember, ProperMembers, KeptFine, AllKeptFine, ProperCard}
-use Rattle.home.proofs.Alls.{All, all-joined, test-all}
+use Rattle.convert.specs.ToJson.{where′, contentJson, flagsJson, entryJson, mapsJson}
+use Rattle.home.specs.Proper.{ProperEntry, ProperEntries, ProperMaps}
+use Rattle.home.proofs.Alls.{All, all-joined}
 use Rattle.home.proofs.SoundLists.{SoundMember}
-use Rattle.home.proofs.Sublists.{Sub, none-of, left-out, taken-in, sub-nothing, sub-all, sub-append, sub-map, sub-distinct, sub-among, distinct-append}
-use Rattle.home.proofs.SoundCard.{object-of, array-of, all-map, pref-spelled}
-use Rattle.home.proofs.SoundEntries.{sub-where, all-where, sub-names, key-utf8, inGroup, typeJson, codes-sub, flags-sound, entryNames, Row, rows, group-names, group-utf8, group-codes, word-utf8, content-sub, content-sound, getD-utf8, one-name}
+use Rattle.home.proofs.Sublists.{Sub, none-of, sub-nothing, sub-distinct}
+use Rattle.home.proofs.SoundCard.{object-of, pref-spelled}
+use Rattle.home.proofs.SoundEntries.{sub-where, all-where, sub-names, key-utf8, inGroup, typeJson, codes-sub, flags-sound, entryNames, Row, group-names, group-utf8, group-codes, word-utf8, content-sub, content-sound, getD-utf8}
 
 -- ---- an entry
 

@@ -1,38 +1,35 @@
 -- The JSON tree of a proper card is sound, whole.
-use mathlib.Core.Path.{_≡_, refl, sym, ap, subst, _∙_}
-use mathlib.Core.Bool.{Bool, true, false, _&&_, _||_, not}
-use mathlib.Core.List.{List, [], _∷_, _++_, map, map-append}
+use mathlib.Core.Path.{_≡_, refl, sym, ap, _∙_}
+use mathlib.Core.Bool.{Bool, true, false, _&&_}
+use mathlib.Core.List.{List, [], _∷_, _++_, map}
 use mathlib.Core.Option.{Option, none, some}
-use Prim.Native.Nat.{ℕ, zero, suc}
-use Rattle.text.specs.Choice.{pick, with-some, is-some}
-use Rattle.text.specs.Bytes.{Bytes, ascii, any, all, empty, same, among, distinct, lowered}
+use Prim.Native.Nat.{ℕ, suc}
+use Rattle.text.specs.Choice.{with-some}
+use Rattle.text.specs.Bytes.{Bytes, ascii, any, all, same, among, distinct, lowered}
 use Rattle.text.specs.Utf8.{utf8}
 use Rattle.text.proofs.Opened.{text-opened}
-use Rattle.text.proofs.Cases.{byBool, and-left, and-right, not-true, not-both, or-left, or-right}
-use Rattle.text.proofs.Same.{same-swap, same-true, among-none}
-use Rattle.text.proofs.Lists.{all-head, all-tail, all-imply, all-both}
-use Rattle.json.specs.Tree.{Json, jstr, Member, member, nameOf, valueOf, object, array}
+use Rattle.text.proofs.Cases.{and-left, and-right, or-left, or-right}
+use Rattle.text.proofs.Same.{same-swap}
+use Rattle.text.proofs.Lists.{all-head, all-tail}
+use Rattle.json.specs.Tree.{jstr, Member, member, nameOf, object, array}
 use Rattle.json.proofs.Sound.{Sound}
-use Rattle.line.specs.Class.{isLowerName}
 use Rattle.line.specs.Grammar.{Param, param, paramName, paramValues}
 use Rattle.line.specs.Params.{named}
 use Rattle.line.proofs.Merging.{Settled}
-use Rattle.convert.specs.Table.{Map, maps, reserved, componentKinds}
-use Rattle.convert.specs.Model.{Entry, Kept, Card, hasParts}
+use Rattle.convert.specs.Table.{componentKinds}
+use Rattle.convert.specs.Model.{Kept, hasParts}
 use Rattle.convert.specs.Value.{filled}
 use Rattle.convert.specs.Classify.{Seen}
-use Rattle.convert.specs.FromJson.{isLowerWord, isGroup, keptStands, seenIn}
-use Rattle.convert.specs.ToJson.{where′, whereSome, mapsJson, componentsOf, nameJson, valuesJson, paramJson, keptJson, membersJson}
-use Rattle.home.specs.Proper.{ProperMember, ProperMembers, KeptFine, AllKeptFine, ProperCard}
-use Rattle.home.proofs.Alls.{All, all-joined, all-test, test-all}
-use Rattle.home.proofs.Clean.{isAscii, ascii-utf8, utf8-none}
-use Rattle.home.proofs.Stands.{lowerParam, Stands, stands-inv}
+use Rattle.convert.specs.FromJson.{isLowerWord, isGroup, keptStands}
+use Rattle.convert.specs.ToJson.{where′, whereSome, componentsOf, nameJson, valuesJson, paramJson, keptJson}
+use Rattle.home.specs.Proper.{KeptFine, AllKeptFine}
+use Rattle.home.proofs.Alls.{All, all-joined, test-all}
+use Rattle.home.proofs.Stands.{lowerParam, stands-inv}
 use Rattle.home.proofs.SoundLists.{SoundMember}
-use Rattle.home.proofs.Sublists.{Sub, none-of, left-out, taken-in, sub-nothing, sub-distinct, sub-among, distinct-append}
+use Rattle.home.proofs.Sublists.{Sub, none-of, left-out, taken-in, sub-distinct}
 use Rattle.home.proofs.SoundCard.{object-of, array-of, all-map}
-use Rattle.home.proofs.SoundEntries.{sub-where, all-where, sub-names, rows, one-name, sub-every}
-use Rattle.home.proofs.SoundTree.{maps-sound, maps-sub}
-use Rattle.home.proofs.Words.{name-utf8}
+use Rattle.home.proofs.SoundEntries.{sub-where, all-where, sub-names}
+use Rattle.home.proofs.Words.{name-utf8, group-utf8}
 
 -- ---- name
 
@@ -123,10 +120,6 @@ group-distinct false g ps s h = rw (param-names ps) (settled-distinct ps s)
 group-word : utf8 (ascii "group") ≡ true
 unfolding text-opened
 group-word = refl
-
-group-utf8 : (g : Bytes) → empty g || isLowerWord g ≡ true → utf8 g ≡ true
-group-utf8 [] h = utf8-none
-group-utf8 (c ∷ g) h = name-utf8 (c ∷ g) h
 
 kept-sound : (d : ℕ) (s : Seen) (k : Kept) → KeptFine k → keptStands s k ≡ true → Sound (suc (suc (suc d))) (keptJson k)
 unfolding keptJson

@@ -1,10 +1,9 @@
 -- Names taken in order from a list of names that differ: they differ too.
-use mathlib.Core.Path.{_≡_, refl, sym, ap, _∙_}
-use mathlib.Core.Bool.{Bool, true, false, _&&_, _||_, not}
+use mathlib.Core.Path.{_≡_}
+use mathlib.Core.Bool.{Bool, true, false, not}
 use mathlib.Core.List.{List, [], _∷_, _++_, map}
-use Rattle.text.specs.Choice.{pick}
 use Rattle.text.specs.Bytes.{Bytes, any, all, same, among, distinct, keep}
-use Rattle.text.proofs.Cases.{byBool, and-left, and-right, and-true, or-left, or-right, not-true}
+use Rattle.text.proofs.Cases.{byBool, and-left, and-right, or-left, or-right, not-true}
 use Rattle.text.proofs.Same.{among-append}
 use Rattle.text.proofs.Lists.{all-head, all-tail}
 
@@ -17,10 +16,6 @@ module _ {A : Type 0} where
   pub sub-nothing : (ys : List A) → Sub [] ys
   sub-nothing [] = none-of
   sub-nothing (y ∷ ys) = left-out y (sub-nothing ys)
-
-  pub sub-all : (ys : List A) → Sub ys ys
-  sub-all [] = none-of
-  sub-all (y ∷ ys) = taken-in y (sub-all ys)
 
   pub sub-append : {xs ys us vs : List A} → Sub xs ys → Sub us vs → Sub (xs ++ us) (ys ++ vs)
   sub-append none-of t = t

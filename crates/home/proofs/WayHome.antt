@@ -1,34 +1,27 @@
 -- Demand 2: what goes out and comes home is the normal form, and the way home is refused only by 3, exactly when the normal form is
 -- over its room.
-use mathlib.Core.Path.{_≡_, refl, sym, ap, _∙_}
-use mathlib.Core.Bool.{Bool, true, false, _&&_, not}
-use mathlib.Core.List.{List, [], _∷_, map}
-use mathlib.Core.Option.{Option, none, some}
-use Prim.Native.Nat.{ℕ, suc}
+use mathlib.Core.Path.{_≡_, sym, ap, _∙_}
+use mathlib.Core.Bool.{true, false}
+use mathlib.Core.List.{List, [], _∷_}
+use mathlib.Core.Option.{Option}
+use Prim.Native.Nat.{ℕ}
 use lib.ListN.{length}
 use lib.Dec.{ltb, leb}
-use Rattle.text.specs.Choice.{pick, with-some}
-use Rattle.text.specs.Bytes.{Bytes, each}
+use Rattle.text.specs.Bytes.{Bytes}
 use Rattle.text.proofs.Cases.{byBool, and-true, testing}
-use Rattle.text.proofs.Choices.{some-same, both-inv}
-use Rattle.json.specs.Tree.{object}
-use Rattle.json.specs.Read.{tree, reading}
-use Rattle.line.specs.Physical.{sizeOf}
+use Rattle.text.proofs.Lists.{each-length}
 use Rattle.line.specs.Grammar.{Line, readLine}
-use Rattle.line.specs.Write.{writeLine, writeCard}
-use Rattle.line.proofs.Lines.{upperLine}
+use Rattle.line.specs.Write.{writeCard}
 use Rattle.convert.specs.Model.{Card}
 use Rattle.convert.specs.Classify.{classed}
 use Rattle.convert.specs.FromCard.{cardOfLines}
-use Rattle.convert.specs.ToJson.{membersJson, printJson}
-use Rattle.convert.specs.FromJson.{cardFromJson}
-use Rattle.convert.specs.Carry.{carried}
+use Rattle.convert.specs.ToJson.{printJson}
 use Rattle.convert.specs.ToCard.{cardLines, printCard}
 use Rattle.convert.specs.NormalCard.{normalLines, normalCard}
 use Rattle.convert.specs.NormalJson.{normalJson}
-use Rattle.convert.specs.Answers.{Answer, no, yes, Test, fine, seek, given, cardRoom, lineRoom, jsonRoom, isStemText, isCardNumber, rawLines, linesOf, orNone, lineTests, fitted, convertLines, convertCard, cardToJson, convertModel, convertTree, jsonToCard}
+use Rattle.convert.specs.Answers.{Answer, no, yes, seek, given, cardRoom, lineRoom, jsonRoom, isStemText, isCardNumber, rawLines, linesOf, orNone, fitted, cardToJson, convertModel, jsonToCard}
 use Rattle.home.specs.Proper.{ProperCard}
-use Rattle.home.proofs.Accepted.{GoodLines, AcceptedCard, accepted-card, AcceptedJson, accepted-json}
+use Rattle.home.proofs.Accepted.{GoodLines, accepted-card, accepted-json}
 use Rattle.home.proofs.JsonHome.{json-read, json-home}
 use Rattle.home.proofs.JsonProper.{json-proper}
 use Rattle.home.proofs.CardProper.{card-proper}
@@ -62,18 +55,10 @@ proper-json : (c : Card) → ProperCard c → ltb jsonRoom (length (printJson c)
 unfolding jsonToCard convertModel printCard seek
 proper-json c p r = rw (r, json-read c p, json-home c p, p .carries)
 
--- as many lines are read as were unfolded
-each-length : (raw : List Bytes) (ls : List Line) → each readLine raw ≡ some ls → length ls ≡ length raw
-unfolding each
-each-length [] ls e = ap length (sym (some-same e))
-each-length (r ∷ raw) ls e =
-    let i = both-inv _∷_ (readLine r) (each readLine raw) e in
-    ap length (sym (i .4)) ∙ ap suc (each-length raw (i .1) (i .3))
-
 -- an accepted card is proper
 pub card-is-proper : (stem : Bytes) (n : ℕ) (raw : List Bytes) → isStemText stem ≡ true → GoodLines raw (linesOf raw) → ProperCard (cardOfLines stem n (linesOf raw))
 card-is-proper stem n raw h g =
-    card-proper stem n raw (linesOf raw) h (g .read) (g .clean) (g .used) (g .once) (g .filled) (few (length raw) (length (linesOf raw)) (each-length raw (linesOf raw) (g .read)) (g .few))
+    card-proper stem n raw (linesOf raw) h (g .read) (g .clean) (g .used) (g .once) (g .filled) (few (length raw) (length (linesOf raw)) (each-length readLine raw (linesOf raw) (g .read)) (g .few))
   where
     few : (m k : ℕ) → k ≡ m → ltb lineRoom m ≡ false → leb k 512 ≡ true
     few m k e h = omega testing

@@ -1,5 +1,5 @@
 -- Clean bytes: UTF-8 without a control but tab. What is put together of clean bytes is clean; compact JSON is.
-use mathlib.Core.Path.{_≡_, refl, sym, ap, _∙_}
+use mathlib.Core.Path.{_≡_, refl, sym, _∙_}
 use mathlib.Core.Bool.{Bool, true, false, _&&_, not}
 use mathlib.Core.List.{List, [], _∷_, _++_}
 use Prim.Native.Nat.{ℕ}
@@ -8,9 +8,9 @@ use lib.Dec.{ltb}
 use borrow.Author.Tests.{ltb-false, le-ltb, ne-eqb}
 use Rattle.text.specs.Choice.{pick}
 use Rattle.text.specs.Bytes.{Bytes, ascii, is, any, all, between, joined}
-use Rattle.text.specs.Utf8.{run, utf8}
+use Rattle.text.specs.Utf8.{utf8}
 use Rattle.text.proofs.Cases.{byBelow, implied, beyond, and-left, and-right, not-true}
-use Rattle.text.proofs.Lists.{all-not, all-imply, any-imply, any-neither}
+use Rattle.text.proofs.Lists.{all-not, all-imply, any-neither, all-anything}
 use Rattle.text.proofs.Characters.{utf8-append}
 use Rattle.json.specs.Tree.{Json, jnull, jtrue, jfalse, jnum, jstr, jarr, jobj, Elems, enil, econs, Members, mnil, mcons}
 use Rattle.json.specs.Compact.{spelled, spelledAll, quoted, written, writtenElems, elemsAfter, writtenMembers, membersAfter, compact}
@@ -20,11 +20,11 @@ use Rattle.json.proofs.Sound.{Sound, SoundElems, SoundMembers}
 use Rattle.line.specs.Class.{isControl}
 use Rattle.line.specs.Text.{escape, writeText}
 use Rattle.convert.specs.Carry.{carriedRaw, carriedText}
-use Rattle.home.proofs.Expanded.{isAscii, ascii-utf8, escape-high, text-utf8, text-all, spelled-high, spelled-utf8, spelled-all}
+use Rattle.home.proofs.Expanded.{escape-high, text-utf8, text-all, spelled-high, spelled-utf8, spelled-all}
 use Rattle.home.proofs.NumberBytes.{isNumber, number-fits}
-
-abbrev pub Clean : Bytes → Type 0
-Clean s = (utf8 s ≡ true) × (any isControl s ≡ false)
+use Rattle.home.proofs.Clean.{isAscii, ascii-utf8, Clean, clean-none}
+use Rattle.home.proofs.Alls.{All}
+use Rattle.home.proofs.CleanTexts.{isPlain, clean-text as clean-carried}
 
 -- printed in ASCII
 abbrev pub isPrinted : ℕ → Bool
@@ -35,10 +35,6 @@ quiet c = not (isControl c)
 
 none-any : (s : Bytes) → all quiet s ≡ true → any isControl s ≡ false
 none-any s h = not-true (any isControl s) (sym (all-not isControl s) ∙ h)
-
-pub clean-none : Clean []
-unfolding utf8 run any
-clean-none = (refl, refl)
 
 pub clean-append : (s t : Bytes) → Clean s → Clean t → Clean (s ++ t)
 clean-append s t a b = (utf8-append s t (a .0) (b .0), any-neither isControl s t (a .1) (b .1))
@@ -51,11 +47,7 @@ clean-printed s h =
 pub clean-before : (s t : Bytes) → all isPrinted s ≡ true → Clean t → Clean (s ++ t)
 clean-before s t h c = clean-append s t (clean-printed s h) c
 
-abbrev pub AllClean : List Bytes → Type 0
-AllClean [] = Unit {0}
-AllClean (s ∷ ss) = Clean s × AllClean ss
-
-pub clean-joined : (d : Bytes) (ss : List Bytes) → all isPrinted d ≡ true → AllClean ss → Clean (joined d ss)
+pub clean-joined : (d : Bytes) (ss : List Bytes) → all isPrinted d ≡ true → All Clean ss → Clean (joined d ss)
 unfolding joined
 clean-joined d [] h c = clean-none
 clean-joined d (s ∷ []) h c = c .0
@@ -71,33 +63,26 @@ high-quiet : (c : ℕ) → isAscii c ≡ false → isControl c ≡ false
 unfolding isControl
 high-quiet c l = let h = ltb-false c 128 l in rw (le-ltb c 32 (omega arith), ne-eqb c 127 (omega arith))
 
--- what TEXT carries: no control but tab and LF
-abbrev carriable : ℕ → Bool
-carriable c = not (isControl c && not (is 10 c))
-
-high-escape : (k : Bool) (c : ℕ) → isAscii c ≡ false → pick (carriable c) (all quiet (escape k c)) true ≡ true
+high-escape : (k : Bool) (c : ℕ) → isAscii c ≡ false → pick (isPlain c) (all quiet (escape k c)) true ≡ true
 unfolding all
 high-escape k c l = rw (escape-high k c l, high-quiet c l)
 
-escape-quiet : (k : Bool) (c : ℕ) → pick (carriable c) (all quiet (escape k c)) true ≡ true
+escape-quiet : (k : Bool) (c : ℕ) → pick (isPlain c) (all quiet (escape k c)) true ≡ true
 unfolding escape all isControl
-escape-quiet true c = byBelow (λ c. pick (carriable c) (all quiet (escape true c)) true) (λ c. true) c 128 refl (high-escape true c)
-escape-quiet false c = byBelow (λ c. pick (carriable c) (all quiet (escape false c)) true) (λ c. true) c 128 refl (high-escape false c)
+escape-quiet true c = byBelow (λ c. pick (isPlain c) (all quiet (escape true c)) true) (λ c. true) c 128 refl (high-escape true c)
+escape-quiet false c = byBelow (λ c. pick (isPlain c) (all quiet (escape false c)) true) (λ c. true) c 128 refl (high-escape false c)
 
-escape-carried : (k : Bool) (c : ℕ) → carriable c ≡ true → all quiet (escape k c) ≡ true
+escape-carried : (k : Bool) (c : ℕ) → isPlain c ≡ true → all quiet (escape k c) ≡ true
 escape-carried k c h = let r = escape-quiet k c in rw h at r
 
 pub text-clean : (k : Bool) (s : Bytes) → utf8 s ≡ true → carriedText s ≡ true → Clean (writeText k s)
 unfolding carriedText
-text-clean k s u h = (text-utf8 k s u, none-any (writeText k s) (text-all k carriable quiet (escape-carried k) s (all-not (λ c. isControl c && not (is 10 c)) s ∙ h)))
-
-quiet-carriable : (c : ℕ) → isControl c ≡ false → isControl c && not (is 10 c) ≡ false
-quiet-carriable c h = rw h
+text-clean k s u h = (text-utf8 k s u, none-any (writeText k s) (text-all k isPlain quiet (escape-carried k) s (all-not (λ c. isControl c && not (is 10 c)) s ∙ h)))
 
 -- what is clean may be written as TEXT
 pub clean-text : (k : Bool) (s : Bytes) → Clean s → Clean (writeText k s)
 unfolding carriedText
-clean-text k s c = text-clean k s (c .0) (ap not (any-imply isControl (λ c. isControl c && not (is 10 c)) quiet-carriable s (c .1)))
+clean-text k s c = text-clean k s (c .0) (clean-carried s c .1)
 
 -- ---- compact JSON
 
@@ -109,13 +94,8 @@ spelled-quiet : (c : ℕ) → all quiet (spelled c) ≡ true
 unfolding spelled all isControl
 spelled-quiet c = byBelow (λ c. all quiet (spelled c)) (λ c. true) c 128 refl (λ l. high-spelled c l)
 
-every : (s : Bytes) → all (λ c. true) s ≡ true
-unfolding all
-every [] = refl
-every (c ∷ s) = every s
-
 spelled-clean : (s : Bytes) → utf8 s ≡ true → Clean (spelledAll s)
-spelled-clean s u = (spelled-utf8 s u, none-any (spelledAll s) (spelled-all (λ c. true) quiet (λ c h. spelled-quiet c) s (every s)))
+spelled-clean s u = (spelled-utf8 s u, none-any (spelledAll s) (spelled-all (λ c. true) quiet (λ c h. spelled-quiet c) s (all-anything s)))
 
 high-number : (c : ℕ) → isAscii c ≡ false → isNumber c ≡ false
 unfolding isNumber isE

@@ -4,6 +4,7 @@ use mathlib.Core.Bool.{Bool, true, false, _&&_, _||_}
 use mathlib.Core.List.{List, [], _∷_, _++_, map}
 use mathlib.Core.Option.{some}
 use Prim.Native.Nat.{ℕ, suc, _+_}
+use native.Mathlib.Omega.{arith}
 use lib.ListN.{length}
 use Rattle.text.specs.Bytes.{Bytes, is, all, empty, between, upper, uppered}
 use Rattle.text.specs.Reader.{got, first, on}
@@ -56,6 +57,11 @@ upper-count : (ps : List Param) → valueCount (map upperParam ps) ≡ valueCoun
 unfolding valueCount
 upper-count [] = refl
 upper-count (param n vs ∷ ps) = ap (λ (x : ℕ). length vs + x) (upper-count ps)
+
+pub count-append : (ps qs : List Param) → valueCount (ps ++ qs) ≡ valueCount ps + valueCount qs
+unfolding valueCount
+count-append [] qs = omega arith
+count-append (param n vs ∷ ps) qs = omega (arith, count-append ps qs)
 
 pub upper-accepted : (l : Line) → accepted (upperLine l) ≡ accepted l
 unfolding accepted fits isFrameName

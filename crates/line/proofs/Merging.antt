@@ -33,7 +33,7 @@ keep-settled p [] h = tt
 keep-settled p (param n vs ∷ ps) h =
     byBool (p (param n vs)) (λ e. rw e (h .0, keep-unnamed n p ps (h .1), keep-settled p ps (h .2))) (λ e. rw e (keep-settled p ps (h .2)))
 
-none-left : (n : Bytes) (ps : List Param) → any (named n) (lacking n ps) ≡ false
+pub none-left : (n : Bytes) (ps : List Param) → any (named n) (lacking n ps) ≡ false
 unfolding lacking keep any
 none-left n [] = refl
 none-left n (p ∷ ps) = byBool (named n p) (λ e. rw e (none-left n ps)) (λ e. rw (e, e) (none-left n ps))

@@ -49,6 +49,10 @@ pub or-right : (a b : Bool) → a || b ≡ false → b ≡ false
 or-right true b e = cc
 or-right false b e = e
 
+pub or-second : (a b : Bool) → b ≡ true → a || b ≡ true
+or-second true b e = refl
+or-second false b e = e
+
 pub not-true : (a : Bool) → not a ≡ true → a ≡ false
 not-true true e = cc
 not-true false e = refl

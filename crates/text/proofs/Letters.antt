@@ -4,7 +4,7 @@ use mathlib.Core.Bool.{Bool, false}
 use mathlib.Core.List.{[], _∷_, _++_, map}
 use Prim.Native.Nat.{ℕ, _+_, _-_}
 use lib.Dec.{ltb}
-use Rattle.text.specs.Bytes.{Bytes, ascii, between, isLower, isUpper, lower, upper, lowered, uppered}
+use Rattle.text.specs.Bytes.{Bytes, ascii, between, isLower, isUpper, lower, upper, lowered, uppered, empty}
 use Rattle.text.proofs.Cases.{byBelow, upTo, tests, beyond}
 
 -- from 128 on there is no letter
@@ -78,3 +78,8 @@ lowered-append (c ∷ s) t = ap (λ (x : Bytes). lower c ∷ x) (lowered-append 
 mixed : lowered (uppered (ascii "a-Z9")) ≡ ascii "a-z9"
 unfolding lowered uppered lower upper between
 mixed = refl
+
+pub lowered-empty : (s : Bytes) → empty (lowered s) ≡ empty s
+unfolding lowered
+lowered-empty [] = refl
+lowered-empty (c ∷ s) = refl

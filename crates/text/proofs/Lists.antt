@@ -1,11 +1,14 @@
 -- any, all, keep and each over lists.
-use mathlib.Core.Path.{_≡_, refl, ap, _∙_}
+use mathlib.Core.Path.{_≡_, refl, ap, _∙_, sym}
 use mathlib.Core.Bool.{Bool, true, false, _&&_, _||_, not}
 use mathlib.Core.List.{List, [], _∷_, _++_, map, append-assoc}
 use mathlib.Core.Option.{Option, none, some}
-use Rattle.text.specs.Bytes.{any, all, keep, flat, each}
+use Prim.Native.Nat.{suc, _≤_}
+use native.Mathlib.Omega.{arith}
+use lib.ListN.{length}
+use Rattle.text.specs.Bytes.{any, all, keep, flat, each, empty}
 use Rattle.text.proofs.Choices.{some-same, both-inv}
-use Rattle.text.proofs.Cases.{byBool, and-left, and-right, or-left, or-right}
+use Rattle.text.proofs.Cases.{byBool, and-left, and-right, or-left, or-right, not-both}
 
 module _ {A : Type 0} (p : A → Bool) where
   pub any-append : (xs ys : List A) → any p (xs ++ ys) ≡ any p xs || any p ys
@@ -136,3 +139,27 @@ each-both f [] ys us vs p q = q ∙ ap (λ l. some (l ++ vs)) (some-same p)
 each-both f (x ∷ xs) ys us vs p q =
     let i = both-inv _∷_ (f x) (each f xs) p in
     rw (i .2, each-both f xs ys (i .1) vs (i .3) q) (ap (λ l. some (l ++ vs)) (i .4))
+
+pub all-anything : {A : Type 0} (xs : List A) → all (λ x. true) xs ≡ true
+unfolding all
+all-anything [] = refl
+all-anything (x ∷ xs) = all-anything xs
+
+-- a list that is not filled
+pub not-full : {A : Type 0} (xs : List A) → not (empty xs) ≡ false → xs ≡ []
+not-full [] e = refl
+not-full (x ∷ xs) e = not-both refl e
+
+-- ---- lengths
+
+pub length-keep : {A : Type 0} (p : A → Bool) (xs : List A) → length (keep p xs) ≤ length xs
+unfolding keep
+length-keep p [] = omega arith
+length-keep p (x ∷ xs) = byBool (p x) (λ e. rw e (omega (arith, length-keep p xs))) (λ e. rw e (omega (arith, length-keep p xs)))
+
+pub each-length : {A B : Type 0} (f : A → Option B) (xs : List A) (ys : List B) → each f xs ≡ some ys → length ys ≡ length xs
+unfolding each
+each-length f [] ys e = ap length (sym (some-same e))
+each-length f (x ∷ xs) ys e =
+    let i = both-inv _∷_ (f x) (each f xs) e in
+    ap length (sym (i .4)) ∙ ap suc (each-length f xs (i .1) (i .3))
