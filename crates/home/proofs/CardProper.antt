@@ -80,9 +80,10 @@ made-fine stem n h =
     let s = all-imply isStem isPlain stem-plain stem (and-right (filled stem && leb (length stem) 200) _ h) in
     let d = all-cons isPlain 45 (decimal n) hyphen-plain (all-imply isDigit isPlain digit-plain (decimal n) (decimal-digits n)) in
     let u = all-both isPlain stem (45 ∷ decimal n) s d in
-    let t : Bytes = stem ++ 45 ∷ decimal n in
-    (and-true (append-filled stem (45 ∷ decimal n) (and-left (filled stem) _ a)) (ascii-utf8 t (all-imply isPlain isAscii (λ c e. and-left (isAscii c) _ e) t u)),
-     ap not (all-none isPlain isControl plain-control t u))
+    let t : Bytes = stem ++ 45 ∷ decimal n in (
+      and-true (append-filled stem (45 ∷ decimal n) (and-left (filled stem) _ a)) (ascii-utf8 t (all-imply isPlain isAscii (λ c e. and-left (isAscii c) _ e) t u)),
+      ap not (all-none isPlain isControl plain-control t u),
+    )
   where
     plain-control : (c : ℕ) → isPlain c ≡ true → isControl c ≡ false
     plain-control c e = byBool (isControl c) (λ q. not-both (and-right (isAscii c) _ e) (ap not q)) (λ q. q)

@@ -155,15 +155,17 @@ module _ (t : Seen) where
   stand-given l (as-entry i e) h = tt
   stand-given l (as-member n j) h = tt
   stand-given l as-kept h =
-      let f = h .0 .0 in
-      (stands t (keptLine l) (record {
-        name = name-word l f;
-        other = h .0 .1;
-        type = type-lower l f;
-        params = params-lower l f;
-        fit = params-fit l f;
-        kept = kept-class t (h .1 .0) l f (h .1 .1) (h .1 .2);
-      }), tt)
+      let f = h .0 .0 in (
+        stands t (keptLine l) (record {
+          name = name-word l f;
+          other = h .0 .1;
+          type = type-lower l f;
+          params = params-lower l f;
+          fit = params-fit l f;
+          kept = kept-class t (h .1 .0) l f (h .1 .1) (h .1 .2);
+        }),
+        tt,
+      )
 
 -- ---- how many entries
 

@@ -43,12 +43,14 @@ module _ (m : Map) (t : ltb (m .types) 10 ≡ true) where
   with-proper [] es h d = tt
   with-proper (k ∷ ks) [] h d = tt
   with-proper (k ∷ ks) (e ∷ es) h d =
-      let f = d .0 in
-      (record {
-        proper = record { key = all-head isKeyText k ks h; texts = f .texts .form; codes = f .codes; order = f .order; table = t; pref = f .pref };
-        which = f .which;
-        texts-utf8 = f .texts .in-utf8;
-      }, with-proper ks es (all-tail isKeyText k ks h) (d .1))
+      let f = d .0 in (
+        record {
+          proper = record { key = all-head isKeyText k ks h; texts = f .texts .form; codes = f .codes; order = f .order; table = t; pref = f .pref };
+          which = f .which;
+          texts-utf8 = f .texts .in-utf8;
+        },
+        with-proper ks es (all-tail isKeyText k ks h) (d .1),
+      )
 
   with-carried : (ks : List Bytes) (es : List Entry) → All (Drawn m) es → all (λ (e : Entry). carriedAs (m .form) (e .texts)) (withKeys ks es) ≡ true
   unfolding withKeys all
@@ -125,9 +127,10 @@ maps-from i (m ∷ ms) ps x r h l d =
     let t : ltb (m .types) 10 ≡ true = and-left (ltb (m .types) 10) _ f in
     let g = in-map m i ps (suffix-head i m ms x) h in
     let later = maps-from (suc i) ms ps (suffix-later i m ms x) (all-tail fitRow m ms r) h l d in
-    let texts = keys-texts (m .prefix) (map keyOf es) (and-right (ltb (m .types) 10) _ f) (omega (arith, map-length es, in-length i ps)) (drawn-ids m es g) in
-    ((with-proper m t (keys (m .prefix) (map keyOf es)) es texts g, ap distinct (keyed-keys m es) ∙ keys-distinct (m .prefix) (map keyOf es) (d i), later .0),
-     and-true (with-carried m t (keys (m .prefix) (map keyOf es)) es g) (later .1))
+    let texts = keys-texts (m .prefix) (map keyOf es) (and-right (ltb (m .types) 10) _ f) (omega (arith, map-length es, in-length i ps)) (drawn-ids m es g) in (
+      (with-proper m t (keys (m .prefix) (map keyOf es)) es texts g, ap distinct (keyed-keys m es) ∙ keys-distinct (m .prefix) (map keyOf es) (d i), later .0),
+      and-true (with-carried m t (keys (m .prefix) (map keyOf es)) es g) (later .1),
+    )
 
 whole : Suffix 0 maps
 whole k m e = let z : 0 + k ≡ k = omega arith in ap (λ (x : ℕ). at x maps) z ∙ e
@@ -169,7 +172,7 @@ ids-have j zero (o ∷ ms) m ps k a e h =
     let h′ : among k (map keyOf (inMap j ps)) ≡ true = subst (λ (x : ℕ). among k (map keyOf (inMap x ps)) ≡ true) z h in
     let es : List Entry = keyedEntries o (inMap j ps) in
     let q : among k (map keyOf es) ≡ true =
-        ap (among k) (keyed-keys o (inMap j ps)) ∙ keys-keep (o .prefix) (keep (λ k. not (empty k)) (map keyOf (inMap j ps))) (map keyOf (inMap j ps)) k e h′ in
+    ap (among k) (keyed-keys o (inMap j ps)) ∙ keys-keep (o .prefix) (keep (λ k. not (empty k)) (map keyOf (inMap j ps))) (map keyOf (inMap j ps)) k e h′ in
     subst (λ (x : ℕ). any (isId x k) (map (λ (e : Entry). id j (e .key)) es ++ idsFrom (suc j) (mapsFrom (suc j) ms ps)) ≡ true) (sym z)
     (any-append (isId j k) (map (λ (e : Entry). id j (e .key)) es) (idsFrom (suc j) (mapsFrom (suc j) ms ps)) ∙ or-first _ _ (id-here j k es q))
 ids-have j (suc n) (o ∷ ms) m ps k a e h =

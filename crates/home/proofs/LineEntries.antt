@@ -113,12 +113,14 @@ entry-drawn s w l e h o q =
     let key = key-inv s (w .index) (valuesNamed (ascii "prop-id") ps) (k .0) (k .1) in
     let types = types-inv (w .map .types) (valuesNamed (ascii "type") ps) (t .0) (t .1) in
     let only = and-right (empty (l .group)) (onlyNamed (allowed (w .map .types)) ps) (and-left n (takesType (w .map .form) type) (a .0)) in
-    subst (λ (e : Entry). Drawn (w .map) e × (empty (e .key) || not (any (isId (w .index) (e .key)) (s .ids)) ≡ true)) (some-same (v .2))
-    (record {
-      key = key .0;
-      texts = read-well (w .map .form) type (l .value) (v .0) (h .value) (v .1);
-      codes = types .0;
-      order = types .1;
-      pref = pref-inv (w .map .types) ps (p .0) only (p .1);
-      which = o;
-    }, key .1)
+    subst (λ (e : Entry). Drawn (w .map) e × (empty (e .key) || not (any (isId (w .index) (e .key)) (s .ids)) ≡ true)) (some-same (v .2)) (
+      record {
+        key = key .0;
+        texts = read-well (w .map .form) type (l .value) (v .0) (h .value) (v .1);
+        codes = types .0;
+        order = types .1;
+        pref = pref-inv (w .map .types) ps (p .0) only (p .1);
+        which = o;
+      },
+      key .1,
+    )

@@ -107,7 +107,7 @@ count-append [] qs = omega arith
 count-append (param n vs ∷ ps) qs = omega (arith, count-append ps qs)
 
 -- VALUE stands there once more only where it stood
-value-less : (vs : List Bytes) (t : Bytes) → t ≡ lowered (firstOr (ascii "unknown") vs) 
+value-less : (vs : List Bytes) (t : Bytes) → t ≡ lowered (firstOr (ascii "unknown") vs)
     → ((length (valueParam t) ≡ 0) × (valueCount (valueParam t) ≡ 0)) ⊎ ((empty vs ≡ false) × (length (valueParam t) ≡ 1) × (valueCount (valueParam t) ≡ 1))
 unfolding valueCount lowered lower between same
 value-less [] t e = inl (rw e (refl, refl))
@@ -124,8 +124,8 @@ kept-fits ps h =
     let d = count-append (merged qs) (valueParam t) in
     let e = length-append (merged qs) (valueParam t) in
     elim (value-less (valuesNamed (ascii "value") ps) t refl) [
-      inl q ↦ and-true (le-leb (length (merged qs ++ valueParam t)) 32 (omega (arith, a, e, q .0, merged-length qs, lacking-length (ascii "value") ps))) (le-leb (valueCount (merged qs ++ valueParam t)) 64 (omega (arith, b, c, d, q .1, merged-count qs)))
-    | inr q ↦ and-true (le-leb (length (merged qs ++ valueParam t)) 32 (omega (arith, a, e, q .1, merged-length qs, lacking-one-less (ascii "value") ps (q .0)))) (le-leb (valueCount (merged qs ++ valueParam t)) 64 (omega (arith, b, c, d, q .2, merged-count qs, some-length (valuesNamed (ascii "value") ps) (q .0))))
+      | inl q ↦ and-true (le-leb (length (merged qs ++ valueParam t)) 32 (omega (arith, a, e, q .0, merged-length qs, lacking-length (ascii "value") ps))) (le-leb (valueCount (merged qs ++ valueParam t)) 64 (omega (arith, b, c, d, q .1, merged-count qs)))
+      | inr q ↦ and-true (le-leb (length (merged qs ++ valueParam t)) 32 (omega (arith, a, e, q .1, merged-length qs, lacking-one-less (ascii "value") ps (q .0)))) (le-leb (valueCount (merged qs ++ valueParam t)) 64 (omega (arith, b, c, d, q .2, merged-count qs, some-length (valuesNamed (ascii "value") ps) (q .0))))
     ]
   where
     some-length : (vs : List Bytes) → empty vs ≡ false → 1 ≤ length vs

@@ -129,9 +129,10 @@ pub merged-hold : (M N W : Bytes → Type 0) → ((n : Bytes) → M n → N (low
 unfolding merged lacking
 merged-hold M N W f [] h = tt
 merged-hold M N W f (param n vs ∷ ps) h =
-    let t = merged-hold M N W f ps (h .1) in
-    ((f n (h .0 .0), more-filled vs (valuesNamed (lowered n) (merged ps)) (h .0 .1), all-joined W vs (valuesNamed (lowered n) (merged ps)) (h .0 .2) (named-hold W (lowered n) (merged ps) (all-values N W (merged ps) t))),
-     all-kept (Holds N W) (λ p. not (named (lowered n) p)) (merged ps) t)
+    let t = merged-hold M N W f ps (h .1) in (
+      (f n (h .0 .0), more-filled vs (valuesNamed (lowered n) (merged ps)) (h .0 .1), all-joined W vs (valuesNamed (lowered n) (merged ps)) (h .0 .2) (named-hold W (lowered n) (merged ps) (all-values N W (merged ps) t))),
+      all-kept (Holds N W) (λ p. not (named (lowered n) p)) (merged ps) t,
+    )
 
 -- ---- DERIVED=TRUE alone
 

@@ -126,8 +126,10 @@ new-entry i s j e ps n h =
     byBool (eqb i j)
     (λ p. let z : i ≡ j = eqb-true i j p in
     let here : among (e .key) (idsIn i ps) ≡ false = h .1 (e .key) (rw q (seen-here i j (e .key) (s .ids) p)) in
-    rw (p, q) (one-more (e .key) (idsIn i ps) here (h .0),
-    λ k r. not-among k (e .key) (idsIn i ps) (byBool (same k (e .key)) (λ v. not-both (subst (λ (x : Bytes). any (isId i x) (s .ids) ≡ true) (same-true k (e .key) v) r) (subst (λ (x : ℕ). any (isId x (e .key)) (s .ids) ≡ false) (sym z) u)) (λ v. v)) (t k r)))
+    rw (p, q) (
+      one-more (e .key) (idsIn i ps) here (h .0),
+      λ k r. not-among k (e .key) (idsIn i ps) (byBool (same k (e .key)) (λ v. not-both (subst (λ (x : Bytes). any (isId i x) (s .ids) ≡ true) (same-true k (e .key) v) r) (subst (λ (x : ℕ). any (isId x (e .key)) (s .ids) ≡ false) (sym z) u)) (λ v. v)) (t k r),
+    ))
     (λ p. rw p (h .0, t)))
 
 new-id : (i : ℕ) (s : Seen) (l : Line) (c : Class) (ps : List Placed) → NewClass s c → NewIds i (see s c) ps → NewIds i s (gives l c .entry ++ ps)

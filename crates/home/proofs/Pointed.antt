@@ -112,10 +112,13 @@ no-control = (refl, refl)
 pub pointed-clean : (p n : Bytes) → CleanValue p → pointed p ≡ some n → (filled n ≡ true) × CleanValue n
 unfolding pointed
 pointed-clean p n h e =
-    let i = provided-inv (not (empty p)) (pointedFrom false p) e in
-    (point-filled p n (i .0) (i .1),
-     ((run-utf8 n (point-run false start p n refl (utf8-run p (h .0 .0)) (i .1)), point-none isControl (no-control .0) (no-control .1) false p n (h .0 .1) (i .1)),
-      point-none (is 34) refl refl false p n (h .1) (i .1)))
+    let i = provided-inv (not (empty p)) (pointedFrom false p) e in (
+      point-filled p n (i .0) (i .1),
+      (
+        (run-utf8 n (point-run false start p n refl (utf8-run p (h .0 .0)) (i .1)), point-none isControl (no-control .0) (no-control .1) false p n (h .0 .1) (i .1)),
+        point-none (is 34) refl refl false p n (h .1) (i .1),
+      ),
+    )
 
 -- ---- the member
 

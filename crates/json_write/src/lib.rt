@@ -1,0 +1,122 @@
+// Compact JSON: strings, numbers and names, each written to a lent part of the output. (`output::put_text` writes true, false and null.)
+use output::Wrote;
+use output::put_byte;
+use output::put_text;
+ghost use mathlib.Core.Path.{_≡_};
+ghost use mathlib.Core.List.{_∷_, []};
+ghost use Prim.Native.Nat.{_+_, _<_};
+ghost use Rattle.output.specs.Put.{Puts};
+ghost use Rattle.text.specs.Decimal.{decimal};
+ghost use Rattle.json.specs.Compact.{hexDigit, spelled, spelledAll, quoted};
+ghost use Rattle.json_write.specs.Pieces.{coded};
+
+fn hex_digit(d: u8) -> u8
+    requires { ⌜ d < 16 ⌝ }
+    ensures { λ r. ⌜ r ≡ hexDigit d ⌝ }
+{
+    if d < 10 { 48 + d } else { 87 + d }
+}
+
+// A byte by its number.
+fn put_code(out: &mut [u8], c: u8) -> Wrote
+    ensures { λ r. ⌜ Puts (now (out .entry)) (coded c) r (now (out .exit)) ⌝ }
+{
+    let g = [92, 117, 48, 48, hex_digit(c / 16), hex_digit(c % 16)];
+    put_text(out, &g)
+}
+
+// A byte of a string, escaped where it must be.
+fn put_byte_spelled(out: &mut [u8], c: u8) -> Wrote
+    ensures { λ r. ⌜ Puts (now (out .entry)) (spelled c) r (now (out .exit)) ⌝ }
+{
+    if c == b'"' {
+        return put_text(out, b"\\\"");
+    }
+    if c == b'\\' {
+        return put_text(out, b"\\\\");
+    }
+    if c == 8 {
+        return put_text(out, b"\\b");
+    }
+    if c == 9 {
+        return put_text(out, b"\\t");
+    }
+    if c == 10 {
+        return put_text(out, b"\\n");
+    }
+    if c == 12 {
+        return put_text(out, b"\\f");
+    }
+    if c == 13 {
+        return put_text(out, b"\\r");
+    }
+    if (c < 32) | (c == 127) {
+        return put_code(out, c);
+    }
+    put_byte(out, c)
+}
+
+// A string without its quotes.
+pub fn put_spelled(out: &mut [u8], s: &[u8]) -> Wrote
+    ensures { λ r. ⌜ Puts (now (out .entry)) (spelledAll (now (s .entry))) r (now (out .exit)) ⌝ }
+{
+    let mut at = 0;
+    let mut i = 0;
+    while i < s.len() {
+        let Wrote::Bytes(n) = put_byte_spelled(&mut out[at..], s[i]) else {
+            return Wrote::Full;
+        };
+        at += n;
+        i += 1;
+    }
+    Wrote::Bytes(at)
+}
+
+// A string.
+pub fn put_string(out: &mut [u8], s: &[u8]) -> Wrote
+    ensures { λ r. ⌜ Puts (now (out .entry)) (quoted (now (s .entry)) []) r (now (out .exit)) ⌝ }
+{
+    let Wrote::Bytes(a) = put_byte(out, b'"') else {
+        return Wrote::Full;
+    };
+    let Wrote::Bytes(b) = put_spelled(&mut out[a..], s) else {
+        return Wrote::Full;
+    };
+    let ab = a + b;
+    let Wrote::Bytes(c) = put_byte(&mut out[ab..], b'"') else {
+        return Wrote::Full;
+    };
+    let abc = ab + c;
+    Wrote::Bytes(abc)
+}
+
+// The name of a member, with its colon.
+pub fn put_name(out: &mut [u8], s: &[u8]) -> Wrote
+    ensures { λ r. ⌜ Puts (now (out .entry)) (quoted (now (s .entry)) (58 ∷ [])) r (now (out .exit)) ⌝ }
+{
+    let Wrote::Bytes(a) = put_string(out, s) else {
+        return Wrote::Full;
+    };
+    let Wrote::Bytes(b) = put_byte(&mut out[a..], b':') else {
+        return Wrote::Full;
+    };
+    let ab = a + b;
+    Wrote::Bytes(ab)
+}
+
+// A number in decimal.
+pub fn put_number(out: &mut [u8], n: usize) -> Wrote
+    ensures { λ r. ⌜ Puts (now (out .entry)) (decimal n) r (now (out .exit)) ⌝ }
+{
+    if n < 10 {
+        return put_byte(out, 48 + n as u8);
+    }
+    let Wrote::Bytes(a) = put_number(out, n / 10) else {
+        return Wrote::Full;
+    };
+    let Wrote::Bytes(b) = put_byte(&mut out[a..], 48 + (n % 10) as u8) else {
+        return Wrote::Full;
+    };
+    let ab = a + b;
+    Wrote::Bytes(ab)
+}
