@@ -1,14 +1,18 @@
 // Compact JSON: strings, numbers and names, each written to a lent part of the output. (`output::put_text` writes true, false and null.)
+use json_strings::Byte;
+use json_strings::next_byte;
 use output::Wrote;
 use output::put_byte;
 use output::put_text;
 ghost use mathlib.Core.Path.{_≡_};
 ghost use mathlib.Core.List.{_∷_, []};
-ghost use Prim.Native.Nat.{_+_, _<_};
+ghost use Prim.Native.Nat.{_+_, _≤_, _<_};
+ghost use lib.ListN.{length};
 ghost use Rattle.output.specs.Put.{Puts};
 ghost use Rattle.text.specs.Decimal.{decimal};
 ghost use Rattle.json.specs.Compact.{hexDigit, spelled, spelledAll, quoted};
 ghost use Rattle.json_write.specs.Pieces.{coded};
+ghost use Rattle.json_write.specs.Writes.{Writes, respelled};
 
 fn hex_digit(d: u8) -> u8
     requires { ⌜ d < 16 ⌝ }
@@ -119,4 +123,32 @@ pub fn put_number(out: &mut [u8], n: usize) -> Wrote
     };
     let ab = a + b;
     Wrote::Bytes(ab)
+}
+
+// The string from a place on (after its first quote), without its quotes and spelled anew.
+pub fn put_respelled(out: &mut [u8], s: &[u8], from: usize) -> Wrote
+    requires { ⌜ from ≤ length (now s) ⌝ }
+    ensures { λ r. ⌜ Writes (respelled (now (s .entry)) from) (now (out .entry)) r (now (out .exit)) ⌝ }
+{
+    let mut at = 0;
+    let mut i = from;
+    let mut h = 0;
+    loop {
+        match next_byte(s, i, h) {
+            Byte::Alone => {
+                return Wrote::Bytes(at);
+            }
+            Byte::End => {
+                return Wrote::Bytes(at);
+            }
+            Byte::One(b, j, g) => {
+                let Wrote::Bytes(n) = put_byte_spelled(&mut out[at..], b) else {
+                    return Wrote::Full;
+                };
+                at += n;
+                i = j;
+                h = g;
+            }
+        }
+    }
 }
