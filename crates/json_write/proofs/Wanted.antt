@@ -13,7 +13,7 @@ use Rattle.text.specs.Bytes.{Bytes}
 use Rattle.output.specs.declared.Wrote.{Wrote}
 use Rattle.output.specs.declared.Wrote.the-variants.{Bytes as Wrote-Bytes, Full}
 use Rattle.output.specs.Put.{Puts, Sofar}
-use Rattle.output.proofs.Laws.{start, done, next, stop, more, puts-as}
+use Rattle.output.proofs.Laws.{start, done, next, stop, more, puts-as, first, first-full}
 use Rattle.json.specs.Strings.{before}
 use Rattle.json_write.specs.Writes.{Writes, Toward, chained}
 
@@ -67,6 +67,20 @@ toward-stop {want} {w} z t p e =
     let u = t .is v q in
     let k = chained-some w z (u .0) (u .1) in
     (k .1, u .2 ∙ ap (λ (l : Bytes). t .x ++ l) (k .4 ∙ ap (λ (l : Bytes). l ++ k .1) (sym (p .is (k .0) (k .2)))) ∙ sym (append-assoc (t .x) (p .bytes) (k .1)))
+
+-- the first writer is lent the whole room
+pub toward-first : {want w : Option Bytes} {room last : Bytes} {n : ℕ} {r : Wrote} (z : Option Bytes) → want ≡ chained w z → Writes w room r last → r ≡ Wrote-Bytes n → Toward want room z n last
+toward-first {w = w} z c p e = record {
+  x = p .bytes;
+  so = first (p .puts) e;
+  is = λ v q. let k = chained-some w z v (sym c ∙ q) in (k .1, k .3, k .4 ∙ ap (λ (l : Bytes). l ++ k .1) (sym (p .is (k .0) (k .2))));
+}
+
+pub toward-never : {want w : Option Bytes} {room last : Bytes} {r : Wrote} (z : Option Bytes) → want ≡ chained w z → Writes w room r last → r ≡ Full → Writes want room Full last
+toward-never {want} {w} z c p e =
+    short want (first-full (p .puts) e) λ v q.
+    let k = chained-some w z v (sym c ∙ q) in
+    (k .1, k .4 ∙ ap (λ (l : Bytes). l ++ k .1) (sym (p .is (k .0) (k .2))))
 
 -- nothing is left, or nothing was wanted
 pub toward-done : {want rest : Option Bytes} {room out : Bytes} {at : ℕ} → rest ≡ some [] → Toward want room rest at out → Writes want room (Wrote-Bytes at) out

@@ -1,13 +1,13 @@
 -- Writers of what a text stands for, where it stands for something.
 use mathlib.Core.Path.{_≡_}
-use mathlib.Core.List.{_++_}
+use mathlib.Core.List.{[], _++_}
 use mathlib.Core.Option.{Option, some, Option·map}
 use Prim.Native.Nat.{ℕ}
 use Rattle.text.specs.Choice.{both}
 use Rattle.text.specs.Bytes.{Bytes}
 use Rattle.output.specs.declared.Wrote.{Wrote}
 use Rattle.output.specs.Put.{Puts, Sofar}
-use Rattle.json.specs.Compact.{spelledAll}
+use Rattle.json.specs.Compact.{spelledAll, quoted}
 use Rattle.json_strings.specs.Spelled.{spelled}
 
 -- some bytes were written, and if any are wanted, those
@@ -29,3 +29,7 @@ chained w z = both _++_ w z
 -- the string from a place on, spelled anew
 unfoldable pub respelled : Bytes → ℕ → Option Bytes
 respelled s at = Option·map spelledAll (spelled s at)
+
+-- the same with its quotes
+unfoldable pub requoted : Bytes → ℕ → Option Bytes
+requoted s at = Option·map (λ x. quoted x []) (spelled s at)

@@ -12,7 +12,7 @@ ghost use Rattle.output.specs.Put.{Puts};
 ghost use Rattle.text.specs.Decimal.{decimal};
 ghost use Rattle.json.specs.Compact.{hexDigit, spelled, spelledAll, quoted};
 ghost use Rattle.json_write.specs.Pieces.{coded};
-ghost use Rattle.json_write.specs.Writes.{Writes, respelled};
+ghost use Rattle.json_write.specs.Writes.{Writes, respelled, requoted};
 
 fn hex_digit(d: u8) -> u8
     requires { ⌜ d < 16 ⌝ }
@@ -151,4 +151,23 @@ pub fn put_respelled(out: &mut [u8], s: &[u8], from: usize) -> Wrote
             }
         }
     }
+}
+
+// The same with its quotes.
+pub fn put_requoted(out: &mut [u8], s: &[u8], from: usize) -> Wrote
+    requires { ⌜ from ≤ length (now s) ⌝ }
+    ensures { λ r. ⌜ Writes (requoted (now (s .entry)) from) (now (out .entry)) r (now (out .exit)) ⌝ }
+{
+    let Wrote::Bytes(a) = put_byte(out, b'"') else {
+        return Wrote::Full;
+    };
+    let Wrote::Bytes(b) = put_respelled(&mut out[a..], s, from) else {
+        return Wrote::Full;
+    };
+    let ab = a + b;
+    let Wrote::Bytes(c) = put_byte(&mut out[ab..], b'"') else {
+        return Wrote::Full;
+    };
+    let abc = ab + c;
+    Wrote::Bytes(abc)
 }
