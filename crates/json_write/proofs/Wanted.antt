@@ -1,6 +1,6 @@
 -- Writing piece by piece what may be wanted.
 use mathlib.Core.Path.{_≡_, refl, sym, ap, _∙_}
-use mathlib.Core.List.{[], _∷_, _++_, append-assoc, append-nil}
+use mathlib.Core.List.{[], _++_, append-assoc, append-nil}
 use mathlib.Core.Option.{Option, none, some}
 use Prim.Native.Nat.{ℕ, _+_, _-_, _^_, _≤_, _<_}
 use mir.Val.{Fits}
@@ -12,12 +12,11 @@ use borrow.Rule.Slice.PartMut.{midOf, putMid}
 use Rattle.text.specs.Bytes.{Bytes}
 use Rattle.output.specs.declared.Wrote.{Wrote}
 use Rattle.output.specs.declared.Wrote.the-variants.{Bytes as Wrote-Bytes, Full}
-use Rattle.output.specs.Put.{Puts, Sofar}
+use Rattle.output.specs.Put.{Puts}
 use Rattle.output.proofs.Laws.{start, done, next, stop, more, puts-as, first, first-full}
-use Rattle.json.specs.Strings.{before}
 use Rattle.json_write.specs.Writes.{Writes, Toward, chained}
 
-no-some {ℓ} : {P : Type ℓ} {x : Bytes} → _≡_ {A = Option Bytes} none (some x) → P
+pub no-some {ℓ} : {P : Type ℓ} {x : Bytes} → _≡_ {A = Option Bytes} none (some x) → P
 no-some e = let z : _≡_ {A = ℕ} 0 1 = cc in absurd (omega arith)
 
 chained-some : (w z : Option Bytes) (u : Bytes) → chained w z ≡ some u → (a : Bytes) × (b : Bytes) × (w ≡ some a) × (z ≡ some b) × (u ≡ a ++ b)
@@ -25,11 +24,6 @@ unfolding chained
 chained-some none z u e = no-some e
 chained-some (some a) none u e = no-some e
 chained-some (some a) (some b) u e = (a, b, refl, refl, cc)
-
-pub before-chained : (y : Bytes) (z : Option Bytes) → before y z ≡ chained (some y) z
-unfolding chained
-before-chained y none = refl
-before-chained y (some z) = refl
 
 pub puts-writes : {room y out : Bytes} {r : Wrote} → Puts room y r out → Writes (some y) room r out
 puts-writes {y = y} p = record { bytes = y; puts = p; is = λ x e. cc }
