@@ -1,14 +1,18 @@
-// Compact JSON strings, written into a lent part.
+// Compact JSON: strings, numbers and names, each written to a lent part of the output. (`output::put_text` writes true, false and null.)
+use json_strings::Byte;
+use json_strings::next_byte;
 use output::Wrote;
 use output::put_byte;
 use output::put_text;
 ghost use mathlib.Core.Path.{_≡_};
-ghost use mathlib.Core.List.{_∷_, [], _++_};
-ghost use Prim.Native.Nat.{_<_, _/_, _%_};
-ghost use Rattle.text.specs.Bytes.{ascii, flat};
+ghost use mathlib.Core.List.{_∷_, []};
+ghost use Prim.Native.Nat.{_+_, _≤_, _<_};
+ghost use lib.ListN.{length};
 ghost use Rattle.output.specs.Put.{Puts};
+ghost use Rattle.text.specs.Decimal.{decimal};
 ghost use Rattle.json.specs.Compact.{hexDigit, spelled, spelledAll, quoted};
-ghost use Rattle.json_write.specs.Quotes.{quote};
+ghost use Rattle.json_write.specs.Pieces.{coded};
+ghost use Rattle.json_write.specs.Writes.{Writes, respelled, requoted};
 
 fn hex_digit(d: u8) -> u8
     requires { ⌜ d < 16 ⌝ }
@@ -17,56 +21,53 @@ fn hex_digit(d: u8) -> u8
     if d < 10 { 48 + d } else { 87 + d }
 }
 
-// A byte as \u00 and two lower-case hexadecimal digits.
-fn put_code(out: &mut [u8], b: u8) -> Wrote
-    ensures { λ r. ⌜ Puts (now (out .entry)) (ascii "\\u00" ++ (hexDigit (b / 16) ∷ hexDigit (b % 16) ∷ [])) r (now (out .exit)) ⌝ }
+// A byte by its number.
+fn put_code(out: &mut [u8], c: u8) -> Wrote
+    ensures { λ r. ⌜ Puts (now (out .entry)) (coded c) r (now (out .exit)) ⌝ }
 {
-    let code = [92, 117, 48, 48, hex_digit(b / 16), hex_digit(b % 16)];
-    put_text(out, &code)
+    let g = [92, 117, 48, 48, hex_digit(c / 16), hex_digit(c % 16)];
+    put_text(out, &g)
 }
 
-// One byte of a string, escaped where it has to be.
-fn put_spelled(out: &mut [u8], b: u8) -> Wrote
-    ensures { λ r. ⌜ Puts (now (out .entry)) (spelled b) r (now (out .exit)) ⌝ }
+// A byte of a string, escaped where it must be.
+fn put_byte_spelled(out: &mut [u8], c: u8) -> Wrote
+    ensures { λ r. ⌜ Puts (now (out .entry)) (spelled c) r (now (out .exit)) ⌝ }
 {
-    if b == 34 {
+    if c == b'"' {
         return put_text(out, b"\\\"");
     }
-    if b == 92 {
+    if c == b'\\' {
         return put_text(out, b"\\\\");
     }
-    if b == 8 {
+    if c == 8 {
         return put_text(out, b"\\b");
     }
-    if b == 9 {
+    if c == 9 {
         return put_text(out, b"\\t");
     }
-    if b == 10 {
+    if c == 10 {
         return put_text(out, b"\\n");
     }
-    if b == 12 {
+    if c == 12 {
         return put_text(out, b"\\f");
     }
-    if b == 13 {
+    if c == 13 {
         return put_text(out, b"\\r");
     }
-    if b == 127 {
-        return put_code(out, b);
+    if (c < 32) | (c == 127) {
+        return put_code(out, c);
     }
-    if b < 32 {
-        return put_code(out, b);
-    }
-    put_byte(out, b)
+    put_byte(out, c)
 }
 
-// The bytes of a string, each escaped where it has to be.
-pub fn put_spelled_all<'a, 'b>(out: &'a mut [u8], s: &'b [u8]) -> Wrote
+// A string without its quotes.
+pub fn put_spelled(out: &mut [u8], s: &[u8]) -> Wrote
     ensures { λ r. ⌜ Puts (now (out .entry)) (spelledAll (now (s .entry))) r (now (out .exit)) ⌝ }
 {
-    let mut i = 0;
     let mut at = 0;
+    let mut i = 0;
     while i < s.len() {
-        let Wrote::Bytes(n) = put_spelled(&mut out[at..], s[i]) else {
+        let Wrote::Bytes(n) = put_byte_spelled(&mut out[at..], s[i]) else {
             return Wrote::Full;
         };
         at += n;
@@ -75,26 +76,98 @@ pub fn put_spelled_all<'a, 'b>(out: &'a mut [u8], s: &'b [u8]) -> Wrote
     Wrote::Bytes(at)
 }
 
-fn put_pieces<'a, 'b>(out: &'a mut [u8], s: &'b [u8]) -> Wrote
-    ensures { λ r. ⌜ Puts (now (out .entry)) (flat (quote ∷ spelledAll (now (s .entry)) ∷ quote ∷ [])) r (now (out .exit)) ⌝ }
+// A string.
+pub fn put_string(out: &mut [u8], s: &[u8]) -> Wrote
+    ensures { λ r. ⌜ Puts (now (out .entry)) (quoted (now (s .entry)) []) r (now (out .exit)) ⌝ }
 {
-    let Wrote::Bytes(a) = put_byte(out, 34) else {
+    let Wrote::Bytes(a) = put_byte(out, b'"') else {
         return Wrote::Full;
     };
-    let Wrote::Bytes(b) = put_spelled_all(&mut out[a..], s) else {
+    let Wrote::Bytes(b) = put_spelled(&mut out[a..], s) else {
         return Wrote::Full;
     };
     let ab = a + b;
-    let Wrote::Bytes(c) = put_byte(&mut out[ab..], 34) else {
+    let Wrote::Bytes(c) = put_byte(&mut out[ab..], b'"') else {
         return Wrote::Full;
     };
     let abc = ab + c;
     Wrote::Bytes(abc)
 }
 
-// A string with its quotes.
-pub fn put_string<'a, 'b>(out: &'a mut [u8], s: &'b [u8]) -> Wrote
-    ensures { λ r. ⌜ Puts (now (out .entry)) (quoted (now (s .entry)) []) r (now (out .exit)) ⌝ }
+// The name of a member, with its colon.
+pub fn put_name(out: &mut [u8], s: &[u8]) -> Wrote
+    ensures { λ r. ⌜ Puts (now (out .entry)) (quoted (now (s .entry)) (58 ∷ [])) r (now (out .exit)) ⌝ }
 {
-    put_pieces(out, s)
+    let Wrote::Bytes(a) = put_string(out, s) else {
+        return Wrote::Full;
+    };
+    let Wrote::Bytes(b) = put_byte(&mut out[a..], b':') else {
+        return Wrote::Full;
+    };
+    let ab = a + b;
+    Wrote::Bytes(ab)
+}
+
+// A number in decimal.
+pub fn put_number(out: &mut [u8], n: usize) -> Wrote
+    ensures { λ r. ⌜ Puts (now (out .entry)) (decimal n) r (now (out .exit)) ⌝ }
+{
+    if n < 10 {
+        return put_byte(out, 48 + n as u8);
+    }
+    let Wrote::Bytes(a) = put_number(out, n / 10) else {
+        return Wrote::Full;
+    };
+    let Wrote::Bytes(b) = put_byte(&mut out[a..], 48 + (n % 10) as u8) else {
+        return Wrote::Full;
+    };
+    let ab = a + b;
+    Wrote::Bytes(ab)
+}
+
+// The string from a place on (after its first quote), without its quotes and spelled anew.
+pub fn put_respelled(out: &mut [u8], s: &[u8], from: usize) -> Wrote
+    requires { ⌜ from ≤ length (now s) ⌝ }
+    ensures { λ r. ⌜ Writes (respelled (now (s .entry)) from) (now (out .entry)) r (now (out .exit)) ⌝ }
+{
+    let mut at = 0;
+    let mut i = from;
+    let mut h = 0;
+    loop {
+        match next_byte(s, i, h) {
+            Byte::Alone => {
+                return Wrote::Bytes(at);
+            }
+            Byte::End => {
+                return Wrote::Bytes(at);
+            }
+            Byte::One(b, j, g) => {
+                let Wrote::Bytes(n) = put_byte_spelled(&mut out[at..], b) else {
+                    return Wrote::Full;
+                };
+                at += n;
+                i = j;
+                h = g;
+            }
+        }
+    }
+}
+
+// The same with its quotes.
+pub fn put_requoted(out: &mut [u8], s: &[u8], from: usize) -> Wrote
+    requires { ⌜ from ≤ length (now s) ⌝ }
+    ensures { λ r. ⌜ Writes (requoted (now (s .entry)) from) (now (out .entry)) r (now (out .exit)) ⌝ }
+{
+    let Wrote::Bytes(a) = put_byte(out, b'"') else {
+        return Wrote::Full;
+    };
+    let Wrote::Bytes(b) = put_respelled(&mut out[a..], s, from) else {
+        return Wrote::Full;
+    };
+    let ab = a + b;
+    let Wrote::Bytes(c) = put_byte(&mut out[ab..], b'"') else {
+        return Wrote::Full;
+    };
+    let abc = ab + c;
+    Wrote::Bytes(abc)
 }
