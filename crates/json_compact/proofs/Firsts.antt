@@ -1,0 +1,43 @@
+-- The laws of `squeezed` by the first byte, and past white space.
+use mathlib.Core.Path.{_≡_, refl, sym, ap, _∙_}
+use mathlib.Core.Bool.{true, false}
+use mathlib.Core.List.{[], _∷_, _++_, append-assoc}
+use mathlib.Core.Option.{Option, none, some}
+use Prim.Native.Nat.{ℕ}
+use lib.Dec.{eqb}
+use Rattle.text.specs.Bytes.{Bytes, between}
+use Rattle.text.specs.Reader.{got, on, past}
+use Rattle.text.proofs.Cases.{byBool}
+use Rattle.json.specs.Grammar.{isSpace}
+use Rattle.json.specs.Strings.{decode}
+use Rattle.json.specs.Syntax.{skip, characters}
+use Rattle.json_write.specs.Writes.{chained}
+use Rattle.json_compact.specs.Squeezed.{inQuotes, piece, squeezed}
+use Rattle.json_compact.proofs.Pieces.{squeezed-nil, squeezed-on}
+
+pub chained-nil : (z : Option Bytes) → chained (some []) z ≡ z
+unfolding chained
+chained-nil none = refl
+chained-nil (some z) = refl
+
+pub chained-more : (a b : Bytes) (z : Option Bytes) → chained (some a) (chained (some b) z) ≡ chained (some (a ++ b)) z
+unfolding chained
+chained-more a b none = refl
+chained-more a b (some z) = ap some (sym (append-assoc a b z))
+
+pub space-first : (c : ℕ) (s : Bytes) → isSpace c ≡ true → squeezed (c ∷ s) ≡ squeezed s
+unfolding piece on
+space-first c s e = squeezed-on (c ∷ s) (some []) s (rw e) ∙ chained-nil (squeezed s)
+
+pub byte-first : (c : ℕ) (s : Bytes) → isSpace c ≡ false → eqb c 34 ≡ false → between 0 255 c ≡ true → squeezed (c ∷ s) ≡ chained (some (c ∷ [])) (squeezed s)
+unfolding piece on
+byte-first c s e f g = squeezed-on (c ∷ s) (some (c ∷ [])) s (rw (e, f, g))
+
+pub string-first : (s us t : Bytes) → characters s ≡ got us t → squeezed (34 ∷ s) ≡ chained (inQuotes (decode us)) (squeezed t)
+unfolding piece on isSpace
+string-first s us t e = squeezed-on (34 ∷ s) (inQuotes (decode us)) t (rw e)
+
+pub squeezed-skip : (s : Bytes) → squeezed (skip s) ≡ squeezed s
+unfolding skip past
+squeezed-skip [] = refl
+squeezed-skip (c ∷ s) = byBool (isSpace c) (λ e. rw e (squeezed-skip s ∙ sym (space-first c s e))) (λ e. rw e)

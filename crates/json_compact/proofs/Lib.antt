@@ -1,0 +1,6 @@
+pub mod Copied
+pub mod Firsts
+pub mod Pieces
+pub mod Text
+pub mod Tied
+pub mod Whole

@@ -1,0 +1,2 @@
+pub mod Compacts
+pub mod Squeezed
