@@ -1,4 +1,5 @@
-// Whether strings of a JSON text stand for anything, for given bytes, for the same. A string is given by the place after its first quote.
+// Whether strings of a JSON text stand for anything, for given bytes, for the same. A string is given by the place after its first quote;
+// a place past the end stands for nothing.
 use json_strings::Byte;
 use json_strings::next_byte;
 ghost use mathlib.Core.Path.{_≡_};
@@ -11,9 +12,11 @@ ghost use Rattle.json_strings.specs.Spelled.{spelled, left, spells, agree};
 
 // No surrogate stands alone.
 pub fn is_paired(s: &[u8], at: usize) -> bool
-    requires { ⌜ at ≤ length (now s) ⌝ }
     ensures { λ r. ⌜ r ≡ is-some (spelled (now (s .entry)) at) ⌝ }
 {
+    if at > s.len() {
+        return false;
+    }
     let mut i = at;
     let mut h = 0;
     loop {
@@ -34,9 +37,11 @@ pub fn is_paired(s: &[u8], at: usize) -> bool
 
 // The string stands for these bytes.
 pub fn equals<'a, 'b>(s: &'a [u8], at: usize, bytes: &'b [u8]) -> bool
-    requires { ⌜ at ≤ length (now s) ⌝ }
     ensures { λ r. ⌜ r ≡ spells (spelled (now (s .entry)) at) (now (bytes .entry)) ⌝ }
 {
+    if at > s.len() {
+        return false;
+    }
     let mut i = at;
     let mut h = 0;
     let mut k = 0;
@@ -77,10 +82,14 @@ fn ends(s: &[u8], at: usize, hold: u32) -> bool
 
 // Two strings stand for the same bytes.
 pub fn same_text(s: &[u8], a: usize, b: usize) -> bool
-    requires { ⌜ a ≤ length (now s) ⌝ }
-    requires { ⌜ b ≤ length (now s) ⌝ }
     ensures { λ r. ⌜ r ≡ agree (spelled (now (s .entry)) a) (spelled (now (s .entry)) b) ⌝ }
 {
+    if a > s.len() {
+        return false;
+    }
+    if b > s.len() {
+        return false;
+    }
     let mut i = a;
     let mut g = 0;
     let mut j = b;

@@ -25,15 +25,6 @@ use Rattle.json_strings.specs.Spelled.{told, spelled, agree}
 use Rattle.json_strings.proofs.Laws.{spelled-is}
 use Rattle.json_names.specs.Kept.{meets, Names, KeepsIn}
 
--- a place past the end stands for nothing
-no-unit : unit [] ≡ bad []
-unfolding unit on between
-no-unit = refl
-
-pub spelled-past : (s : Bytes) (p : ℕ) → length s < p → spelled s p ≡ none
-unfolding spelled units
-spelled-past s p l = ap (λ (x : Bytes). told 0 (loop unit x)) (drop-of-length-le s {i = p} (omega arith)) ∙ ap (told 0) (loop-bad unit (unit-fine .less) [] [] no-unit)
-
 -- ---- one place after the other
 module _ (s : Bytes) (o : Option Bytes) where
   pub meets-none : (l : List ℕ) (k : ℕ) → length l ≤ k → meets s o (drop k l) ≡ false

@@ -5,13 +5,13 @@ use mathlib.Core.List.{List, [], _∷_, _++_, append-assoc}
 use mathlib.Core.Option.{Option, none, some}
 use Prim.Native.Nat.{ℕ, zero, suc, _+_, _-_, _*_, _/_, _%_, _≤_, _<_}
 use native.Mathlib.Omega.{arith}
-use lib.ListN.{length, drop, length-append}
+use lib.ListN.{length, drop, length-append, drop-of-length-le}
 use lib.Dec.{eqb, ltb}
 use borrow.Author.Tests.{eq-eqb, ne-eqb, lt-ltb, le-ltb, ltb-true, ltb-false, eqb-true, eqb-false}
 use Rattle.text.specs.Choice.{pick}
 use Rattle.text.specs.Bytes.{Bytes, between, same}
 use Rattle.text.specs.Utf8.{encode}
-use Rattle.text.specs.Reader.{Got, got, bad, under, Step, more, last, loop}
+use Rattle.text.specs.Reader.{Got, got, bad, under, on, Step, more, last, loop}
 use Rattle.text.proofs.Places.{byBool, between-in}
 use Rattle.text.proofs.Fine.{loop-more, loop-last, loop-bad}
 use Rattle.json.specs.Syntax.{characters}
@@ -28,6 +28,15 @@ use Rattle.json_strings.specs.Spelled.{told, spelled, letterOf, LetterIn
 pub spelled-is : (s : Bytes) (at : ℕ) (us t : Bytes) → characters (drop at s) ≡ got us t → spelled s at ≡ decode us
 unfolding spelled decode
 spelled-is s at us t e = ap (told 0) (units-same (drop at s) us t e)
+
+-- a place past the end stands for nothing
+no-unit : unit [] ≡ bad []
+unfolding unit on between
+no-unit = refl
+
+pub spelled-past : (s : Bytes) (p : ℕ) → length s < p → spelled s p ≡ none
+unfolding spelled units
+spelled-past s p l = ap (λ (x : Bytes). told 0 (loop unit x)) (drop-of-length-le s {i = p} (omega arith)) ∙ ap (told 0) (loop-bad unit (unit-fine .less) [] [] no-unit)
 
 -- ---- one unit after the other
 module _ (h : ℕ) (s : Bytes) (at : ℕ) where
