@@ -15,7 +15,7 @@ use Rattle.text.specs.Bytes.{Bytes, any, same, among, between}
 use Rattle.text.specs.Reader.{Got, got, bad, bind, on, loop}
 use Rattle.text.specs.Places.{Gives}
 use Rattle.text.proofs.Places.{byBool, at-next}
-use Rattle.text.proofs.Fine.{not-bad, got-rest, got-what, bind-inv, loop-bad}
+use Rattle.text.proofs.Fine.{not-bad, got-rest, got-what, bind-inv}
 use Rattle.json.specs.Syntax.{token, characters, name}
 use Rattle.json.specs.Strings.{decode}
 use Rattle.json.proofs.Fine.{name-fine}

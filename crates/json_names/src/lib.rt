@@ -12,30 +12,18 @@ use text::look;
 ghost use mathlib.Core.Path.{_≡_};
 ghost use Prim.Native.Nat.{_+_, _≤_, _<_};
 ghost use lib.ListN.{length, take};
-ghost use Rattle.json_strings.specs.Spelled.{spelled, agree};
+ghost use Rattle.json_strings.specs.Spelled.{spelled};
 ghost use Rattle.json_names.specs.Sound.{JudgesValue, JudgesArray, JudgesObject};
 ghost use Rattle.json_names.specs.Kept.{meets, Keeps, KeepsIn};
 
-// Two strings stand for the same. (A place past the end stands for nothing.)
-fn meets_at(s: &[u8], at: usize, place: usize) -> bool
-    requires { ⌜ at ≤ length (now s) ⌝ }
-    ensures { λ r. ⌜ r ≡ agree (spelled (now (s .entry)) at) (spelled (now (s .entry)) place) ⌝ }
-{
-    if place > s.len() {
-        return false;
-    }
-    same_text(s, at, place)
-}
-
 // THE comparing of names, oldest first: the string at `at` stands for the same as that at one of the first `count` places kept.
 fn is_kept<'a, 'b>(s: &'a [u8], at: usize, places: &'b [usize], count: usize) -> bool
-    requires { ⌜ at ≤ length (now s) ⌝ }
     requires { ⌜ count ≤ length (now places) ⌝ }
     ensures { λ r. ⌜ r ≡ meets (now (s .entry)) (spelled (now (s .entry)) at) (take count (now (places .entry))) ⌝ }
 {
     let mut k = 0;
     while k < count {
-        if meets_at(s, at, places[k]) {
+        if same_text(s, at, places[k]) {
             return true;
         }
         k += 1;

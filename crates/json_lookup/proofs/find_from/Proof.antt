@@ -22,7 +22,7 @@ member-at-requires : tie.Need-member-at-requires Inv-loop μ-loop
 member-at-requires c κs = c .loop .inv .0
 
 equals-requires : tie.Need-equals-requires Inv-loop μ-loop
-equals-requires c κs = c .member-at .ensures .0 .name-in
+equals-requires c κs = tt
 
 returns : tie.Need-returns Inv-loop μ-loop
 returns c = (record { ordered = c .before .before .member-at .ensures .0 .ordered; inside = c .before .before .member-at .ensures .0 .end-in }, found-here (now (c .before .before .before .before .before .before .args .s)) (c .before .before .before .before .before .before .args .at) (now (c .before .before .before .before .before .before .args .name)) (c .before .before .before .loop .i) (c .before .before .before .loop .inv .1) (c .before .before .member-at .result) (c .before .before .member-at .ensures .1) _ (c .before .equals .ensures) (c .if1 .taken) (c .before .before .member-at .ensures .0 .ordered) (c .before .before .member-at .ensures .0 .end-in))

@@ -181,7 +181,7 @@ pub +array-sound+object-sound+value-sound-spec : {M : Type 1} → statement M
     (λ c κs. omega arith)
     (λ c κs. c .skip-space .ensures .to)
     (λ c. omega (arith, c .before .before .skip-space .ensures .to))
-    (λ c κs. omega (arith, c .if1 .taken))
+    (λ c κs. tt)
     (λ c. judges-string (now (c .before .before .before .before .before .before .args .s)) (c .before .before .before .skip-space .result) (c .before .before .look .result) (c .before .before .look .ensures .0) (c .before .before .before .before .before .before .args .at) (c .before .before .before .skip-space .ensures) (c .before .before .before .before .before .before .args .depth) (c .before .if1 .taken) (c .is-paired .ensures))
     (λ c. judges-flat (now (c .before .before .before .before .before .before .args .s)) (c .before .before .before .skip-space .result) (c .before .before .look .result) (c .before .before .look .ensures .0) (c .before .before .before .before .before .before .args .at) (c .before .before .before .skip-space .ensures) (c .before .before .before .before .before .before .args .depth) (c .if2 .taken) (c .before .if1 .left))
     (λ c. omega (arith, c .before .before .before .before .skip-space .ensures .to))

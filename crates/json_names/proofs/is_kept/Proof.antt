@@ -19,17 +19,17 @@ abbrev μ-loop : tie.MeasureT-loop
 loop-holds : tie.Need-loop-holds Inv-loop μ-loop
 loop-holds c = (search needs, refl)
 
-mul-meets-at : tie.Need-mul-meets-at Inv-loop μ-loop
-mul-meets-at c = search needs
+mul-same-text : tie.Need-mul-same-text Inv-loop μ-loop
+mul-same-text c = search needs
 
-shared-slice-read-meets-at : tie.Need-shared-slice-read-meets-at Inv-loop μ-loop
-shared-slice-read-meets-at c = search needs
+shared-slice-read-same-text : tie.Need-shared-slice-read-same-text Inv-loop μ-loop
+shared-slice-read-same-text c = search needs
 
-meets-at-requires : tie.Need-meets-at-requires Inv-loop μ-loop
-meets-at-requires c κs = search needs
+same-text-requires : tie.Need-same-text-requires Inv-loop μ-loop
+same-text-requires c κs = tt
 
 returns : tie.Need-returns Inv-loop μ-loop
-returns c = sym (c .before .before .before .before .loop .inv .1 ∙ meets-yes (now (c .before .before .before .before .before .before .before .args .s)) _ (now (c .before .before .before .before .before .before .before .args .places)) (c .before .before .before .before .before .before .before .args .count) (c .before .before .before .before .loop .k) (c .before .before .before .loop-test .taken) (c .before .before .before .before .before .before .before .pre .1) (sym (c .before .meets-at .ensures) ∙ (c .if1 .taken)))
+returns c = sym (c .before .before .before .before .loop .inv .1 ∙ meets-yes (now (c .before .before .before .before .before .before .before .args .s)) _ (now (c .before .before .before .before .before .before .before .args .places)) (c .before .before .before .before .before .before .before .args .count) (c .before .before .before .before .loop .k) (c .before .before .before .loop-test .taken) (c .before .before .before .before .before .before .before .pre) (sym (c .before .same-text .ensures) ∙ (c .if1 .taken)))
 
 add-k : tie.Need-add-k Inv-loop μ-loop
 add-k c = search needs
@@ -38,7 +38,7 @@ loop-less : tie.Need-loop-less Inv-loop μ-loop
 loop-less c = search needs
 
 loop-again : tie.Need-loop-again Inv-loop μ-loop
-loop-again c = (omega arith, c .before .before .before .before .loop .inv .1 ∙ meets-no (now (c .before .before .before .before .before .before .before .args .s)) _ (now (c .before .before .before .before .before .before .before .args .places)) (c .before .before .before .before .before .before .before .args .count) (c .before .before .before .before .loop .k) (c .before .before .before .loop-test .taken) (c .before .before .before .before .before .before .before .pre .1) (sym (c .before .meets-at .ensures) ∙ (c .if1 .left)))
+loop-again c = (omega arith, c .before .before .before .before .loop .inv .1 ∙ meets-no (now (c .before .before .before .before .before .before .before .args .s)) _ (now (c .before .before .before .before .before .before .before .args .places)) (c .before .before .before .before .before .before .before .args .count) (c .before .before .before .before .loop .k) (c .before .before .before .loop-test .taken) (c .before .before .before .before .before .before .before .pre) (sym (c .before .same-text .ensures) ∙ (c .if1 .left)))
 
 returns-2 : tie.Need-returns-2 Inv-loop μ-loop
 returns-2 c = let g : length (take (c .before .before .before .before .args .count) (now (c .before .before .before .before .args .places))) ≤ (c .before .loop .k) = simp length-take (omega (arith, c .loop-test .left)) in sym (c .before .loop .inv .1 ∙ meets-none (now (c .before .before .before .before .args .s)) _ (take (c .before .before .before .before .args .count) (now (c .before .before .before .before .args .places))) (c .before .loop .k) g)
@@ -50,9 +50,9 @@ is-kept-spec =
     Inv-loop
     μ-loop
     loop-holds
-    mul-meets-at
-    shared-slice-read-meets-at
-    meets-at-requires
+    mul-same-text
+    shared-slice-read-same-text
+    same-text-requires
     returns
     add-k
     loop-less

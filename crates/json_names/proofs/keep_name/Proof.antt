@@ -35,13 +35,13 @@ enum-known-v : tie.Need-enum-known-v
 enum-known-v c = search needs
 
 is-paired-requires : tie.Need-is-paired-requires
-is-paired-requires c κs = gives-as (c .before .before .before .before .before .before .before .mark .ensures) (c .before .before .before .before .before .q .given .1) .within .1
+is-paired-requires c κs = tt
 
 returns : tie.Need-returns
 returns c = (λ us t e ns h. let z = name-string (now (c .before .before .before .before .before .before .before .before .before .before .before .before .args .s)) (c .before .before .before .before .before .before .before .before .before .before .before .before .args .at) us t e _ (gives-as (c .before .before .before .before .before .before .before .before .before .mark .ensures) (c .before .before .before .before .before .before .before .q .given .1)) in not-paired (decode us) ns (ap is-some (sym z) ∙ sym (c .before .is-paired .ensures) ∙ not-true _ (c .if1 .taken)), tt)
 
 is-kept-requires : tie.Need-is-kept-requires
-is-kept-requires c κs = (gives-as (c .before .before .before .before .before .before .before .before .before .before .mark .ensures) (c .before .before .before .before .before .before .before .before .q .given .1) .within .1, omega arith)
+is-kept-requires c κs = omega arith
 
 same-length : tie.Need-same-length
 same-length c = search needs
