@@ -101,6 +101,6 @@ mutual
   elems-good enil = refl
   elems-good (econs j es) = rw (good-is j, elems-good es) (elems-whole (decoded j) (decodedElems es))
 
-  members-good : (ms : Members) (ns : List Bytes) → distinct ns ≡ true → goodMembers ms ns ≡ wholeMembers ns (decodedMembers ms)
+  members-good : (ms : Members) (ns : List Bytes) → distinct ns ≡ true → goodMembers ns ms ≡ wholeMembers ns (decodedMembers ms)
   members-good mnil ns d = none-left ns d
-  members-good (mcons k j ms) ns d = rw (good-is j) (member-whole (decode k) ns (decoded j) (decodedMembers ms) (goodMembers ms) d (λ ns e. members-good ms ns e))
+  members-good (mcons k j ms) ns d = rw (good-is j) (member-whole (decode k) ns (decoded j) (decodedMembers ms) (λ ns. goodMembers ns ms) d (λ ns e. members-good ms ns e))

@@ -18,12 +18,10 @@ use Rattle.text.proofs.Places.{byBool, at-next}
 use Rattle.text.proofs.Fine.{not-bad, got-rest, got-what, bind-inv}
 use Rattle.json.specs.Syntax.{token, characters, name}
 use Rattle.json.specs.Strings.{decode}
-use Rattle.json.proofs.Fine.{name-fine}
-use Rattle.json_units.specs.Units.{unit, units}
-use Rattle.json_units.proofs.Same.{unit-fine}
-use Rattle.json_strings.specs.Spelled.{told, spelled, agree}
+use Rattle.json.proofs.Fine.{token-fine, characters-fine}
+use Rattle.json_strings.specs.Spelled.{spelled, agree}
 use Rattle.json_strings.proofs.Laws.{spelled-is}
-use Rattle.json_names.specs.Kept.{meets, Names, KeepsIn}
+use Rattle.json_names.specs.Kept.{meets, Names}
 
 -- ---- one place after the other
 module _ (s : Bytes) (o : Option Bytes) where
@@ -71,10 +69,11 @@ unfolding Names
 no-names s ps = refl
 
 -- ---- a member's name
-module _ (s : Bytes) (at : ℕ) (us t : Bytes) (e : name (drop at s) ≡ got us t) where
-  pub name-string : (q : ℕ) → Gives s at (token 34 (drop at s)) (Next q) → spelled s q ≡ decode us
+module _ (s : Bytes) (at : ℕ) where
+  -- its string, from after the first quote; and the bytes that it takes: two quotes and a colon at least
+  pub name-string : (us t : Bytes) → name (drop at s) ≡ got us t → (q : ℕ) → Gives s at (token 34 (drop at s)) (Next q) → spelled s q ≡ decode us
   unfolding name
-  name-string q g =
+  name-string us t e q g =
       let a = at-next (token 34 (drop at s)) g in
       let i = bind-inv (token 34 (drop at s)) _ e in
       let j = bind-inv (characters (i .1)) _ (i .3) in
@@ -83,14 +82,24 @@ module _ (s : Bytes) (at : ℕ) (us t : Bytes) (e : name (drop at s) ≡ got us 
       let z : j .0 ≡ us = got-what (k .3) in
       spelled-is s q us (j .1) (ap characters (sym w) ∙ (j .2) ∙ ap (λ (x : Bytes). got x (j .1)) z)
 
-  pub name-rest : (v : ℕ) → Gives s at (name (drop at s)) (Next v) → t ≡ drop v s
-  name-rest v g = got-rest (sym e ∙ at-next (name (drop at s)) g .1)
-
-pub name-longer : (s : Bytes) (at v : ℕ) → at ≤ length s → Gives s at (name (drop at s)) (Next v) → at < v
-name-longer s at v l g =
-    let a = at-next (name (drop at s)) g in
-    let h = rw (length-drop, length-drop) at (name-fine .less (drop at s) (a .0) (drop v s) (a .1)) in
-    omega (arith, g .within .0, g .within .1)
+  module _ (l : at ≤ length s) (q v : ℕ) (g : Gives s at (token 34 (drop at s)) (Next q)) (h : Gives s at (name (drop at s)) (Next v)) where
+    pub name-takes : (at < q) × (q + 2 ≤ v)
+    unfolding name
+    name-takes =
+        let a = at-next (token 34 (drop at s)) g in
+        let b = at-next (name (drop at s)) h in
+        let i = bind-inv (token 34 (drop at s)) _ (b .1) in
+        let j = bind-inv (characters (i .1)) _ (i .3) in
+        let k = bind-inv (token 58 (j .1)) _ (j .3) in
+        let w : i .1 ≡ drop q s = got-rest (sym (i .2) ∙ a .1) in
+        let x : k .1 ≡ drop v s = got-rest (k .3) in
+        let l₀ = length-drop at s in
+        let l₁ = ap length w ∙ length-drop q s in
+        let l₂ = ap length x ∙ length-drop v s in
+        let m = token-fine 34 refl .less (drop at s) (i .0) (i .1) (i .2) in
+        let n = characters-fine .less (i .1) (j .0) (j .1) (j .2) in
+        let o = token-fine 58 refl .less (j .1) (k .0) (k .1) (k .2) in
+        (omega (arith, l₀, l₁, m, g .within .0, g .within .1), omega (arith, l₁, l₂, n, o, g .within .1, h .within .1))
 
 -- what a refused name comes to
 pub not-paired : (o : Option Bytes) (ns : List Bytes) → is-some o ≡ false → with-some o (λ n. among n ns) true ≡ true
@@ -104,6 +113,3 @@ already s (some n) ps ns h e = sym (meets-among s n ps ns h) ∙ e
 pub is-there : (o : Option Bytes) → is-some o ≡ true → (n : Bytes) × (o ≡ some n)
 is-there none e = let r : _≡_ {A = ℕ} 0 1 = cc in absurd (omega arith)
 is-there (some n) e = (n, refl)
-
-pub keeps-in : (at n : ℕ) {r q : Read} → KeepsIn at n r → r ≡ q → KeepsIn at n q
-keeps-in at n h e = subst (KeepsIn at n) e h

@@ -7,7 +7,7 @@ use mathlib.Core.Option.{Option, none, some}
 use Prim.Native.Nat.{ℕ, zero, suc, _+_, _-_, _≤_, _<_}
 use native.Mathlib.Numerals.{sub-one}
 use native.Mathlib.Omega.{arith}
-use lib.ListN.{length, take, drop}
+use lib.ListN.{length, take, drop, length-drop}
 use lib.Dec.{eqb}
 use borrow.Author.Tests.{eq-eqb, ne-eqb}
 use Rattle.text.specs.declared.Read.{Read}
@@ -17,21 +17,27 @@ use Rattle.text.specs.declared.Turn.the-variants.{Go, Stop}
 use Rattle.text.specs.Choice.{pick, with-some, is-some}
 use Rattle.text.specs.Bytes.{Bytes, is, among}
 use Rattle.text.specs.Reader.{Got, got, bad, bind, under, first, on, when, Step, more, last, after, turns, loop, one}
-use Rattle.text.specs.Places.{byteAt, AgreeT, Gives, GivesT, Passes}
-use Rattle.text.proofs.Places.{byBool, at-next, at-bad, on-yes, on-no, when-yes, when-no}
-use Rattle.text.proofs.Fine.{Fine, not-bad, got-rest, got-what, bind-inv, under-inv, loop-more, loop-split}
+use Rattle.text.specs.Places.{byteAt, Within, AgreeT, Gives, GivesT, Passes}
+use Rattle.text.proofs.Places.{byBool, same-as, by-under, at-next, at-bad, on-yes, on-no, when-yes, when-no}
+use Rattle.text.proofs.Fine.{Fine, not-bad, got-rest, got-what, bind-inv, under-inv, loop-more, loop-last, loop-bad, loop-split}
 use Rattle.json.specs.Grammar.{isSpace}
 use Rattle.json.specs.Tree.{Json, jnull, jtrue, jfalse, jnum, jstr, jarr, jobj, Elems, enil, econs, Members, mnil, mcons}
 use Rattle.json.specs.Syntax.{skip, characters, number, four, scalar, sep, name, item, elements, pair, pairs, value}
 use Rattle.json.specs.Strings.{decode}
-use Rattle.json.proofs.Fine.{item-fine, pair-fine, value-fine}
+use Rattle.json.proofs.Fine.{scalar-fine, item-fine, pair-fine, value-fine}
 use Rattle.json_marks.proofs.Laws.{skip-to, sep-any}
 use Rattle.json_strings.specs.Spelled.{spelled}
 use Rattle.json_strings.proofs.Laws.{spelled-is}
-use Rattle.json_names.specs.Sound.{goodName, good, goodElems, goodMembers, JudgesValue, JudgesArray, JudgesObject}
+use Rattle.json_names.specs.Sound.{goodName, good, goodElems, goodMembers, Judged, Onward}
 use Rattle.json_names.specs.Kept.{Names, KeptName, Keeps}
 
 -- ---- separators
+
+-- the answer of a last turn that adds b
+abbrev pub stopped : {B : Type 0} → B → Bytes → Read → Got (Step B)
+stopped b s (Next e) = got (last b) (drop e s)
+stopped b s (Bad e) = bad (drop e s)
+
 module _ {B : Type 0} (b : B) (g : B → B) where
   go-by : (p q : Bool) (s t u : Bytes) (j : ℕ) → AgreeT s (pick p (got (last b) t) (pick q (got (more g) t) (bad u))) (Go j)
       → pick p (got (last b) t) (pick q (got (more g) t) (bad u)) ≡ got (more g) (drop j s)
@@ -66,9 +72,54 @@ module _ {B : Type 0} (b : B) (g : B → B) where
   unfolding sep on
   sep-adds close s w v e = adds-by (eqb (first (skip s)) close) (eqb (first (skip s)) 44) (tail (skip s)) (skip s) w v e
 
+  stop-as : (p q : Bool) (s t u : Bytes) (r : Read) → AgreeT s (pick p (got (last b) t) (pick q (got (more g) t) (bad u))) (Stop r)
+      → pick p (got (last b) t) (pick q (got (more g) t) (bad u)) ≡ stopped b s r
+  stop-as true q s t u (Next e) h = ap (got (last b)) h
+  stop-as true q s t u (Bad e) h = absurd h
+  stop-as false true s t u r h = absurd h
+  stop-as false false s t u (Next e) h = absurd h
+  stop-as false false s t u (Bad e) h = ap bad h
+
+  -- the last turn, by what the code found there
+  pub sep-stopped : (close : ℕ) {s : Bytes} {at : ℕ} {r : Read} → GivesT s at (sep close zero suc (drop at s)) (Stop r) → sep close b g (drop at s) ≡ stopped b s r
+  unfolding sep on
+  sep-stopped close {s} {at} {r} h =
+      stop-as (eqb (first (skip (drop at s))) close) (eqb (first (skip (drop at s))) 44) s (tail (skip (drop at s))) (skip (drop at s)) r (sep-any zero suc b g close h .is)
+
+-- ---- what is judged
+module _ {A : Type 0} (s : Bytes) where
+  -- once it is known which answer it was
+  pub judged-as : (want : Got A) (ok : A → Bool) {r q : Read} → Judged s want ok r → r ≡ q → Judged s want ok q
+  judged-as want ok h e = subst (Judged s want ok) e h
+
+  -- a reader that is another by definition
+  pub judged-by : (ok : A → Bool) (r : Read) {want have : Got A} → want ≡ have → Judged s have ok r → Judged s want ok r
+  judged-by ok r e h = subst (λ x. Judged s x ok r) (sym e) h
+
+  -- what is read always passes
+  pub judged-all : {at : ℕ} (want : Got A) (ok : A → Bool) (r : Read) → Gives s at want r → ((a : A) (t : Bytes) → want ≡ got a t → ok a ≡ true) → Judged s want ok r
+  judged-all want ok (Next e) g z = let a = at-next want g in (a .0, a .1, z (a .0) (drop e s) (a .1))
+  judged-all want ok (Bad b) g z = λ a t x. absurd (not-bad (sym (at-bad want g) ∙ x))
+
+  pub judged-under : {B : Type 0} (f : A → B) (want : Got A) (p : A → Bool) (ok : B → Bool) → ((a : A) → ok (f a) ≡ p a) → (r : Read) → Judged s want p r → Judged s (under f want) ok r
+  judged-under f want p ok z (Next e) h = (f (h .0), ap (under f) (h .1), z (h .0) ∙ h .2)
+  judged-under f want p ok z (Bad b) h = λ a t x. let u = under-inv f want x in ap ok (sym (u .2)) ∙ z (u .0) ∙ h (u .0) t (u .1)
+
+-- a loop: a turn that goes on, the last turn
+module _ {B : Type 0} (f : Bytes → Got (Step B)) (fine : Fine 1 f) (s : Bytes) (i : ℕ) (ok : B → Bool) where
+  pub loop-judged : (j : ℕ) (g : B → B) (p : B → Bool) → f (drop i s) ≡ got (more g) (drop j s) → ((b : B) → ok (g b) ≡ p b)
+      → (r : Read) → Judged s (loop f (drop j s)) p r → Judged s (loop f (drop i s)) ok r
+  loop-judged j g p e z r h = judged-by s ok r (loop-more f (fine .less) (drop i s) (drop j s) g e) (judged-under s g (loop f (drop j s)) p ok z r h)
+
+  pub loop-ended : (b : B) → ok b ≡ true → (r : Read) → f (drop i s) ≡ stopped b s r → Judged s (loop f (drop i s)) ok r
+  loop-ended b z (Next e) q = (b, loop-last f (fine .less) (drop i s) (drop e s) b q, z)
+  loop-ended b z (Bad e) q = λ a t x. absurd (not-bad (sym (loop-bad f (fine .less) (drop i s) (drop e s) q) ∙ x))
+
 -- ---- elements
+
+-- what is judged from here is judged from there
 abbrev pub ToElems : ℕ → Bytes → ℕ → ℕ → Type 0
-ToElems d s at i = (es : Elems) (t : Bytes) → elements (value d) (drop at s) ≡ got es t → (rest : Elems) × (loop (item (value d)) (drop i s) ≡ got rest t) × (goodElems es ≡ goodElems rest)
+ToElems d s at i = (r : Read) → Judged s (loop (item (value d)) (drop i s)) goodElems r → Judged s (elements (value d) (drop at s)) goodElems r
 
 elems-tail : (j : Json) (f : Bytes → Got Elems) (w : Step Elems) (v : Bytes) (rest : Elems) (t : Bytes) → (w ≡ last (econs j enil)) ⊎ (w ≡ more (econs j)) → after w v f ≡ got rest t
     → (es : Elems) × (rest ≡ econs j es)
@@ -88,53 +139,42 @@ module _ (d : ℕ) (s : Bytes) where
       (b .0, b .1, r .0, b .2, r .1)
 
   module _ (at i : ℕ) (h : Passes isSpace s at i) (b : ℕ) (e : b ≡ byteAt s i) where
-    pub elems-none : b ≡ 93 → JudgesArray d s at true
+    pub elems-none : b ≡ 93 → Judged s (elements (value d) (drop at s)) goodElems (Next (i + 1))
     unfolding elements goodElems
-    elems-none q es t x = ap goodElems (got-what (sym (ap (on (is 93) _ _) (skip-to h) ∙ on-yes (is 93) s i b e _ _ (eq-eqb _ _ q)) ∙ x))
+    elems-none q = (enil, ap (on (is 93) _ _) (skip-to h) ∙ on-yes (is 93) s i b e _ _ (eq-eqb _ _ q), refl)
 
     pub elems-begin : (b ≡ 93 → ⊥) → ToElems d s at i
     unfolding elements
-    elems-begin n es t x = (es, sym (ap (on (is 93) _ _) (skip-to h) ∙ on-no (is 93) s i b e _ _ (ne-eqb _ _ n)) ∙ x, refl)
+    elems-begin n r x = judged-by s goodElems r (ap (on (is 93) _ _) (skip-to h) ∙ on-no (is 93) s i b e _ _ (ne-eqb _ _ n)) x
 
   module _ (at i : ℕ) (todo : ToElems d s at i) where
-    pub elems-bad : (b : ℕ) → Gives s i (value d (drop i s)) (Bad b) → JudgesArray d s at false
-    elems-bad b g es t x = let m = todo es t x in let k = item-here i (m .0) t (m .1) in absurd (not-bad (sym (at-bad (value d (drop i s)) g) ∙ k .3))
+    pub elems-false : (b : ℕ) → Judged s (value d (drop i s)) good (Bad b) → Judged s (elements (value d) (drop at s)) goodElems (Bad b)
+    unfolding goodElems
+    elems-false b judged = todo (Bad b) (λ es t x. let k = item-here i es t x in ap goodElems (k .4) ∙ rw (judged (k .0) (k .1) (k .3)))
 
-    module _ (r : Bool) (judged : JudgesValue d s i r) where
-      pub elems-false : r ≡ false → JudgesArray d s at false
+    module _ (e : ℕ) (judged : Judged s (value d (drop i s)) good (Next e)) where
+      turn-is : item (value d) (drop i s) ≡ sep 93 (econs (judged .0) enil) (econs (judged .0)) (drop e s)
+      unfolding item
+      turn-is = ap (λ (y : Got Json). bind y (λ j u. sep 93 (econs j enil) (econs j) u)) (judged .1)
+
+      pub elems-on : (j : ℕ) → GivesT s e (sep 93 zero suc (drop e s)) (Go j) → ToElems d s at j
       unfolding goodElems
-      elems-false q es t x =
-          let m = todo es t x in
-          let k = item-here i (m .0) t (m .1) in
-          let g : good (k .0) ≡ false = sym (judged (k .0) (k .1) (k .3)) ∙ q in
-          sym (m .2 ∙ ap goodElems (k .4) ∙ rw g)
+      elems-on j w r x =
+          todo r (loop-judged (item (value d)) (item-fine (value d) (value-fine d)) s i goodElems j (econs (judged .0)) goodElems
+          (turn-is ∙ sep-go (econs (judged .0) enil) (econs (judged .0)) 93 w) (λ es. rw (judged .2)) r x)
 
-      module _ (q : r ≡ true) (e : ℕ) (g : Gives s i (value d (drop i s)) (Next e)) where
-        pub elems-on : (j : ℕ) → GivesT s e (sep 93 zero suc (drop e s)) (Go j) → ToElems d s at j
-        unfolding goodElems item
-        elems-on j w es t x =
-            let m = todo es t x in
-            let a = at-next (value d (drop i s)) g in
-            let z : item (value d) (drop i s) ≡ got (more (econs (a .0))) (drop j s) = ap (λ (y : Got Json). bind y (λ j u. sep 93 (econs j enil) (econs j) u)) (a .1) ∙ sep-go (econs (a .0) enil) (econs (a .0)) 93 w in
-            let k = under-inv (econs (a .0)) (loop (item (value d)) (drop j s)) (sym (loop-more (item (value d)) (item-fine (value d) (value-fine d) .less) (drop i s) (drop j s) (econs (a .0)) z) ∙ m .1) in
-            let o : good (a .0) ≡ true = sym (judged (a .0) (drop e s) (a .1)) ∙ q in
-            (k .0, k .1, m .2 ∙ ap goodElems (sym (k .2)) ∙ rw o)
-
-        pub elems-last : (v : Read) → GivesT s e (sep 93 zero suc (drop e s)) (Stop v) → JudgesArray d s at true
-        unfolding goodElems item
-        elems-last v w es t x =
-            let m = todo es t x in
-            let a = at-next (value d (drop i s)) g in
-            let l = loop-split (item (value d)) (item-fine (value d) (value-fine d) .less) (drop i s) (m .0) t (m .1) in
-            let z : sep 93 (econs (a .0) enil) (econs (a .0)) (drop e s) ≡ got (l .0) (l .1) = sym (ap (λ (y : Got Json). bind y (λ j u. sep 93 (econs j enil) (econs j) u)) (a .1)) ∙ l .2 in
-            let n = sep-stop (econs (a .0) enil) (econs (a .0)) 93 w (l .0) (l .1) z in
-            let o : good (a .0) ≡ true = sym (judged (a .0) (drop e s) (a .1)) ∙ q in
-            sym (m .2 ∙ ap goodElems (sym (got-what (rw n at (l .3)))) ∙ rw o)
+      pub elems-last : (r : Read) → GivesT s e (sep 93 zero suc (drop e s)) (Stop r) → Judged s (elements (value d) (drop at s)) goodElems r
+      unfolding goodElems
+      elems-last r w =
+          todo r (loop-ended (item (value d)) (item-fine (value d) (value-fine d)) s i goodElems (econs (judged .0) enil) (rw (judged .2)) r
+          (turn-is ∙ sep-stopped (econs (judged .0) enil) (econs (judged .0)) 93 w))
 
 -- ---- members
+
+-- the same, after members whose names are kept
 abbrev pub ToMembers : ℕ → Bytes → ℕ → ℕ → List ℕ → ℕ → Type 0
-ToMembers d s at i ps k = (ms : Members) (t : Bytes) → pairs (value d) (drop at s) ≡ got ms t
-    → (rest : Members) × (ns : List Bytes) × (loop (pair (value d)) (drop i s) ≡ got rest t) × Names s (take k ps) ns × (goodMembers ms [] ≡ goodMembers rest ns)
+ToMembers d s at i ps k = (ns : List Bytes) × Names s (take k ps) ns
+    × ((r : Read) → Judged s (loop (pair (value d)) (drop i s)) (goodMembers ns) r → Judged s (pairs (value d) (drop at s)) (goodMembers []) r)
 
 members-tail : (k : Bytes) (j : Json) (f : Bytes → Got Members) (w : Step Members) (v : Bytes) (rest : Members) (t : Bytes)
     → (w ≡ last (mcons k j mnil)) ⊎ (w ≡ more (mcons k j)) → after w v f ≡ got rest t → (ms : Members) × (rest ≡ mcons k j ms)
@@ -142,7 +182,7 @@ members-tail k j f w v rest t o e =
     ⊎-elim (λ q. (mnil, sym (got-what (rw q at e))))
     (λ q. let i = under-inv (mcons k j) (f v) (rw q at e) in (i .0, sym (i .2))) o
 
--- a name that is none, or equal to an earlier one; and a value that is not sound
+-- a name that is none, or equal to an earlier one
 name-refused : (o : Option Bytes) (ns : List Bytes) (v : Bool) (k : List Bytes → Bool) → with-some o (λ n. among n ns) true ≡ true → goodName o ns v k ≡ false
 name-refused none ns v k e = refl
 name-refused (some n) ns v k e = rw e
@@ -169,70 +209,63 @@ module _ (d : ℕ) (s : Bytes) where
       record { key = a .0; rest-key = a .1; after-value = b .1; val = b .0; others = r .0; is-name = a .2; is-value = b .2; is = r .1 }
 
   module _ (at i : ℕ) (h : Passes isSpace s at i) (b : ℕ) (e : b ≡ byteAt s i) where
-    pub members-none : b ≡ 125 → JudgesObject d s at true
+    pub members-none : b ≡ 125 → Judged s (pairs (value d) (drop at s)) (goodMembers []) (Next (i + 1))
     unfolding pairs goodMembers
-    members-none q ms t x = ap (λ (m : Members). goodMembers m []) (got-what (sym (ap (on (is 125) _ _) (skip-to h) ∙ on-yes (is 125) s i b e _ _ (eq-eqb _ _ q)) ∙ x))
+    members-none q = (mnil, ap (on (is 125) _ _) (skip-to h) ∙ on-yes (is 125) s i b e _ _ (eq-eqb _ _ q), refl)
 
     pub members-begin : (b ≡ 125 → ⊥) → (ps : List ℕ) → ToMembers d s at i ps 0
     unfolding pairs Names
-    members-begin n ps ms t x = (ms, [], sym (ap (on (is 125) _ _) (skip-to h) ∙ on-no (is 125) s i b e _ _ (ne-eqb _ _ n)) ∙ x, refl, refl)
+    members-begin n ps = ([], refl, λ r x. judged-by s (goodMembers []) r (ap (on (is 125) _ _) (skip-to h) ∙ on-no (is 125) s i b e _ _ (ne-eqb _ _ n)) x)
 
-  module _ (at i : ℕ) (ps : List ℕ) (k : ℕ) (todo : ToMembers d s at i ps k) (after-name : List ℕ) (r : Read) (keeps : Keeps s i ps k r after-name) where
-    pub members-name : (b : ℕ) → r ≡ Bad b → JudgesObject d s at false
+  module _ (at i : ℕ) (ps : List ℕ) (k : ℕ) (todo : ToMembers d s at i ps k) (kept : List ℕ) (r : Read) (keeps : Keeps s i ps k r kept) where
+    named : KeptName s i (todo .0) k kept r
+    named = keeps (todo .0) (todo .1)
+
+    pub members-name : (b : ℕ) → r ≡ Bad b → Judged s (pairs (value d) (drop at s)) (goodMembers []) (Bad b)
     unfolding goodMembers
-    members-name b q ms t x =
-        let m = todo ms t x in
-        let y = pair-here i (m .0) t (m .2) in
-        let z = subst (KeptName s (y .key) (y .rest-key) (m .1) k after-name) q (keeps (y .key) (y .rest-key) (y .is-name) (m .1) (m .3)) in
-        sym (m .4 ∙ ap (λ (n : Members). goodMembers n (m .1)) (y .is) ∙ name-refused (decode (y .key)) (m .1) (good (y .val)) (goodMembers (y .others)) z)
+    members-name b q =
+        let z = subst (KeptName s i (todo .0) k kept) q named in
+        todo .2 (Bad b) (λ ms t x.
+        let y = pair-here i ms t x in
+        ap (goodMembers (todo .0)) (y .is) ∙ name-refused (decode (y .key)) (todo .0) (good (y .val)) (λ ns. goodMembers ns (y .others)) (z (y .key) (y .rest-key) (y .is-name)))
 
     module _ (v : ℕ) (q : r ≡ Next v) where
-      pub members-bad : (b : ℕ) → Gives s v (value d (drop v s)) (Bad b) → JudgesObject d s at false
-      members-bad b g ms t x =
-          let m = todo ms t x in
-          let y = pair-here i (m .0) t (m .2) in
-          let z = subst (KeptName s (y .key) (y .rest-key) (m .1) k after-name) q (keeps (y .key) (y .rest-key) (y .is-name) (m .1) (m .3)) in
-          absurd (not-bad (sym (at-bad (value d (drop v s)) g) ∙ ap (value d) (sym (z .1)) ∙ y .is-value))
+      name-is : KeptName s i (todo .0) k kept (Next v)
+      name-is = subst (KeptName s i (todo .0) k kept) q named
 
-      module _ (o : Bool) (judged : JudgesValue d s v o) where
-        pub members-false : o ≡ false → JudgesObject d s at false
-        unfolding goodMembers
-        members-false p ms t x =
-            let m = todo ms t x in
-            let y = pair-here i (m .0) t (m .2) in
-            let z = subst (KeptName s (y .key) (y .rest-key) (m .1) k after-name) q (keeps (y .key) (y .rest-key) (y .is-name) (m .1) (m .3)) in
-            let g : good (y .val) ≡ false = sym (judged (y .val) (y .after-value) (ap (value d) (sym (z .1)) ∙ y .is-value)) ∙ p in
-            sym (m .4 ∙ ap (λ (n : Members). goodMembers n (m .1)) (y .is) ∙ rw (z .2, z .3, g))
+      pub members-false : (b : ℕ) → Judged s (value d (drop v s)) good (Bad b) → Judged s (pairs (value d) (drop at s)) (goodMembers []) (Bad b)
+      unfolding goodMembers
+      members-false b judged =
+          todo .2 (Bad b) (λ ms t x.
+          let y = pair-here i ms t x in
+          let u : y .key ≡ name-is .0 = got-what (sym (y .is-name) ∙ name-is .2) in
+          let w : y .rest-key ≡ drop v s = got-rest (sym (y .is-name) ∙ name-is .2) in
+          let g : good (y .val) ≡ false = judged (y .val) (y .after-value) (ap (value d) (sym w) ∙ y .is-value) in
+          ap (goodMembers (todo .0)) (y .is) ∙ rw (u, name-is .3, name-is .4, g))
 
-        turn-is : (key : Bytes) → name (drop i s) ≡ got key (drop v s) → (j : Json) (e : ℕ) → value d (drop v s) ≡ got j (drop e s)
-            → pair (value d) (drop i s) ≡ sep 125 (mcons key j mnil) (mcons key j) (drop e s)
+      module _ (e : ℕ) (judged : Judged s (value d (drop v s)) good (Next e)) where
+        pair-is : pair (value d) (drop i s) ≡ sep 125 (mcons (name-is .0) (judged .0) mnil) (mcons (name-is .0) (judged .0)) (drop e s)
         unfolding pair
-        turn-is key n j e w = rw (n, w)
+        pair-is = rw (name-is .2, judged .1)
 
-        module _ (p : o ≡ true) (e : ℕ) (g : Gives s v (value d (drop v s)) (Next e)) where
-          pub members-on : (j : ℕ) → GivesT s e (sep 125 zero suc (drop e s)) (Go j) → (later : List ℕ) → take (k + 1) later ≡ take (k + 1) after-name → ToMembers d s at j later (k + 1)
-          unfolding goodMembers pair
-          members-on j w later c ms t x =
-              let m = todo ms t x in
-              let y = pair-here i (m .0) t (m .2) in
-              let z = subst (KeptName s (y .key) (y .rest-key) (m .1) k after-name) q (keeps (y .key) (y .rest-key) (y .is-name) (m .1) (m .3)) in
-              let a = at-next (value d (drop v s)) g in
-              let f : pair (value d) (drop i s) ≡ got (more (mcons (y .key) (a .0))) (drop j s) = turn-is (y .key) (y .is-name ∙ ap (got (y .key)) (z .1)) (a .0) e (a .1) ∙ sep-go (mcons (y .key) (a .0) mnil) (mcons (y .key) (a .0)) 125 w in
-              let l = under-inv (mcons (y .key) (a .0)) (loop (pair (value d)) (drop j s)) (sym (loop-more (pair (value d)) (pair-fine (value d) (value-fine d) .less) (drop i s) (drop j s) (mcons (y .key) (a .0)) f) ∙ m .2) in
-              let h : good (a .0) ≡ true = sym (judged (a .0) (drop e s) (a .1)) ∙ p in
-              (l .0, m .1 ++ (z .0 ∷ []), l .1, subst (λ (x : List ℕ). Names s x (m .1 ++ (z .0 ∷ []))) (sym c) (z .4), m .4 ∙ ap (λ (n : Members). goodMembers n (m .1)) (sym (l .2)) ∙ rw (z .2, z .3, h))
+        -- such a member is good where those after it are
+        adds : (ms : Members) → goodMembers (todo .0) (mcons (name-is .0) (judged .0) ms) ≡ goodMembers (todo .0 ++ (name-is .1 ∷ [])) ms
+        unfolding goodMembers
+        adds ms = rw (name-is .3, name-is .4, judged .2)
 
-          pub members-last : (u : Read) → GivesT s e (sep 125 zero suc (drop e s)) (Stop u) → JudgesObject d s at true
-          unfolding goodMembers pair
-          members-last u w ms t x =
-              let m = todo ms t x in
-              let y = pair-here i (m .0) t (m .2) in
-              let z = subst (KeptName s (y .key) (y .rest-key) (m .1) k after-name) q (keeps (y .key) (y .rest-key) (y .is-name) (m .1) (m .3)) in
-              let a = at-next (value d (drop v s)) g in
-              let l = loop-split (pair (value d)) (pair-fine (value d) (value-fine d) .less) (drop i s) (m .0) t (m .2) in
-              let n = sep-stop (mcons (y .key) (a .0) mnil) (mcons (y .key) (a .0)) 125 w (l .0) (l .1) (sym (turn-is (y .key) (y .is-name ∙ ap (got (y .key)) (z .1)) (a .0) e (a .1)) ∙ l .2) in
-              let h : good (a .0) ≡ true = sym (judged (a .0) (drop e s) (a .1)) ∙ p in
-              sym (m .4 ∙ ap (λ (x : Members). goodMembers x (m .1)) (sym (got-what (rw n at (l .3)))) ∙ rw (z .2, z .3, h))
+        pub members-on : (j : ℕ) → GivesT s e (sep 125 zero suc (drop e s)) (Go j) → (later : List ℕ) → take (k + 1) later ≡ take (k + 1) kept → ToMembers d s at j later (k + 1)
+        members-on j w later c = (
+          todo .0 ++ (name-is .1 ∷ []),
+          subst (λ (x : List ℕ). Names s x (todo .0 ++ (name-is .1 ∷ []))) (sym c) (name-is .5),
+          λ r x. todo .2 r (loop-judged (pair (value d)) (pair-fine (value d) (value-fine d)) s i (goodMembers (todo .0)) j (mcons (name-is .0) (judged .0)) (goodMembers (todo .0 ++ (name-is .1 ∷ [])))
+              (pair-is ∙ sep-go (mcons (name-is .0) (judged .0) mnil) (mcons (name-is .0) (judged .0)) 125 w) adds r x),
+        )
+
+        pub members-last : (r : Read) → GivesT s e (sep 125 zero suc (drop e s)) (Stop r) → Judged s (pairs (value d) (drop at s)) (goodMembers []) r
+        unfolding goodMembers
+        members-last r w =
+            todo .2 r (loop-ended (pair (value d)) (pair-fine (value d) (value-fine d)) s i (goodMembers (todo .0)) (mcons (name-is .0) (judged .0) mnil) (adds mnil) r
+            (pair-is ∙ sep-stopped (mcons (name-is .0) (judged .0) mnil) (mcons (name-is .0) (judged .0)) 125 w))
 
 -- ---- values
 -- a literal or a number
@@ -278,14 +311,21 @@ module _ (s : Bytes) (i b : ℕ) (e : b ≡ byteAt s i) where
     flat-scalar zero q = ap scalar (skip-to h)
     flat-scalar (suc d) q = absurd (omega arith)
 
-    pub judges-string : (d : ℕ) → b ≡ 34 → {r : Bool} → r ≡ is-some (spelled s (i + 1)) → JudgesValue d s at r
-    judges-string d q z j t x = z ∙ string-good q j t (sym (as-scalar d (λ y. omega arith) (λ y. omega arith)) ∙ x)
+    -- a string with a surrogate alone; a string
+    pub judges-alone : (d : ℕ) → b ≡ 34 → is-some (spelled s (i + 1)) ≡ false → (p : ℕ) → Judged s (value d (drop at s)) good (Bad p)
+    judges-alone d q z p j t x = sym (string-good q j t (sym (as-scalar d (λ y. omega arith) (λ y. omega arith)) ∙ x)) ∙ z
 
-    pub judges-flat : (d : ℕ) → d ≡ 0 → (b ≡ 34 → ⊥) → JudgesValue d s at true
-    judges-flat d q n j t x = scalar-good n j t (sym (flat-scalar d q) ∙ x)
+    pub judges-string : (d : ℕ) → b ≡ 34 → is-some (spelled s (i + 1)) ≡ true → (r : Read) → Gives s (i + 1) (characters (drop (i + 1) s)) r → Judged s (value d (drop at s)) good r
+    unfolding scalar
+    judges-string d q z r g =
+        let w : scalar (drop i s) ≡ under jstr (characters (drop (i + 1) s)) = on-yes (is 34) s i b e _ _ (eq-eqb _ _ q) in
+        judged-by s good r (as-scalar d (λ y. omega arith) (λ y. omega arith)) (judged-all s (scalar (drop i s)) good r (same-as w (by-under jstr g)) (λ j t x. sym (string-good q j t x) ∙ z))
 
-    pub judges-scalar : (d : ℕ) → (b ≡ 34 → ⊥) → (b ≡ 91 → ⊥) → (b ≡ 123 → ⊥) → JudgesValue d s at true
-    judges-scalar d n m o j t x = scalar-good n j t (sym (as-scalar d m o) ∙ x)
+    pub judges-flat : (d : ℕ) → d ≡ 0 → (b ≡ 34 → ⊥) → (r : Read) → Gives s i (scalar (drop i s)) r → Judged s (value d (drop at s)) good r
+    judges-flat d q n r g = judged-by s good r (flat-scalar d q) (judged-all s (scalar (drop i s)) good r g (λ j t x. sym (scalar-good n j t x)))
+
+    pub judges-scalar : (d : ℕ) → (b ≡ 34 → ⊥) → (b ≡ 91 → ⊥) → (b ≡ 123 → ⊥) → (r : Read) → Gives s i (scalar (drop i s)) r → Judged s (value d (drop at s)) good r
+    judges-scalar d n m o r g = judged-by s good r (as-scalar d m o) (judged-all s (scalar (drop i s)) good r g (λ j t x. sym (scalar-good n j t x)))
 
     pub as-array : (d : ℕ) → (d ≡ 0 → ⊥) → b ≡ 91 → value d (drop at s) ≡ under jarr (elements (value (d - 1)) (drop (i + 1) s))
     unfolding value
@@ -297,12 +337,29 @@ module _ (s : Bytes) (i b : ℕ) (e : b ≡ byteAt s i) where
     as-object zero n m q = absurd (n refl)
     as-object (suc d) n m q = ap (on (is 91) _ _) (skip-to h) ∙ on-no (is 91) s i b e _ _ (ne-eqb _ _ m) ∙ on-yes (is 123) s i b e _ _ (eq-eqb _ _ q) ∙ rw sub-one
 
-    pub judges-array : (d : ℕ) → (d ≡ 0 → ⊥) → b ≡ 91 → {r : Bool} → JudgesArray (d - 1) s (i + 1) r → JudgesValue d s at r
+    pub judges-array : (d : ℕ) → (d ≡ 0 → ⊥) → b ≡ 91 → (r : Read) → Judged s (elements (value (d - 1)) (drop (i + 1) s)) goodElems r → Judged s (value d (drop at s)) good r
     unfolding good
-    judges-array d n q z j t x =
-        let u = under-inv jarr (elements (value (d - 1)) (drop (i + 1) s)) (sym (as-array d n q) ∙ x) in z (u .0) t (u .1) ∙ ap good (u .2)
+    judges-array d n q r z = judged-by s good r (as-array d n q) (judged-under s jarr (elements (value (d - 1)) (drop (i + 1) s)) goodElems good (λ es. refl) r z)
 
-    pub judges-object : (d : ℕ) → (d ≡ 0 → ⊥) → (b ≡ 91 → ⊥) → b ≡ 123 → {r : Bool} → JudgesObject (d - 1) s (i + 1) r → JudgesValue d s at r
+    pub judges-object : (d : ℕ) → (d ≡ 0 → ⊥) → (b ≡ 91 → ⊥) → b ≡ 123 → (r : Read) → Judged s (pairs (value (d - 1)) (drop (i + 1) s)) (goodMembers []) r → Judged s (value d (drop at s)) good r
     unfolding good
-    judges-object d n m q z j t x =
-        let u = under-inv jobj (pairs (value (d - 1)) (drop (i + 1) s)) (sym (as-object d n m q) ∙ x) in z (u .0) t (u .1) ∙ ap good (u .2)
+    judges-object d n m q r z = judged-by s good r (as-object d n m q) (judged-under s jobj (pairs (value (d - 1)) (drop (i + 1) s)) (goodMembers []) good (λ ms. refl) r z)
+
+-- ---- bounds
+pub onward-up : (a b n : ℕ) (r : Read) → a ≤ b → Onward b n r → Onward a n r
+onward-up a b n (Next e) l h = (omega (arith, h .0), h .1)
+onward-up a b n (Bad e) l h = tt
+
+pub onward-stop : (a b n : ℕ) (r : Read) → a < b → Within b n r → Onward a n r
+onward-stop a b n (Next e) l h = (omega (arith, h .0), h .1)
+onward-stop a b n (Bad e) l h = tt
+
+pub onward-as : (at n : ℕ) {r q : Read} → Onward at n r → r ≡ q → Onward at n q
+onward-as at n h e = subst (Onward at n) e h
+
+pub scalar-onward : (s : Bytes) (i : ℕ) → i ≤ length s → (r : Read) → Gives s i (scalar (drop i s)) r → Onward i (length s) r
+scalar-onward s i l (Next e) g =
+    let a = at-next (scalar (drop i s)) g in
+    let m = scalar-fine .less (drop i s) (a .0) (drop e s) (a .1) in
+    (omega (arith, length-drop i s, length-drop e s, m, g .within .1), g .within .1)
+scalar-onward s i l (Bad b) g = tt

@@ -22,16 +22,16 @@ meets s o ps = any (λ p. agree o (spelled s p)) ps
 unfoldable pub Names : Bytes → List ℕ → List Bytes → Type 0
 Names s ps ns = map (spelled s) ps ≡ map some ns
 
--- a name that was read, with the names before it: its end, and it is kept too; or it is none, or equal to one of them
-abbrev pub KeptName : Bytes → Bytes → Bytes → List Bytes → ℕ → List ℕ → Read → Type 0
-KeptName s us t ns k after (Next v) =
-    (n : Bytes) × (t ≡ drop v s) × (decode us ≡ some n) × (among n ns ≡ false) × Names s (take (k + 1) after) (ns ++ (n ∷ []))
-KeptName s us t ns k after (Bad b) = with-some (decode us) (λ n. among n ns) true ≡ true
+-- a name, after names that are kept: it stands for something else than they, and is kept too; or none is read that does
+abbrev pub KeptName : Bytes → ℕ → List Bytes → ℕ → List ℕ → Read → Type 0
+KeptName s at ns k after (Next v) =
+    (us n : Bytes) × (name (drop at s) ≡ got us (drop v s)) × (decode us ≡ some n) × (among n ns ≡ false) × Names s (take (k + 1) after) (ns ++ (n ∷ []))
+KeptName s at ns k after (Bad b) = (us t : Bytes) → name (drop at s) ≡ got us t → with-some (decode us) (λ n. among n ns) true ≡ true
 
 abbrev pub Keeps : Bytes → ℕ → List ℕ → ℕ → Read → List ℕ → Type 0
-Keeps s at places k r after =
-    (us t : Bytes) → name (drop at s) ≡ got us t → (ns : List Bytes) → Names s (take k places) ns → KeptName s us t ns k after r
+Keeps s at places k r after = (ns : List Bytes) → Names s (take k places) ns → KeptName s at ns k after r
 
+-- a name has its two quotes and its colon at least
 abbrev pub KeepsIn : ℕ → ℕ → Read → Type 0
-KeepsIn at n (Next v) = (at < v) × (v ≤ n)
+KeepsIn at n (Next v) = (at + 3 ≤ v) × (v ≤ n)
 KeepsIn at n (Bad b) = Unit {0}
