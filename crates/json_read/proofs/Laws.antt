@@ -6,22 +6,23 @@ use mathlib.Core.Option.{Option, none, some}
 use Prim.Native.Nat.{ℕ, zero, suc, _+_, _-_, _≤_, _<_}
 use native.Mathlib.Omega.{arith}
 use lib.ListN.{length, drop, length-drop}
-use lib.Dec.{leb}
+use lib.Dec.{eqb, leb}
 use borrow.Author.Tests.{le-leb, lt-leb}
 use Rattle.text.specs.declared.Read.{Read}
 use Rattle.text.specs.declared.Read.the-variants.{Next, Bad}
 use Rattle.text.specs.Choice.{pick, with-some}
 use Rattle.text.specs.Bytes.{Bytes, is}
 use Rattle.text.specs.Reader.{Got, got, bad, bind, first, when}
-use Rattle.text.specs.Places.{Gives}
-use Rattle.text.proofs.Places.{byBool, at-next, at-bad}
-use Rattle.text.proofs.Fine.{bind-inv, got-what, not-bad}
+use Rattle.text.specs.Places.{byteAt, Gives, Passes}
+use Rattle.text.proofs.Places.{byBool, at-next, at-bad, when-yes, when-no}
+use Rattle.json.specs.Grammar.{isSpace}
 use Rattle.json.specs.Tree.{Json}
 use Rattle.json.specs.Syntax.{skip, value, text}
 use Rattle.json.specs.Strings.{decoded, distinctNames}
 use Rattle.json.specs.Read.{Reading, tree, refused, sound, readingOf, reading}
-use Rattle.json.specs.Lookup.{room}
-use Rattle.json_names.specs.Sound.{good, JudgesValue}
+use Rattle.json.specs.Lookup.{room, isTree}
+use Rattle.json_marks.proofs.Laws.{skip-to}
+use Rattle.json_names.specs.Sound.{good, Judged}
 use Rattle.json_names.proofs.Good.{good-is}
 use Rattle.json_read.specs.declared.Verdict.{Verdict}
 use Rattle.json_read.specs.declared.Verdict.the-variants.{Sound, Large, NotJson}
@@ -42,20 +43,55 @@ no-text d s b l g =
     let p : length s - length (drop b s) ≡ b = rw (length-drop b s) (omega (arith, g .within .1)) in
     sym (fits d s l ∙ ap (λ (x : Got Json). verdictOf (readingOf (length s) x)) (at-bad (text d s) g) ∙ ap NotJson p)
 
--- a tree is sound as it was judged
-judged : (o : Option Json) → verdictOf (with-some o (λ k. pick (distinctNames k) (tree k) (refused 0)) (refused 0)) ≡ pick (with-some o distinctNames false) Sound (NotJson 0)
-judged none = refl
-judged (some k) = byBool (distinctNames k) (λ p. rw p) (λ p. rw p)
+-- ---- a text is JSON where its value is good, and nothing but white space follows it
+tree-by : (o : Option Json) → isTree (with-some o (λ k. pick (distinctNames k) (tree k) (refused 0)) (refused 0)) ≡ with-some o distinctNames false
+tree-by none = refl
+tree-by (some k) = byBool (distinctNames k) (λ p. rw p) (λ p. rw p)
 
-when-got : (p : ℕ → Bool) (j a : Json) (t w : Bytes) → when p (got j) bad t ≡ got a w → a ≡ j
-unfolding when
-when-got p j a t w e = byBool (p (first t)) (λ q. sym (got-what (rw q at e))) (λ q. absurd (not-bad (rw q at e)))
+sound-good : (j : Json) → isTree (sound j) ≡ good j
+unfolding sound
+sound-good j = tree-by (decoded j) ∙ sym (good-is j)
 
-pub a-text : (d : ℕ) (s : Bytes) (e : ℕ) (r : Bool) → length s ≤ room → Gives s 0 (text d s) (Next e) → JudgesValue d s 0 r → pick r Sound (NotJson 0) ≡ verdict d s
-unfolding reading sound text
-a-text d s e r l g h =
+module _ (d : ℕ) (s : Bytes) where
+  pub sound-bad : (b : ℕ) → Judged s (value d s) good (Bad b) → false ≡ isTree (reading d s)
+  unfolding reading text when
+  sound-bad b h = no-tree (value d s) h
+    where
+      no-tree : (x : Got Json) → ((j : Json) (t : Bytes) → x ≡ got j t → good j ≡ false)
+          → false ≡ isTree (readingOf (length s) (bind x λ j t. when (is 256) (got j) bad (skip t)))
+      no-tree (bad t) h = refl
+      no-tree (got j t) h = byBool (eqb (first (skip t)) 256) (λ p. rw p (sym (sound-good j ∙ h j t refl))) (λ p. rw p)
+
+  module _ (e i : ℕ) (h : Judged s (value d s) good (Next e)) (p : Passes isSpace s e i) (b : ℕ) (q : b ≡ byteAt s i) where
+    text-is : text d s ≡ when (is 256) (got (h .0)) bad (drop i s)
+    unfolding text
+    text-is = ap (λ (x : Got Json). bind x λ j t. when (is 256) (got j) bad (skip t)) (h .1) ∙ ap (when (is 256) (got (h .0)) bad) (skip-to p)
+
+    -- the code's test for the end decides
+    pub sound-end : {r : Bool} → r ≡ eqb b 256 → r ≡ isTree (reading d s)
+    unfolding reading
+    sound-end {r} z =
+        byBool (eqb b 256)
+        (λ y. z ∙ y ∙ sym (ap (λ (x : Got Json). isTree (readingOf (length s) x)) (text-is ∙ when-yes (is 256) s i b q (got (h .0)) bad y) ∙ sound-good (h .0) ∙ h .2))
+        (λ y. z ∙ y ∙ sym (ap (λ (x : Got Json). isTree (readingOf (length s) x)) (text-is ∙ when-no (is 256) s i b q (got (h .0)) bad y)))
+
+-- ---- the verdicts on a text within its room
+pub a-tree : (d : ℕ) (s : Bytes) → length s ≤ room → true ≡ isTree (reading d s) → Sound ≡ verdict d s
+a-tree d s l h = sym (fits d s l ∙ tree-sound (reading d s) h)
+  where
+    tree-sound : (x : Reading) → true ≡ isTree x → verdictOf x ≡ Sound
+    tree-sound (tree j) e = refl
+    tree-sound (refused n) e = let r : _≡_ {A = ℕ} 0 1 = cc in absurd (omega arith)
+
+-- the grammar holds, and yet it is no tree
+pub unsound : (d : ℕ) (s : Bytes) (e : ℕ) → length s ≤ room → Gives s 0 (text d s) (Next e) → false ≡ isTree (reading d s) → NotJson 0 ≡ verdict d s
+unfolding reading sound
+unsound d s e l g h =
     let a = at-next (text d s) g in
-    let v = bind-inv (value d s) (λ j t. when (is 256) (got j) bad (skip t)) (a .1) in
-    let j : a .0 ≡ v .0 = when-got (is 256) (v .0) (a .0) (skip (v .1)) (drop e s) (v .3) in
-    let k : r ≡ with-some (decoded (v .0)) distinctNames false = h (v .0) (v .1) (v .2) ∙ good-is (v .0) in
-    sym (fits d s l ∙ ap (λ (x : Got Json). verdictOf (readingOf (length s) x)) (a .1) ∙ ap (λ (x : Json). verdictOf (sound x)) j ∙ judged (decoded (v .0)) ∙ ap (λ (x : Bool). pick x Sound (NotJson 0)) (sym k))
+    let k : reading d s ≡ sound (a .0) = ap (readingOf (length s)) (a .1) in
+    sym (fits d s l ∙ ap verdictOf k ∙ not-sound (decoded (a .0)) (h ∙ ap isTree k))
+  where
+    not-sound : (o : Option Json) → false ≡ isTree (with-some o (λ k. pick (distinctNames k) (tree k) (refused 0)) (refused 0))
+        → verdictOf (with-some o (λ k. pick (distinctNames k) (tree k) (refused 0)) (refused 0)) ≡ NotJson 0
+    not-sound none e = refl
+    not-sound (some k) e = byBool (distinctNames k) (λ p. let q = rw p at e in let r : _≡_ {A = ℕ} 0 1 = cc in absurd (omega arith)) (λ p. rw p)
