@@ -82,6 +82,9 @@ module _ (s : Bytes) (at : ℕ) where
       let z : j .0 ≡ us = got-what (k .3) in
       spelled-is s q us (j .1) (ap characters (sym w) ∙ (j .2) ∙ ap (λ (x : Bytes). got x (j .1)) z)
 
+  pub name-rest : (us t : Bytes) → name (drop at s) ≡ got us t → (v : ℕ) → Gives s at (name (drop at s)) (Next v) → t ≡ drop v s
+  name-rest us t e v g = got-rest (sym e ∙ at-next (name (drop at s)) g .1)
+
   module _ (l : at ≤ length s) (q v : ℕ) (g : Gives s at (token 34 (drop at s)) (Next q)) (h : Gives s at (name (drop at s)) (Next v)) where
     pub name-takes : (at < q) × (q + 2 ≤ v)
     unfolding name
