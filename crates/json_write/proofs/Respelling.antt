@@ -6,6 +6,7 @@ use Prim.Native.Nat.{ℕ}
 use lib.ListN.{drop}
 use Rattle.text.specs.Bytes.{Bytes}
 use Rattle.text.specs.Reader.{got}
+use Rattle.output.specs.Wanted.{chained}
 use Rattle.json.specs.Compact.{spelled, spelledAll, quoted}
 use Rattle.json.specs.Strings.{before, decode}
 use Rattle.json.specs.Syntax.{characters}
@@ -14,7 +15,7 @@ use Rattle.json_strings.specs.declared.Byte.the-variants.{One, End, Alone}
 use Rattle.json_strings.specs.Spelled as strings
 use Rattle.json_strings.specs.Spelled.{left, byteOf, ByteIn}
 use Rattle.json_strings.proofs.Laws.{left-none, spelled-is}
-use Rattle.json_write.specs.Writes.{respelled, requoted, chained}
+use Rattle.json_write.specs.Respelled.{respelled, requoted}
 
 -- what is still to come, spelled anew
 abbrev pub anew : Bytes → ℕ → ℕ → Option Bytes

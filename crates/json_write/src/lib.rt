@@ -9,10 +9,11 @@ ghost use mathlib.Core.List.{_∷_, []};
 ghost use Prim.Native.Nat.{_+_, _≤_, _<_};
 ghost use lib.ListN.{length};
 ghost use Rattle.output.specs.Put.{Puts};
+ghost use Rattle.output.specs.Wanted.{Writes};
 ghost use Rattle.text.specs.Decimal.{decimal};
 ghost use Rattle.json.specs.Compact.{hexDigit, spelled, spelledAll, quoted};
 ghost use Rattle.json_write.specs.Pieces.{coded};
-ghost use Rattle.json_write.specs.Writes.{Writes, respelled, requoted};
+ghost use Rattle.json_write.specs.Respelled.{respelled, requoted};
 
 fn hex_digit(d: u8) -> u8
     requires { ⌜ d < 16 ⌝ }

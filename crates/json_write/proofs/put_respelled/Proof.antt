@@ -1,11 +1,12 @@
-use Prim.Native.Nat.{_-_, _≤_}
+use Prim.Native.Nat.{_≤_}
 use native.Mathlib.Nat.{le-refl}
 use borrow.Author.Needs.{needs}
 use denote.Ref.{now}
 use lib.ListN.{length}
 use Rattle.json_strings.specs.Spelled.{weight}
-use Rattle.json_write.specs.Writes.{Toward, respelled}
-use Rattle.json_write.proofs.Wanted.{Place, place, puts-writes, toward-all, toward-as, toward-next, toward-stop, toward-done, toward-none, toward-in, toward-fit, toward-same}
+use Rattle.json_write.specs.Respelled.{respelled}
+use Rattle.output.specs.Wanted.{Toward}
+use Rattle.output.proofs.Wanted.{Place, place, puts-writes, toward-all, toward-as, toward-next, toward-stop, toward-done, toward-none, toward-in, toward-fit, toward-same}
 use Rattle.json_write.proofs.Respelling.{anew, anew-all, anew-one, anew-end, anew-alone, byte-in}
 use Rattle.json_write.proofs.put_respelled.Statement.{statement}
 use Rattle.json_write.proofs.put_respelled.Tie as tie
