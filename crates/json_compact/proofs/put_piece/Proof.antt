@@ -23,7 +23,7 @@ add-put-requoted : tie.Need-add-put-requoted
 add-put-requoted c = search needs
 
 put-requoted-requires : tie.Need-put-requoted-requires
-put-requoted-requires c κs = search needs
+put-requoted-requires c κs = tt
 
 same-length : tie.Need-same-length
 same-length c = search needs

@@ -41,7 +41,7 @@ part-put-respelled-end : tie.Need-part-put-respelled-end
 part-put-respelled-end c = le-refl _
 
 put-respelled-requires : tie.Need-put-respelled-requires
-put-respelled-requires c κs = c .before .before .before .before .before .before .before .before .before .before .pre
+put-respelled-requires c κs = tt
 
 enum-known-b : tie.Need-enum-known-b
 enum-known-b c = c .match2 .keys1
