@@ -1,13 +1,11 @@
 -- The kind of a value, by its first byte.
-use mathlib.Core.Path.{_≡_, refl, sym, ap, _∙_}
-use mathlib.Core.Bool.{Bool}
-use mathlib.Core.List.{List}
-use Prim.Native.Nat.{ℕ, zero, suc, _+_, _-_}
+use mathlib.Core.Path.{_≡_, sym, ap, _∙_}
+use Prim.Native.Nat.{ℕ, suc, _+_, _-_}
 use native.Mathlib.Omega.{arith}
 use lib.ListN.{drop}
 use borrow.Author.Tests.{eq-eqb, ne-eqb}
 use Rattle.text.specs.Bytes.{Bytes, is}
-use Rattle.text.specs.Reader.{Got, got, bad, under, on, when, one}
+use Rattle.text.specs.Reader.{got, under, when, one}
 use Rattle.text.specs.Places.{byteAt, Passes}
 use Rattle.text.proofs.Places.{on-yes, on-no, when-yes, when-no}
 use Rattle.text.proofs.Fine.{got-what, bind-inv, under-inv}

@@ -1,13 +1,13 @@
 -- Laws of members and elements, over plain values.
 use mathlib.Core.Path.{_≡_, refl, sym, ap, _∙_}
 use mathlib.Core.Bool.{Bool}
-use mathlib.Core.List.{List, [], _∷_}
+use mathlib.Core.List.{[], _∷_}
 use Prim.Native.Nat.{ℕ, zero, suc, _≤_}
 use lib.ListN.{length, drop}
 use Rattle.text.specs.declared.Read.{Read}
 use Rattle.text.specs.declared.Read.the-variants.{Next, Bad}
 use Rattle.text.specs.Bytes.{Bytes}
-use Rattle.text.specs.Reader.{Got, got, bad, past}
+use Rattle.text.specs.Reader.{Got, got, past}
 use Rattle.text.specs.Places.{Gives, Passes}
 use Rattle.text.proofs.Places.{byBool, at-next, at-bad}
 use Rattle.text.proofs.Fine.{not-bad, got-rest, bind-inv}

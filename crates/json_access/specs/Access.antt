@@ -1,7 +1,7 @@
 -- What the contracts of this crate cite.
 use mathlib.Core.Path.{_≡_}
 use Prim.Native.Nat.{ℕ, suc, _≤_}
-use lib.ListN.{length, drop}
+use lib.ListN.{drop}
 use Rattle.text.specs.declared.Read.{Read}
 use Rattle.text.specs.declared.Read.the-variants.{Next, Bad}
 use Rattle.text.specs.Bytes.{Bytes}
@@ -18,9 +18,10 @@ abbrev pub placeOf : Read → ℕ
 placeOf (Next e) = e
 placeOf (Bad b) = b
 
+-- the places are within the n bytes of a text, and the value's not before `at`, where that is
 pub record Inside (at n : ℕ) (r : Places) : Type 0 where
   pub name-in : r .name ≤ n
-  pub from : at ≤ r .start
+  pub from : at ≤ n → at ≤ r .start
   pub ordered : r .start ≤ r .end
   pub end-in : r .end ≤ n
 

@@ -1,5 +1,5 @@
 // The members of an object and the elements of an array of a JSON text, one after the other: after each, `json_marks::separator`
-// tells whether another one follows. Where the grammar does not hold, the places are of no use, and within the text.
+// tells whether another one follows. Where the grammar does not hold, as past the end, the places are of no use, and within the text.
 use json_marks::mark;
 use json_marks::skip_space;
 use json_scan::name_end;
@@ -7,7 +7,6 @@ use json_scan::value_end;
 use text::Read;
 use text::look;
 ghost use mathlib.Core.Path.{_≡_};
-ghost use Prim.Native.Nat.{_≤_};
 ghost use lib.ListN.{length};
 ghost use Rattle.json_access.specs.Access.{placeOf, Inside, TellsMember, TellsElement, TellsKind};
 
@@ -29,10 +28,16 @@ fn place(r: Read) -> usize
 
 // The member at a place of an object.
 pub fn member_at(s: &[u8], at: usize, depth: usize) -> Places
-    requires { ⌜ at ≤ length (now s) ⌝ }
     ensures { λ r. ⌜ Inside at (length (now (s .entry))) r ⌝ }
     ensures { λ r. ⌜ TellsMember depth (now (s .entry)) at r ⌝ }
 {
+    if at > s.len() {
+        return Places {
+            name: 0,
+            start: 0,
+            end: 0,
+        };
+    }
     let q = place(mark(s, at, 34));
     let v = place(name_end(s, at));
     let a = skip_space(s, v);
@@ -46,10 +51,16 @@ pub fn member_at(s: &[u8], at: usize, depth: usize) -> Places
 
 // The element at a place of an array: the places of its value. (Its name is no name, but the place itself.)
 pub fn element_at(s: &[u8], at: usize, depth: usize) -> Places
-    requires { ⌜ at ≤ length (now s) ⌝ }
     ensures { λ r. ⌜ Inside at (length (now (s .entry))) r ⌝ }
     ensures { λ r. ⌜ TellsElement depth (now (s .entry)) at r ⌝ }
 {
+    if at > s.len() {
+        return Places {
+            name: 0,
+            start: 0,
+            end: 0,
+        };
+    }
     let a = skip_space(s, at);
     let e = place(value_end(s, a, depth));
     Places {
@@ -72,9 +83,11 @@ pub enum Kind {
 
 // The kind of the value at a place, by its first byte.
 pub fn kind_at(s: &[u8], at: usize) -> Kind
-    requires { ⌜ at ≤ length (now s) ⌝ }
     ensures { λ r. ⌜ TellsKind (now (s .entry)) at r ⌝ }
 {
+    if at > s.len() {
+        return Kind::Null;
+    }
     let i = skip_space(s, at);
     let b = look(s, i);
     if b == 91 {

@@ -14,7 +14,7 @@ use Rattle.text.proofs.Readers.{not-bad, got-rest, got-what, bind-inv, under-in
 use Rattle.json.specs.Grammar.{isSpace, isE}
 use Rattle.json.specs.Tree.{Json}
 use Rattle.json.specs.Syntax.{skip, opt, digits, int, frac, sign, exp, number, four}
-use Rattle.json_write.specs.Writes.{chained}
+use Rattle.output.specs.Wanted.{chained}
 use Rattle.json_compact.specs.Squeezed.{squeezed}
 use Rattle.json_compact.proofs.Firsts.{byte-first, squeezed-skip}
 

@@ -1,8 +1,8 @@
 -- The laws of `squeezed` by the first byte, and past white space.
-use mathlib.Core.Path.{_≡_, refl, sym, ap, _∙_}
+use mathlib.Core.Path.{_≡_, refl, sym, _∙_}
 use mathlib.Core.Bool.{true, false}
-use mathlib.Core.List.{[], _∷_, _++_, append-assoc}
-use mathlib.Core.Option.{Option, none, some}
+use mathlib.Core.List.{[], _∷_}
+use mathlib.Core.Option.{some}
 use Prim.Native.Nat.{ℕ}
 use lib.Dec.{eqb}
 use Rattle.text.specs.Bytes.{Bytes, between}
@@ -11,19 +11,10 @@ use Rattle.text.proofs.Cases.{byBool}
 use Rattle.json.specs.Grammar.{isSpace}
 use Rattle.json.specs.Strings.{decode}
 use Rattle.json.specs.Syntax.{skip, characters}
-use Rattle.json_write.specs.Writes.{chained}
+use Rattle.output.specs.Wanted.{chained}
+use Rattle.output.proofs.Wanted.{chained-nil}
 use Rattle.json_compact.specs.Squeezed.{inQuotes, piece, squeezed}
-use Rattle.json_compact.proofs.Pieces.{squeezed-nil, squeezed-on}
-
-pub chained-nil : (z : Option Bytes) → chained (some []) z ≡ z
-unfolding chained
-chained-nil none = refl
-chained-nil (some z) = refl
-
-pub chained-more : (a b : Bytes) (z : Option Bytes) → chained (some a) (chained (some b) z) ≡ chained (some (a ++ b)) z
-unfolding chained
-chained-more a b none = refl
-chained-more a b (some z) = ap some (sym (append-assoc a b z))
+use Rattle.json_compact.proofs.Pieces.{squeezed-on}
 
 pub space-first : (c : ℕ) (s : Bytes) → isSpace c ≡ true → squeezed (c ∷ s) ≡ squeezed s
 unfolding piece on

@@ -7,22 +7,22 @@ use Prim.Native.Nat.{ℕ, zero, suc, _+_, _≤_, _<_}
 use native.Mathlib.Omega.{arith}
 use lib.ListN.{length, drop, getD, length-drop, drop-of-length-le}
 use Rattle.text.specs.Bytes.{Bytes, is, between}
-use Rattle.text.specs.Reader.{Got, got, bad, under, on}
+use Rattle.text.specs.Reader.{Got, got, bad, under}
 use Rattle.text.specs.Places.{byteAt, Gives}
 use Rattle.text.specs.declared.Read.{Read}
 use Rattle.text.specs.declared.Read.the-variants.{Next, Bad}
 use Rattle.text.proofs.Cases.{byBool}
 use Rattle.text.proofs.Places.{byte-default, gives-as, at-next, at-bad, on-yes, on-no}
 use Rattle.text.proofs.Readers.{Takes, takes-on, takes-got, takes-under, takes-less, takes-bad}
-use Rattle.output.specs.declared.Wrote.{Wrote}
 use Rattle.json.specs.Grammar.{isSpace}
 use Rattle.json.specs.Strings.{decode}
 use Rattle.json.specs.Syntax.{characters}
 use Rattle.json.proofs.Fine.{space-256, below-256}
 use Rattle.json.proofs.Takes.{takes-characters}
 use Rattle.json_strings.proofs.Laws.{spelled-is}
-use Rattle.json_write.specs.Writes.{Writes, requoted, chained}
-use Rattle.json_write.proofs.Wanted.{no-some}
+use Rattle.output.specs.Wanted.{chained}
+use Rattle.output.proofs.Wanted.{no-some}
+use Rattle.json_write.specs.Respelled.{requoted}
 use Rattle.json_compact.specs.Squeezed.{inQuotes, piece, pieceOf, onward, squeezedIn, squeezed}
 
 takes-piece : Takes 1 piece
@@ -94,9 +94,6 @@ turn-end s i h = rw (drop-of-length-le s h) squeezed-nil
 
 pub byte-same : (s : Bytes) (i : ℕ) → i < length s → getD s i 0 ≡ byteAt s i
 byte-same s i h = byte-default s i 0 256 h
-
-pub writes-as : {want other : Option Bytes} {room out : Bytes} {r : Wrote} → ((x : Bytes) → want ≡ some x → other ≡ some x) → Writes other room r out → Writes want room r out
-writes-as f w = record { bytes = w .bytes; puts = w .puts; is = λ x e. w .is x (f x e) }
 
 module _ (s : Bytes) (i b : ℕ) (e : b ≡ byteAt s i) where
   pub piece-space : isSpace b ≡ true → pieceOf (piece (drop i s)) ≡ some []

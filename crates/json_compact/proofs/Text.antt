@@ -1,5 +1,5 @@
 -- THE TIE: a JSON text of bytes is squeezed to its tree's compact text.
-use mathlib.Core.Path.{_≡_, refl, sym, ap, subst, _∙_}
+use mathlib.Core.Path.{_≡_, refl, sym, ap, _∙_}
 use mathlib.Core.Bool.{Bool, true, false}
 use mathlib.Core.List.{[], _∷_, _++_}
 use mathlib.Core.Logic.{_⊎_, inl, inr}
@@ -26,7 +26,8 @@ use Rattle.json.specs.Read.{tree, refused, sound, readingOf, reading}
 use Rattle.json.proofs.Fine.{value-fine}
 use Rattle.output.specs.declared.Wrote.{Wrote}
 use Rattle.output.specs.Put.{Puts}
-use Rattle.json_write.specs.Writes.{Writes, chained}
+use Rattle.output.specs.Wanted.{Writes, chained}
+use Rattle.output.proofs.Wanted.{writes-puts}
 use Rattle.json_compact.specs.Compacts.{Compacts}
 use Rattle.json_compact.specs.Squeezed.{piece, squeezedIn, squeezed}
 use Rattle.json_compact.proofs.Pieces.{squeezed-nil}
@@ -95,7 +96,7 @@ squeezed-compact d s k h e = by (text d s) refl e
 -- ---- what was written of such a text
 
 pub put-compact-tree : (d : ℕ) (s : Bytes) (k : Json) {room out : Bytes} {r : Wrote} → all isByte s ≡ true → reading d s ≡ tree k → Writes (squeezed s) room r out → Puts room (compact k) r out
-put-compact-tree d s k {room} {out} {r} h e w = subst (λ (x : Bytes). Puts room x r out) (w .is (compact k) (squeezed-compact d s k h e)) (w .puts)
+put-compact-tree d s k h e w = writes-puts w (squeezed-compact d s k h e)
 
 -- a slice's numbers are known to be bytes place by place
 pub bytes-all : (s : Bytes) → ((i : ℕ) → getD s i 0 < 256) → all isByte s ≡ true

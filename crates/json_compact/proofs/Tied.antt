@@ -18,7 +18,7 @@ use Rattle.json.specs.Tree.{Json, jnull, jtrue, jfalse, jnum, jstr}
 use Rattle.json.specs.Syntax.{skip, token, characters, number, four, scalar, sep, name}
 use Rattle.json.specs.Strings.{decode, decoded}
 use Rattle.json.specs.Compact.{spelledAll, quoted, written}
-use Rattle.json_write.specs.Writes.{chained}
+use Rattle.output.specs.Wanted.{chained}
 use Rattle.json_compact.specs.Squeezed.{inQuotes, squeezed}
 use Rattle.json_compact.proofs.Firsts.{string-first, squeezed-skip}
 use Rattle.json_compact.proofs.Copied.{Copied, plain, copied-is, copied-skip, copies-number, copied-one, copied-four}

@@ -7,7 +7,7 @@ use Rattle.output.specs.Put.{Puts}
 use Rattle.json.specs.Tree.{Json}
 use Rattle.json.specs.Compact.{compact}
 use Rattle.json.specs.Read.{tree, reading}
-use Rattle.json_write.specs.Writes.{Writes}
+use Rattle.output.specs.Wanted.{Writes}
 use Rattle.json_compact.specs.Squeezed.{squeezed}
 
 -- any text is written piece by piece; a JSON text so becomes its tree's compact text

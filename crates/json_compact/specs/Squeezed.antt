@@ -10,7 +10,7 @@ use Rattle.json.specs.Grammar.{isSpace}
 use Rattle.json.specs.Compact.{quoted}
 use Rattle.json.specs.Strings.{decode}
 use Rattle.json.specs.Syntax.{characters}
-use Rattle.json_write.specs.Writes.{chained}
+use Rattle.output.specs.Wanted.{chained}
 
 -- a string in its quotes
 abbrev pub inQuotes : Option Bytes → Option Bytes

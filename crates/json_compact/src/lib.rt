@@ -10,7 +10,7 @@ use text::look;
 ghost use Prim.Native.Nat.{_<_};
 ghost use lib.ListN.{length, drop};
 ghost use Rattle.text.specs.Places.{Gives};
-ghost use Rattle.json_write.specs.Writes.{Writes};
+ghost use Rattle.output.specs.Wanted.{Writes};
 ghost use Rattle.json_compact.specs.Compacts.{Compacts};
 ghost use Rattle.json_compact.specs.Squeezed.{piece, pieceOf};
 

@@ -1,27 +1,25 @@
 -- Laws of the look-up, over plain values.
-use mathlib.Core.Path.{_≡_, refl, sym, ap, subst, _∙_}
-use mathlib.Core.Bool.{Bool, true, false, _&&_}
+use mathlib.Core.Path.{_≡_, refl, sym, ap, _∙_}
+use mathlib.Core.Bool.{Bool, true, false}
 use mathlib.Core.Logic.{_⊎_, inl, inr, ⊎-elim}
 use mathlib.Core.List.{List, [], _∷_, tail}
 use mathlib.Core.Option.{Option, none, some}
-use Prim.Native.Nat.{ℕ, zero, suc, _+_, _-_, _≤_, _<_}
+use Prim.Native.Nat.{ℕ, zero, suc, _+_, _-_, _≤_}
 use native.Mathlib.Omega.{arith}
 use lib.ListN.{length, take, drop, length-drop}
 use lib.Dec.{eqb, leb}
-use borrow.Author.Tests.{eq-eqb, ne-eqb, le-leb, lt-leb}
+use borrow.Author.Tests.{eq-eqb, ne-eqb}
 use Rattle.text.specs.declared.Read.{Read}
-use Rattle.text.specs.declared.Read.the-variants.{Next, Bad}
-use Rattle.text.specs.declared.Turn.{Turn}
 use Rattle.text.specs.declared.Turn.the-variants.{Go, Stop}
 use Rattle.text.specs.Choice.{pick, with-some}
 use Rattle.text.specs.Bytes.{Bytes, is, same}
-use Rattle.text.specs.Reader.{Got, got, bad, bind, under, first, on, when, Step, more, last, after, turns, loop, past}
-use Rattle.text.specs.Places.{byteAt, Gives, GivesT, Passes}
-use Rattle.text.proofs.Places.{byBool, at-next, at-bad, on-yes, on-no}
+use Rattle.text.specs.Reader.{Got, got, bad, bind, under, first, on, when, Step, more, last, after, turns, loop}
+use Rattle.text.specs.Places.{byteAt, GivesT, Passes}
+use Rattle.text.proofs.Places.{byBool, on-yes, on-no}
 use Rattle.text.proofs.Fine.{Takes, not-bad, got-rest, got-what, bind-inv, under-inv, loop-more, loop-split}
 use Rattle.json.specs.Grammar.{isSpace}
 use Rattle.json.specs.Tree.{Json, jobj, Members, mnil, mcons}
-use Rattle.json.specs.Syntax.{skip, token, name, sep, scalar, elements, pair, pairs, value, text}
+use Rattle.json.specs.Syntax.{skip, name, sep, pair, pairs, value, text}
 use Rattle.json.specs.Strings.{decode}
 use Rattle.json.specs.Read.{Reading, tree, refused, readingOf, reading}
 use Rattle.json.specs.Lookup.{Span, spanOf, spans, given, found, isTree, room, lookUp, partOf}
@@ -35,7 +33,7 @@ use Rattle.json_read.specs.Verdict.{verdictOf, verdict}
 use Rattle.json_access.specs.declared.Places.{Places}
 use Rattle.json_access.specs.Access.{TellsMember}
 use Rattle.json_lookup.specs.declared.Part.{Part}
-use Rattle.json_lookup.specs.Finds.{bytesOf, Finds, FindsIn, Locates}
+use Rattle.json_lookup.specs.Finds.{Finds, FindsIn, Locates}
 
 -- ---- members
 abbrev spanAt : Bytes → Bytes → Bytes → Span

@@ -1,11 +1,10 @@
 -- What the look-up's contracts cite.
 use mathlib.Core.Path.{_≡_}
-use mathlib.Core.List.{List, [], _∷_}
-use mathlib.Core.Option.{Option, none, some}
+use mathlib.Core.List.{List}
 use Prim.Native.Nat.{ℕ, _-_, _≤_}
 use lib.ListN.{length, take, drop}
 use Rattle.text.specs.Bytes.{Bytes}
-use Rattle.text.specs.Reader.{Got, got, loop}
+use Rattle.text.specs.Reader.{got, loop}
 use Rattle.json.specs.Lookup.{Span, spanOf, spans, given, found, lookUp, partOf}
 use Rattle.json.specs.Tree.{Json}
 use Rattle.json.specs.Syntax.{text}

@@ -2,10 +2,11 @@
 use mathlib.Core.Path.{_≡_, refl, sym, ap, subst, _∙_}
 use mathlib.Core.List.{[], _∷_}
 use mathlib.Core.Option.{Option, none, some, Option·map}
-use Prim.Native.Nat.{ℕ}
-use lib.ListN.{drop}
+use Prim.Native.Nat.{ℕ, _<_}
+use lib.ListN.{length, drop}
 use Rattle.text.specs.Bytes.{Bytes}
 use Rattle.text.specs.Reader.{got}
+use Rattle.output.specs.Wanted.{chained}
 use Rattle.json.specs.Compact.{spelled, spelledAll, quoted}
 use Rattle.json.specs.Strings.{before, decode}
 use Rattle.json.specs.Syntax.{characters}
@@ -13,8 +14,8 @@ use Rattle.json_strings.specs.declared.Byte.{Byte}
 use Rattle.json_strings.specs.declared.Byte.the-variants.{One, End, Alone}
 use Rattle.json_strings.specs.Spelled as strings
 use Rattle.json_strings.specs.Spelled.{left, byteOf, ByteIn}
-use Rattle.json_strings.proofs.Laws.{left-none, spelled-is}
-use Rattle.json_write.specs.Writes.{respelled, requoted, chained}
+use Rattle.json_strings.proofs.Laws.{left-none, spelled-is, spelled-past}
+use Rattle.json_write.specs.Respelled.{respelled, requoted}
 
 -- what is still to come, spelled anew
 abbrev pub anew : Bytes → ℕ → ℕ → Option Bytes
@@ -23,6 +24,11 @@ anew s i h = Option·map spelledAll (left s i h)
 pub anew-all : (s : Bytes) (at : ℕ) → respelled s at ≡ anew s at 0
 unfolding respelled
 anew-all s at = ap (Option·map spelledAll) (sym (left-none s at))
+
+-- a place past the end stands for nothing
+pub respelled-past : (s : Bytes) (at : ℕ) → length s < at → respelled s at ≡ none
+unfolding respelled
+respelled-past s at h = ap (Option·map spelledAll) (spelled-past s at h)
 
 spelled-first : (b : ℕ) (x : Option Bytes) → Option·map spelledAll (before (b ∷ []) x) ≡ chained (some (spelled b)) (Option·map spelledAll x)
 unfolding spelledAll chained

@@ -1,7 +1,7 @@
 -- Spelling a string: a byte without a short escape, and one turn of the loop.
-use mathlib.Core.Path.{_≡_, refl, ap}
+use mathlib.Core.Path.{_≡_, refl, ap, _∙_}
 use mathlib.Core.Bool.{true, false, _||_}
-use mathlib.Core.List.{[], _∷_, _++_, append-assoc}
+use mathlib.Core.List.{[], _∷_, _++_, append-assoc, append-nil}
 use Prim.Native.Nat.{ℕ, _+_, _/_, _%_, _≤_, _<_}
 use native.Mathlib.Numerals.{add-one}
 use lib.Dec.{eqb, ltb}
@@ -32,7 +32,7 @@ pub spell-out : (s : Bytes) (i : ℕ) → length s ≤ i → spelledAll (drop i 
 unfolding spelledAll
 spell-out s i h = rw (drop-of-length-le s h)
 
--- a string, and a name with its colon, as the rows of pieces that are written
+-- a string, a name with its colon, and a member, as the rows of pieces that are written
 pub quoted-row : (s : Bytes) → flat ((34 ∷ []) ∷ spelledAll s ∷ (34 ∷ []) ∷ []) ≡ quoted s []
 unfolding flat quoted
 quoted-row s = refl
@@ -40,3 +40,8 @@ quoted-row s = refl
 pub name-row : (s : Bytes) → flat (quoted s [] ∷ (58 ∷ []) ∷ []) ≡ quoted s (58 ∷ [])
 unfolding flat quoted
 name-row s = ap (λ (x : Bytes). 34 ∷ x) (append-assoc (spelledAll s) (34 ∷ []) (58 ∷ []))
+
+pub member-row : (s t : Bytes) → flat (quoted s (58 ∷ []) ∷ quoted t [] ∷ []) ≡ quoted s (58 ∷ quoted t [])
+unfolding flat quoted
+member-row s t =
+    ap (λ (x : Bytes). 34 ∷ x) (append-assoc (spelledAll s) (34 ∷ 58 ∷ []) (quoted t [] ++ []) ∙ ap (λ (x : Bytes). spelledAll s ++ 34 ∷ 58 ∷ x) (append-nil (quoted t [])))

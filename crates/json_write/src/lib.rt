@@ -1,4 +1,4 @@
-// Compact JSON: strings, numbers and names, each written to a lent part of the output. (`output::put_text` writes true, false and null.)
+// Compact JSON: strings, numbers, names and members, each written to a lent part of the output. (`output::put_text` writes true, false and null.)
 use json_strings::Byte;
 use json_strings::next_byte;
 use output::Wrote;
@@ -6,13 +6,13 @@ use output::put_byte;
 use output::put_text;
 ghost use mathlib.Core.Path.{_≡_};
 ghost use mathlib.Core.List.{_∷_, []};
-ghost use Prim.Native.Nat.{_+_, _≤_, _<_};
-ghost use lib.ListN.{length};
+ghost use Prim.Native.Nat.{_<_};
 ghost use Rattle.output.specs.Put.{Puts};
+ghost use Rattle.output.specs.Wanted.{Writes};
 ghost use Rattle.text.specs.Decimal.{decimal};
 ghost use Rattle.json.specs.Compact.{hexDigit, spelled, spelledAll, quoted};
 ghost use Rattle.json_write.specs.Pieces.{coded};
-ghost use Rattle.json_write.specs.Writes.{Writes, respelled, requoted};
+ghost use Rattle.json_write.specs.Respelled.{respelled, requoted};
 
 fn hex_digit(d: u8) -> u8
     requires { ⌜ d < 16 ⌝ }
@@ -108,6 +108,20 @@ pub fn put_name(out: &mut [u8], s: &[u8]) -> Wrote
     Wrote::Bytes(ab)
 }
 
+// A member whose value is a string.
+pub fn put_member(out: &mut [u8], name: &[u8], text: &[u8]) -> Wrote
+    ensures { λ r. ⌜ Puts (now (out .entry)) (quoted (now (name .entry)) (58 ∷ quoted (now (text .entry)) [])) r (now (out .exit)) ⌝ }
+{
+    let Wrote::Bytes(a) = put_name(out, name) else {
+        return Wrote::Full;
+    };
+    let Wrote::Bytes(b) = put_string(&mut out[a..], text) else {
+        return Wrote::Full;
+    };
+    let ab = a + b;
+    Wrote::Bytes(ab)
+}
+
 // A number in decimal.
 pub fn put_number(out: &mut [u8], n: usize) -> Wrote
     ensures { λ r. ⌜ Puts (now (out .entry)) (decimal n) r (now (out .exit)) ⌝ }
@@ -125,11 +139,14 @@ pub fn put_number(out: &mut [u8], n: usize) -> Wrote
     Wrote::Bytes(ab)
 }
 
-// The string from a place on (after its first quote), without its quotes and spelled anew.
+// The string from a place on (after its first quote), without its quotes and spelled anew. Where it stands for nothing, the bytes
+// before what is no string are written so; none from a place past the end.
 pub fn put_respelled(out: &mut [u8], s: &[u8], from: usize) -> Wrote
-    requires { ⌜ from ≤ length (now s) ⌝ }
     ensures { λ r. ⌜ Writes (respelled (now (s .entry)) from) (now (out .entry)) r (now (out .exit)) ⌝ }
 {
+    if from > s.len() {
+        return Wrote::Bytes(0);
+    }
     let mut at = 0;
     let mut i = from;
     let mut h = 0;
@@ -155,7 +172,6 @@ pub fn put_respelled(out: &mut [u8], s: &[u8], from: usize) -> Wrote
 
 // The same with its quotes.
 pub fn put_requoted(out: &mut [u8], s: &[u8], from: usize) -> Wrote
-    requires { ⌜ from ≤ length (now s) ⌝ }
     ensures { λ r. ⌜ Writes (requoted (now (s .entry)) from) (now (out .entry)) r (now (out .exit)) ⌝ }
 {
     let Wrote::Bytes(a) = put_byte(out, b'"') else {

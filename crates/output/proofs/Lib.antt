@@ -2,3 +2,4 @@ pub mod Laws
 pub mod Pieces
 pub mod Rows
 pub mod Rests
+pub mod Wanted

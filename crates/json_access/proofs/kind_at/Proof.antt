@@ -1,8 +1,12 @@
 use denote.Ref.{now}
 use Rattle.json_access.proofs.First.{is-array, is-object, is-string, is-true, is-false, is-null, is-number}
+use Rattle.json_access.proofs.Past.{kind-past}
 use borrow.Author.Needs.{needs}
 use Rattle.json_access.proofs.kind_at.Statement.{statement}
 use Rattle.json_access.proofs.kind_at.Tie as tie
+
+returns : tie.Need-returns
+returns c = kind-past (now (c .before .before .args .s)) (c .before .before .args .at) (c .if1 .taken) _
 
 skip-space-requires : tie.Need-skip-space-requires
 skip-space-requires c κs = search needs
@@ -10,37 +14,38 @@ skip-space-requires c κs = search needs
 look-requires : tie.Need-look-requires
 look-requires c κs = search needs
 
-returns : tie.Need-returns
-returns c = is-array (now (c .before .before .before .before .args .s)) (c .before .before .before .before .args .at) (c .before .before .skip-space .result) (c .before .look .result) (c .before .before .skip-space .ensures) (c .before .look .ensures .0) (c .if1 .taken)
-
 returns-2 : tie.Need-returns-2
-returns-2 c = is-object (now (c .before .before .before .before .before .args .s)) (c .before .before .before .before .before .args .at) (c .before .before .before .skip-space .result) (c .before .before .look .result) (c .before .before .before .skip-space .ensures) (c .before .before .look .ensures .0) (c .before .if1 .left) (c .if2 .taken)
+returns-2 c = is-array (now (c .before .before .before .before .before .args .s)) (c .before .before .before .before .before .args .at) (c .before .before .skip-space .result) (c .before .look .result) (c .before .before .skip-space .ensures) (c .before .look .ensures .0) (c .if2 .taken)
 
 returns-3 : tie.Need-returns-3
-returns-3 c = is-string (now (c .before .before .before .before .before .before .args .s)) (c .before .before .before .before .before .before .args .at) (c .before .before .before .before .skip-space .result) (c .before .before .before .look .result) (c .before .before .before .before .skip-space .ensures) (c .before .before .before .look .ensures .0) (c .before .before .if1 .left) (c .before .if2 .left) (c .if3 .taken)
+returns-3 c = is-object (now (c .before .before .before .before .before .before .args .s)) (c .before .before .before .before .before .before .args .at) (c .before .before .before .skip-space .result) (c .before .before .look .result) (c .before .before .before .skip-space .ensures) (c .before .before .look .ensures .0) (c .before .if2 .left) (c .if3 .taken)
 
 returns-4 : tie.Need-returns-4
-returns-4 c = is-true (now (c .before .before .before .before .before .before .before .args .s)) (c .before .before .before .before .before .before .before .args .at) (c .before .before .before .before .before .skip-space .result) (c .before .before .before .before .look .result) (c .before .before .before .before .before .skip-space .ensures) (c .before .before .before .before .look .ensures .0) (c .before .before .before .if1 .left) (c .before .before .if2 .left) (c .before .if3 .left) (c .if4 .taken)
+returns-4 c = is-string (now (c .before .before .before .before .before .before .before .args .s)) (c .before .before .before .before .before .before .before .args .at) (c .before .before .before .before .skip-space .result) (c .before .before .before .look .result) (c .before .before .before .before .skip-space .ensures) (c .before .before .before .look .ensures .0) (c .before .before .if2 .left) (c .before .if3 .left) (c .if4 .taken)
 
 returns-5 : tie.Need-returns-5
-returns-5 c = is-false (now (c .before .before .before .before .before .before .before .before .args .s)) (c .before .before .before .before .before .before .before .before .args .at) (c .before .before .before .before .before .before .skip-space .result) (c .before .before .before .before .before .look .result) (c .before .before .before .before .before .before .skip-space .ensures) (c .before .before .before .before .before .look .ensures .0) (c .before .before .before .before .if1 .left) (c .before .before .before .if2 .left) (c .before .before .if3 .left) (c .before .if4 .left) (c .if5 .taken)
+returns-5 c = is-true (now (c .before .before .before .before .before .before .before .before .args .s)) (c .before .before .before .before .before .before .before .before .args .at) (c .before .before .before .before .before .skip-space .result) (c .before .before .before .before .look .result) (c .before .before .before .before .before .skip-space .ensures) (c .before .before .before .before .look .ensures .0) (c .before .before .before .if2 .left) (c .before .before .if3 .left) (c .before .if4 .left) (c .if5 .taken)
 
 returns-6 : tie.Need-returns-6
-returns-6 c = is-null (now (c .before .before .before .before .before .before .before .before .before .args .s)) (c .before .before .before .before .before .before .before .before .before .args .at) (c .before .before .before .before .before .before .before .skip-space .result) (c .before .before .before .before .before .before .look .result) (c .before .before .before .before .before .before .before .skip-space .ensures) (c .before .before .before .before .before .before .look .ensures .0) (c .before .before .before .before .before .if1 .left) (c .before .before .before .before .if2 .left) (c .before .before .before .if3 .left) (c .before .before .if4 .left) (c .before .if5 .left) (c .if6 .taken)
+returns-6 c = is-false (now (c .before .before .before .before .before .before .before .before .before .args .s)) (c .before .before .before .before .before .before .before .before .before .args .at) (c .before .before .before .before .before .before .skip-space .result) (c .before .before .before .before .before .look .result) (c .before .before .before .before .before .before .skip-space .ensures) (c .before .before .before .before .before .look .ensures .0) (c .before .before .before .before .if2 .left) (c .before .before .before .if3 .left) (c .before .before .if4 .left) (c .before .if5 .left) (c .if6 .taken)
 
 returns-7 : tie.Need-returns-7
-returns-7 c = is-number (now (c .before .before .before .before .before .before .before .before .before .args .s)) (c .before .before .before .before .before .before .before .before .before .args .at) (c .before .before .before .before .before .before .before .skip-space .result) (c .before .before .before .before .before .before .look .result) (c .before .before .before .before .before .before .before .skip-space .ensures) (c .before .before .before .before .before .before .look .ensures .0) (c .before .before .before .before .before .if1 .left) (c .before .before .before .before .if2 .left) (c .before .before .before .if3 .left) (c .before .before .if4 .left) (c .before .if5 .left) (c .if6 .left)
+returns-7 c = is-null (now (c .before .before .before .before .before .before .before .before .before .before .args .s)) (c .before .before .before .before .before .before .before .before .before .before .args .at) (c .before .before .before .before .before .before .before .skip-space .result) (c .before .before .before .before .before .before .look .result) (c .before .before .before .before .before .before .before .skip-space .ensures) (c .before .before .before .before .before .before .look .ensures .0) (c .before .before .before .before .before .if2 .left) (c .before .before .before .before .if3 .left) (c .before .before .before .if4 .left) (c .before .before .if5 .left) (c .before .if6 .left) (c .if7 .taken)
+
+returns-8 : tie.Need-returns-8
+returns-8 c = is-number (now (c .before .before .before .before .before .before .before .before .before .before .args .s)) (c .before .before .before .before .before .before .before .before .before .before .args .at) (c .before .before .before .before .before .before .before .skip-space .result) (c .before .before .before .before .before .before .look .result) (c .before .before .before .before .before .before .before .skip-space .ensures) (c .before .before .before .before .before .before .look .ensures .0) (c .before .before .before .before .before .if2 .left) (c .before .before .before .before .if3 .left) (c .before .before .before .if4 .left) (c .before .before .if5 .left) (c .before .if6 .left) (c .if7 .left)
 
 pub kind-at-spec : {M : Type 1} → statement M
 kind-at-spec =
     tie.close
     (tie.spec
+    returns
     skip-space-requires
     look-requires
-    returns
     returns-2
     returns-3
     returns-4
     returns-5
     returns-6
-    returns-7)
+    returns-7
+    returns-8)

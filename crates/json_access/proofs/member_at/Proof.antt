@@ -1,12 +1,13 @@
 use native.Mathlib.Omega.{arith}
 use denote.Ref.{now}
-use mathlib.Core.Path.{ap, sym, _∙_}
-use Prim.Native.Nat.{_≤_}
-use lib.ListN.{length}
 use Rattle.json_access.proofs.Laws.{place-in, member-is}
+use Rattle.json_access.proofs.Past.{member-past}
 use borrow.Author.Needs.{needs}
 use Rattle.json_access.proofs.member_at.Statement.{statement}
 use Rattle.json_access.proofs.member_at.Tie as tie
+
+returns : tie.Need-returns
+returns c = (record { name-in = omega arith; from = λ l. absurd (omega (arith, c .if1 .taken)); ordered = omega arith; end-in = omega arith }, member-past (now (c .before .before .args .s)) (c .before .before .args .at) (c .if1 .taken) (c .before .before .args .depth) _)
 
 mark-requires : tie.Need-mark-requires
 mark-requires c κs = search needs
@@ -21,7 +22,7 @@ place-requires-2 : tie.Need-place-requires-2
 place-requires-2 c κs = search needs
 
 skip-space-requires : tie.Need-skip-space-requires
-skip-space-requires c κs = let q = place-in (now (c .before .before .before .before .before .args .s)) (c .before .before .before .before .before .args .at) _ _ (c .before .name-end .ensures) in omega (arith, q .1, c .place2 .ensures)
+skip-space-requires c κs = let q = place-in (now (c .before .before .before .before .before .before .args .s)) (c .before .before .before .before .before .before .args .at) _ _ (c .before .name-end .ensures) in omega (arith, q .1, c .place2 .ensures)
 
 value-end-requires : tie.Need-value-end-requires
 value-end-requires c κs = search needs
@@ -29,18 +30,18 @@ value-end-requires c κs = search needs
 place-requires-3 : tie.Need-place-requires-3
 place-requires-3 c κs = search needs
 
-returns : tie.Need-returns
-returns c = let p = place-in (now (c .before .before .before .before .before .before .before .before .args .s)) (c .before .before .before .before .before .before .before .before .args .at) _ _ (c .before .before .before .before .before .before .mark .ensures) in
-    let q = place-in (now (c .before .before .before .before .before .before .before .before .args .s)) (c .before .before .before .before .before .before .before .before .args .at) _ _ (c .before .before .before .before .name-end .ensures) in
-    let r = place-in (now (c .before .before .before .before .before .before .before .before .args .s)) (c .before .before .skip-space .result) _ _ (c .before .value-end .ensures) in (
+returns-2 : tie.Need-returns-2
+returns-2 c = let p = place-in (now (c .before .before .before .before .before .before .before .before .before .args .s)) (c .before .before .before .before .before .before .before .before .before .args .at) _ _ (c .before .before .before .before .before .before .mark .ensures) in
+    let q = place-in (now (c .before .before .before .before .before .before .before .before .before .args .s)) (c .before .before .before .before .before .before .before .before .before .args .at) _ _ (c .before .before .before .before .name-end .ensures) in
+    let r = place-in (now (c .before .before .before .before .before .before .before .before .before .args .s)) (c .before .before .skip-space .result) _ _ (c .before .value-end .ensures) in (
       record {
         name-in = omega (arith, p .1, c .before .before .before .before .before .place .ensures);
-        from = omega (arith, q .0, c .before .before .before .place2 .ensures, c .before .before .skip-space .ensures .from);
+        from = λ l. omega (arith, q .0, c .before .before .before .place2 .ensures, c .before .before .skip-space .ensures .from);
         ordered = omega (arith, r .0, c .place3 .ensures);
         end-in = omega (arith, r .1, c .place3 .ensures);
       },
       λ k t e j u w.
-          let m = member-is (c .before .before .before .before .before .before .before .before .args .depth) (now (c .before .before .before .before .before .before .before .before .args .s)) (c .before .before .before .before .before .before .before .before .args .at) (c .before .before .before .before .before .before .mark .ensures) (c .before .before .before .before .name-end .ensures) (c .before .before .before .before .before .place .ensures) (c .before .before .before .place2 .ensures) (c .before .before .skip-space .ensures) (c .before .value-end .ensures) (c .place3 .ensures) k t e j u w in
+          let m = member-is (c .before .before .before .before .before .before .before .before .before .args .depth) (now (c .before .before .before .before .before .before .before .before .before .args .s)) (c .before .before .before .before .before .before .before .before .before .args .at) (c .before .before .before .before .before .before .mark .ensures) (c .before .before .before .before .name-end .ensures) (c .before .before .before .before .before .place .ensures) (c .before .before .before .place2 .ensures) (c .before .before .skip-space .ensures) (c .before .value-end .ensures) (c .place3 .ensures) k t e j u w in
           record { spells = m .0; begins = m .1; ends = m .2 },
     )
 
@@ -48,6 +49,7 @@ pub member-at-spec : {M : Type 1} → statement M
 member-at-spec =
     tie.close
     (tie.spec
+    returns
     mark-requires
     place-requires
     name-end-requires
@@ -55,4 +57,4 @@ member-at-spec =
     skip-space-requires
     value-end-requires
     place-requires-3
-    returns)
+    returns-2)

@@ -4,8 +4,8 @@ use native.Mathlib.Omega.{arith}
 use borrow.Author.Needs.{needs}
 use denote.Ref.{now}
 use lib.ListN.{length, drop}
-use Rattle.json_write.specs.Writes.{Toward}
-use Rattle.json_write.proofs.Wanted.{Place, place, toward-all, toward-as, toward-next, toward-stop, toward-done, toward-none, toward-in, toward-fit, toward-same}
+use Rattle.output.specs.Wanted.{Toward}
+use Rattle.output.proofs.Wanted.{Place, place, toward-all, toward-as, toward-next, toward-stop, toward-done, toward-none, toward-in, toward-fit, toward-same}
 use Rattle.json_compact.specs.Squeezed.{squeezed}
 use Rattle.json_compact.proofs.Pieces.{turn-on, turn-less, turn-bad, turn-end}
 use Rattle.json_compact.proofs.Text.{compacts}

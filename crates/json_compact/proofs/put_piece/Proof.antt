@@ -4,8 +4,8 @@ use Prim.Native.Nat.{ℕ}
 use denote.Ref.{now}
 use borrow.Author.Tests.{eq-eqb, ne-eqb}
 use Rattle.output.proofs.Laws.{start, done, puts-as}
-use Rattle.json_write.proofs.Wanted.{puts-writes}
-use Rattle.json_compact.proofs.Pieces.{writes-as, piece-space, piece-string, piece-byte, byte-same}
+use Rattle.output.proofs.Wanted.{puts-writes, writes-as}
+use Rattle.json_compact.proofs.Pieces.{piece-space, piece-string, piece-byte, byte-same}
 use borrow.Author.Needs.{needs}
 use Rattle.json_compact.proofs.put_piece.Statement.{statement}
 use Rattle.json_compact.proofs.put_piece.Tie as tie
@@ -23,7 +23,7 @@ add-put-requoted : tie.Need-add-put-requoted
 add-put-requoted c = search needs
 
 put-requoted-requires : tie.Need-put-requoted-requires
-put-requoted-requires c κs = search needs
+put-requoted-requires c κs = tt
 
 same-length : tie.Need-same-length
 same-length c = search needs

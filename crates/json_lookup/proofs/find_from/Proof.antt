@@ -19,7 +19,7 @@ loop-holds : tie.Need-loop-holds Inv-loop μ-loop
 loop-holds c = (c .before .before .pre, λ ps t x. (ps, x, refl))
 
 member-at-requires : tie.Need-member-at-requires Inv-loop μ-loop
-member-at-requires c κs = c .loop .inv .0
+member-at-requires c κs = tt
 
 equals-requires : tie.Need-equals-requires Inv-loop μ-loop
 equals-requires c κs = tt
@@ -34,7 +34,7 @@ enum-known-j : tie.Need-enum-known-j Inv-loop μ-loop
 enum-known-j c = search needs
 
 loop-less : tie.Need-loop-less Inv-loop μ-loop
-loop-less c = let h = turn-as (c .before .before .before .separator .ensures) (c .before .j .given .1) in omega (arith, h .within .0, h .within .1, c .before .before .before .before .before .before .member-at .ensures .0 .from, c .before .before .before .before .before .before .member-at .ensures .0 .ordered)
+loop-less c = let h = turn-as (c .before .before .before .separator .ensures) (c .before .j .given .1) in omega (arith, h .within .0, h .within .1, c .before .before .before .before .before .before .member-at .ensures .0 .from (c .before .before .before .before .before .before .before .loop .inv .0), c .before .before .before .before .before .before .member-at .ensures .0 .ordered)
 
 loop-again : tie.Need-loop-again Inv-loop μ-loop
 loop-again c = let h = turn-as (c .before .before .before .separator .ensures) (c .before .j .given .1) in (h .within .1, found-on (now (c .before .before .before .before .before .before .before .before .before .before .args .s)) (c .before .before .before .before .before .before .before .before .before .before .args .at) (now (c .before .before .before .before .before .before .before .before .before .before .args .name)) (c .before .before .before .before .before .before .before .loop .i) (c .before .before .before .before .before .before .before .loop .inv .1) (c .before .before .before .before .before .before .member-at .result) (c .before .before .before .before .before .before .member-at .ensures .1) _ (c .before .before .before .before .before .equals .ensures) (c .before .before .before .before .if1 .left) _ h)

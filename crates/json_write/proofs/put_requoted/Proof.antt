@@ -1,7 +1,7 @@
 use mathlib.Core.Path.{refl}
 use native.Mathlib.Nat.{le-refl}
 use denote.Ref.{now}
-use Rattle.json_write.proofs.Wanted.{Place, place, puts-writes, toward-first, toward-never, toward-next, toward-stop, toward-done, toward-in, toward-fit, toward-same}
+use Rattle.output.proofs.Wanted.{Place, place, puts-writes, toward-first, toward-never, toward-next, toward-stop, toward-done, toward-in, toward-fit, toward-same}
 use Rattle.json_write.proofs.Respelling.{requoted-pieces}
 use borrow.Author.Needs.{needs}
 use Rattle.json_write.proofs.put_requoted.Statement.{statement}
@@ -41,7 +41,7 @@ part-put-respelled-end : tie.Need-part-put-respelled-end
 part-put-respelled-end c = le-refl _
 
 put-respelled-requires : tie.Need-put-respelled-requires
-put-respelled-requires c κs = c .before .before .before .before .before .before .before .before .before .before .pre
+put-respelled-requires c κs = tt
 
 enum-known-b : tie.Need-enum-known-b
 enum-known-b c = c .match2 .keys1

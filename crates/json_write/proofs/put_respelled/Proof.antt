@@ -1,12 +1,14 @@
-use Prim.Native.Nat.{_-_, _≤_}
+use Prim.Native.Nat.{_≤_}
 use native.Mathlib.Nat.{le-refl}
+use native.Mathlib.Omega.{arith}
 use borrow.Author.Needs.{needs}
 use denote.Ref.{now}
 use lib.ListN.{length}
 use Rattle.json_strings.specs.Spelled.{weight}
-use Rattle.json_write.specs.Writes.{Toward, respelled}
-use Rattle.json_write.proofs.Wanted.{Place, place, puts-writes, toward-all, toward-as, toward-next, toward-stop, toward-done, toward-none, toward-in, toward-fit, toward-same}
-use Rattle.json_write.proofs.Respelling.{anew, anew-all, anew-one, anew-end, anew-alone, byte-in}
+use Rattle.json_write.specs.Respelled.{respelled}
+use Rattle.output.specs.Wanted.{Toward}
+use Rattle.output.proofs.Wanted.{Place, place, puts-writes, toward-all, toward-as, toward-next, toward-stop, toward-done, toward-none, toward-in, toward-fit, toward-same}
+use Rattle.json_write.proofs.Respelling.{anew, anew-all, respelled-past, anew-one, anew-end, anew-alone, byte-in}
 use Rattle.json_write.proofs.put_respelled.Statement.{statement}
 use Rattle.json_write.proofs.put_respelled.Tie as tie
 
@@ -18,10 +20,13 @@ abbrev μ-loop : tie.MeasureT-loop
 
 -- after a byte's piece
 abbrev wrote : tie.After-known-told2 Inv-loop μ-loop → Place
-wrote c = place (toward-next _ (toward-as (anew-one (now (c .before .before .before .before .before .before .before .before .before .before .before .before .before .before .args .s)) (c .before .before .before .before .before .before .before .before .before .before .before .loop .i) (c .before .before .before .before .before .before .before .before .before .before .before .loop .h) (c .before .before .before .before .before .before .before .before .before .before .next-byte .ensures .0) _ _ _ (c .before .before .before .before .before .before .before .before .b .given .1)) (c .before .before .before .before .before .before .before .before .before .before .before .loop .inv .1)) (puts-writes (c .before .before .before .before .before .put-byte-spelled .ensures)) (c .before .n .given .1))
+wrote c = place (toward-next _ (toward-as (anew-one (now (c .before .before .before .before .before .before .before .before .before .before .before .before .before .before .before .args .s)) (c .before .before .before .before .before .before .before .before .before .before .before .loop .i) (c .before .before .before .before .before .before .before .before .before .before .before .loop .h) (c .before .before .before .before .before .before .before .before .before .before .next-byte .ensures .0) _ _ _ (c .before .before .before .before .before .before .before .before .b .given .1)) (c .before .before .before .before .before .before .before .before .before .before .before .loop .inv .1)) (puts-writes (c .before .before .before .before .before .put-byte-spelled .ensures)) (c .before .n .given .1))
+
+returns : tie.Need-returns Inv-loop μ-loop
+returns c = toward-none (respelled-past (now (c .before .before .before .args .s)) (c .before .before .before .args .from) (c .if1 .taken)) (toward-all _ _)
 
 loop-holds : tie.Need-loop-holds Inv-loop μ-loop
-loop-holds c = (c .before .before .pre, toward-as (anew-all (now (c .before .before .args .s)) (c .before .before .args .from)) (toward-all _ _))
+loop-holds c = (omega (arith, c .if1 .left), toward-as (anew-all (now (c .before .before .before .args .s)) (c .before .before .before .args .from)) (toward-all _ _))
 
 next-byte-requires : tie.Need-next-byte-requires Inv-loop μ-loop
 next-byte-requires c κs = c .loop .inv .0
@@ -32,8 +37,8 @@ enum-told c = search needs
 same-length : tie.Need-same-length Inv-loop μ-loop
 same-length c = toward-same (c .before .before .before .loop .inv .1)
 
-returns : tie.Need-returns Inv-loop μ-loop
-returns c = toward-none (anew-alone (now (c .before .before .before .before .before .before .args .s)) (c .before .before .before .loop .i) (c .before .before .before .loop .h) (c .before .before .next-byte .ensures .0) (c .enum-told .given .1)) (c .before .before .before .loop .inv .1)
+returns-2 : tie.Need-returns-2 Inv-loop μ-loop
+returns-2 c = toward-none (anew-alone (now (c .before .before .before .before .before .before .before .args .s)) (c .before .before .before .loop .i) (c .before .before .before .loop .h) (c .before .before .next-byte .ensures .0) (c .enum-told .given .1)) (c .before .before .before .loop .inv .1)
 
 enum-told-2 : tie.Need-enum-told-2 Inv-loop μ-loop
 enum-told-2 c = search needs
@@ -41,8 +46,8 @@ enum-told-2 c = search needs
 same-length-2 : tie.Need-same-length-2 Inv-loop μ-loop
 same-length-2 c = toward-same (c .before .before .before .loop .inv .1)
 
-returns-2 : tie.Need-returns-2 Inv-loop μ-loop
-returns-2 c = toward-done (anew-end (now (c .before .before .before .before .before .before .args .s)) (c .before .before .before .loop .i) (c .before .before .before .loop .h) (c .before .before .next-byte .ensures .0) (c .enum-told2 .given .1)) (c .before .before .before .loop .inv .1)
+returns-3 : tie.Need-returns-3 Inv-loop μ-loop
+returns-3 c = toward-done (anew-end (now (c .before .before .before .before .before .before .before .args .s)) (c .before .before .before .loop .i) (c .before .before .before .loop .h) (c .before .before .next-byte .ensures .0) (c .enum-told2 .given .1)) (c .before .before .before .loop .inv .1)
 
 enum-known-b : tie.Need-enum-known-b Inv-loop μ-loop
 enum-known-b c = search needs
@@ -68,17 +73,17 @@ enum-told-3 c = c .match2 .keys2
 same-length-3 : tie.Need-same-length-3 Inv-loop μ-loop
 same-length-3 c = search needs
 
-returns-3 : tie.Need-returns-3 Inv-loop μ-loop
-returns-3 c = toward-stop _ (toward-as (anew-one (now (c .before .before .before .before .before .before .before .before .before .before .before .before .before .args .s)) (c .before .before .before .before .before .before .before .before .before .before .loop .i) (c .before .before .before .before .before .before .before .before .before .before .loop .h) (c .before .before .before .before .before .before .before .before .before .next-byte .ensures .0) _ _ _ (c .before .before .before .before .before .before .before .b .given .1)) (c .before .before .before .before .before .before .before .before .before .before .loop .inv .1)) (puts-writes (c .before .before .before .before .put-byte-spelled .ensures)) (c .enum-told3 .given .1)
+returns-4 : tie.Need-returns-4 Inv-loop μ-loop
+returns-4 c = toward-stop _ (toward-as (anew-one (now (c .before .before .before .before .before .before .before .before .before .before .before .before .before .before .args .s)) (c .before .before .before .before .before .before .before .before .before .before .loop .i) (c .before .before .before .before .before .before .before .before .before .before .loop .h) (c .before .before .before .before .before .before .before .before .before .next-byte .ensures .0) _ _ _ (c .before .before .before .before .before .before .before .b .given .1)) (c .before .before .before .before .before .before .before .before .before .before .loop .inv .1)) (puts-writes (c .before .before .before .before .put-byte-spelled .ensures)) (c .enum-told3 .given .1)
 
 add-at : tie.Need-add-at Inv-loop μ-loop
-add-at c = toward-fit (wrote c .left) (c .before .before .before .before .before .before .before .before .before .before .before .before .before .before .good .0 .0)
+add-at c = toward-fit (wrote c .left) (c .before .before .before .before .before .before .before .before .before .before .before .before .before .before .before .good .0 .0)
 
 loop-less : tie.Need-loop-less Inv-loop μ-loop
-loop-less c = byte-in (now (c .before .before .before .before .before .before .before .before .before .before .before .before .before .before .args .s)) (c .before .before .before .before .before .before .before .before .before .before .before .loop .i) (c .before .before .before .before .before .before .before .before .before .before .before .loop .h) (c .before .before .before .before .before .before .before .before .before .before .next-byte .ensures .1) (c .before .before .before .before .before .before .before .before .b .given .1) .1
+loop-less c = byte-in (now (c .before .before .before .before .before .before .before .before .before .before .before .before .before .before .before .args .s)) (c .before .before .before .before .before .before .before .before .before .before .before .loop .i) (c .before .before .before .before .before .before .before .before .before .before .before .loop .h) (c .before .before .before .before .before .before .before .before .before .before .next-byte .ensures .1) (c .before .before .before .before .before .before .before .before .b .given .1) .1
 
 loop-again : tie.Need-loop-again Inv-loop μ-loop
-loop-again c = (byte-in (now (c .before .before .before .before .before .before .before .before .before .before .before .before .before .before .args .s)) (c .before .before .before .before .before .before .before .before .before .before .before .loop .i) (c .before .before .before .before .before .before .before .before .before .before .before .loop .h) (c .before .before .before .before .before .before .before .before .before .before .next-byte .ensures .1) (c .before .before .before .before .before .before .before .before .b .given .1) .0, wrote c .left)
+loop-again c = (byte-in (now (c .before .before .before .before .before .before .before .before .before .before .before .before .before .before .before .args .s)) (c .before .before .before .before .before .before .before .before .before .before .before .loop .i) (c .before .before .before .before .before .before .before .before .before .before .before .loop .h) (c .before .before .before .before .before .before .before .before .before .before .next-byte .ensures .1) (c .before .before .before .before .before .before .before .before .b .given .1) .0, wrote c .left)
 
 pub put-respelled-spec : {M : Type 1} → statement M
 put-respelled-spec =
@@ -86,14 +91,15 @@ put-respelled-spec =
     (tie.spec
     Inv-loop
     μ-loop
+    returns
     loop-holds
     next-byte-requires
     enum-told
     same-length
-    returns
+    returns-2
     enum-told-2
     same-length-2
-    returns-2
+    returns-3
     enum-known-b
     sub-put-byte-spelled
     part-put-byte-spelled-start
@@ -102,7 +108,7 @@ put-respelled-spec =
     enum-known-n
     enum-told-3
     same-length-3
-    returns-3
+    returns-4
     add-at
     loop-less
     loop-again)

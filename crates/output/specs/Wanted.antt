@@ -1,14 +1,12 @@
--- Writers of what a text stands for, where it stands for something.
+-- Writers of bytes that may not be wanted at all: what they leave then is known too, only not which bytes they wrote.
 use mathlib.Core.Path.{_≡_}
-use mathlib.Core.List.{[], _++_}
-use mathlib.Core.Option.{Option, some, Option·map}
+use mathlib.Core.List.{_++_}
+use mathlib.Core.Option.{Option, some}
 use Prim.Native.Nat.{ℕ}
 use Rattle.text.specs.Choice.{both}
 use Rattle.text.specs.Bytes.{Bytes}
 use Rattle.output.specs.declared.Wrote.{Wrote}
 use Rattle.output.specs.Put.{Puts, Sofar}
-use Rattle.json.specs.Compact.{spelledAll, quoted}
-use Rattle.json_strings.specs.Spelled.{spelled}
 
 -- some bytes were written, and if any are wanted, those
 pub record Writes (want : Option Bytes) (room : Bytes) (r : Wrote) (after : Bytes) : Type 0 where
@@ -25,11 +23,3 @@ pub record Toward (want : Option Bytes) (room : Bytes) (rest : Option Bytes) (at
 -- one after the other, where both are wanted
 unfoldable pub chained : Option Bytes → Option Bytes → Option Bytes
 chained w z = both _++_ w z
-
--- the string from a place on, spelled anew
-unfoldable pub respelled : Bytes → ℕ → Option Bytes
-respelled s at = Option·map spelledAll (spelled s at)
-
--- the same with its quotes
-unfoldable pub requoted : Bytes → ℕ → Option Bytes
-requoted s at = Option·map (λ x. quoted x []) (spelled s at)
