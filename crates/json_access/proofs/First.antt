@@ -12,7 +12,7 @@ use Rattle.text.proofs.Fine.{got-what, bind-inv, under-inv}
 use Rattle.json.specs.Grammar.{isSpace}
 use Rattle.json.specs.Tree.{Json, jnull, jtrue, jfalse, jnum, jstr, jarr, jobj}
 use Rattle.json.specs.Syntax.{characters, number, four, scalar, elements, pairs, value}
-use Rattle.json_names.proofs.Walk.{as-scalar, as-array, as-object}
+use Rattle.json_scan.proofs.First.{as-scalar, as-array, as-object}
 use Rattle.json_access.specs.declared.Kind.the-variants.{Null, True, False, Number, String, Array, Object}
 use Rattle.json_access.specs.Access.{kindOf, TellsKind}
 

@@ -17,7 +17,7 @@ use Rattle.json.specs.Syntax.{skip, token, name, scalar, value}
 use Rattle.json.specs.Strings.{decode}
 use Rattle.json_marks.proofs.Laws.{skip-to}
 use Rattle.json_strings.specs.Spelled.{spelled}
-use Rattle.json_names.proofs.Names.{name-string, name-rest}
+use Rattle.json_strings.proofs.Names.{name-string, name-rest}
 use Rattle.json_access.specs.Access.{placeOf}
 
 past-past : (p : ℕ → Bool) (t : Bytes) → past p (past p t) ≡ past p t

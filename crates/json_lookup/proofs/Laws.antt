@@ -26,7 +26,8 @@ use Rattle.json.specs.Lookup.{Span, spanOf, spans, given, found, isTree, room, 
 use Rattle.json.proofs.Fine.{name-fine, value-fine, sep-fine}
 use Rattle.json_marks.proofs.Laws.{skip-to}
 use Rattle.json_strings.specs.Spelled.{spelled, spells}
-use Rattle.json_names.proofs.Walk.{sep-adds, sep-go, sep-stop, as-object}
+use Rattle.json_marks.proofs.Separators.{sep-adds, sep-go, sep-stop}
+use Rattle.json_scan.proofs.First.{as-object}
 use Rattle.json_read.specs.declared.Verdict.{Verdict}
 use Rattle.json_read.specs.declared.Verdict.the-variants.{Sound, Large, NotJson}
 use Rattle.json_read.specs.Verdict.{verdictOf, verdict}

@@ -1,21 +1,20 @@
 -- Laws of the marks, over plain values.
-use mathlib.Core.Path.{_≡_, refl, sym, ap, _∙_}
+use mathlib.Core.Path.{_≡_, ap, _∙_}
 use mathlib.Core.Bool.{Bool, true, false}
-use mathlib.Core.List.{List, [], _∷_, tail}
-use Prim.Native.Nat.{ℕ, zero, suc, _+_, _≤_, _<_}
+use mathlib.Core.List.{tail}
+use Prim.Native.Nat.{ℕ, _+_, _≤_}
 use native.Mathlib.Omega.{arith}
 use lib.ListN.{length, drop}
 use lib.Dec.{eqb}
 use borrow.Author.Tests.{eq-eqb, ne-eqb}
 use Rattle.text.specs.declared.Turn.{Turn}
 use Rattle.text.specs.declared.Turn.the-variants.{Go, Stop}
-use Rattle.text.specs.declared.Read.{Read}
 use Rattle.text.specs.declared.Read.the-variants.{Next, Bad}
 use Rattle.text.specs.Choice.{pick}
 use Rattle.text.specs.Bytes.{Bytes, is}
-use Rattle.text.specs.Reader.{Got, got, bad, first, on, Step, more, last, past}
+use Rattle.text.specs.Reader.{got, bad, first, on, more, last}
 use Rattle.text.specs.Places.{byteAt, AgreeT, GivesT, Passes}
-use Rattle.text.proofs.Places.{up-turn, same-turn, more-here, last-here, bad-turn, on-yes, on-no}
+use Rattle.text.proofs.Places.{same-turn, more-here, last-here, bad-turn, on-yes, on-no}
 use Rattle.json.specs.Grammar.{isSpace}
 use Rattle.json.specs.Syntax.{skip, sep}
 

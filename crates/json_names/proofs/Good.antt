@@ -1,11 +1,9 @@
 -- What the code finds sound is what Read.antt calls sound.
-use mathlib.Core.Path.{_≡_, refl, sym, ap, _∙_}
+use mathlib.Core.Path.{_≡_, refl, _∙_}
 use mathlib.Core.Bool.{Bool, true, false, _&&_, not}
 use mathlib.Core.List.{List, [], _∷_, _++_, append-assoc, append-nil}
 use mathlib.Core.Option.{Option, none, some, Option·map}
-use Prim.Native.Nat.{ℕ, zero, suc}
-use native.Mathlib.Omega.{arith}
-use Rattle.text.specs.Choice.{pick, with-some, is-some, both}
+use Rattle.text.specs.Choice.{with-some, is-some, both}
 use Rattle.text.specs.Bytes.{Bytes, among, distinct}
 use Rattle.text.proofs.Places.{byBool}
 use Rattle.json.specs.Tree.{Json, jnull, jtrue, jfalse, jnum, jstr, jarr, jobj, Elems, enil, econs, Members, mnil, mcons}

@@ -1,4 +1,6 @@
 pub mod Distinct
 pub mod Good
 pub mod Names
+pub mod Judging
 pub mod Walk
+pub mod Values

@@ -1,26 +1,22 @@
 -- Laws of names kept by their places.
-use mathlib.Core.Path.{_≡_, refl, sym, ap, subst, _∙_}
-use mathlib.Core.Bool.{Bool, true, false, _&&_, _||_, not}
+use mathlib.Core.Path.{_≡_, refl, sym, ap, _∙_}
+use mathlib.Core.Bool.{true, false, _||_}
 use mathlib.Core.List.{List, [], _∷_, _++_, map, map-append}
 use mathlib.Core.Option.{Option, none, some}
-use Prim.Native.Nat.{ℕ, zero, suc, _+_, _-_, _≤_, _<_}
+use Prim.Native.Nat.{ℕ, _+_, _-_, _≤_, _<_}
 use native.Mathlib.Numerals.{add-one}
 use native.Mathlib.Omega.{arith}
 use lib.ListN.{length, getD, take, drop, set, length-take, length-drop, drop-of-length-le}
 use lib.Seq.{drop-cons, getD-take, take-suc-set}
-use Rattle.text.specs.declared.Read.{Read}
-use Rattle.text.specs.declared.Read.the-variants.{Next, Bad}
+use Rattle.text.specs.declared.Read.the-variants.{Next}
 use Rattle.text.specs.Choice.{with-some, is-some}
-use Rattle.text.specs.Bytes.{Bytes, any, same, among, between}
-use Rattle.text.specs.Reader.{Got, got, bad, bind, on, loop}
+use Rattle.text.specs.Bytes.{Bytes, any, among}
 use Rattle.text.specs.Places.{Gives}
-use Rattle.text.proofs.Places.{byBool, at-next}
-use Rattle.text.proofs.Fine.{not-bad, got-rest, got-what, bind-inv}
+use Rattle.text.proofs.Places.{at-next}
+use Rattle.text.proofs.Fine.{got-rest, bind-inv}
 use Rattle.json.specs.Syntax.{token, characters, name}
-use Rattle.json.specs.Strings.{decode}
 use Rattle.json.proofs.Fine.{token-fine, characters-fine}
 use Rattle.json_strings.specs.Spelled.{spelled, agree}
-use Rattle.json_strings.proofs.Laws.{spelled-is}
 use Rattle.json_names.specs.Kept.{meets, Names}
 
 -- ---- one place after the other
@@ -68,41 +64,25 @@ pub no-names : (s : Bytes) (ps : List ℕ) → Names s (take 0 ps) []
 unfolding Names
 no-names s ps = refl
 
--- ---- a member's name
-module _ (s : Bytes) (at : ℕ) where
-  -- its string, from after the first quote; and the bytes that it takes: two quotes and a colon at least
-  pub name-string : (us t : Bytes) → name (drop at s) ≡ got us t → (q : ℕ) → Gives s at (token 34 (drop at s)) (Next q) → spelled s q ≡ decode us
+-- the bytes that a member's name takes: two quotes and a colon at least
+module _ (s : Bytes) (at : ℕ) (l : at ≤ length s) (q v : ℕ) (g : Gives s at (token 34 (drop at s)) (Next q)) (h : Gives s at (name (drop at s)) (Next v)) where
+  pub name-takes : (at < q) × (q + 2 ≤ v)
   unfolding name
-  name-string us t e q g =
+  name-takes =
       let a = at-next (token 34 (drop at s)) g in
-      let i = bind-inv (token 34 (drop at s)) _ e in
+      let b = at-next (name (drop at s)) h in
+      let i = bind-inv (token 34 (drop at s)) _ (b .1) in
       let j = bind-inv (characters (i .1)) _ (i .3) in
       let k = bind-inv (token 58 (j .1)) _ (j .3) in
       let w : i .1 ≡ drop q s = got-rest (sym (i .2) ∙ a .1) in
-      let z : j .0 ≡ us = got-what (k .3) in
-      spelled-is s q us (j .1) (ap characters (sym w) ∙ (j .2) ∙ ap (λ (x : Bytes). got x (j .1)) z)
-
-  pub name-rest : (us t : Bytes) → name (drop at s) ≡ got us t → (v : ℕ) → Gives s at (name (drop at s)) (Next v) → t ≡ drop v s
-  name-rest us t e v g = got-rest (sym e ∙ at-next (name (drop at s)) g .1)
-
-  module _ (l : at ≤ length s) (q v : ℕ) (g : Gives s at (token 34 (drop at s)) (Next q)) (h : Gives s at (name (drop at s)) (Next v)) where
-    pub name-takes : (at < q) × (q + 2 ≤ v)
-    unfolding name
-    name-takes =
-        let a = at-next (token 34 (drop at s)) g in
-        let b = at-next (name (drop at s)) h in
-        let i = bind-inv (token 34 (drop at s)) _ (b .1) in
-        let j = bind-inv (characters (i .1)) _ (i .3) in
-        let k = bind-inv (token 58 (j .1)) _ (j .3) in
-        let w : i .1 ≡ drop q s = got-rest (sym (i .2) ∙ a .1) in
-        let x : k .1 ≡ drop v s = got-rest (k .3) in
-        let l₀ = length-drop at s in
-        let l₁ = ap length w ∙ length-drop q s in
-        let l₂ = ap length x ∙ length-drop v s in
-        let m = token-fine 34 refl .less (drop at s) (i .0) (i .1) (i .2) in
-        let n = characters-fine .less (i .1) (j .0) (j .1) (j .2) in
-        let o = token-fine 58 refl .less (j .1) (k .0) (k .1) (k .2) in
-        (omega (arith, l₀, l₁, m, g .within .0, g .within .1), omega (arith, l₁, l₂, n, o, g .within .1, h .within .1))
+      let x : k .1 ≡ drop v s = got-rest (k .3) in
+      let l₀ = length-drop at s in
+      let l₁ = ap length w ∙ length-drop q s in
+      let l₂ = ap length x ∙ length-drop v s in
+      let m = token-fine 34 refl .less (drop at s) (i .0) (i .1) (i .2) in
+      let n = characters-fine .less (i .1) (j .0) (j .1) (j .2) in
+      let o = token-fine 58 refl .less (j .1) (k .0) (k .1) (k .2) in
+      (omega (arith, l₀, l₁, m, g .within .0, g .within .1), omega (arith, l₁, l₂, n, o, g .within .1, h .within .1))
 
 -- what a refused name comes to
 pub not-paired : (o : Option Bytes) (ns : List Bytes) → is-some o ≡ false → with-some o (λ n. among n ns) true ≡ true

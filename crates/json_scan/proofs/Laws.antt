@@ -1,24 +1,21 @@
 -- Laws of values, over plain values: one for each way through the code.
-use mathlib.Core.Path.{_≡_, refl, sym, ap, _∙_}
-use mathlib.Core.Bool.{Bool, true, false}
-use mathlib.Core.List.{List, [], _∷_}
-use Prim.Native.Nat.{ℕ, zero, suc, _+_, _-_, _≤_, _<_}
-use native.Mathlib.Numerals.{sub-one}
+use mathlib.Core.Path.{_≡_, refl, ap}
+use Prim.Native.Nat.{ℕ, zero, suc, _+_, _-_, _≤_}
 use native.Mathlib.Omega.{arith}
 use lib.ListN.{length, drop}
 use borrow.Author.Tests.{eq-eqb, ne-eqb}
 use Rattle.text.specs.declared.Read.{Read}
 use Rattle.text.specs.declared.Read.the-variants.{Next, Bad}
 use Rattle.text.specs.declared.Turn.{Turn}
-use Rattle.text.specs.declared.Turn.the-variants.{Go, Stop}
 use Rattle.text.specs.Bytes.{Bytes, is}
-use Rattle.text.specs.Reader.{Got, got, bad, bind, under, on, when, loop, one}
+use Rattle.text.specs.Reader.{Got, got, bad, on, when, loop, one}
 use Rattle.text.specs.Places.{byteAt, Gives, GivesT, Passes}
 use Rattle.text.proofs.Places.{same-as, up, here, bad-here, by-under, by-on, not-on, by-when, not-when, then-next, turn-next, bind-under}
 use Rattle.json.specs.Grammar.{isSpace}
-use Rattle.json.specs.Tree.{Json, jnull, Elems, enil, econs, Members, mnil, mcons}
-use Rattle.json.specs.Syntax.{skip, four, scalar, characters, number, sep, name, item, elements, pair, pairs, value, text}
+use Rattle.json.specs.Tree.{Json, jnull, enil, econs, mnil, mcons}
+use Rattle.json.specs.Syntax.{four, scalar, sep, name, item, elements, pair, pairs, value, text}
 use Rattle.json_marks.proofs.Laws.{skip-to, sep-any}
+use Rattle.json_scan.proofs.First.{as-flat, as-scalar, as-array, as-object}
 
 -- ---- literals: what they stand for plays no part in where they end
 pub four-any : (a b c d : ℕ) (j : Json) {s : Bytes} {at : ℕ} {r : Read} → Gives s at (four a b c d jnull (drop at s)) r → Gives s at (four a b c d j (drop at s)) r
@@ -60,27 +57,17 @@ pair-sep rd g h x = turn-next _ g (λ k. turn-next _ h (λ j. sep-any zero suc (
 -- ---- a value, by its first byte
 module _ {s : Bytes} {at i : ℕ} (h : Passes isSpace s at i) where
   pub value-flat : (d : ℕ) → d ≡ 0 → {r : Read} → Gives s i (scalar (drop i s)) r → Gives s at (value d (drop at s)) r
-  unfolding value
-  value-flat zero q x = same-as (ap scalar (skip-to h)) (up (h .from) x)
-  value-flat (suc d) q x = absurd (omega arith)
+  value-flat d q x = same-as (as-flat s at i h d q) (up (h .from) x)
 
-  module _ (b : ℕ) (e : b ≡ byteAt s i) where
-    pub value-array : (d : ℕ) → (d ≡ 0 → ⊥) → b ≡ 91 → {r : Read} → Gives s (i + 1) (elements (value (d - 1)) (drop (i + 1) s)) r → Gives s at (value d (drop at s)) r
-    unfolding value
-    value-array zero n q x = absurd (n refl)
-    value-array (suc d) n q x = same-as (ap (on (is 91) _ _) (skip-to h)) (up (h .from) (by-on (is 91) _ _ e (eq-eqb _ _ q) (by-under _ (rw sub-one at x))))
+  module _ (b : ℕ) (e : b ≡ byteAt s i) (d : ℕ) where
+    pub value-array : (d ≡ 0 → ⊥) → b ≡ 91 → {r : Read} → Gives s (i + 1) (elements (value (d - 1)) (drop (i + 1) s)) r → Gives s at (value d (drop at s)) r
+    value-array n q x = same-as (as-array s i b e at h d n q) (up (omega (arith, h .from)) (by-under _ x))
 
-    pub value-object : (d : ℕ) → (d ≡ 0 → ⊥) → (b ≡ 91 → ⊥) → b ≡ 123 → {r : Read} → Gives s (i + 1) (pairs (value (d - 1)) (drop (i + 1) s)) r → Gives s at (value d (drop at s)) r
-    unfolding value
-    value-object zero n m q x = absurd (n refl)
-    value-object (suc d) n m q x =
-        same-as (ap (on (is 91) _ _) (skip-to h)) (up (h .from) (not-on (is 91) _ _ e (ne-eqb _ _ m) (by-on (is 123) _ _ e (eq-eqb _ _ q) (by-under _ (rw sub-one at x)))))
+    pub value-object : (d ≡ 0 → ⊥) → (b ≡ 91 → ⊥) → b ≡ 123 → {r : Read} → Gives s (i + 1) (pairs (value (d - 1)) (drop (i + 1) s)) r → Gives s at (value d (drop at s)) r
+    value-object n m q x = same-as (as-object s i b e at h d n m q) (up (omega (arith, h .from)) (by-under _ x))
 
-    pub value-scalar : (d : ℕ) → (d ≡ 0 → ⊥) → (b ≡ 91 → ⊥) → (b ≡ 123 → ⊥) → {r : Read} → Gives s i (scalar (drop i s)) r → Gives s at (value d (drop at s)) r
-    unfolding value
-    value-scalar zero n m o x = absurd (n refl)
-    value-scalar (suc d) n m o x =
-        same-as (ap (on (is 91) _ _) (skip-to h)) (up (h .from) (not-on (is 91) _ _ e (ne-eqb _ _ m) (not-on (is 123) _ _ e (ne-eqb _ _ o) x)))
+    pub value-scalar : (b ≡ 91 → ⊥) → (b ≡ 123 → ⊥) → {r : Read} → Gives s i (scalar (drop i s)) r → Gives s at (value d (drop at s)) r
+    value-scalar m o x = same-as (as-scalar s i b e at h d m o) (up (h .from) x)
 
 -- ---- a text: nothing but white space after its value
 module _ (d : ℕ) {s : Bytes} {e i : ℕ} (v : Gives s 0 (value d s) (Next e)) (h : Passes isSpace s e i) (b : ℕ) (q : b ≡ byteAt s i) where

@@ -1,18 +1,18 @@
 -- Laws of decoded strings, over plain values.
 use mathlib.Core.Path.{_≡_, refl, sym, ap, subst, _∙_}
-use mathlib.Core.Bool.{Bool, true, false, _&&_}
-use mathlib.Core.List.{List, [], _∷_, _++_, append-assoc}
+use mathlib.Core.Bool.{true, false, _&&_}
+use mathlib.Core.List.{[], _∷_, _++_, append-assoc}
 use mathlib.Core.Option.{Option, none, some}
 use Prim.Native.Nat.{ℕ, zero, suc, _+_, _-_, _*_, _/_, _%_, _≤_, _<_}
 use native.Mathlib.Omega.{arith}
-use lib.ListN.{length, drop, length-append, drop-of-length-le}
+use lib.ListN.{length, drop, drop-of-length-le}
 use lib.Dec.{eqb, ltb}
-use borrow.Author.Tests.{eq-eqb, ne-eqb, lt-ltb, le-ltb, ltb-true, ltb-false, eqb-true, eqb-false}
+use borrow.Author.Tests.{eq-eqb, ne-eqb, lt-ltb, le-ltb}
 use Rattle.text.specs.Choice.{pick}
-use Rattle.text.specs.Bytes.{Bytes, between, same}
+use Rattle.text.specs.Bytes.{Bytes, between}
 use Rattle.text.specs.Utf8.{encode}
-use Rattle.text.specs.Reader.{Got, got, bad, under, on, Step, more, last, loop}
-use Rattle.text.proofs.Places.{byBool, between-in}
+use Rattle.text.specs.Reader.{Got, got, bad, under, on, last, loop}
+use Rattle.text.proofs.Places.{byBool}
 use Rattle.text.proofs.Fine.{loop-more, loop-last, loop-bad}
 use Rattle.json.specs.Syntax.{characters}
 use Rattle.json.specs.Strings.{isHigh, isLow, joinedPair, before, decodeAfter, decode}
@@ -22,7 +22,7 @@ use Rattle.json_units.specs.declared.Piece.the-variants.{Of, End, Wrong}
 use Rattle.json_units.proofs.Same.{unit-fine, units-same}
 use Rattle.json_strings.specs.declared.Letter.{Letter}
 use Rattle.json_strings.specs.declared.Letter.the-variants.{Raw, Code, End as LEnd, Alone as LAlone}
-use Rattle.json_strings.specs.Spelled.{told, spelled, letterOf, LetterIn, heldIn, held, leadOf, restOf, left, weight}
+use Rattle.json_strings.specs.Spelled.{told, spelled, LetterIn, heldIn, held, leadOf, restOf, left, weight}
 
 -- a string that the grammar reads is spelled by its units' decoding
 pub spelled-is : (s : Bytes) (at : ℕ) (us t : Bytes) → characters (drop at s) ≡ got us t → spelled s at ≡ decode us

@@ -1,5 +1,5 @@
 use denote.Ref.{now}
-use mathlib.Core.Path.{sym, ap, _∙_}
+use mathlib.Core.Path.{sym, ap}
 use mathlib.Core.List.{[]}
 use mathlib.Core.Option.{some}
 use Rattle.text.specs.Bytes.{same}

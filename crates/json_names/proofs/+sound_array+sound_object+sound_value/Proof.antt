@@ -7,11 +7,13 @@ use mathlib.Core.Path.{_≡_, refl, sym, subst, _∙_}
 use lib.ListN.{length, drop}
 use borrow.Author.Tests.{not-true, not-false}
 use borrow.Rule.Slice.PartMut.{same-len-mid, take-put}
-use Rattle.text.proofs.Places.{gives-as, turn-as}
-use Rattle.json.specs.Syntax.{elements, pairs, value}
+use Rattle.text.proofs.Places.{turn-as}
+use Rattle.json.specs.Syntax.{value}
 use Rattle.json_names.specs.Sound.{good}
 use Rattle.json_names.specs.Kept.{KeepsIn}
-use Rattle.json_names.proofs.Walk.{ToElems, elems-none, elems-begin, elems-false, elems-on, elems-last, ToMembers, members-none, members-begin, members-name, members-false, members-on, members-last, judged-as, onward-as, onward-up, onward-stop, scalar-onward, judges-alone, judges-string, judges-flat, judges-scalar, judges-array, judges-object}
+use Rattle.json_names.proofs.Judging.{judged-as, onward-as, onward-up, onward-stop, scalar-onward}
+use Rattle.json_names.proofs.Walk.{ToElems, elems-none, elems-begin, elems-false, elems-on, elems-last, ToMembers, members-none, members-begin, members-name, members-false, members-on, members-last}
+use Rattle.json_names.proofs.Values.{judges-alone, judges-string, judges-flat, judges-scalar, judges-array, judges-object}
 use Prim.Native.Nat.{ℕ, _<_}
 use borrow.Fn.Kinds.{In}
 use borrow.Fn.PlainCycle.{Measures, is, falls, and}

@@ -2,16 +2,17 @@ use native.Mathlib.Omega.{arith}
 use denote.Ref.{now}
 use mathlib.Core.Path.{sym, ap, _∙_}
 use mathlib.Core.Option.{Option}
-use lib.ListN.{length, take, drop}
+use lib.ListN.{take, drop}
 use borrow.Author.Tests.{not-true, not-false}
-use Rattle.text.specs.Bytes.{Bytes, among}
+use Rattle.text.specs.Bytes.{Bytes}
 use Rattle.text.specs.Choice.{is-some}
 use Rattle.text.proofs.Places.{gives-as, at-next, at-bad, then-bad}
 use Rattle.text.proofs.Fine.{not-bad}
 use Rattle.json.specs.Syntax.{name}
 use Rattle.json.specs.Strings.{decode}
 use Rattle.json_names.specs.Kept.{meets}
-use Rattle.json_names.proofs.Names.{name-string, name-takes, not-paired, already, is-there, meets-among, names-kept}
+use Rattle.json_strings.proofs.Names.{name-string}
+use Rattle.json_names.proofs.Names.{name-takes, not-paired, already, is-there, meets-among, names-kept}
 use borrow.Author.Needs.{needs}
 use Rattle.json_names.proofs.keep_name.Statement.{statement}
 use Rattle.json_names.proofs.keep_name.Tie as tie

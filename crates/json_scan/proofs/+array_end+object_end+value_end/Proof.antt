@@ -3,7 +3,7 @@ use native.Mathlib.Omega.{arith}
 use denote.Ref.{now}
 use Prim.Native.Nat.{_+_, _-_}
 use lib.ListN.{length}
-use Rattle.text.proofs.Places.{gives-as, turn-as, up, turn-bad, turn-next}
+use Rattle.text.proofs.Places.{gives-as, turn-as, turn-bad, turn-next}
 use Rattle.text.proofs.Runs.{Run, begin, onward, ended}
 use Rattle.json.specs.Syntax.{item, pair, value}
 use Rattle.json_scan.proofs.Laws.{elements-none, elements-from, pairs-none, pairs-from, item-sep, pair-sep, value-flat, value-array, value-object, value-scalar}
@@ -164,4 +164,4 @@ unfolding item pair
     (λ c κs. omega (arith, c .before .before .before .before .before .before .pre .0, c .before .before .before .if1 .left))
     (λ c. value-object (c .before .before .before .before .before .skip-space .ensures) (c .before .before .before .look .result) (c .before .before .before .look .ensures .0) (c .before .before .before .before .before .before .before .args .depth) (c .before .before .before .before .if1 .left) (c .before .before .if2 .left) (c .before .if3 .taken) (c .object-end .ensures))
     (λ c κs. c .before .before .before .before .skip-space .ensures .to)
-    (λ c. value-scalar (c .before .before .before .before .before .skip-space .ensures) (c .before .before .before .look .result) (c .before .before .before .look .ensures .0) (c .before .before .before .before .before .before .before .args .depth) (c .before .before .before .before .if1 .left) (c .before .before .if2 .left) (c .before .if3 .left) (c .scalar-end2 .ensures))
+    (λ c. value-scalar (c .before .before .before .before .before .skip-space .ensures) (c .before .before .before .look .result) (c .before .before .before .look .ensures .0) (c .before .before .before .before .before .before .before .args .depth) (c .before .before .if2 .left) (c .before .if3 .left) (c .scalar-end2 .ensures))

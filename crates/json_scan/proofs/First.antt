@@ -1,0 +1,37 @@
+-- A value by its first byte.
+use mathlib.Core.Path.{_≡_, refl, ap, _∙_}
+use Prim.Native.Nat.{ℕ, zero, suc, _+_, _-_}
+use native.Mathlib.Numerals.{sub-one}
+use native.Mathlib.Omega.{arith}
+use lib.ListN.{drop}
+use borrow.Author.Tests.{eq-eqb, ne-eqb}
+use Rattle.text.specs.Bytes.{Bytes, is}
+use Rattle.text.specs.Reader.{under, on}
+use Rattle.text.specs.Places.{byteAt, Passes}
+use Rattle.text.proofs.Places.{on-yes, on-no}
+use Rattle.json.specs.Grammar.{isSpace}
+use Rattle.json.specs.Tree.{jarr, jobj}
+use Rattle.json.specs.Syntax.{scalar, elements, pairs, value}
+use Rattle.json_marks.proofs.Laws.{skip-to}
+
+module _ (s : Bytes) (at i : ℕ) (h : Passes isSpace s at i) where
+  pub as-flat : (d : ℕ) → d ≡ 0 → value d (drop at s) ≡ scalar (drop i s)
+  unfolding value
+  as-flat zero q = ap scalar (skip-to h)
+  as-flat (suc d) q = absurd (omega arith)
+
+module _ (s : Bytes) (i b : ℕ) (e : b ≡ byteAt s i) (at : ℕ) (h : Passes isSpace s at i) where
+  pub as-scalar : (d : ℕ) → (b ≡ 91 → ⊥) → (b ≡ 123 → ⊥) → value d (drop at s) ≡ scalar (drop i s)
+  unfolding value
+  as-scalar zero n m = ap scalar (skip-to h)
+  as-scalar (suc d) n m = ap (on (is 91) _ _) (skip-to h) ∙ on-no (is 91) s i b e _ _ (ne-eqb _ _ n) ∙ on-no (is 123) s i b e _ _ (ne-eqb _ _ m)
+
+  pub as-array : (d : ℕ) → (d ≡ 0 → ⊥) → b ≡ 91 → value d (drop at s) ≡ under jarr (elements (value (d - 1)) (drop (i + 1) s))
+  unfolding value
+  as-array zero n q = absurd (n refl)
+  as-array (suc d) n q = ap (on (is 91) _ _) (skip-to h) ∙ on-yes (is 91) s i b e _ _ (eq-eqb _ _ q) ∙ rw sub-one
+
+  pub as-object : (d : ℕ) → (d ≡ 0 → ⊥) → (b ≡ 91 → ⊥) → b ≡ 123 → value d (drop at s) ≡ under jobj (pairs (value (d - 1)) (drop (i + 1) s))
+  unfolding value
+  as-object zero n m q = absurd (n refl)
+  as-object (suc d) n m q = ap (on (is 91) _ _) (skip-to h) ∙ on-no (is 91) s i b e _ _ (ne-eqb _ _ m) ∙ on-yes (is 123) s i b e _ _ (eq-eqb _ _ q) ∙ rw sub-one
