@@ -1,12 +1,9 @@
 -- JSON by worked examples: the place of refusal 11, decoding, compact writing, the look-up.
 use mathlib.Core.Path.{_≡_, refl}
 use mathlib.Core.List.{List, [], _∷_, _++_, map}
-use mathlib.Core.Option.{Option, none, some}
-use Prim.Native.Nat.{ℕ, zero, suc}
 use lib.ListN.{replicate}
 use Rattle.text.specs.Bytes.{Bytes, ascii}
 use Rattle.text.specs.Utf8.{encoded}
-use Rattle.json.specs.Tree.{Json}
 use Rattle.json.specs.Read.{Reading, tree, refused, reading}
 use Rattle.json.specs.Compact.{compact}
 use Rattle.json.specs.Lookup.{lookUp, partOf}

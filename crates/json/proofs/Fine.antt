@@ -1,21 +1,20 @@
 -- Each reader of Syntax.antt takes what it reads and no more: one line a reader, by the laws of text's Fine.antt.
-use mathlib.Core.Path.{_≡_, refl, sym, ap, _∙_}
-use mathlib.Core.Bool.{Bool, true, false, _||_, _&&_}
-use mathlib.Core.List.{List, [], _∷_, _++_}
-use Prim.Native.Nat.{ℕ, zero, suc, _+_, _-_, _*_, _≤_, _<_}
+use mathlib.Core.Path.{_≡_, refl}
+use mathlib.Core.Bool.{Bool, true, false}
+use mathlib.Core.List.{[], _∷_, _++_}
+use Prim.Native.Nat.{ℕ, zero, suc, _+_, _-_, _*_, _<_}
 use native.Mathlib.Omega.{arith}
-use lib.ListN.{length}
 use lib.Dec.{eqb, leb, ltb}
 use borrow.Author.Tests.{ltb-true, lt-leb}
 use Rattle.text.specs.Choice.{pick}
 use Rattle.text.specs.Bytes.{Bytes, is, between, isDigit}
-use Rattle.text.specs.Utf8.{Due, start, due, broken, lead, byRow, rows}
-use Rattle.text.specs.Reader.{Got, got, bad, bind, under, on, when, Step, more, last, loop, past, one, some-of}
+use Rattle.text.specs.Utf8.{Due, start, due, broken, lead, byRow}
+use Rattle.text.specs.Reader.{Got, more, last, one}
 use Rattle.text.proofs.Places.{byBool}
 use Rattle.text.proofs.Fine.{Fine, fine-got, fine-bad, fine-weak, fine-under, fine-bind, fine-past, fine-on, fine-when, fine-loop, one-fine, some-fine}
-use Rattle.json.specs.Tree.{Json, jnull, jtrue, jfalse, jnum, jstr, jarr, jobj, Elems, enil, econs, Members, mnil, mcons}
+use Rattle.json.specs.Tree.{Json, jnull, jtrue, jfalse, jnum, jstr, jarr, jobj, enil, econs, mnil, mcons}
 use Rattle.json.specs.Grammar.{isSpace, isE, isHex, isShort}
-use Rattle.json.specs.Syntax.{skip, token, hexVal, hex, hex4, short, escape, isLead, leads, tailBytes, following, push, character, characters, string, opt, digits, int, frac, sign, exp, number, four, scalar, sep, name, item, elements, pair, pairs, value, text}
+use Rattle.json.specs.Syntax.{skip, token, hexVal, hex, hex4, short, escape, isLead, tailBytes, following, push, character, characters, string, opt, digits, int, frac, sign, exp, number, four, scalar, sep, name, item, elements, pair, pairs, value, text}
 
 -- ---- 256 is no byte: it passes no test
 pub digit-256 : isDigit 256 ≡ false

@@ -1,17 +1,16 @@
 -- A number's spelling reads as itself before whatever cannot go on with it.
 use mathlib.Core.Path.{_≡_, refl, sym, ap, _∙_}
 use mathlib.Core.Bool.{Bool, true, false, _||_}
-use mathlib.Core.List.{List, [], _∷_, _++_, tail, append-assoc, append-nil}
+use mathlib.Core.List.{[], _∷_, _++_, tail, append-assoc}
 use mathlib.Core.Logic.{_⊎_, inl, inr}
-use Prim.Native.Nat.{ℕ, zero, suc, _+_}
+use Prim.Native.Nat.{ℕ, _+_}
 use lib.Dec.{eqb}
 use borrow.Author.Tests.{eqb-true, eq-eqb}
-use Rattle.text.specs.Choice.{pick}
 use Rattle.text.specs.Bytes.{Bytes, ascii, is, between, isDigit, all}
-use Rattle.text.specs.Reader.{Got, got, bad, bind, under, first, on, when, taken, past, some-of}
-use Rattle.text.proofs.Cases.{byBool, byKeysP, other, not-both}
+use Rattle.text.specs.Reader.{got, bind, under, first, on, when, taken, past, some-of}
+use Rattle.text.proofs.Cases.{byKeysP, other, not-both}
 use Rattle.text.proofs.Lists.{all-head}
-use Rattle.text.proofs.Readers.{not-bad, got-rest, got-what, bind-inv, under-inv, on-inv, some-of-inv, some-of-run}
+use Rattle.text.proofs.Readers.{got-what, bind-inv, under-inv, on-inv, some-of-inv, some-of-run}
 use Rattle.json.specs.Grammar.{isE}
 use Rattle.json.specs.Syntax.{opt, digits, int, frac, sign, exp, number}
 

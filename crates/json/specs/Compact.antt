@@ -1,6 +1,6 @@
 -- Compact JSON: no white space, strings spelled anew, numbers as spelled. Each writer is given what follows.
-use mathlib.Core.Bool.{Bool, true, false, _||_}
-use mathlib.Core.List.{List, [], _∷_, _++_}
+use mathlib.Core.Bool.{_||_}
+use mathlib.Core.List.{[], _∷_, _++_}
 use Prim.Native.Nat.{ℕ, _+_, _/_, _%_}
 use lib.Dec.{eqb, ltb}
 use Rattle.text.specs.Choice.{pick}

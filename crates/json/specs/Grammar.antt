@@ -1,8 +1,8 @@
 -- RFC 8259's grammar as it is printed there, as a relation: `Text d s` says that the bytes s are JSON of depth d at most.
 -- It is no reader: it is what the reader (Read.antt) is proved to accept, and what the place of refusal 11 is worded by.
 use mathlib.Core.Path.{_≡_}
-use mathlib.Core.Bool.{Bool, true, false, _||_, _&&_}
-use mathlib.Core.List.{List, [], _∷_, _++_}
+use mathlib.Core.Bool.{Bool, true, false, _||_}
+use mathlib.Core.List.{[], _∷_, _++_}
 use mathlib.Core.Logic.{_⊎_}
 use Prim.Native.Nat.{ℕ, zero, suc, _+_, _≤_, _<_}
 use lib.ListN.{length, take}

@@ -7,7 +7,7 @@ use lib.ListN.{length, take, drop}
 use lib.Dec.{leb}
 use Rattle.text.specs.Choice.{pick, with-some}
 use Rattle.text.specs.Bytes.{Bytes, is, same}
-use Rattle.text.specs.Reader.{Got, got, bad, bind, on, Step, more, last, loop}
+use Rattle.text.specs.Reader.{Got, got, bad, bind, on, Step, loop}
 use Rattle.json.specs.Syntax.{skip, name, value, sep}
 use Rattle.json.specs.Strings.{decode}
 use Rattle.json.specs.Read.{Reading, tree, refused, reading}

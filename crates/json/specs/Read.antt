@@ -1,6 +1,4 @@
 -- Reading a JSON text (refusal 11): its tree, or the place.
-use mathlib.Core.List.{List, [], _∷_}
-use mathlib.Core.Option.{Option, none, some}
 use Prim.Native.Nat.{ℕ, _-_}
 use lib.ListN.{length}
 use Rattle.text.specs.Choice.{pick, with-some}

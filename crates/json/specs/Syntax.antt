@@ -1,8 +1,8 @@
 -- The reader of RFC 8259's grammar: a tree, or the rest from the first byte that does not fit.
 -- Strings are read as units: a byte that stands there or that a short escape stands for, or 256 + v for \uXXXX with the number v.
 -- So the tree of a text is known whether or not its surrogates pair up (Strings.antt decides that).
-use mathlib.Core.Bool.{Bool, true, false, _||_, _&&_}
-use mathlib.Core.List.{List, [], _∷_, _++_}
+use mathlib.Core.Bool.{Bool, true, false, _&&_}
+use mathlib.Core.List.{[], _∷_, _++_}
 use Prim.Native.Nat.{ℕ, zero, suc, _+_, _-_, _*_}
 use lib.Dec.{eqb, ltb}
 use Rattle.text.specs.Choice.{pick}

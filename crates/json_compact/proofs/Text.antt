@@ -13,7 +13,7 @@ use Rattle.text.specs.Choice.{pick, with-some}
 use Rattle.text.specs.Bytes.{Bytes, is, between, all}
 use Rattle.text.specs.Reader.{Got, got, bad, first, on, when, taken, past, some-of}
 use Rattle.text.proofs.Cases.{byBool, and-right}
-use Rattle.text.proofs.Characters.{isByte}
+use Rattle.text.proofs.Characters.{isByte, bytes-all}
 use Rattle.text.proofs.Fine.{Fine}
 use Rattle.text.proofs.Lists.{all-head, all-tail, all-append}
 use Rattle.text.proofs.Readers.{not-bad, got-what, bind-inv, when-inv}
@@ -97,12 +97,6 @@ squeezed-compact d s k h e = by (text d s) refl e
 
 pub put-compact-tree : (d : ℕ) (s : Bytes) (k : Json) {room out : Bytes} {r : Wrote} → all isByte s ≡ true → reading d s ≡ tree k → Writes (squeezed s) room r out → Puts room (compact k) r out
 put-compact-tree d s k h e w = writes-puts w (squeezed-compact d s k h e)
-
--- a slice's numbers are known to be bytes place by place
-pub bytes-all : (s : Bytes) → ((i : ℕ) → getD s i 0 < 256) → all isByte s ≡ true
-unfolding all
-bytes-all [] h = refl
-bytes-all (c ∷ s) h = rw (lt-ltb c 256 (h 0), bytes-all s (λ i. h (suc i)))
 
 pub compacts : (s : Bytes) {room out : Bytes} {r : Wrote} → ((i : ℕ) → getD s i 0 < 256) → Writes (squeezed s) room r out → Compacts s room r out
 compacts s h w = record { writes = w; of-tree = λ d k e. put-compact-tree d s k (bytes-all s h) e w }

@@ -9,7 +9,7 @@ ghost use Prim.Native.Nat.{_≤_};
 ghost use lib.ListN.{length};
 ghost use Rattle.json.specs.Lookup.{isTree};
 ghost use Rattle.json.specs.Read.{reading};
-ghost use Rattle.json_read.specs.Verdict.{verdict};
+ghost use Rattle.json_read.specs.Verdict.{verdict, InWords};
 
 // Sound: it is JSON. Large: refusal 3. NotJson: refusal 11, with its place.
 pub enum Verdict {
@@ -34,6 +34,7 @@ fn is_sound(s: &[u8], depth: usize) -> bool
 // Where a text is not sound, the grammar's fault is the first; if it has none, a surrogate is alone or two names are equal.
 pub fn read(s: &[u8], depth: usize) -> Verdict
     ensures { λ r. ⌜ r ≡ verdict depth (now (s .entry)) ⌝ }
+    ensures { λ r. ⌜ InWords depth (now (s .entry)) r ⌝ }
 {
     if s.len() > 65536 {
         return Verdict::Large;

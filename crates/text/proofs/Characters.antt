@@ -2,8 +2,9 @@
 use mathlib.Core.Path.{_≡_, refl, sym, ap, _∙_}
 use mathlib.Core.Bool.{Bool, true, false, _&&_}
 use mathlib.Core.List.{List, [], _∷_, _++_}
-use Prim.Native.Nat.{ℕ, zero, suc, _+_, _≤_}
+use Prim.Native.Nat.{ℕ, zero, suc, _+_, _≤_, _<_}
 use native.Mathlib.Omega.{arith}
+use lib.ListN.{getD}
 use lib.Dec.{ltb, leb}
 use borrow.Author.Tests.{lt-ltb, le-ltb, le-leb, leb-true}
 use Rattle.text.specs.Bytes.{Bytes, between, all}
@@ -84,6 +85,12 @@ lead-no-start c l = rw l (row-no-start rows c)
 
 abbrev pub isByte : ℕ → Bool
 isByte c = ltb c 256
+
+-- a slice's numbers are known to be bytes place by place
+pub bytes-all : (s : Bytes) → ((i : ℕ) → getD s i 0 < 256) → all isByte s ≡ true
+unfolding all
+bytes-all [] h = refl
+bytes-all (c ∷ s) h = rw (lt-ltb c 256 (h 0), bytes-all s (λ i. h (suc i)))
 
 lead-byte : (c : ℕ) (s : Bytes) → run (lead c) s ≡ start → isByte c ≡ true
 lead-byte c s u = byBool (ltb c 256) (λ e. e) (λ e. absurd (not-start s (ap (λ d. run d s) (sym (lead-high c e)) ∙ u)))

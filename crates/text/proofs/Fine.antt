@@ -1,14 +1,13 @@
 -- A reader takes so many bytes at least, and what it leaves does not matter to it: so a part of a text, read alone, gives the same.
 -- One law for each combinator; a reader's own is one line (crates/json/proofs/Fine.antt).
 use mathlib.Core.Path.{_≡_, refl, sym, ap, _∙_}
-use mathlib.Core.Bool.{Bool, true, false}
-use mathlib.Core.List.{List, [], _∷_, _++_, append-nil}
+use mathlib.Core.Bool.{Bool, false}
+use mathlib.Core.List.{[], _∷_, _++_, append-nil}
 use Prim.Native.Nat.{ℕ, zero, suc, _+_, _-_, _≤_, _<_}
 use native.Mathlib.Omega.{arith}
 use lib.ListN.{length, drop, take, length-append, take-append-drop}
 use lib.Seq.{drop-drop}
 use lib.Dec.{eqb}
-use Rattle.text.specs.Choice.{pick}
 use Rattle.text.specs.Bytes.{Bytes, is}
 use Rattle.text.specs.Reader.{Got, got, bad, bind, under, first, on, when, Step, more, last, after, turns, loop, taken, past, one, some-of, run-of}
 use Rattle.text.proofs.Cases.{byBool}

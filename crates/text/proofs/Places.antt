@@ -1,5 +1,5 @@
 -- Laws of readers by place: one for each way through a combinator, so that a proof of code only cites them.
-use mathlib.Core.Path.{_≡_, refl, sym, ap, subst, _∙_}
+use mathlib.Core.Path.{_≡_, refl, sym, ap, subst}
 use mathlib.Core.Bool.{Bool, true, false}
 use mathlib.Core.Logic.{⊎-elim}
 use mathlib.Core.List.{List, [], _∷_, tail}
@@ -9,14 +9,11 @@ use native.Mathlib.Numerals.{add-one}
 use native.Mathlib.Omega.{arith}
 use lib.ListN.{length, getD, drop, drop-of-length-le, List·getD-eq-default}
 use lib.Seq.{drop-cons, drop-nil}
-use lib.Dec.{leb}
-use borrow.Author.Tests.{leb-true}
 use Rattle.text.specs.declared.Read.{Read}
 use Rattle.text.specs.declared.Read.the-variants.{Next, Bad}
 use Rattle.text.specs.declared.Turn.{Turn}
 use Rattle.text.specs.declared.Turn.the-variants.{Go, Stop}
-use Rattle.text.specs.Choice.{pick}
-use Rattle.text.specs.Bytes.{Bytes, between}
+use Rattle.text.specs.Bytes.{Bytes}
 use Rattle.text.specs.Reader.{Got, got, bad, bind, under, first, on, when, Step, more, last, past}
 pub use Rattle.text.proofs.Cases.{byBool, between-true as between-in}
 use Rattle.text.specs.Places.{byteAt, Within, WithinT, Agree, AgreeT, Gives, GivesT, Passes}

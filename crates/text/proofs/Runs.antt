@@ -1,17 +1,14 @@
 -- The laws of a loop over turns: its invariant `Run`, its start, a turn that goes on, one that ends.
-use mathlib.Core.Path.{_≡_, refl, sym, ap, _∙_}
-use mathlib.Core.List.{List, [], _∷_}
+use mathlib.Core.Path.{ap}
 use Prim.Native.Nat.{ℕ, zero, suc, _+_, _-_, _≤_, _<_}
 use native.Mathlib.Omega.{arith}
 use lib.ListN.{length, drop, length-drop}
 use Rattle.text.specs.declared.Read.{Read}
-use Rattle.text.specs.declared.Read.the-variants.{Next, Bad}
-use Rattle.text.specs.declared.Turn.{Turn}
 use Rattle.text.specs.declared.Turn.the-variants.{Go, Stop}
 use Rattle.text.specs.Bytes.{Bytes}
 use Rattle.text.specs.Reader.{Got, got, bad, bind, under, Step, more, last, after, turns, loop}
 use Rattle.text.specs.Places.{Gives, GivesT}
-use Rattle.text.proofs.Places.{within-up, up, same-as, by-under}
+use Rattle.text.proofs.Places.{up, same-as, by-under}
 
 -- the turns from `at` on have come to i: what is given from here is given from there
 pub record Run {B : Type 0} (f : Bytes → Got (Step B)) (s : Bytes) (at i : ℕ) : Type 0 where

@@ -1,10 +1,9 @@
 -- Readers of a byte list: what was read and the rest, or the rest from the first byte that does not fit.
 -- Both grammars (JSON and vCard lines) are written with these few forms, so that code is proved against one set of laws.
-use mathlib.Core.Bool.{Bool, true, false}
-use mathlib.Core.List.{List, [], _∷_, _++_, tail}
+use mathlib.Core.Bool.{Bool}
+use mathlib.Core.List.{[], _∷_, tail}
 use Prim.Native.Nat.{ℕ, zero, suc}
 use lib.ListN.{length}
-use lib.Dec.{eqb}
 use Rattle.text.specs.Choice.{pick}
 use Rattle.text.specs.Bytes.{Bytes, is}
 
