@@ -18,7 +18,7 @@ abbrev pub placeOf : Read → ℕ
 placeOf (Next e) = e
 placeOf (Bad b) = b
 
--- the places are within the n bytes of a text, and the value's not before `at`, where that is
+-- the places are within the n bytes of a text; from a place within it, the value does not begin before that place
 pub record Inside (at n : ℕ) (r : Places) : Type 0 where
   pub name-in : r .name ≤ n
   pub from : at ≤ n → at ≤ r .start

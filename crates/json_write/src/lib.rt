@@ -139,8 +139,8 @@ pub fn put_number(out: &mut [u8], n: usize) -> Wrote
     Wrote::Bytes(ab)
 }
 
-// The string from a place on (after its first quote), without its quotes and spelled anew. Where it stands for nothing, the bytes
-// before what is no string are written so; none from a place past the end.
+// The string from a place on (after its first quote), without its quotes and spelled anew. Where a surrogate is alone in it, or it is
+// no string, the bytes before that are; from a place past the end, none: the contract then says only that some are written.
 pub fn put_respelled(out: &mut [u8], s: &[u8], from: usize) -> Wrote
     ensures { λ r. ⌜ Writes (respelled (now (s .entry)) from) (now (out .entry)) r (now (out .exit)) ⌝ }
 {
