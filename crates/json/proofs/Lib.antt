@@ -12,3 +12,4 @@ pub mod Scalars
 pub mod Given
 pub mod Listed
 pub mod Fine
+pub mod AsSpelled

@@ -21,7 +21,7 @@ use Rattle.json.proofs.Decoded.{string-utf8}
 abbrev pub Gives : ℕ → Json → Type 0
 Gives d u = (j : Json) → decoded u ≡ some j → distinctNames j ≡ true → Sound d j
 
-four-inv : (a b c d : ℕ) (j : Json) (s : Bytes) (u : Json) (t : Bytes) → four a b c d j s ≡ got u t → j ≡ u
+pub four-inv : (a b c d : ℕ) (j : Json) (s : Bytes) (u : Json) (t : Bytes) → four a b c d j s ≡ got u t → j ≡ u
 unfolding four
 four-inv a b c d j s u t e =
     let i = bind-inv (one a s) _ e in

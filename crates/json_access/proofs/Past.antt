@@ -8,6 +8,7 @@ use Rattle.text.specs.Bytes.{Bytes, between}
 use Rattle.text.specs.Reader.{bad, on, when, past, one, some-of}
 use Rattle.text.proofs.Fine.{not-bad}
 use Rattle.json.specs.Syntax.{skip, token, opt, digits, int, number, scalar, name, value}
+use Rattle.json_access.specs.declared.Part.{Part}
 use Rattle.json_access.specs.declared.Places.{Places}
 use Rattle.json_access.specs.declared.Kind.{Kind}
 use Rattle.json_access.specs.Access.{TellsMember, TellsElement, TellsKind}
@@ -28,7 +29,7 @@ module _ (s : Bytes) (at : ℕ) (h : length s < at) where
   pub member-past : (d : ℕ) (r : Places) → TellsMember d s at r
   member-past d r k t e = absurd (not-bad (sym (ap name nothing ∙ no-name) ∙ e))
 
-  pub element-past : (d : ℕ) (r : Places) → TellsElement d s at r
+  pub element-past : (d : ℕ) (r : Part) → TellsElement d s at r
   element-past d r j u e = absurd (not-bad (sym (ap (value d) nothing ∙ no-value d) ∙ e))
 
   pub kind-past : (r : Kind) → TellsKind s at r

@@ -7,8 +7,15 @@ use json_scan::value_end;
 use text::Read;
 use text::look;
 ghost use mathlib.Core.Path.{_≡_};
+ghost use Prim.Native.Nat.{_≤_};
 ghost use lib.ListN.{length};
 ghost use Rattle.json_access.specs.Access.{placeOf, Inside, TellsMember, TellsElement, TellsKind};
+
+// A part of a text: from `start` to just before `end`.
+pub struct Part {
+    pub start: usize,
+    pub end: usize,
+}
 
 // The places of a member: of its name, after the first quote, and of its value.
 pub struct Places {
@@ -28,7 +35,8 @@ fn place(r: Read) -> usize
 
 // The member at a place of an object.
 pub fn member_at(s: &[u8], at: usize, depth: usize) -> Places
-    ensures { λ r. ⌜ Inside at (length (now (s .entry))) r ⌝ }
+    ensures { λ r. ⌜ r .name ≤ length (now (s .entry)) ⌝ }
+    ensures { λ r. ⌜ Inside at (length (now (s .entry))) (r .start) (r .end) ⌝ }
     ensures { λ r. ⌜ TellsMember depth (now (s .entry)) at r ⌝ }
 {
     if at > s.len() {
@@ -49,25 +57,17 @@ pub fn member_at(s: &[u8], at: usize, depth: usize) -> Places
     }
 }
 
-// The element at a place of an array: the places of its value. (Its name is no name, but the place itself.)
-pub fn element_at(s: &[u8], at: usize, depth: usize) -> Places
-    ensures { λ r. ⌜ Inside at (length (now (s .entry))) r ⌝ }
+// The value of the element at a place of an array.
+pub fn element_at(s: &[u8], at: usize, depth: usize) -> Part
+    ensures { λ r. ⌜ Inside at (length (now (s .entry))) (r .start) (r .end) ⌝ }
     ensures { λ r. ⌜ TellsElement depth (now (s .entry)) at r ⌝ }
 {
     if at > s.len() {
-        return Places {
-            name: 0,
-            start: 0,
-            end: 0,
-        };
+        return Part { start: 0, end: 0 };
     }
     let a = skip_space(s, at);
     let e = place(value_end(s, a, depth));
-    Places {
-        name: at,
-        start: a,
-        end: e,
-    }
+    Part { start: a, end: e }
 }
 
 // What a value is.

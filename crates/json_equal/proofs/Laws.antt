@@ -1,5 +1,5 @@
 -- Laws of comparing decoded strings, over plain values.
-use mathlib.Core.Path.{_≡_, refl, ap, subst, _∙_}
+use mathlib.Core.Path.{_≡_, refl, ap, _∙_}
 use mathlib.Core.Bool.{false}
 use mathlib.Core.Logic.{⊎-elim}
 use mathlib.Core.List.{[], _∷_}
@@ -16,11 +16,9 @@ use Rattle.text.specs.Choice.{is-some}
 use Rattle.text.specs.Bytes.{Bytes, same}
 use Rattle.json.specs.Strings.{before}
 use Rattle.json_strings.specs.declared.Byte.{Byte}
-use Rattle.json_strings.specs.declared.Byte.the-variants.{One, End, Alone}
-use Rattle.json_strings.specs.Spelled.{left, byteOf, ByteIn, spells, agree}
-
-pub byte-in : (s : Bytes) (at h : ℕ) {r q : Byte} → ByteIn s at h r → r ≡ q → ByteIn s at h q
-byte-in s at h w e = subst (ByteIn s at h) e w
+use Rattle.json_strings.specs.declared.Byte.the-variants.{One}
+use Rattle.json_strings.proofs.NextByte.{is-one}
+use Rattle.json_strings.specs.Spelled.{left, byteOf, spells, agree}
 
 paired-on : (b : ℕ) (x : Option Bytes) → is-some (before (b ∷ []) x) ≡ is-some x
 paired-on b none = refl
@@ -76,39 +74,29 @@ agree-on a b (some x) none q = refl
 agree-on a b (some x) (some y) q = rw (eq-eqb _ _ q)
 
 -- ---- what the next byte of a string tells: the laws that the proofs of code cite
-module _ (s : Bytes) {x : Option Bytes} {r : Byte} (q : x ≡ byteOf s r) where
-  pub is-alone : r ≡ Alone → x ≡ none
-  is-alone e = q ∙ ap (byteOf s) e
+module _ (s : Bytes) {x : Option Bytes} {r : Byte} (q : x ≡ byteOf s r) {b j g : ℕ} (e : r ≡ One b j g) where
+  pub paired-one : is-some x ≡ is-some (left s j g)
+  paired-one = rw (is-one s q e) (paired-on b (left s j g))
 
-  pub is-end : r ≡ End → x ≡ some []
-  is-end e = q ∙ ap (byteOf s) e
+  pub ends-one : agree (some []) x ≡ false
+  ends-one = rw (is-one s q e) (agree-end b (left s j g))
 
-  module _ {b j g : ℕ} (e : r ≡ One b j g) where
-    is-one : x ≡ before (b ∷ []) (left s j g)
-    is-one = q ∙ ap (byteOf s) e
+  pub agree-ends : agree x (some []) ≡ false
+  agree-ends = rw (is-one s q e) (agree-short b (left s j g))
 
-    pub paired-one : is-some x ≡ is-some (left s j g)
-    paired-one = rw is-one (paired-on b (left s j g))
+  module _ (bs : Bytes) (k : ℕ) where
+    pub one-short : k ≡ length bs → spells x (drop k bs) ≡ false
+    one-short h = rw (is-one s q e) (spells-short bs k b (left s j g) h)
 
-    pub ends-one : agree (some []) x ≡ false
-    ends-one = rw is-one (agree-end b (left s j g))
+    pub one-other : k < length bs → (getD bs k 0 ≡ b → ⊥) → spells x (drop k bs) ≡ false
+    one-other l h = rw (is-one s q e) (spells-other bs k b (left s j g) l h)
 
-    pub agree-ends : agree x (some []) ≡ false
-    agree-ends = rw is-one (agree-short b (left s j g))
+    pub one-same : k < length bs → getD bs k 0 ≡ b → spells x (drop k bs) ≡ spells (left s j g) (drop (k + 1) bs)
+    one-same l h = rw (is-one s q e) (spells-on bs k b (left s j g) l h)
 
-    module _ (bs : Bytes) (k : ℕ) where
-      pub one-short : k ≡ length bs → spells x (drop k bs) ≡ false
-      one-short h = rw is-one (spells-short bs k b (left s j g) h)
+  module _ {y : Option Bytes} {w : Byte} (p : y ≡ byteOf s w) {c l h : ℕ} (d : w ≡ One c l h) where
+    pub both-other : (b ≡ c → ⊥) → agree x y ≡ false
+    both-other n = ap (agree x) (p ∙ ap (byteOf s) d) ∙ rw (is-one s q e) (agree-other b c (left s j g) (left s l h) n)
 
-      pub one-other : k < length bs → (getD bs k 0 ≡ b → ⊥) → spells x (drop k bs) ≡ false
-      one-other l h = rw is-one (spells-other bs k b (left s j g) l h)
-
-      pub one-same : k < length bs → getD bs k 0 ≡ b → spells x (drop k bs) ≡ spells (left s j g) (drop (k + 1) bs)
-      one-same l h = rw is-one (spells-on bs k b (left s j g) l h)
-
-    module _ {y : Option Bytes} {w : Byte} (p : y ≡ byteOf s w) {c l h : ℕ} (d : w ≡ One c l h) where
-      pub both-other : (b ≡ c → ⊥) → agree x y ≡ false
-      both-other n = ap (agree x) (p ∙ ap (byteOf s) d) ∙ rw is-one (agree-other b c (left s j g) (left s l h) n)
-
-      pub both-same : b ≡ c → agree x y ≡ agree (left s j g) (left s l h)
-      both-same n = ap (agree x) (p ∙ ap (byteOf s) d) ∙ rw is-one (agree-on b c (left s j g) (left s l h) n)
+    pub both-same : b ≡ c → agree x y ≡ agree (left s j g) (left s l h)
+    both-same n = ap (agree x) (p ∙ ap (byteOf s) d) ∙ rw (is-one s q e) (agree-on b c (left s j g) (left s l h) n)

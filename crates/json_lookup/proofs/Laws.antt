@@ -33,7 +33,7 @@ use Rattle.json_read.specs.declared.Verdict.the-variants.{Sound, Large, NotJson
 use Rattle.json_read.specs.Verdict.{verdictOf, verdict}
 use Rattle.json_access.specs.declared.Places.{Places}
 use Rattle.json_access.specs.Access.{TellsMember}
-use Rattle.json_lookup.specs.declared.Part.{Part}
+use Rattle.json_access.specs.declared.Part.{Part}
 use Rattle.json_lookup.specs.Finds.{Finds, FindsIn, Locates}
 
 -- ---- members
@@ -103,9 +103,9 @@ module _ (s : Bytes) (at : ℕ) (m : Bytes) (i : ℕ) (todo : Todo s at m i) (r 
       let y = todo ps t x in
       let z = span-here s i (y .0) t (y .1) in
       let k = told (z .key) (z .rest-key) (z .is-name) (z .val) (z .rest-val) (z .is-value) in
-      let c : with-some (decode (z .key)) (same m) false ≡ true = sym (matched (z .key) m _ (k .spells)) ∙ sym eb ∙ q in
-      let o : length s - length (skip (z .rest-key)) ≡ r .start = rw (k .begins, length-drop (r .start) s) (omega arith) in
-      let p : length (skip (z .rest-key)) - length (z .rest-val) ≡ r .end - r .start = rw (k .begins, k .ends, length-drop (r .start) s, length-drop (r .end) s) (omega arith) in
+      let c : with-some (decode (z .key)) (same m) false ≡ true = sym (matched (z .key) m _ (k .0)) ∙ sym eb ∙ q in
+      let o : length s - length (skip (z .rest-key)) ≡ r .start = rw (k .1 .begins, length-drop (r .start) s) (omega arith) in
+      let p : length (skip (z .rest-key)) - length (z .rest-val) ≡ r .end - r .start = rw (k .1 .begins, k .1 .ends, length-drop (r .start) s, length-drop (r .end) s) (omega arith) in
       sym (ap (partOf s) (y .2 ∙ ap (found (length s) m) (z .is)) ∙ rw (c, o, p))
 
   module _ (q : b ≡ false) where
@@ -116,8 +116,8 @@ module _ (s : Bytes) (at : ℕ) (m : Bytes) (i : ℕ) (todo : Todo s at m i) (r 
         let z = span-here s i (y .0) t (y .1) in
         let k = told (z .key) (z .rest-key) (z .is-name) (z .val) (z .rest-val) (z .is-value) in
         let p = spanAt (z .key) (z .rest-key) (z .rest-val) in
-        let c : with-some (decode (z .key)) (same m) false ≡ false = sym (matched (z .key) m _ (k .spells)) ∙ sym eb ∙ q in
-        let f : spanOf 15 (drop i s) ≡ got (more (λ ps. p ∷ ps)) (drop j s) = z .turn ∙ ap (sep 125 (p ∷ []) (λ ps. p ∷ ps)) (k .ends) ∙ sep-go (p ∷ []) (λ ps. p ∷ ps) 125 w in
+        let c : with-some (decode (z .key)) (same m) false ≡ false = sym (matched (z .key) m _ (k .0)) ∙ sym eb ∙ q in
+        let f : spanOf 15 (drop i s) ≡ got (more (λ ps. p ∷ ps)) (drop j s) = z .turn ∙ ap (sep 125 (p ∷ []) (λ ps. p ∷ ps)) (k .1 .ends) ∙ sep-go (p ∷ []) (λ ps. p ∷ ps) 125 w in
         let l = under-inv (λ (ps : List Span). p ∷ ps) (loop (spanOf 15) (drop j s)) (sym (loop-more (spanOf 15) (span-takes 15) (drop i s) (drop j s) (λ ps. p ∷ ps) f) ∙ y .1) in
         (l .0, l .1, y .2 ∙ ap (found (length s) m) (sym (l .2)) ∙ rw c)
 
@@ -128,9 +128,9 @@ module _ (s : Bytes) (at : ℕ) (m : Bytes) (i : ℕ) (todo : Todo s at m i) (r 
         let z = span-here s i (y .0) t (y .1) in
         let k = told (z .key) (z .rest-key) (z .is-name) (z .val) (z .rest-val) (z .is-value) in
         let p = spanAt (z .key) (z .rest-key) (z .rest-val) in
-        let c : with-some (decode (z .key)) (same m) false ≡ false = sym (matched (z .key) m _ (k .spells)) ∙ sym eb ∙ q in
+        let c : with-some (decode (z .key)) (same m) false ≡ false = sym (matched (z .key) m _ (k .0)) ∙ sym eb ∙ q in
         let l = loop-split (spanOf 15) (span-takes 15) (drop i s) (y .0) t (y .1) in
-        let n = sep-stop (p ∷ []) (λ ps. p ∷ ps) 125 w (l .0) (l .1) (sym (ap (sep 125 (p ∷ []) (λ ps. p ∷ ps)) (k .ends)) ∙ sym (z .turn) ∙ l .2) in
+        let n = sep-stop (p ∷ []) (λ ps. p ∷ ps) 125 w (l .0) (l .1) (sym (ap (sep 125 (p ∷ []) (λ ps. p ∷ ps)) (k .1 .ends)) ∙ sym (z .turn) ∙ l .2) in
         sym (ap (partOf s) (y .2 ∙ ap (found (length s) m) (sym (got-what (rw n at (l .3))))) ∙ rw c)
 
 -- ---- a text

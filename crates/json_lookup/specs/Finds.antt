@@ -8,7 +8,7 @@ use Rattle.text.specs.Reader.{got, loop}
 use Rattle.json.specs.Lookup.{Span, spanOf, spans, given, found, lookUp, partOf}
 use Rattle.json.specs.Tree.{Json}
 use Rattle.json.specs.Syntax.{text}
-use Rattle.json_lookup.specs.declared.Part.{Part}
+use Rattle.json_access.specs.declared.Part.{Part}
 
 pub record Bounds (n : ℕ) (r : Part) : Type 0 where
   pub ordered : r .start ≤ r .end

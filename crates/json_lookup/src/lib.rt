@@ -1,4 +1,5 @@
 // The look-up service: a top-level member's value as that very part of the caller's JSON.
+use json_access::Part;
 use json_access::member_at;
 use json_equal::equals;
 use json_marks::separator;
@@ -13,13 +14,7 @@ ghost use lib.ListN.{length};
 ghost use Rattle.json.specs.Lookup.{lookUp, partOf};
 ghost use Rattle.json_lookup.specs.Finds.{Bounds, Finds, FindsIn, Locates};
 
-// A part of a text: from `start` to just before `end`. Nothing is found where they are the same.
-pub struct Part {
-    pub start: usize,
-    pub end: usize,
-}
-
-// The value of the first member of that name, from a member's place of an object on.
+// The value of the first member of that name, from a member's place of an object on. Nothing is found where the part is empty.
 fn find_from<'a, 'b>(s: &'a [u8], at: usize, name: &'b [u8]) -> Part
     requires { ⌜ at ≤ length (now s) ⌝ }
     ensures { λ r. ⌜ Bounds (length (now (s .entry))) r ⌝ }

@@ -1,5 +1,5 @@
 -- One turn of spelling a string anew.
-use mathlib.Core.Path.{_≡_, refl, sym, ap, subst, _∙_}
+use mathlib.Core.Path.{_≡_, refl, sym, ap, _∙_}
 use mathlib.Core.List.{[], _∷_}
 use mathlib.Core.Option.{Option, none, some, Option·map}
 use Prim.Native.Nat.{ℕ, _<_}
@@ -13,7 +13,8 @@ use Rattle.json.specs.Syntax.{characters}
 use Rattle.json_strings.specs.declared.Byte.{Byte}
 use Rattle.json_strings.specs.declared.Byte.the-variants.{One, End, Alone}
 use Rattle.json_strings.specs.Spelled as strings
-use Rattle.json_strings.specs.Spelled.{left, byteOf, ByteIn}
+use Rattle.json_strings.specs.Spelled.{left, byteOf}
+use Rattle.json_strings.proofs.NextByte.{is-alone, is-end, is-one}
 use Rattle.json_strings.proofs.Laws.{left-none, spelled-is, spelled-past}
 use Rattle.json_write.specs.Respelled.{respelled, requoted}
 
@@ -35,20 +36,16 @@ unfolding spelledAll chained
 spelled-first b none = refl
 spelled-first b (some x) = refl
 
-module _ (s : Bytes) (i h : ℕ) {r : Byte} where
-  pub byte-in : {q : Byte} → ByteIn s i h r → r ≡ q → ByteIn s i h q
-  byte-in w e = subst (ByteIn s i h) e w
+module _ (s : Bytes) (i h : ℕ) {r : Byte} (q : left s i h ≡ byteOf s r) where
+  pub anew-one : (b j g : ℕ) → r ≡ One b j g → anew s i h ≡ chained (some (spelled b)) (anew s j g)
+  anew-one b j g e = ap (Option·map spelledAll) (is-one s q e) ∙ spelled-first b (left s j g)
 
-  module _ (q : left s i h ≡ byteOf s r) where
-    pub anew-one : (b j g : ℕ) → r ≡ One b j g → anew s i h ≡ chained (some (spelled b)) (anew s j g)
-    anew-one b j g e = ap (Option·map spelledAll) (q ∙ ap (byteOf s) e) ∙ spelled-first b (left s j g)
+  pub anew-end : r ≡ End → anew s i h ≡ some []
+  unfolding spelledAll
+  anew-end e = ap (Option·map spelledAll) (is-end s q e)
 
-    pub anew-end : r ≡ End → anew s i h ≡ some []
-    unfolding spelledAll
-    anew-end e = ap (Option·map spelledAll) (q ∙ ap (byteOf s) e)
-
-    pub anew-alone : r ≡ Alone → anew s i h ≡ none
-    anew-alone e = ap (Option·map spelledAll) (q ∙ ap (byteOf s) e)
+  pub anew-alone : r ≡ Alone → anew s i h ≡ none
+  anew-alone e = ap (Option·map spelledAll) (is-alone s q e)
 
 -- ---- a string with its quotes
 

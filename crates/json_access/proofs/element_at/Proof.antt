@@ -1,13 +1,15 @@
 use native.Mathlib.Omega.{arith}
 use denote.Ref.{now}
-use Rattle.json_access.proofs.Laws.{place-in, element-is}
+use lib.ListN.{drop}
+use Rattle.json_marks.proofs.Laws.{skip-to}
+use Rattle.json_access.proofs.Laws.{place-in, stands}
 use Rattle.json_access.proofs.Past.{element-past}
 use borrow.Author.Needs.{needs}
 use Rattle.json_access.proofs.element_at.Statement.{statement}
 use Rattle.json_access.proofs.element_at.Tie as tie
 
 returns : tie.Need-returns
-returns c = (record { name-in = omega arith; from = λ l. absurd (omega (arith, c .if1 .taken)); ordered = omega arith; end-in = omega arith }, element-past (now (c .before .before .args .s)) (c .before .before .args .at) (c .if1 .taken) (c .before .before .args .depth) _)
+returns c = (record { from = λ l. absurd (omega (arith, c .if1 .taken)); ordered = omega arith; end-in = omega arith }, element-past (now (c .before .before .args .s)) (c .before .before .args .at) (c .if1 .taken) (c .before .before .args .depth) _)
 
 skip-space-requires : tie.Need-skip-space-requires
 skip-space-requires c κs = search needs
@@ -20,15 +22,8 @@ place-requires c κs = search needs
 
 returns-2 : tie.Need-returns-2
 returns-2 c = let r = place-in (now (c .before .before .before .before .before .args .s)) (c .before .before .skip-space .result) _ _ (c .before .value-end .ensures) in (
-  record {
-    name-in = omega (arith, c .before .before .before .if1 .left);
-    from = λ l. c .before .before .skip-space .ensures .from;
-    ordered = omega (arith, r .0, c .place .ensures);
-    end-in = omega (arith, r .1, c .place .ensures);
-  },
-  λ j u w.
-      let m = element-is (c .before .before .before .before .before .args .depth) (now (c .before .before .before .before .before .args .s)) (c .before .before .before .before .before .args .at) (c .before .before .skip-space .ensures) (c .before .value-end .ensures) (c .place .ensures) j u w in
-      record { begins = m .0; ends = m .1 },
+  record { from = λ l. c .before .before .skip-space .ensures .from; ordered = omega (arith, r .0, c .place .ensures); end-in = omega (arith, r .1, c .place .ensures) },
+  stands (c .before .before .before .before .before .args .depth) (now (c .before .before .before .before .before .args .s)) (drop (c .before .before .before .before .before .args .at) (now (c .before .before .before .before .before .args .s))) (skip-to (c .before .before .skip-space .ensures)) (c .before .before .skip-space .ensures .to) (c .before .value-end .ensures) (c .place .ensures),
 )
 
 pub element-at-spec : {M : Type 1} → statement M

@@ -8,7 +8,7 @@ use Rattle.output.specs.Wanted.{Toward}
 use Rattle.output.proofs.Wanted.{toward-all, toward-as, toward-byte, toward-no-byte, toward-done, toward-none, toward-same}
 use Rattle.json_strings.specs.Spelled.{spelled, left, weight}
 use Rattle.json_strings.proofs.Laws.{left-none, spelled-past}
-use Rattle.json_equal.proofs.Laws.{byte-in, is-alone, is-end}
+use Rattle.json_strings.proofs.NextByte.{byte-in, is-alone, is-end}
 use Rattle.json_decode.proofs.Laws.{byte-first}
 use Rattle.json_decode.proofs.decode_into.Statement.{statement}
 use Rattle.json_decode.proofs.decode_into.Tie as tie

@@ -4,7 +4,8 @@ use mathlib.Core.List.{[]}
 use mathlib.Core.Option.{some}
 use Rattle.text.specs.Bytes.{same}
 use Rattle.json_strings.specs.Spelled.{agree}
-use Rattle.json_equal.proofs.Laws.{is-alone, is-end, ends-one}
+use Rattle.json_strings.proofs.NextByte.{is-alone, is-end}
+use Rattle.json_equal.proofs.Laws.{ends-one}
 use borrow.Author.Needs.{needs}
 use Rattle.json_equal.proofs.ends.Statement.{statement}
 use Rattle.json_equal.proofs.ends.Tie as tie

@@ -8,7 +8,8 @@ use lib.ListN.{length, drop}
 use Rattle.text.specs.Bytes.{Bytes}
 use Rattle.json_strings.specs.Spelled.{spelled, left, weight, spells}
 use Rattle.json_strings.proofs.Laws.{left-none, spelled-past}
-use Rattle.json_equal.proofs.Laws.{byte-in, is-alone, is-end, spells-end, one-short, one-other, one-same}
+use Rattle.json_strings.proofs.NextByte.{byte-in, is-alone, is-end}
+use Rattle.json_equal.proofs.Laws.{spells-end, one-short, one-other, one-same}
 use Rattle.json_equal.proofs.equals.Statement.{statement}
 use Rattle.json_equal.proofs.equals.Tie as tie
 

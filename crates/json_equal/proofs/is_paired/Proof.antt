@@ -7,7 +7,8 @@ use lib.ListN.{length}
 use Rattle.text.specs.Choice.{is-some}
 use Rattle.json_strings.specs.Spelled.{spelled, left, weight}
 use Rattle.json_strings.proofs.Laws.{left-none, spelled-past}
-use Rattle.json_equal.proofs.Laws.{byte-in, is-alone, is-end, paired-one}
+use Rattle.json_strings.proofs.NextByte.{byte-in, is-alone, is-end}
+use Rattle.json_equal.proofs.Laws.{paired-one}
 use Rattle.json_equal.proofs.is_paired.Statement.{statement}
 use Rattle.json_equal.proofs.is_paired.Tie as tie
 

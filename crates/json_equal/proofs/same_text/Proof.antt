@@ -8,7 +8,8 @@ use lib.ListN.{length}
 use Rattle.text.specs.Bytes.{Bytes}
 use Rattle.json_strings.specs.Spelled.{spelled, left, weight, agree}
 use Rattle.json_strings.proofs.Laws.{left-none, spelled-past}
-use Rattle.json_equal.proofs.Laws.{byte-in, is-alone, is-end, agree-none, agree-ends, both-other, both-same}
+use Rattle.json_strings.proofs.NextByte.{byte-in, is-alone, is-end}
+use Rattle.json_equal.proofs.Laws.{agree-none, agree-ends, both-other, both-same}
 use Rattle.json_equal.proofs.same_text.Statement.{statement}
 use Rattle.json_equal.proofs.same_text.Tie as tie
 

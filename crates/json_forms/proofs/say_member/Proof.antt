@@ -25,7 +25,7 @@ say-value-requires : tie.Need-say-value-requires
 say-value-requires c κs = search needs
 
 returns : tie.Need-returns
-returns c = (omega (arith, c .before .before .before .before .before .before .member-at .ensures .0 .from (c .before .before .before .before .before .before .before .before .pre), c .before .before .before .before .before .before .member-at .ensures .0 .ordered), c .before .before .before .before .before .before .member-at .ensures .0 .end-in)
+returns c = (omega (arith, c .before .before .before .before .before .before .member-at .ensures .1 .0 .from (c .before .before .before .before .before .before .before .before .pre), c .before .before .before .before .before .before .member-at .ensures .1 .0 .ordered), c .before .before .before .before .before .before .member-at .ensures .1 .0 .end-in)
 
 pub say-member-spec : {M : Type 1} → statement M
 say-member-spec =

@@ -8,7 +8,8 @@ use Rattle.json_strings.specs.Spelled.{weight}
 use Rattle.json_write.specs.Respelled.{respelled}
 use Rattle.output.specs.Wanted.{Toward}
 use Rattle.output.proofs.Wanted.{Place, place, puts-writes, toward-all, toward-as, toward-next, toward-stop, toward-done, toward-none, toward-in, toward-fit, toward-same}
-use Rattle.json_write.proofs.Respelling.{anew, anew-all, respelled-past, anew-one, anew-end, anew-alone, byte-in}
+use Rattle.json_strings.proofs.NextByte.{byte-in}
+use Rattle.json_write.proofs.Respelling.{anew, anew-all, respelled-past, anew-one, anew-end, anew-alone}
 use Rattle.json_write.proofs.put_respelled.Statement.{statement}
 use Rattle.json_write.proofs.put_respelled.Tie as tie
 
