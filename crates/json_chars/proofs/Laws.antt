@@ -1,41 +1,30 @@
 -- Laws of characters, over plain values.
-use mathlib.Core.Path.{_≡_, refl, sym, ap, subst, _∙_}
-use mathlib.Core.Bool.{Bool, true, false, _&&_}
-use mathlib.Core.List.{List, [], _∷_}
+use mathlib.Core.Path.{_≡_, sym, _∙_}
+use mathlib.Core.Bool.{true, false}
+use mathlib.Core.List.{[], _∷_}
 use Prim.Native.Nat.{ℕ, zero, suc, _+_, _-_, _≤_, _<_}
 use native.Mathlib.Numerals.{sub-one}
 use native.Mathlib.Omega.{arith}
 use lib.ListN.{length, drop}
 use lib.Dec.{ltb}
-use borrow.Author.Tests.{eq-eqb, ne-eqb, lt-ltb, le-ltb}
+use borrow.Author.Tests.{eq-eqb, ne-eqb, lt-ltb, ltb-false}
 use Rattle.text.specs.declared.Read.{Read}
 use Rattle.text.specs.declared.Read.the-variants.{Next, Bad}
 use Rattle.text.specs.declared.Turn.{Turn}
 use Rattle.text.specs.declared.Turn.the-variants.{Go, Stop}
-use Rattle.text.specs.Choice.{pick}
 use Rattle.text.specs.Bytes.{Bytes, is, between}
-use Rattle.text.specs.Utf8.{Due, start, due, broken, lead, byRow, rows}
+use Rattle.text.specs.Utf8.{Due, due, lead}
 use Rattle.text.specs.Reader.{Got, got, bad, under, on, Step, more, last}
 use Rattle.text.specs.Places.{byteAt, Gives, GivesT}
-use Rattle.text.proofs.Places.{byBool, gives-as, same-as, up, here, bad-here, by-under, by-on, not-on, on-yes, on-no, same-turn, up-turn, under-more, under-bad, more-here, last-here, bad-turn, turn-as}
+use Rattle.text.proofs.Places.{byBool, here, bad-here, by-under, by-on, not-on, on-yes, on-no, same-turn, under-more, under-bad, more-here, last-here, bad-turn, turn-as}
 use Rattle.json.specs.Grammar.{isShort}
-use Rattle.json.specs.Syntax.{hex4, short, escape, isLead, leads, tailBytes, following, push, character}
-use Rattle.json_chars.specs.Rows.{Leads, turnOf}
-use Rattle.json_chars.specs.declared.Lead.{Lead}
+use Rattle.json.specs.Syntax.{hex4, short, escape, isLead, leads, tailBytes, following, character}
+use Rattle.json_chars.specs.Turns.{turnOf}
 
--- ---- the rows of RFC 3629
-module _ (c : ℕ) where
-  pub leads-by : (low high k : ℕ) → 127 < c → byRow rows c ≡ due low high k → (isLead c ≡ true) × (lead c ≡ due low high k)
-  unfolding isLead lead
-  leads-by low high k l e = (rw (lt-ltb 127 c l, le-ltb c 128 l, e), rw (le-ltb c 128 l, e))
-
-  pub leads-none : byRow rows c ≡ broken → isLead c ≡ false
-  unfolding isLead lead
-  leads-none e = byBool (ltb 127 c) (λ p. byBool (ltb c 128) (λ q. rw (p, q)) (λ q. rw (p, q, e))) (λ p. rw p)
-
--- once it is known which answer it was
-pub lead-as : (c : ℕ) {r q : Lead} → Leads c r → r ≡ q → Leads c q
-lead-as c h e = subst (Leads c) e h
+-- ---- whether a character of several bytes starts, by what must follow
+pub by-lead : (c : ℕ) {d : Due} → d ≡ lead c → isLead c ≡ leads d
+unfolding isLead lead
+by-lead c e = rw e (byBool (ltb 127 c) (λ p. rw p) (λ p. rw (p, lt-ltb c 128 (omega (arith, ltb-false 127 c p)))))
 
 -- ---- a turn that goes on where a reader ended
 module _ {A B : Type 0} {s : Bytes} (f : A → B → B) {a b : ℕ} {want : Got A} where
@@ -95,12 +84,11 @@ module _ (s : Bytes) (i b : ℕ) (e : b ≡ byteAt s i) where
       unfolding character
       char-plain h l = same-turn (past-marks _ _ ∙ on-yes (between 32 127) s i b e _ _ h) (more-here _ (omega arith) l)
 
-      pub char-wide : between 32 127 b ≡ false → isLead b ≡ true → (d : Due) → lead b ≡ d → {r : Read} {w : Turn}
-          → Gives s (i + 1) (following d (drop (i + 1) s)) r → w ≡ turnOf r → GivesT s i (character (drop i s)) w
+      pub char-wide : between 32 127 b ≡ false → {low high k : ℕ} → due low high k ≡ lead b → {r : Read} {w : Turn}
+          → Gives s (i + 1) (following (due low high k) (drop (i + 1) s)) r → w ≡ turnOf r → GivesT s i (character (drop i s)) w
       unfolding character
-      char-wide p h d q {r} {w} x z =
-          let y : Gives s (i + 1) (following (lead b) (drop (i + 1) s)) r = rw q x in
-          same-turn (past-marks _ _ ∙ on-no (between 32 127) s i b e _ _ p ∙ on-yes isLead s i b e _ _ h) (goes _ (omega arith) y z)
+      char-wide p q x z =
+          same-turn (past-marks _ _ ∙ on-no (between 32 127) s i b e _ _ p ∙ on-yes isLead s i b e _ _ (by-lead b q)) (goes _ (omega arith) (rw q at x) z)
 
       pub char-none : between 32 127 b ≡ false → isLead b ≡ false → i ≤ length s → GivesT s i (character (drop i s)) (Stop (Bad i))
       unfolding character

@@ -3,20 +3,16 @@ use text::Read;
 use text::Turn;
 use text::in_range;
 use text::look;
+use utf8::Due;
+use utf8::due_after;
 ghost use mathlib.Core.Path.{_≡_};
-ghost use Prim.Native.Nat.{_≤_, _<_};
+ghost use Prim.Native.Nat.{_≤_};
 ghost use lib.ListN.{length, drop};
 ghost use Rattle.text.specs.Utf8.{due};
 ghost use Rattle.text.specs.Places.{Gives, GivesT};
 ghost use Rattle.json.specs.Grammar.{isHex, isShort};
 ghost use Rattle.json.specs.Syntax.{hex, hex4, escape, tailBytes, following, character, characters};
-ghost use Rattle.json_chars.specs.Rows.{Leads, turnOf};
-
-// What must follow the first byte of a character of several bytes: a byte from low to high, then so many tails.
-pub enum Lead {
-    Due(u16, u16, usize),
-    No,
-}
+ghost use Rattle.json_chars.specs.Turns.{turnOf};
 
 pub fn is_hex(b: u16) -> bool
     ensures { λ r. ⌜ r ≡ isHex b ⌝ }
@@ -101,39 +97,8 @@ fn escape_end(s: &[u8], at: usize) -> Read
     Read::Bad(at)
 }
 
-// The row of RFC 3629 that the first byte of a character has.
-fn lead_of(b: u16) -> Lead
-    ensures { λ r. ⌜ Leads b r ⌝ }
-{
-    if in_range(b, 0xc2, 0xdf) {
-        return Lead::Due(0x80, 0xbf, 0);
-    }
-    if in_range(b, 0xe0, 0xe0) {
-        return Lead::Due(0xa0, 0xbf, 1);
-    }
-    if in_range(b, 0xe1, 0xec) {
-        return Lead::Due(0x80, 0xbf, 1);
-    }
-    if in_range(b, 0xed, 0xed) {
-        return Lead::Due(0x80, 0x9f, 1);
-    }
-    if in_range(b, 0xee, 0xef) {
-        return Lead::Due(0x80, 0xbf, 1);
-    }
-    if in_range(b, 0xf0, 0xf0) {
-        return Lead::Due(0x90, 0xbf, 2);
-    }
-    if in_range(b, 0xf1, 0xf3) {
-        return Lead::Due(0x80, 0xbf, 2);
-    }
-    if in_range(b, 0xf4, 0xf4) {
-        return Lead::Due(0x80, 0x8f, 2);
-    }
-    Lead::No
-}
-
 // So many tails of a character.
-fn tails_end(s: &[u8], at: usize, count: usize) -> Read
+fn tails_end(s: &[u8], at: usize, count: u8) -> Read
     requires { ⌜ at ≤ length (now s) ⌝ }
     ensures { λ r. ⌜ Gives (now (s .entry)) at (tailBytes count (drop at (now (s .entry)))) r ⌝ }
 {
@@ -150,13 +115,12 @@ fn tails_end(s: &[u8], at: usize, count: usize) -> Read
 }
 
 // What must follow the first byte of a character: a byte from low to high, then so many tails.
-fn wide_end(s: &[u8], at: usize, low: u16, high: u16, tails: usize) -> Read
+fn wide_end(s: &[u8], at: usize, low: u8, high: u8, tails: u8) -> Read
     requires { ⌜ at ≤ length (now s) ⌝ }
-    requires { ⌜ high < 256 ⌝ }
     ensures { λ r. ⌜ Gives (now (s .entry)) at (following (due low high tails) (drop at (now (s .entry)))) r ⌝ }
 {
     let b = look(s, at);
-    if in_range(b, low, high) {
+    if in_range(b, low as u16, high as u16) {
         return tails_end(s, at + 1, tails);
     }
     Read::Bad(at)
@@ -187,9 +151,15 @@ fn next_character(s: &[u8], at: usize) -> Turn
     if in_range(b, 32, 127) {
         return Turn::Go(at + 1);
     }
-    match lead_of(b) {
-        Lead::Due(low, high, tails) => going(wide_end(s, at + 1, low, high, tails)),
-        Lead::No => Turn::Stop(Read::Bad(at)),
+    // The end of the text.
+    if b > 255 {
+        return Turn::Stop(Read::Bad(at));
+    }
+    // By the rows a control is a whole character, but a string has none.
+    match due_after(b as u8) {
+        Due::Byte(low, high, tails) => going(wide_end(s, at + 1, low, high, tails)),
+        Due::Start => Turn::Stop(Read::Bad(at)),
+        Due::Broken => Turn::Stop(Read::Bad(at)),
     }
 }
 

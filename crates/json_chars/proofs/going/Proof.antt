@@ -1,5 +1,5 @@
 use mathlib.Core.Path.{sym, ap}
-use Rattle.json_chars.specs.Rows.{turnOf}
+use Rattle.json_chars.specs.Turns.{turnOf}
 use borrow.Author.Needs.{needs}
 use Rattle.json_chars.proofs.going.Statement.{statement}
 use Rattle.json_chars.proofs.going.Tie as tie

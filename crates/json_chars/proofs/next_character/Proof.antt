@@ -1,13 +1,19 @@
 use native.Mathlib.Omega.{arith}
 use denote.Ref.{now}
-use mathlib.Core.Path.{sym, _∙_}
-use Prim.Native.Nat.{_+_}
+use mathlib.Core.Path.{_≡_, sym, ap, _∙_}
+use mathlib.Core.Bool.{false}
+use lib.ListN.{drop}
+use borrow.Author.Tests.{le-ltb}
 use Rattle.text.specs.Bytes.{between}
-use Rattle.text.specs.Utf8.{due}
+use Rattle.text.specs.Places.{GivesT}
+use Rattle.text.specs.declared.Read.the-variants.{Bad}
+use Rattle.text.specs.declared.Turn.the-variants.{Stop}
+use Rattle.text.proofs.Characters.{lead-high}
 use Rattle.text.proofs.Places.{inside-at}
-use Rattle.json.specs.Syntax.{isLead}
-use Rattle.json.proofs.Fine.{plain-256, lead-256}
-use Rattle.json_chars.proofs.Laws.{lead-as, char-end, char-escape, char-plain, char-wide, char-none}
+use Rattle.utf8.specs.Due.{dueOf}
+use Rattle.json.specs.Syntax.{isLead, character}
+use Rattle.json.proofs.Fine.{plain-256}
+use Rattle.json_chars.proofs.Laws.{by-lead, char-end, char-escape, char-plain, char-wide, char-none}
 use borrow.Author.Needs.{needs}
 use Rattle.json_chars.proofs.next_character.Statement.{statement}
 use Rattle.json_chars.proofs.next_character.Tie as tie
@@ -44,8 +50,18 @@ returns-3 c = let t = sym (c .before .in-range .ensures) ∙ (c .if3 .taken) in
     let l = inside-at (between 32 127) (now (c .before .before .before .before .before .before .args .s)) (c .before .before .before .before .before .before .args .at) (c .before .before .before .before .look .result) plain-256 (c .before .before .before .before .before .before .pre) (c .before .before .before .before .look .ensures .0) t in
     char-plain _ _ (c .before .before .before .before .look .result) (c .before .before .before .before .look .ensures .0) (c .before .before .before .if1 .left) (c .before .before .if2 .left) t (omega arith)
 
-lead-of-requires : tie.Need-lead-of-requires
-lead-of-requires c κs = search needs
+-- no character starts here
+none : (c : tie.Else3) → isLead (c .before .before .before .before .look .result) ≡ false → GivesT (now (c .before .before .before .before .before .before .args .s)) (c .before .before .before .before .before .before .args .at) (character (drop (c .before .before .before .before .before .before .args .at) (now (c .before .before .before .before .before .before .args .s)))) (Stop (Bad (c .before .before .before .before .before .before .args .at)))
+none c h = char-none _ _ (c .before .before .before .before .look .result) (c .before .before .before .before .look .ensures .0) (c .before .before .before .if1 .left) (c .before .before .if2 .left) (sym (c .before .in-range .ensures) ∙ (c .if3 .left)) h (c .before .before .before .before .before .before .pre)
+
+returns-4 : tie.Need-returns-4
+returns-4 c = none (c .before) (by-lead _ (sym (lead-high _ (le-ltb _ 256 (c .if4 .taken)))))
+
+cast-due-after : tie.Need-cast-due-after
+cast-due-after c = search needs
+
+due-after-requires : tie.Need-due-after-requires
+due-after-requires c κs = search needs
 
 enum-known-low : tie.Need-enum-known-low
 enum-known-low c = search needs
@@ -54,9 +70,7 @@ add-wide-end : tie.Need-add-wide-end
 add-wide-end c = search needs
 
 wide-end-requires : tie.Need-wide-end-requires
-wide-end-requires c κs = let w = lead-as (c .before .before .before .before .before .before .before .before .look .result) (c .before .before .before .lead-of .ensures) (c .before .low .given .1) in
-    let l = inside-at isLead (now (c .before .before .before .before .before .before .before .before .before .before .args .s)) (c .before .before .before .before .before .before .before .before .before .before .args .at) (c .before .before .before .before .before .before .before .before .look .result) lead-256 (c .before .before .before .before .before .before .before .before .before .before .pre) (c .before .before .before .before .before .before .before .before .look .ensures .0) (w .0) in
-    (omega arith, w .2)
+wide-end-requires c κs = search needs
 
 going-requires-2 : tie.Need-going-requires-2
 going-requires-2 c κs = search needs
@@ -64,12 +78,17 @@ going-requires-2 c κs = search needs
 enum-told : tie.Need-enum-told
 enum-told c = search needs
 
-returns-4 : tie.Need-returns-4
-returns-4 c = let w = lead-as (c .before .before .before .before .before .before .before .before .before .before .look .result) (c .before .before .before .before .before .lead-of .ensures) (c .before .before .before .low .given .1) in
-    char-wide _ _ (c .before .before .before .before .before .before .before .before .before .before .look .result) (c .before .before .before .before .before .before .before .before .before .before .look .ensures .0) (c .before .before .before .before .before .before .before .before .before .if1 .left) (c .before .before .before .before .before .before .before .before .if2 .left) (sym (c .before .before .before .before .before .before .before .in-range .ensures) ∙ (c .before .before .before .before .before .before .if3 .left)) (w .0) _ (w .1) (c .before .wide-end .ensures) (c .going2 .ensures)
+enum-told-2 : tie.Need-enum-told-2
+enum-told-2 c = search needs
 
 returns-5 : tie.Need-returns-5
-returns-5 c = char-none _ _ (c .before .before .before .before .before .before .before .look .result) (c .before .before .before .before .before .before .before .look .ensures .0) (c .before .before .before .before .before .before .if1 .left) (c .before .before .before .before .before .if2 .left) (sym (c .before .before .before .before .in-range .ensures) ∙ (c .before .before .before .if3 .left)) (lead-as (c .before .before .before .before .before .before .before .look .result) (c .before .before .lead-of .ensures) (c .enum-told .given .1)) (c .before .before .before .before .before .before .before .before .before .pre)
+returns-5 c = char-wide _ _ (c .before .before .before .before .before .before .before .before .before .before .before .look .result) (c .before .before .before .before .before .before .before .before .before .before .before .look .ensures .0) (c .before .before .before .before .before .before .before .before .before .before .if1 .left) (c .before .before .before .before .before .before .before .before .before .if2 .left) (sym (c .before .before .before .before .before .before .before .before .in-range .ensures) ∙ (c .before .before .before .before .before .before .before .if3 .left)) (sym (ap dueOf (c .before .before .before .low .given .1)) ∙ (c .before .before .before .before .before .due-after .ensures)) (c .before .wide-end .ensures) (c .going2 .ensures)
+
+returns-6 : tie.Need-returns-6
+returns-6 c = none (c .before .before .before .before) (by-lead _ (sym (ap dueOf (c .enum-told .given .1)) ∙ (c .before .before .due-after .ensures)))
+
+returns-7 : tie.Need-returns-7
+returns-7 c = none (c .before .before .before .before) (by-lead _ (sym (ap dueOf (c .enum-told2 .given .1)) ∙ (c .before .before .due-after .ensures)))
 
 pub next-character-spec : {M : Type 1} → statement M
 next-character-spec =
@@ -85,11 +104,15 @@ next-character-spec =
     in-range-requires
     add-t13
     returns-3
-    lead-of-requires
+    returns-4
+    cast-due-after
+    due-after-requires
     enum-known-low
     add-wide-end
     wide-end-requires
     going-requires-2
     enum-told
-    returns-4
-    returns-5)
+    enum-told-2
+    returns-5
+    returns-6
+    returns-7)

@@ -4,10 +4,10 @@ use borrow.Author.Needs.{needs}
 use denote.Ref.{now}
 use lib.ListN.{length, drop}
 use Rattle.text.specs.Utf8.{start, atStart, run, utf8}
-use Rattle.line_check.specs.Due.{dueOf}
-use Rattle.line_check.proofs.Steps.{run-step, run-ends, utf8-ends}
-use Rattle.line_check.proofs.is_utf8.Statement.{statement}
-use Rattle.line_check.proofs.is_utf8.Tie as tie
+use Rattle.utf8.specs.Due.{dueOf}
+use Rattle.utf8.proofs.Steps.{run-step, run-ends, utf8-ends}
+use Rattle.utf8.proofs.is_utf8.Statement.{statement}
+use Rattle.utf8.proofs.is_utf8.Tie as tie
 
 abbrev Inv-loop : tie.InvT-loop
 Inv-loop s due₀ i₀ due i = run (dueOf due) (drop i s) ≡ run start s

@@ -1,10 +1,10 @@
 use mathlib.Core.Path.{sym, ap, _∙_}
 use Rattle.text.specs.Utf8.{next}
-use Rattle.line_check.specs.Due.{dueOf}
-use Rattle.line_check.proofs.Steps.{too-low, too-high, as-due, at-first, no-more}
+use Rattle.utf8.specs.Due.{dueOf}
+use Rattle.utf8.proofs.Steps.{too-low, too-high, as-due, at-first, no-more}
 use borrow.Author.Needs.{needs}
-use Rattle.line_check.proofs.step.Statement.{statement}
-use Rattle.line_check.proofs.step.Tie as tie
+use Rattle.utf8.proofs.step.Statement.{statement}
+use Rattle.utf8.proofs.step.Tie as tie
 
 enum-told : tie.Need-enum-told
 enum-told c = search needs

@@ -1,6 +1,5 @@
 -- One byte more, for the UTF-8 reader's state.
 use mathlib.Core.Path.{_≡_, refl, ap}
-use mathlib.Core.Bool.{Bool, true, false, _||_, not}
 use mathlib.Core.List.{map}
 use Prim.Native.Nat.{ℕ, zero, suc, _+_, _-_, _≤_, _<_}
 use native.Mathlib.Omega.{arith}
@@ -53,11 +52,3 @@ utf8-ends s d e = ap atStart e
 -- every byte of a range leads to the same
 pub by-row : (d : Due) (lo n c : ℕ) → map (λ x. d) (range lo n) ≡ map lead (range lo n) → lo ≤ c → c < lo + n → d ≡ lead c
 by-row d lo n c = inRange (λ x. d) lead c lo n
-
--- ---- refusal 4's two tests, in their order
-
-pub garbled-utf8 : (u k : Bool) → u ≡ false → (not u || k) ≡ true
-garbled-utf8 u k e = rw e
-
-pub garbled-control : (u k : Bool) → u ≡ true → (not u || k) ≡ k
-garbled-control u k e = rw e

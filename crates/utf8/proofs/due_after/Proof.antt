@@ -2,9 +2,9 @@ use borrow.Author.Needs.{needs}
 use mathlib.Core.Path.{refl}
 use Rattle.text.specs.Bytes.{between}
 use Rattle.text.specs.Utf8.{start, due, broken, byRow, lead}
-use Rattle.line_check.proofs.Steps.{by-row}
-use Rattle.line_check.proofs.due_after.Statement.{statement}
-use Rattle.line_check.proofs.due_after.Tie as tie
+use Rattle.utf8.proofs.Steps.{by-row}
+use Rattle.utf8.proofs.due_after.Statement.{statement}
+use Rattle.utf8.proofs.due_after.Tie as tie
 
 returns : tie.Need-returns
 unfolding lead byRow between

@@ -1,7 +1,7 @@
 use borrow.Author.Needs.{needs}
-use Rattle.line_check.proofs.Steps.{one-tail}
-use Rattle.line_check.proofs.due_tails.Statement.{statement}
-use Rattle.line_check.proofs.due_tails.Tie as tie
+use Rattle.utf8.proofs.Steps.{one-tail}
+use Rattle.utf8.proofs.due_tails.Statement.{statement}
+use Rattle.utf8.proofs.due_tails.Tie as tie
 
 returns : tie.Need-returns
 returns c = search needs
