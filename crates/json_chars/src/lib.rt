@@ -1,101 +1,17 @@
 // Characters and strings of a JSON text, read by place.
+use json_escapes::Value;
+use json_escapes::escape_at;
 use text::Read;
 use text::Turn;
 use text::in_range;
 use text::look;
 use utf8::Due;
 use utf8::due_after;
-ghost use mathlib.Core.Path.{_≡_};
 ghost use Prim.Native.Nat.{_≤_};
 ghost use lib.ListN.{length, drop};
 ghost use Rattle.text.specs.Utf8.{due};
 ghost use Rattle.text.specs.Places.{Gives, GivesT};
-ghost use Rattle.json.specs.Grammar.{isHex, isShort};
-ghost use Rattle.json.specs.Syntax.{hex, hex4, escape, tailBytes, following, character, characters};
-ghost use Rattle.json_chars.specs.Turns.{turnOf};
-
-pub fn is_hex(b: u16) -> bool
-    ensures { λ r. ⌜ r ≡ isHex b ⌝ }
-{
-    if in_range(b, 48, 57) {
-        return true;
-    }
-    if in_range(b, 65, 70) {
-        return true;
-    }
-    in_range(b, 97, 102)
-}
-
-// A byte that may follow a backslash, besides u.
-pub fn is_short(b: u16) -> bool
-    ensures { λ r. ⌜ r ≡ isShort b ⌝ }
-{
-    if b == 34 {
-        return true;
-    }
-    if b == 92 {
-        return true;
-    }
-    if b == 47 {
-        return true;
-    }
-    if b == 98 {
-        return true;
-    }
-    if b == 102 {
-        return true;
-    }
-    if b == 110 {
-        return true;
-    }
-    if b == 114 {
-        return true;
-    }
-    b == 116
-}
-
-// A hexadecimal digit.
-fn hex_digit(s: &[u8], at: usize) -> Read
-    requires { ⌜ at ≤ length (now s) ⌝ }
-    ensures { λ r. ⌜ Gives (now (s .entry)) at (hex (drop at (now (s .entry)))) r ⌝ }
-{
-    if is_hex(look(s, at)) {
-        return Read::Next(at + 1);
-    }
-    Read::Bad(at)
-}
-
-// Four hexadecimal digits.
-fn four_digits(s: &[u8], at: usize) -> Read
-    requires { ⌜ at ≤ length (now s) ⌝ }
-    ensures { λ r. ⌜ Gives (now (s .entry)) at (hex4 (drop at (now (s .entry)))) r ⌝ }
-{
-    match hex_digit(s, at) {
-        Read::Bad(b) => Read::Bad(b),
-        Read::Next(k) => match hex_digit(s, k) {
-            Read::Bad(b) => Read::Bad(b),
-            Read::Next(j) => match hex_digit(s, j) {
-                Read::Bad(b) => Read::Bad(b),
-                Read::Next(i) => hex_digit(s, i),
-            },
-        },
-    }
-}
-
-// What follows a backslash.
-fn escape_end(s: &[u8], at: usize) -> Read
-    requires { ⌜ at ≤ length (now s) ⌝ }
-    ensures { λ r. ⌜ Gives (now (s .entry)) at (escape (drop at (now (s .entry)))) r ⌝ }
-{
-    let b = look(s, at);
-    if b == 117 {
-        return four_digits(s, at + 1);
-    }
-    if is_short(b) {
-        return Read::Next(at + 1);
-    }
-    Read::Bad(at)
-}
+ghost use Rattle.json.specs.Syntax.{tailBytes, following, character, characters};
 
 // So many tails of a character.
 fn tails_end(s: &[u8], at: usize, count: u8) -> Read
@@ -126,16 +42,6 @@ fn wide_end(s: &[u8], at: usize, low: u8, high: u8, tails: u8) -> Read
     Read::Bad(at)
 }
 
-// A turn that goes on where a reader ended.
-fn going(r: Read) -> Turn
-    ensures { λ w. ⌜ w ≡ turnOf r ⌝ }
-{
-    match r {
-        Read::Next(j) => Turn::Go(j),
-        Read::Bad(b) => Turn::Stop(Read::Bad(b)),
-    }
-}
-
 // One character, or the closing quote.
 fn next_character(s: &[u8], at: usize) -> Turn
     requires { ⌜ at ≤ length (now s) ⌝ }
@@ -146,7 +52,10 @@ fn next_character(s: &[u8], at: usize) -> Turn
         return Turn::Stop(Read::Next(at + 1));
     }
     if b == 92 {
-        return going(escape_end(s, at + 1));
+        return match escape_at(s, at + 1) {
+            Value::Of(_, e) => Turn::Go(e),
+            Value::Wrong(x) => Turn::Stop(Read::Bad(x)),
+        };
     }
     if in_range(b, 32, 127) {
         return Turn::Go(at + 1);
@@ -157,7 +66,10 @@ fn next_character(s: &[u8], at: usize) -> Turn
     }
     // By the rows a control is a whole character, but a string has none.
     match due_after(b as u8) {
-        Due::Byte(low, high, tails) => going(wide_end(s, at + 1, low, high, tails)),
+        Due::Byte(low, high, tails) => match wide_end(s, at + 1, low, high, tails) {
+            Read::Next(e) => Turn::Go(e),
+            Read::Bad(x) => Turn::Stop(Read::Bad(x)),
+        },
         Due::Start => Turn::Stop(Read::Bad(at)),
         Due::Broken => Turn::Stop(Read::Bad(at)),
     }

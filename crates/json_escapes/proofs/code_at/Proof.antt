@@ -1,9 +1,9 @@
 use native.Mathlib.Omega.{arith}
 use Rattle.json.specs.Syntax.{hex4}
-use Rattle.json_units.proofs.Laws.{tells-as}
+use Rattle.json_escapes.proofs.Laws.{tells-as}
 use borrow.Author.Needs.{needs}
-use Rattle.json_units.proofs.code_at.Statement.{statement}
-use Rattle.json_units.proofs.code_at.Tie as tie
+use Rattle.json_escapes.proofs.code_at.Statement.{statement}
+use Rattle.json_escapes.proofs.code_at.Tie as tie
 
 digit-at-requires : tie.Need-digit-at-requires
 digit-at-requires c κs = search needs

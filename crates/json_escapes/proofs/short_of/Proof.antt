@@ -1,8 +1,8 @@
 use native.Mathlib.Omega.{arith}
 use borrow.Author.Tests.{eq-eqb, ne-eqb}
 use Rattle.json.specs.Syntax.{short}
-use Rattle.json_units.proofs.short_of.Statement.{statement}
-use Rattle.json_units.proofs.short_of.Tie as tie
+use Rattle.json_escapes.proofs.short_of.Statement.{statement}
+use Rattle.json_escapes.proofs.short_of.Tie as tie
 
 returns : tie.Need-returns
 unfolding short

@@ -6,10 +6,10 @@ use Prim.Native.Nat.{_+_}
 use Rattle.text.specs.Reader.{under}
 use Rattle.json.specs.Grammar.{isShort}
 use Rattle.json.proofs.Fine.{short-256}
-use Rattle.json_units.proofs.Laws.{tells-as, esc-u, esc-short, esc-none, short-in}
+use Rattle.json_escapes.proofs.Laws.{tells-as, esc-u, esc-short, esc-none, short-in}
 use borrow.Author.Needs.{needs}
-use Rattle.json_units.proofs.escape_at.Statement.{statement}
-use Rattle.json_units.proofs.escape_at.Tie as tie
+use Rattle.json_escapes.proofs.escape_at.Statement.{statement}
+use Rattle.json_escapes.proofs.escape_at.Tie as tie
 
 look-requires : tie.Need-look-requires
 look-requires c κs = search needs

@@ -1,8 +1,8 @@
 use mathlib.Core.Path.{sym, _∙_}
 use Rattle.json.specs.Grammar.{isHex}
 use borrow.Author.Needs.{needs}
-use Rattle.json_chars.proofs.is_hex.Statement.{statement}
-use Rattle.json_chars.proofs.is_hex.Tie as tie
+use Rattle.json_escapes.proofs.is_hex.Statement.{statement}
+use Rattle.json_escapes.proofs.is_hex.Tie as tie
 
 in-range-requires : tie.Need-in-range-requires
 in-range-requires c κs = search needs

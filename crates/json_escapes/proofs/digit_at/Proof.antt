@@ -4,10 +4,10 @@ use mathlib.Core.Path.{sym, _∙_}
 use Rattle.text.proofs.Places.{inside-at}
 use Rattle.json.specs.Grammar.{isHex}
 use Rattle.json.proofs.Fine.{hex-256}
-use Rattle.json_units.proofs.Laws.{hex-yes, hex-no}
+use Rattle.json_escapes.proofs.Laws.{hex-yes, hex-no}
 use borrow.Author.Needs.{needs}
-use Rattle.json_units.proofs.digit_at.Statement.{statement}
-use Rattle.json_units.proofs.digit_at.Tie as tie
+use Rattle.json_escapes.proofs.digit_at.Statement.{statement}
+use Rattle.json_escapes.proofs.digit_at.Tie as tie
 
 look-requires : tie.Need-look-requires
 look-requires c κs = search needs

@@ -1,8 +1,8 @@
 use mathlib.Core.Path.{sym, _∙_}
-use Rattle.json_units.proofs.Laws.{digit-09, digit-AF, digit-af}
+use Rattle.json_escapes.proofs.Laws.{digit-09, digit-AF, digit-af}
 use borrow.Author.Needs.{needs}
-use Rattle.json_units.proofs.hex_value.Statement.{statement}
-use Rattle.json_units.proofs.hex_value.Tie as tie
+use Rattle.json_escapes.proofs.hex_value.Statement.{statement}
+use Rattle.json_escapes.proofs.hex_value.Tie as tie
 
 in-range-requires : tie.Need-in-range-requires
 in-range-requires c κs = search needs

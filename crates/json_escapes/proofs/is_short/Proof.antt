@@ -1,7 +1,7 @@
 use borrow.Author.Tests.{eq-eqb, ne-eqb}
 use Rattle.json.specs.Grammar.{isShort}
-use Rattle.json_chars.proofs.is_short.Statement.{statement}
-use Rattle.json_chars.proofs.is_short.Tie as tie
+use Rattle.json_escapes.proofs.is_short.Statement.{statement}
+use Rattle.json_escapes.proofs.is_short.Tie as tie
 
 returns : tie.Need-returns
 unfolding isShort
