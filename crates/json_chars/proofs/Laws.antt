@@ -1,50 +1,37 @@
 -- Laws of characters, over plain values.
-use mathlib.Core.Path.{_≡_, refl, sym, ap, subst, _∙_}
-use mathlib.Core.Bool.{Bool, true, false, _&&_}
-use mathlib.Core.List.{List, [], _∷_}
+use mathlib.Core.Path.{_≡_, _∙_}
+use mathlib.Core.Bool.{true, false}
+use mathlib.Core.List.{[], _∷_}
 use Prim.Native.Nat.{ℕ, zero, suc, _+_, _-_, _≤_, _<_}
 use native.Mathlib.Numerals.{sub-one}
 use native.Mathlib.Omega.{arith}
 use lib.ListN.{length, drop}
 use lib.Dec.{ltb}
-use borrow.Author.Tests.{eq-eqb, ne-eqb, lt-ltb, le-ltb}
+use borrow.Author.Tests.{eq-eqb, ne-eqb, lt-ltb, ltb-false}
 use Rattle.text.specs.declared.Read.{Read}
 use Rattle.text.specs.declared.Read.the-variants.{Next, Bad}
 use Rattle.text.specs.declared.Turn.{Turn}
 use Rattle.text.specs.declared.Turn.the-variants.{Go, Stop}
-use Rattle.text.specs.Choice.{pick}
 use Rattle.text.specs.Bytes.{Bytes, is, between}
-use Rattle.text.specs.Utf8.{Due, start, due, broken, lead, byRow, rows}
+use Rattle.text.specs.Utf8.{Due, due, lead}
 use Rattle.text.specs.Reader.{Got, got, bad, under, on, Step, more, last}
 use Rattle.text.specs.Places.{byteAt, Gives, GivesT}
-use Rattle.text.proofs.Places.{byBool, gives-as, same-as, up, here, bad-here, by-under, by-on, not-on, on-yes, on-no, same-turn, up-turn, under-more, under-bad, more-here, last-here, bad-turn, turn-as}
-use Rattle.json.specs.Grammar.{isShort}
-use Rattle.json.specs.Syntax.{hex4, short, escape, isLead, leads, tailBytes, following, push, character}
-use Rattle.json_chars.specs.Rows.{Leads, turnOf}
-use Rattle.json_chars.specs.declared.Lead.{Lead}
+use Rattle.text.proofs.Places.{byBool, here, bad-here, by-under, by-on, not-on, on-yes, on-no, same-turn, under-more, under-bad, more-here, last-here, bad-turn}
+use Rattle.json.specs.Syntax.{escape, isLead, leads, tailBytes, following, character}
 
--- ---- the rows of RFC 3629
-module _ (c : ℕ) where
-  pub leads-by : (low high k : ℕ) → 127 < c → byRow rows c ≡ due low high k → (isLead c ≡ true) × (lead c ≡ due low high k)
-  unfolding isLead lead
-  leads-by low high k l e = (rw (lt-ltb 127 c l, le-ltb c 128 l, e), rw (le-ltb c 128 l, e))
-
-  pub leads-none : byRow rows c ≡ broken → isLead c ≡ false
-  unfolding isLead lead
-  leads-none e = byBool (ltb 127 c) (λ p. byBool (ltb c 128) (λ q. rw (p, q)) (λ q. rw (p, q, e))) (λ p. rw p)
-
--- once it is known which answer it was
-pub lead-as : (c : ℕ) {r q : Lead} → Leads c r → r ≡ q → Leads c q
-lead-as c h e = subst (Leads c) e h
+-- ---- whether a character of several bytes starts, by what must follow
+pub by-lead : (c : ℕ) {d : Due} → d ≡ lead c → isLead c ≡ leads d
+unfolding isLead lead
+by-lead c e = rw e (byBool (ltb 127 c) (λ p. rw p) (λ p. rw (p, lt-ltb c 128 (omega (arith, ltb-false 127 c p)))))
 
 -- ---- a turn that goes on where a reader ended
-module _ {A B : Type 0} {s : Bytes} (f : A → B → B) {a b : ℕ} {want : Got A} where
-  going-as : (r : Read) → a < b → Gives s b want r → GivesT s a (under (λ x. more (f x)) want) (turnOf r)
-  going-as (Next j) l h = under-more f l h
-  going-as (Bad e) l h = under-bad f (omega arith) h
+abbrev pub turnOf : Read → Turn
+turnOf (Next j) = Go j
+turnOf (Bad b) = Stop (Bad b)
 
-  pub goes : {r : Read} {w : Turn} → a < b → Gives s b want r → w ≡ turnOf r → GivesT s a (under (λ x. more (f x)) want) w
-  goes {r} l h e = turn-as (going-as r l h) (sym e)
+goes : {A B : Type 0} {s : Bytes} (f : A → B → B) {a b : ℕ} {want : Got A} (r : Read) → a < b → Gives s b want r → GivesT s a (under (λ x. more (f x)) want) (turnOf r)
+goes f (Next j) l h = under-more f l h
+goes f (Bad e) l h = under-bad f (omega arith) h
 
 -- ---- tails
 pub tails-more : (s : Bytes) (i b n : ℕ) (r : Read) → b ≡ byteAt s i → between 0x80 0xbf b ≡ true → 0 < n
@@ -64,28 +51,15 @@ tails-none s i n l e = rw e (here [] i l)
 
 -- ---- a character, by its first byte
 module _ (s : Bytes) (i b : ℕ) (e : b ≡ byteAt s i) where
-  pub esc-u : b ≡ 117 → {r : Read} → Gives s (i + 1) (hex4 (drop (i + 1) s)) r → Gives s i (escape (drop i s)) r
-  unfolding escape
-  esc-u h x = by-on (is 117) _ _ e (eq-eqb _ _ h) (by-under _ x)
-
-  module _ (n : b ≡ 117 → ⊥) where
-    pub esc-short : isShort b ≡ true → i + 1 ≤ length s → Gives s i (escape (drop i s)) (Next (i + 1))
-    unfolding escape
-    esc-short h l = not-on (is 117) _ _ e (ne-eqb _ _ n) (by-on isShort _ bad e h (here (short b) (i + 1) l))
-
-    pub esc-none : isShort b ≡ false → i ≤ length s → Gives s i (escape (drop i s)) (Bad i)
-    unfolding escape
-    esc-none h l = not-on (is 117) _ _ e (ne-eqb _ _ n) (not-on isShort _ bad e h (bad-here i l))
-
   pub char-end : b ≡ 34 → i + 1 ≤ length s → GivesT s i (character (drop i s)) (Stop (Next (i + 1)))
   unfolding character
   char-end h l = same-turn (on-yes (is 34) s i b e _ _ (eq-eqb _ _ h)) (last-here [] (omega arith) l)
 
   module _ (n : b ≡ 34 → ⊥) where
-    pub char-escape : b ≡ 92 → {r : Read} {w : Turn} → Gives s (i + 1) (escape (drop (i + 1) s)) r → w ≡ turnOf r → GivesT s i (character (drop i s)) w
+    pub char-escape : b ≡ 92 → (r : Read) → Gives s (i + 1) (escape (drop (i + 1) s)) r → GivesT s i (character (drop i s)) (turnOf r)
     unfolding character
-    char-escape h x q =
-        same-turn (on-no (is 34) s i b e _ _ (ne-eqb _ _ n) ∙ on-yes (is 92) s i b e _ _ (eq-eqb _ _ h)) (goes (λ u us. u ∷ us) (omega arith) x q)
+    char-escape h r x =
+        same-turn (on-no (is 34) s i b e _ _ (ne-eqb _ _ n) ∙ on-yes (is 92) s i b e _ _ (eq-eqb _ _ h)) (goes (λ u us. u ∷ us) r (omega arith) x)
 
     module _ (m : b ≡ 92 → ⊥) where
       past-marks : (g : Bytes → Got (Step Bytes)) (f : ℕ → Bytes → Got (Step Bytes)) → on (is 34) (λ c t. got (last []) t) (on (is 92) f g) (drop i s) ≡ g (drop i s)
@@ -95,12 +69,11 @@ module _ (s : Bytes) (i b : ℕ) (e : b ≡ byteAt s i) where
       unfolding character
       char-plain h l = same-turn (past-marks _ _ ∙ on-yes (between 32 127) s i b e _ _ h) (more-here _ (omega arith) l)
 
-      pub char-wide : between 32 127 b ≡ false → isLead b ≡ true → (d : Due) → lead b ≡ d → {r : Read} {w : Turn}
-          → Gives s (i + 1) (following d (drop (i + 1) s)) r → w ≡ turnOf r → GivesT s i (character (drop i s)) w
+      pub char-wide : between 32 127 b ≡ false → {low high k : ℕ} → due low high k ≡ lead b → (r : Read)
+          → Gives s (i + 1) (following (due low high k) (drop (i + 1) s)) r → GivesT s i (character (drop i s)) (turnOf r)
       unfolding character
-      char-wide p h d q {r} {w} x z =
-          let y : Gives s (i + 1) (following (lead b) (drop (i + 1) s)) r = rw q x in
-          same-turn (past-marks _ _ ∙ on-no (between 32 127) s i b e _ _ p ∙ on-yes isLead s i b e _ _ h) (goes _ (omega arith) y z)
+      char-wide p q r x =
+          same-turn (past-marks _ _ ∙ on-no (between 32 127) s i b e _ _ p ∙ on-yes isLead s i b e _ _ (by-lead b q)) (goes _ r (omega arith) (rw q at x))
 
       pub char-none : between 32 127 b ≡ false → isLead b ≡ false → i ≤ length s → GivesT s i (character (drop i s)) (Stop (Bad i))
       unfolding character

@@ -1,20 +1,20 @@
 -- The characters of a string that the grammar reads are its units, one after the other.
-use mathlib.Core.Path.{_≡_, refl, sym, ap, subst, _∙_}
-use mathlib.Core.Bool.{Bool, true, false, _&&_}
-use mathlib.Core.List.{List, [], _∷_, _++_, tail}
-use Prim.Native.Nat.{ℕ, zero, suc, _+_, _-_, _≤_, _<_}
+use mathlib.Core.Path.{_≡_, refl, ap, subst, _∙_}
+use mathlib.Core.Bool.{Bool, true, false}
+use mathlib.Core.List.{[], _∷_, _++_}
+use Prim.Native.Nat.{ℕ, zero, suc, _≤_, _<_}
 use native.Mathlib.Omega.{arith}
 use lib.ListN.{length}
 use lib.Dec.{eqb, leb, ltb}
 use borrow.Author.Tests.{ltb-true, le-leb, lt-leb, leb-true, leb-false, le-ltb, ne-eqb}
 use Rattle.text.specs.Choice.{pick}
 use Rattle.text.specs.Bytes.{Bytes, is, between}
-use Rattle.text.specs.Utf8.{Due, start, due, broken, lead, byRow, rows}
-use Rattle.text.specs.Reader.{Got, got, bad, bind, under, first, on, Step, more, last, after, turns, loop}
+use Rattle.text.specs.Utf8.{Due, start, due, broken, lead, byRow}
+use Rattle.text.specs.Reader.{Got, got, bad, under, on, Step, more, last, after, turns, loop}
 use Rattle.text.proofs.Places.{byBool, between-in}
 use Rattle.text.proofs.Fine.{Fine, not-bad, got-rest, got-what, bind-inv, under-inv, fine-got, fine-bad, fine-weak, fine-under, fine-on, loop-more, loop-last}
-use Rattle.json.specs.Syntax.{escape, isLead, leads, tailBytes, following, character, characters}
-use Rattle.json.proofs.Fine.{escape-fine, below-256, tail-256, plain-256, lead-256, dueBelow, lead-below}
+use Rattle.json.specs.Syntax.{escape, isLead, tailBytes, following, character, characters}
+use Rattle.json.proofs.Fine.{escape-fine, below-256, plain-256, lead-256, dueBelow, lead-below}
 use Rattle.json_units.specs.Units.{push, unit, units}
 
 any-256 : between 32 255 256 ≡ false

@@ -1,51 +1,84 @@
 use native.Mathlib.Omega.{arith}
 use denote.Ref.{now}
-use mathlib.Core.Path.{sym, _∙_}
-use Prim.Native.Nat.{_+_}
-use Rattle.text.specs.Bytes.{between}
-use Rattle.text.specs.Utf8.{due}
-use Rattle.text.proofs.Places.{inside-at}
-use Rattle.json.specs.Syntax.{isLead}
-use Rattle.json.proofs.Fine.{plain-256, lead-256}
-use Rattle.json_chars.proofs.Laws.{lead-as, char-end, char-escape, char-plain, char-wide, char-none}
+use mathlib.Core.Path.{_≡_, sym, ap, _∙_}
+use mathlib.Core.Bool.{false}
+use lib.ListN.{drop}
+use borrow.Author.Tests.{le-ltb}
+use Rattle.text.specs.Places.{GivesT}
+use Rattle.text.specs.declared.Read.{Read}
+use Rattle.text.specs.declared.Read.the-variants.{Bad}
+use Rattle.text.specs.declared.Turn.{Turn}
+use Rattle.text.specs.declared.Turn.the-variants.{Stop}
+use Rattle.text.proofs.Characters.{lead-high}
+use Rattle.text.proofs.Places.{between-in, gives-as}
+use Rattle.utf8.specs.Due.{dueOf}
+use Rattle.json.specs.Syntax.{isLead, character}
+use Rattle.json_escapes.specs.declared.Value.{Value}
+use Rattle.json_escapes.proofs.Laws.{tells-as, placeOf, by-place}
+use Rattle.json_chars.proofs.Laws.{turnOf, by-lead, char-end, char-escape, char-plain, char-wide, char-none}
 use borrow.Author.Needs.{needs}
 use Rattle.json_chars.proofs.next_character.Statement.{statement}
 use Rattle.json_chars.proofs.next_character.Tie as tie
 
+-- the character at the place, read as this turn
+abbrev Read-as : tie.Start → Turn → Type 0
+Read-as c w = GivesT (now (c .args .s)) (c .args .at) (character (drop (c .args .at) (now (c .args .s)))) w
+
 look-requires : tie.Need-look-requires
 look-requires c κs = search needs
 
-add-t8 : tie.Need-add-t8
-add-t8 c = search needs
+add-t12 : tie.Need-add-t12
+add-t12 c = search needs
 
 returns : tie.Need-returns
 returns c = char-end _ _ (c .before .look .result) (c .before .look .ensures .0) (c .if1 .taken) (omega arith)
 
-add-escape-end : tie.Need-add-escape-end
-add-escape-end c = search needs
+add-escape-at : tie.Need-add-escape-at
+add-escape-at c = search needs
 
-escape-end-requires : tie.Need-escape-end-requires
-escape-end-requires c κs = search needs
+escape-at-requires : tie.Need-escape-at-requires
+escape-at-requires c κs = search needs
 
-going-requires : tie.Need-going-requires
-going-requires c κs = search needs
+enum-known-e : tie.Need-enum-known-e
+enum-known-e c = search needs
+
+enum-known-x : tie.Need-enum-known-x
+enum-known-x c = search needs
+
+-- what stood after a backslash
+escaped : (c : tie.After-escape-at) {r : Value} → c .escape-at .result ≡ r → Read-as (c .before .before .before .before .before) (turnOf (placeOf r))
+escaped c q = char-escape _ _ (c .before .before .before .look .result) (c .before .before .before .look .ensures .0) (c .before .before .if1 .left) (c .before .if2 .taken) _ (by-place _ (tells-as (c .escape-at .ensures) q))
 
 returns-2 : tie.Need-returns-2
-returns-2 c = char-escape _ _ (c .before .before .before .before .look .result) (c .before .before .before .before .look .ensures .0) (c .before .before .before .if1 .left) (c .before .before .if2 .taken) (c .before .escape-end .ensures) (c .going .ensures)
+returns-2 c = escaped (c .before .before .before) (c .before .e .given .1)
+
+returns-3 : tie.Need-returns-3
+returns-3 c = escaped (c .before .before .before) (c .before .x .given .1)
 
 in-range-requires : tie.Need-in-range-requires
 in-range-requires c κs = search needs
 
-add-t13 : tie.Need-add-t13
-add-t13 c = search needs
+add-t19 : tie.Need-add-t19
+add-t19 c = search needs
 
-returns-3 : tie.Need-returns-3
-returns-3 c = let t = sym (c .before .in-range .ensures) ∙ (c .if3 .taken) in
-    let l = inside-at (between 32 127) (now (c .before .before .before .before .before .before .args .s)) (c .before .before .before .before .before .before .args .at) (c .before .before .before .before .look .result) plain-256 (c .before .before .before .before .before .before .pre) (c .before .before .before .before .look .ensures .0) t in
+returns-4 : tie.Need-returns-4
+returns-4 c =
+    let t = sym (c .before .in-range .ensures) ∙ (c .if3 .taken) in
+    let l = between-in 32 127 _ t in
     char-plain _ _ (c .before .before .before .before .look .result) (c .before .before .before .before .look .ensures .0) (c .before .before .before .if1 .left) (c .before .before .if2 .left) t (omega arith)
 
-lead-of-requires : tie.Need-lead-of-requires
-lead-of-requires c κs = search needs
+-- no character starts here
+none : (c : tie.Else3) → isLead (c .before .before .before .before .look .result) ≡ false → Read-as (c .before .before .before .before .before .before) (Stop (Bad (c .before .before .before .before .before .before .args .at)))
+none c h = char-none _ _ (c .before .before .before .before .look .result) (c .before .before .before .before .look .ensures .0) (c .before .before .before .if1 .left) (c .before .before .if2 .left) (sym (c .before .in-range .ensures) ∙ (c .if3 .left)) h (c .before .before .before .before .before .before .pre)
+
+returns-5 : tie.Need-returns-5
+returns-5 c = none (c .before) (by-lead _ (sym (lead-high _ (le-ltb _ 256 (c .if4 .taken)))))
+
+cast-due-after : tie.Need-cast-due-after
+cast-due-after c = search needs
+
+due-after-requires : tie.Need-due-after-requires
+due-after-requires c κs = search needs
 
 enum-known-low : tie.Need-enum-known-low
 enum-known-low c = search needs
@@ -54,42 +87,63 @@ add-wide-end : tie.Need-add-wide-end
 add-wide-end c = search needs
 
 wide-end-requires : tie.Need-wide-end-requires
-wide-end-requires c κs = let w = lead-as (c .before .before .before .before .before .before .before .before .look .result) (c .before .before .before .lead-of .ensures) (c .before .low .given .1) in
-    let l = inside-at isLead (now (c .before .before .before .before .before .before .before .before .before .before .args .s)) (c .before .before .before .before .before .before .before .before .before .before .args .at) (c .before .before .before .before .before .before .before .before .look .result) lead-256 (c .before .before .before .before .before .before .before .before .before .before .pre) (c .before .before .before .before .before .before .before .before .look .ensures .0) (w .0) in
-    (omega arith, w .2)
+wide-end-requires c κs = search needs
 
-going-requires-2 : tie.Need-going-requires-2
-going-requires-2 c κs = search needs
+enum-known-e-2 : tie.Need-enum-known-e-2
+enum-known-e-2 c = search needs
+
+enum-known-x-2 : tie.Need-enum-known-x-2
+enum-known-x-2 c = search needs
 
 enum-told : tie.Need-enum-told
 enum-told c = search needs
 
-returns-4 : tie.Need-returns-4
-returns-4 c = let w = lead-as (c .before .before .before .before .before .before .before .before .before .before .look .result) (c .before .before .before .before .before .lead-of .ensures) (c .before .before .before .low .given .1) in
-    char-wide _ _ (c .before .before .before .before .before .before .before .before .before .before .look .result) (c .before .before .before .before .before .before .before .before .before .before .look .ensures .0) (c .before .before .before .before .before .before .before .before .before .if1 .left) (c .before .before .before .before .before .before .before .before .if2 .left) (sym (c .before .before .before .before .before .before .before .in-range .ensures) ∙ (c .before .before .before .before .before .before .if3 .left)) (w .0) _ (w .1) (c .before .wide-end .ensures) (c .going2 .ensures)
+enum-told-2 : tie.Need-enum-told-2
+enum-told-2 c = search needs
 
-returns-5 : tie.Need-returns-5
-returns-5 c = char-none _ _ (c .before .before .before .before .before .before .before .look .result) (c .before .before .before .before .before .before .before .look .ensures .0) (c .before .before .before .before .before .before .if1 .left) (c .before .before .before .before .before .if2 .left) (sym (c .before .before .before .before .in-range .ensures) ∙ (c .before .before .before .if3 .left)) (lead-as (c .before .before .before .before .before .before .before .look .result) (c .before .before .lead-of .ensures) (c .enum-told .given .1)) (c .before .before .before .before .before .before .before .before .before .pre)
+-- what stood after the first byte of a character of several
+wide : (c : tie.After-wide-end) {r : Read} → c .wide-end .result ≡ r → Read-as (c .before .before .before .before .before .before .before .before .before .before .before .before) (turnOf r)
+wide c q = char-wide _ _ (c .before .before .before .before .before .before .before .before .before .before .look .result) (c .before .before .before .before .before .before .before .before .before .before .look .ensures .0) (c .before .before .before .before .before .before .before .before .before .if1 .left) (c .before .before .before .before .before .before .before .before .if2 .left) (sym (c .before .before .before .before .before .before .before .in-range .ensures) ∙ (c .before .before .before .before .before .before .if3 .left)) (sym (ap dueOf (c .before .before .low .given .1)) ∙ (c .before .before .before .before .due-after .ensures)) _ (gives-as (c .wide-end .ensures) q)
+
+returns-6 : tie.Need-returns-6
+returns-6 c = wide (c .before .before .before) (c .before .e2 .given .1)
+
+returns-7 : tie.Need-returns-7
+returns-7 c = wide (c .before .before .before) (c .before .x2 .given .1)
+
+returns-8 : tie.Need-returns-8
+returns-8 c = none (c .before .before .before .before) (by-lead _ (sym (ap dueOf (c .enum-told .given .1)) ∙ (c .before .before .due-after .ensures)))
+
+returns-9 : tie.Need-returns-9
+returns-9 c = none (c .before .before .before .before) (by-lead _ (sym (ap dueOf (c .enum-told2 .given .1)) ∙ (c .before .before .due-after .ensures)))
 
 pub next-character-spec : {M : Type 1} → statement M
 next-character-spec =
     tie.close
     (tie.spec
     look-requires
-    add-t8
+    add-t12
     returns
-    add-escape-end
-    escape-end-requires
-    going-requires
+    add-escape-at
+    escape-at-requires
+    enum-known-e
+    enum-known-x
     returns-2
-    in-range-requires
-    add-t13
     returns-3
-    lead-of-requires
+    in-range-requires
+    add-t19
+    returns-4
+    returns-5
+    cast-due-after
+    due-after-requires
     enum-known-low
     add-wide-end
     wide-end-requires
-    going-requires-2
+    enum-known-e-2
+    enum-known-x-2
     enum-told
-    returns-4
-    returns-5)
+    enum-told-2
+    returns-6
+    returns-7
+    returns-8
+    returns-9)

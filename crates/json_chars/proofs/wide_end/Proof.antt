@@ -26,7 +26,7 @@ returns c = by-on (between (c .before .before .before .before .before .args .low
 
 returns-2 : tie.Need-returns-2
 unfolding following
-returns-2 c = not-on (between (c .before .before .before .before .args .low) (c .before .before .before .before .args .high)) _ bad (c .before .before .look .ensures .0) (sym (c .before .in-range .ensures) ∙ (c .if1 .left)) (bad-here (c .before .before .before .before .args .at) (c .before .before .before .before .pre .0))
+returns-2 c = not-on (between (c .before .before .before .before .args .low) (c .before .before .before .before .args .high)) _ bad (c .before .before .look .ensures .0) (sym (c .before .in-range .ensures) ∙ (c .if1 .left)) (bad-here (c .before .before .before .before .args .at) (c .before .before .before .before .pre))
 
 pub wide-end-spec : {M : Type 1} → statement M
 wide-end-spec =

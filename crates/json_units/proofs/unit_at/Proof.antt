@@ -4,7 +4,8 @@ use mathlib.Core.Path.{sym, ap, _∙_}
 use Rattle.text.proofs.Places.{between-in}
 use Rattle.text.specs.Reader.{under}
 use Rattle.json_units.specs.Units.{push}
-use Rattle.json_units.proofs.Laws.{tells-as, unit-end, unit-escape, unit-plain, unit-none}
+use Rattle.json_escapes.proofs.Laws.{tells-as}
+use Rattle.json_units.proofs.Laws.{unit-end, unit-escape, unit-plain, unit-none}
 use borrow.Author.Needs.{needs}
 use Rattle.json_units.proofs.unit_at.Statement.{statement}
 use Rattle.json_units.proofs.unit_at.Tie as tie

@@ -1,0 +1,108 @@
+use native.Mathlib.Omega.{arith}
+use Rattle.json.specs.Syntax.{hex4}
+use Rattle.json_escapes.proofs.Laws.{tells-as}
+use borrow.Author.Needs.{needs}
+use Rattle.json_escapes.proofs.code_at.Statement.{statement}
+use Rattle.json_escapes.proofs.code_at.Tie as tie
+
+digit-at-requires : tie.Need-digit-at-requires
+digit-at-requires c κs = search needs
+
+enum-known-x : tie.Need-enum-known-x
+enum-known-x c = search needs
+
+enum-known-a : tie.Need-enum-known-a
+enum-known-a c = search needs
+
+digit-at-requires-2 : tie.Need-digit-at-requires-2
+digit-at-requires-2 c κs = tells-as (c .before .before .before .digit-at .ensures) (c .before .a .given .1) .within .1
+
+enum-known-x-2 : tie.Need-enum-known-x-2
+enum-known-x-2 c = search needs
+
+enum-known-b : tie.Need-enum-known-b
+enum-known-b c = search needs
+
+digit-at-requires-3 : tie.Need-digit-at-requires-3
+digit-at-requires-3 c κs = tells-as (c .before .before .before .digit-at2 .ensures) (c .before .b .given .1) .within .1
+
+enum-known-x-3 : tie.Need-enum-known-x-3
+enum-known-x-3 c = search needs
+
+enum-known-c : tie.Need-enum-known-c
+enum-known-c c = search needs
+
+digit-at-requires-4 : tie.Need-digit-at-requires-4
+digit-at-requires-4 c κs = tells-as (c .before .before .before .digit-at3 .ensures) (c .before .c .given .1) .within .1
+
+enum-known-x-4 : tie.Need-enum-known-x-4
+enum-known-x-4 c = search needs
+
+enum-known-d : tie.Need-enum-known-d
+enum-known-d c = search needs
+
+mul-t23 : tie.Need-mul-t23
+mul-t23 c = let p = tells-as (c .before .before .before .before .before .before .before .before .before .before .before .before .before .before .before .digit-at .ensures) (c .before .before .before .before .before .before .before .before .before .before .before .before .before .a .given .1) in omega (arith, p .within .2)
+
+mul-t24 : tie.Need-mul-t24
+mul-t24 c = let p = tells-as (c .before .before .before .before .before .before .before .before .before .before .before .before .before .before .before .digit-at .ensures) (c .before .before .before .before .before .before .before .before .before .before .before .before .before .a .given .1) in let q = tells-as (c .before .before .before .before .before .before .before .before .before .before .before .digit-at2 .ensures) (c .before .before .before .before .before .before .before .before .before .b .given .1) in omega (arith, q .within .2)
+
+add-t25 : tie.Need-add-t25
+add-t25 c = let p = tells-as (c .before .before .before .before .before .before .before .before .before .before .before .before .before .before .before .digit-at .ensures) (c .before .before .before .before .before .before .before .before .before .before .before .before .before .a .given .1) in let q = tells-as (c .before .before .before .before .before .before .before .before .before .before .before .digit-at2 .ensures) (c .before .before .before .before .before .before .before .before .before .b .given .1) in omega (arith, p .within .2, q .within .2)
+
+mul-t26 : tie.Need-mul-t26
+mul-t26 c = let p = tells-as (c .before .before .before .before .before .before .before .before .before .before .before .before .before .before .before .digit-at .ensures) (c .before .before .before .before .before .before .before .before .before .before .before .before .before .a .given .1) in let q = tells-as (c .before .before .before .before .before .before .before .before .before .before .before .digit-at2 .ensures) (c .before .before .before .before .before .before .before .before .before .b .given .1) in let r = tells-as (c .before .before .before .before .before .before .before .digit-at3 .ensures) (c .before .before .before .before .before .c .given .1) in omega (arith, r .within .2)
+
+add-t27 : tie.Need-add-t27
+add-t27 c = let p = tells-as (c .before .before .before .before .before .before .before .before .before .before .before .before .before .before .before .digit-at .ensures) (c .before .before .before .before .before .before .before .before .before .before .before .before .before .a .given .1) in let q = tells-as (c .before .before .before .before .before .before .before .before .before .before .before .digit-at2 .ensures) (c .before .before .before .before .before .before .before .before .before .b .given .1) in let r = tells-as (c .before .before .before .before .before .before .before .digit-at3 .ensures) (c .before .before .before .before .before .c .given .1) in omega (arith, p .within .2, q .within .2, r .within .2)
+
+add-t28 : tie.Need-add-t28
+add-t28 c = let p = tells-as (c .before .before .before .before .before .before .before .before .before .before .before .before .before .before .before .digit-at .ensures) (c .before .before .before .before .before .before .before .before .before .before .before .before .before .a .given .1) in let q = tells-as (c .before .before .before .before .before .before .before .before .before .before .before .digit-at2 .ensures) (c .before .before .before .before .before .before .before .before .before .b .given .1) in let r = tells-as (c .before .before .before .before .before .before .before .digit-at3 .ensures) (c .before .before .before .before .before .c .given .1) in let t = tells-as (c .before .before .before .digit-at4 .ensures) (c .before .d .given .1) in omega (arith, p .within .2, q .within .2, r .within .2, t .within .2)
+
+returns : tie.Need-returns
+unfolding hex4
+returns c = let w = tells-as (c .before .before .before .digit-at .ensures) (c .before .x .given .1) in record { is = rw (w .is); within = w .within }
+
+returns-2 : tie.Need-returns-2
+unfolding hex4
+returns-2 c = let p = tells-as (c .before .before .before .before .before .before .before .digit-at .ensures) (c .before .before .before .before .before .a .given .1) in let w = tells-as (c .before .before .before .digit-at2 .ensures) (c .before .x2 .given .1) in record { is = rw (p .is, w .is); within = omega (arith, p .within, w .within) }
+
+returns-3 : tie.Need-returns-3
+unfolding hex4
+returns-3 c = let p = tells-as (c .before .before .before .before .before .before .before .before .before .before .before .digit-at .ensures) (c .before .before .before .before .before .before .before .before .before .a .given .1) in let q = tells-as (c .before .before .before .before .before .before .before .digit-at2 .ensures) (c .before .before .before .before .before .b .given .1) in let w = tells-as (c .before .before .before .digit-at3 .ensures) (c .before .x3 .given .1) in record { is = rw (p .is, q .is, w .is); within = omega (arith, p .within, q .within, w .within) }
+
+returns-4 : tie.Need-returns-4
+unfolding hex4
+returns-4 c = let p = tells-as (c .before .before .before .before .before .before .before .before .before .before .before .before .before .before .before .digit-at .ensures) (c .before .before .before .before .before .before .before .before .before .before .before .before .before .a .given .1) in let q = tells-as (c .before .before .before .before .before .before .before .before .before .before .before .digit-at2 .ensures) (c .before .before .before .before .before .before .before .before .before .b .given .1) in let r = tells-as (c .before .before .before .before .before .before .before .digit-at3 .ensures) (c .before .before .before .before .before .c .given .1) in let w = tells-as (c .before .before .before .digit-at4 .ensures) (c .before .x4 .given .1) in record { is = rw (p .is, q .is, r .is, w .is); within = omega (arith, p .within, q .within, r .within, w .within) }
+
+returns-5 : tie.Need-returns-5
+unfolding hex4
+returns-5 c = let p = tells-as (c .before .before .before .before .before .before .before .before .before .before .before .before .before .before .before .digit-at .ensures) (c .before .before .before .before .before .before .before .before .before .before .before .before .before .a .given .1) in let q = tells-as (c .before .before .before .before .before .before .before .before .before .before .before .digit-at2 .ensures) (c .before .before .before .before .before .before .before .before .before .b .given .1) in let r = tells-as (c .before .before .before .before .before .before .before .digit-at3 .ensures) (c .before .before .before .before .before .c .given .1) in let t = tells-as (c .before .before .before .digit-at4 .ensures) (c .before .d .given .1) in record { is = rw (p .is, q .is, r .is, t .is); within = omega (arith, p .within, q .within, r .within, t .within) }
+
+pub code-at-spec : {M : Type 1} → statement M
+code-at-spec =
+    tie.close
+    (tie.spec
+    digit-at-requires
+    enum-known-x
+    enum-known-a
+    digit-at-requires-2
+    enum-known-x-2
+    enum-known-b
+    digit-at-requires-3
+    enum-known-x-3
+    enum-known-c
+    digit-at-requires-4
+    enum-known-x-4
+    enum-known-d
+    mul-t23
+    mul-t24
+    add-t25
+    mul-t26
+    add-t27
+    add-t28
+    returns
+    returns-2
+    returns-3
+    returns-4
+    returns-5)

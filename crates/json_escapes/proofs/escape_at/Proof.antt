@@ -1,0 +1,71 @@
+use native.Mathlib.Omega.{arith}
+use denote.Ref.{now}
+use mathlib.Core.Path.{sym, ap, _∙_}
+use Rattle.text.proofs.Places.{inside-at}
+use Prim.Native.Nat.{_+_}
+use Rattle.text.specs.Reader.{under}
+use Rattle.json.specs.Grammar.{isShort}
+use Rattle.json.proofs.Fine.{short-256}
+use Rattle.json_escapes.proofs.Laws.{tells-as, esc-u, esc-short, esc-none, short-in}
+use borrow.Author.Needs.{needs}
+use Rattle.json_escapes.proofs.escape_at.Statement.{statement}
+use Rattle.json_escapes.proofs.escape_at.Tie as tie
+
+look-requires : tie.Need-look-requires
+look-requires c κs = search needs
+
+add-code-at : tie.Need-add-code-at
+add-code-at c = search needs
+
+code-at-requires : tie.Need-code-at-requires
+code-at-requires c κs = search needs
+
+enum-known-x : tie.Need-enum-known-x
+enum-known-x c = search needs
+
+enum-known-v : tie.Need-enum-known-v
+enum-known-v c = search needs
+
+add-t11 : tie.Need-add-t11
+add-t11 c = let w = tells-as (c .before .before .before .code-at .ensures) (c .before .v .given .1) in omega (arith, w .within .2)
+
+returns : tie.Need-returns
+returns c = let w = tells-as (c .before .before .before .code-at .ensures) (c .before .x .given .1) in record { is = esc-u (now (c .before .before .before .before .before .before .before .args .s)) (c .before .before .before .before .before .before .before .args .at) (c .before .before .before .before .before .look .result) (c .before .before .before .before .before .look .ensures .0) (c .before .before .before .before .if1 .taken) ∙ ap (under (λ v. 256 + v)) (w .is); within = omega (arith, w .within) }
+
+returns-2 : tie.Need-returns-2
+returns-2 c = let w = tells-as (c .before .before .before .code-at .ensures) (c .before .v .given .1) in record { is = esc-u (now (c .before .before .before .before .before .before .before .args .s)) (c .before .before .before .before .before .before .before .args .at) (c .before .before .before .before .before .look .result) (c .before .before .before .before .before .look .ensures .0) (c .before .before .before .before .if1 .taken) ∙ ap (under (λ v. 256 + v)) (w .is); within = omega (arith, w .within) }
+
+is-short-requires : tie.Need-is-short-requires
+is-short-requires c κs = search needs
+
+short-of-requires : tie.Need-short-of-requires
+short-of-requires c κs = short-in _ (sym (c .before .is-short .ensures) ∙ (c .if2 .taken))
+
+add-t14 : tie.Need-add-t14
+add-t14 c = search needs
+
+returns-3 : tie.Need-returns-3
+returns-3 c = let t = sym (c .before .before .is-short .ensures) ∙ (c .before .if2 .taken) in
+    let l = inside-at isShort (now (c .before .before .before .before .before .before .args .s)) (c .before .before .before .before .before .before .args .at) (c .before .before .before .before .look .result) short-256 (c .before .before .before .before .before .before .pre) (c .before .before .before .before .look .ensures .0) t in
+    record { is = esc-short (now (c .before .before .before .before .before .before .args .s)) (c .before .before .before .before .before .before .args .at) (c .before .before .before .before .look .result) (c .before .before .before .before .look .ensures .0) (c .before .before .before .if1 .left) t _ (c .short-of .ensures .0); within = omega (arith, c .short-of .ensures .1) }
+
+returns-4 : tie.Need-returns-4
+returns-4 c = record { is = esc-none (now (c .before .before .before .before .before .args .s)) (c .before .before .before .before .before .args .at) (c .before .before .before .look .result) (c .before .before .before .look .ensures .0) (c .before .before .if1 .left) (sym (c .before .is-short .ensures) ∙ (c .if2 .left)); within = omega arith }
+
+pub escape-at-spec : {M : Type 1} → statement M
+escape-at-spec =
+    tie.close
+    (tie.spec
+    look-requires
+    add-code-at
+    code-at-requires
+    enum-known-x
+    enum-known-v
+    add-t11
+    returns
+    returns-2
+    is-short-requires
+    short-of-requires
+    add-t14
+    returns-3
+    returns-4)

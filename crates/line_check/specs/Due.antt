@@ -1,9 +1,0 @@
--- The state of the code's UTF-8 reader, as the definition's.
-use Rattle.text.specs.Utf8.{Due as Due′, start, due, broken}
-use Rattle.line_check.specs.declared.Due.{Due}
-use Rattle.line_check.specs.declared.Due.the-variants.{Start, Byte, Broken}
-
-abbrev pub dueOf : Due → Due′
-dueOf Start = start
-dueOf (Byte low high n) = due low high n
-dueOf Broken = broken
