@@ -27,7 +27,7 @@ unfolding past
 past-past p [] = refl
 past-past p (c ∷ t) = byBool (p c) (λ e. rw e (past-past p t)) (λ e. rw (e, e))
 
-value-skip : (d : ℕ) (t : Bytes) → value d (skip t) ≡ value d t
+pub value-skip : (d : ℕ) (t : Bytes) → value d (skip t) ≡ value d t
 unfolding value skip
 value-skip zero t = ap scalar (past-past isSpace t)
 value-skip (suc d) t = rw (past-past isSpace t)

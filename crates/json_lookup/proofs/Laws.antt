@@ -1,24 +1,24 @@
 -- Laws of the look-up, over plain values.
 use mathlib.Core.Path.{_≡_, refl, sym, ap, _∙_}
 use mathlib.Core.Bool.{Bool, true, false}
-use mathlib.Core.Logic.{_⊎_, inl, inr, ⊎-elim}
-use mathlib.Core.List.{List, [], _∷_, tail}
+use mathlib.Core.Logic.{_⊎_, ⊎-elim}
+use mathlib.Core.List.{List, [], _∷_}
 use mathlib.Core.Option.{Option, none, some}
 use Prim.Native.Nat.{ℕ, zero, suc, _+_, _-_, _≤_}
 use native.Mathlib.Omega.{arith}
-use lib.ListN.{length, take, drop, length-drop}
-use lib.Dec.{eqb, leb}
+use lib.ListN.{length, take, drop, length-drop, take-append-drop}
+use lib.Dec.{leb}
 use borrow.Author.Tests.{eq-eqb, ne-eqb}
 use Rattle.text.specs.declared.Read.{Read}
 use Rattle.text.specs.declared.Turn.the-variants.{Go, Stop}
-use Rattle.text.specs.Choice.{pick, with-some}
+use Rattle.text.specs.Choice.{with-some}
 use Rattle.text.specs.Bytes.{Bytes, is, same}
-use Rattle.text.specs.Reader.{Got, got, bad, bind, under, first, on, when, Step, more, last, after, turns, loop}
+use Rattle.text.specs.Reader.{Got, got, bad, bind, under, on, when, Step, more, last, after, loop}
 use Rattle.text.specs.Places.{byteAt, GivesT, Passes}
 use Rattle.text.proofs.Places.{byBool, on-yes, on-no}
-use Rattle.text.proofs.Fine.{Takes, not-bad, got-rest, got-what, bind-inv, under-inv, loop-more, loop-split}
+use Rattle.text.proofs.Fine.{Takes, got-what, bind-inv, under-inv, loop-more, loop-split}
 use Rattle.json.specs.Grammar.{isSpace}
-use Rattle.json.specs.Tree.{Json, jobj, Members, mnil, mcons}
+use Rattle.json.specs.Tree.{Json, jobj}
 use Rattle.json.specs.Syntax.{skip, name, sep, pair, pairs, value, text}
 use Rattle.json.specs.Strings.{decode}
 use Rattle.json.specs.Read.{Reading, tree, refused, readingOf, reading}
@@ -34,12 +34,10 @@ use Rattle.json_read.specs.Verdict.{verdictOf, verdict}
 use Rattle.json_access.specs.declared.Places.{Places}
 use Rattle.json_access.specs.Access.{TellsMember}
 use Rattle.json_access.specs.declared.Part.{Part}
+use Rattle.json_lookup.proofs.Spans.{spanAt, span-turn, spanned}
 use Rattle.json_lookup.specs.Finds.{Finds, FindsIn, Locates}
 
 -- ---- members
-abbrev spanAt : Bytes → Bytes → Bytes → Span
-spanAt k t u = record { name = k; from = skip t; after = u }
-
 span-takes : (d : ℕ) → Takes (spanOf d)
 unfolding spanOf
 span-takes d s a w e =
@@ -55,10 +53,6 @@ spans-tail : (x : Span) (f : Bytes → Got (List Span)) (w : Step (List Span)) (
 spans-tail x f w v rest t o e =
     ⊎-elim (λ q. ([], sym (got-what (rw q at e))))
     (λ q. let i = under-inv (λ (ps : List Span). x ∷ ps) (f v) (rw q at e) in (i .0, sym (i .2))) o
-
-span-turn : (d : ℕ) (s k t : Bytes) (j : Json) (u : Bytes) → name s ≡ got k t → value d t ≡ got j u → spanOf d s ≡ sep 125 (spanAt k t u ∷ []) (λ ps. spanAt k t u ∷ ps) u
-unfolding spanOf
-span-turn d s k t j u n v = rw (n, v)
 
 module _ (s : Bytes) where
   -- the member that is next
@@ -134,40 +128,6 @@ module _ (s : Bytes) (at : ℕ) (m : Bytes) (i : ℕ) (todo : Todo s at m i) (r 
         sym (ap (partOf s) (y .2 ∙ ap (found (length s) m) (sym (got-what (rw n at (l .3))))) ∙ rw c)
 
 -- ---- a text
--- a separator reads the same whatever the values are put into
-module _ {A B : Type 0} (a : A) (f : A → A) (b : B) (g : B → B) where
-  both-by : (p q : Bool) (t u : Bytes) (w : Step A) (v : Bytes) → pick p (got (last a) t) (pick q (got (more f) t) (bad u)) ≡ got w v
-      → ((w ≡ last a) × (pick p (got (last b) t) (pick q (got (more g) t) (bad u)) ≡ got (last b) v)) ⊎ ((w ≡ more f) × (pick p (got (last b) t) (pick q (got (more g) t) (bad u)) ≡ got (more g) v))
-  both-by true q t u w v e = inl (sym (got-what e), ap (got (last b)) (got-rest e))
-  both-by false true t u w v e = inr (sym (got-what e), ap (got (more g)) (got-rest e))
-  both-by false false t u w v e = absurd (not-bad e)
-
-  sep-both : (close : ℕ) (s : Bytes) (w : Step A) (v : Bytes) → sep close a f s ≡ got w v
-      → ((w ≡ last a) × (sep close b g s ≡ got (last b) v)) ⊎ ((w ≡ more f) × (sep close b g s ≡ got (more g) v))
-  unfolding sep on
-  sep-both close s w v e = both-by (eqb (first (skip s)) close) (eqb (first (skip s)) 44) (tail (skip s)) (skip s) w v e
-
-span-step : (n d : ℕ) (s : Bytes) (w : Step (List Span)) (v : Bytes) → spanOf d s ≡ got w v → turns (spanOf d) (suc n) s ≡ after w v (turns (spanOf d) n)
-unfolding turns
-span-step n d s w v e = rw e
-
--- the members that the reader reads are those that are looked through
-pairs-spans : (n d : ℕ) (s : Bytes) (ms : Members) (t : Bytes) → turns (pair (value d)) n s ≡ got ms t → (ps : List Span) × (turns (spanOf d) n s ≡ got ps t)
-unfolding turns pair
-pairs-spans zero d s ms t e = absurd (not-bad e)
-pairs-spans (suc n) d s ms t e =
-    let l = bind-inv (pair (value d) s) (λ w v. after w v (turns (pair (value d)) n)) e in
-    let a = bind-inv (name s) (λ k t. bind (value d t) λ j u. sep 125 (mcons k j mnil) (mcons k j) u) (l .2) in
-    let b = bind-inv (value d (a .1)) (λ j u. sep 125 (mcons (a .0) j mnil) (mcons (a .0) j) u) (a .3) in
-    let x = spanAt (a .0) (a .1) (b .1) in
-    let z = span-turn d s (a .0) (a .1) (b .0) (b .1) (a .2) (b .2) in
-    ⊎-elim
-    (λ o. (x ∷ [], span-step n d s _ (l .1) (z ∙ o .1) ∙ ap (got (x ∷ [])) (got-rest (rw (o .0) at (l .3)))))
-    (λ o. let i = under-inv (mcons (a .0) (b .0)) (turns (pair (value d)) n (l .1)) (rw (o .0) at (l .3)) in
-    let r = pairs-spans n d (l .1) (i .0) t (i .1) in
-    (x ∷ r .0, span-step n d s _ (l .1) (z ∙ o .1) ∙ ap (under (λ (ps : List Span). x ∷ ps)) (r .1)))
-    (sep-both (mcons (a .0) (b .0) mnil) (mcons (a .0) (b .0)) (x ∷ []) (λ ps. x ∷ ps) 125 (b .1) (l .0) (l .1) (b .3))
-
 -- no members
 module _ (s m : Bytes) (i b : ℕ) (h : Passes isSpace s 0 i) (e : b ≡ byteAt s i) where
   pub no-object : (b ≡ 123 → ⊥) → [] ≡ partOf s (found (length s) m (given (spans 15 s)))
@@ -199,7 +159,7 @@ module _ (s m : Bytes) (i b : ℕ) (h : Passes isSpace s 0 i) (e : b ≡ byteAt 
     members-in n r finds y t x =
         let v = bind-inv (value 16 s) (λ j t. when (is 256) (got j) bad (skip t)) x in
         let u = under-inv jobj (loop (pair (value 15)) (drop j s)) (sym (value-from n) ∙ v .2) in
-        let p = pairs-spans (suc (length (drop j s))) 15 (drop j s) (u .0) (v .1) (u .1) in
+        let p = spanned 15 s (suc (length (drop j s))) (drop j s) (u .0) (v .1) (take j s, sym (take-append-drop j s)) (u .1) in
         finds (p .0) (v .1) (p .1) ∙ sym (ap (λ (z : Got (List Span)). partOf s (found (length s) m (given z))) (spans-from n ∙ p .1))
 
 -- ---- by the reader's verdict

@@ -13,6 +13,7 @@ ghost use Prim.Native.Nat.{_≤_};
 ghost use lib.ListN.{length};
 ghost use Rattle.json.specs.Lookup.{lookUp, partOf};
 ghost use Rattle.json_lookup.specs.Finds.{Bounds, Finds, FindsIn, Locates};
+ghost use Rattle.json_lookup.specs.Held.{valueOf, Holds};
 
 // The value of the first member of that name, from a member's place of an object on. Nothing is found where the part is empty.
 fn find_from<'a, 'b>(s: &'a [u8], at: usize, name: &'b [u8]) -> Part
@@ -67,9 +68,10 @@ fn locate<'a, 'b>(s: &'a [u8], name: &'b [u8]) -> Part
     }
 }
 
-// The value of the top-level member of that name; empty where the text is over 65,536 bytes, no JSON, no object, or has no such member.
+// The value of the top-level member of that name, as that very part: read alone, it is the value that the text's tree has there. Empty where the text is over 65,536 bytes, no JSON, no object, or has no such member.
 pub fn look_up<'a, 'b>(json: &'a [u8], name: &'b [u8]) -> &'a [u8]
     ensures { λ r. ⌜ now r ≡ partOf (now (json .entry)) (lookUp (now (json .entry)) (now (name .entry))) ⌝ }
+    ensures { λ r. ⌜ Holds (now r) (valueOf (now (json .entry)) (now (name .entry))) ⌝ }
 {
     let p = locate(json, name);
     let a = p.start;
