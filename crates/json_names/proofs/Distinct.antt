@@ -1,25 +1,12 @@
 -- Names kept one after the other are distinct.
-use mathlib.Core.Path.{_≡_, refl, sym, _∙_}
+use mathlib.Core.Path.{_≡_, refl, _∙_}
 use mathlib.Core.Bool.{Bool, true, false, _&&_, _||_, not}
 use mathlib.Core.List.{List, [], _∷_, _++_}
 use Prim.Native.Nat.{ℕ}
 use native.Mathlib.Omega.{arith}
-use lib.Dec.{eqb}
-use borrow.Author.Tests.{eq-eqb, ne-eqb, eqb-true, eqb-false}
 use Rattle.text.specs.Bytes.{Bytes, any, same, among, distinct}
-use Rattle.text.proofs.Places.{byBool}
-
-eqb-sym : (a b : ℕ) → eqb a b ≡ eqb b a
-eqb-sym a b =
-    byBool (eqb a b) (λ p. p ∙ sym (eq-eqb b a (sym (eqb-true a b p))))
-    (λ p. p ∙ sym (ne-eqb b a (λ e. eqb-false a b p (sym e))))
-
-pub same-sym : (x y : Bytes) → same x y ≡ same y x
-unfolding same
-same-sym [] [] = refl
-same-sym [] (b ∷ y) = refl
-same-sym (a ∷ x) [] = refl
-same-sym (a ∷ x) (b ∷ y) = rw (eqb-sym a b, same-sym x y)
+use Rattle.text.proofs.Cases.{byBool, and-left, and-right}
+use Rattle.text.proofs.Same.{same-swap}
 
 or-true : (a : Bool) → a || true ≡ true
 or-true true = refl
@@ -42,16 +29,8 @@ pub twice : (n : Bytes) (ns t : List Bytes) → among n ns ≡ true → distinct
 unfolding distinct among any
 twice n [] t e = let r : _≡_ {A = ℕ} 0 1 = cc in absurd (omega arith)
 twice n (m ∷ ns) t e =
-    byBool (same n m) (λ q. rw (among-mid m n ns t (same-sym m n ∙ q)))
+    byBool (same n m) (λ q. rw (among-mid m n ns t (same-swap m n ∙ q)))
     (λ q. byBool (among m (ns ++ (n ∷ t))) (λ p. rw p) (λ p. rw p (twice n ns t (rw q at e))))
-
-and-left : (a b : Bool) → a && b ≡ true → a ≡ true
-and-left true b e = refl
-and-left false b e = e
-
-and-right : (a b : Bool) → a && b ≡ true → b ≡ true
-and-right true b e = e
-and-right false b e = let r : _≡_ {A = ℕ} 0 1 = cc in absurd (omega arith)
 
 not-true′ : (a : Bool) → not a ≡ true → a ≡ false
 not-true′ true e = let r : _≡_ {A = ℕ} 0 1 = cc in absurd (omega arith)
@@ -63,4 +42,4 @@ kept n [] d e = refl
 kept n (m ∷ ns) d e =
     byBool (same n m) (λ q. let z : true ≡ false = rw q at e in let r : _≡_ {A = ℕ} 0 1 = cc in absurd (omega arith))
     (λ q. let a = not-true′ (among m ns) (and-left (not (among m ns)) (distinct ns) d) in
-    rw (among-last m n ns a (same-sym m n ∙ q)) (kept n ns (and-right (not (among m ns)) (distinct ns) d) (rw q at e)))
+    rw (among-last m n ns a (same-swap m n ∙ q)) (kept n ns (and-right (not (among m ns)) (distinct ns) d) (rw q at e)))

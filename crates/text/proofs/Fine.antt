@@ -12,16 +12,16 @@ use Rattle.text.specs.Bytes.{Bytes, is}
 use Rattle.text.specs.Reader.{Got, got, bad, bind, under, first, on, when, Step, more, last, after, turns, loop, taken, past, one, some-of, run-of}
 use Rattle.text.proofs.Cases.{byBool}
 pub use Rattle.text.proofs.Readers.{not-bad, got-rest, got-what, bind-inv, under-inv}
+use Rattle.text.proofs.Readers as readers
+use Rattle.text.proofs.Readers.{past-less, takes-on}
 
 -- ---- a reader takes n bytes at least, and what it leaves does not matter to it
 pub record Fine {A : Type 0} (n : ℕ) (R : Bytes → Got A) : Type 0 where
   pub less : (s : Bytes) (a : A) (w : Bytes) → R s ≡ got a w → n + length w ≤ length s
   pub cut : (u z : Bytes) (a : A) (w : Bytes) → R (u ++ z) ≡ got a w → length z ≤ length w → (t : Bytes) × (w ≡ t ++ z) × (R u ≡ got a t)
 
-past-less : (p : ℕ → Bool) (s : Bytes) → length (past p s) ≤ length s
-unfolding past
-past-less p [] = omega arith
-past-less p (c ∷ s) = byBool (p c) (λ e. rw e (omega (arith, past-less p s))) (λ e. rw e (omega arith))
+pub fine-takes : {A : Type 0} {n : ℕ} {R : Bytes → Got A} → Fine n R → readers.Takes n R
+fine-takes f = record { less = f .less }
 
 past-none : (p : ℕ → Bool) (s : Bytes) → length s ≤ length (past p s) → past p s ≡ s
 unfolding past
@@ -76,12 +76,6 @@ module _ {A : Type 0} where
   }
 
   -- by the first byte
-  on-less : {n : ℕ} {f : ℕ → Bytes → Got A} {g : Bytes → Got A} (p : ℕ → Bool) → p 256 ≡ false → n ≤ 1 → ((c : ℕ) → Fine 0 (f c)) → Fine n g
-      → (s : Bytes) (a : A) (w : Bytes) → on p f g s ≡ got a w → n + length w ≤ length s
-  unfolding on
-  on-less p z l h k [] a w e = k .less [] a w (rw z at e)
-  on-less p z l h k (c ∷ s) a w e = byBool (p c) (λ q. omega (arith, h c .less s a w (rw q at e))) (λ q. k .less (c ∷ s) a w (rw q at e))
-
   on-cut : {n : ℕ} {f : ℕ → Bytes → Got A} {g : Bytes → Got A} (p : ℕ → Bool) → p 256 ≡ false → ((c : ℕ) → Fine 0 (f c)) → Fine n g
       → (u z : Bytes) (a : A) (w : Bytes) → on p f g (u ++ z) ≡ got a w → length z ≤ length w → (t : Bytes) × (w ≡ t ++ z) × (on p f g u ≡ got a t)
   unfolding on
@@ -90,7 +84,7 @@ module _ {A : Type 0} where
   on-cut p y h k (c ∷ u) z a w e l = byBool (p c) (λ q. rw q (h c .cut u z a w (rw q at e) l)) (λ q. rw q (k .cut (c ∷ u) z a w (rw q at e) l))
 
   pub fine-on : {n : ℕ} {f : ℕ → Bytes → Got A} {g : Bytes → Got A} (p : ℕ → Bool) → p 256 ≡ false → n ≤ 1 → ((c : ℕ) → Fine 0 (f c)) → Fine n g → Fine n (on p f g)
-  fine-on p z l h k = record { less = on-less p z l h k; cut = on-cut p z h k }
+  fine-on p z l h k = record { less = takes-on p z l (λ c. fine-takes (h c)) (fine-takes k) .less; cut = on-cut p z h k }
 
   when-less : {n : ℕ} {f g : Bytes → Got A} (p : ℕ → Bool) → n ≤ 1 → Fine 1 f → Fine n g → (s : Bytes) (a : A) (w : Bytes) → when p f g s ≡ got a w → n + length w ≤ length s
   unfolding when

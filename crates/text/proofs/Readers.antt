@@ -50,7 +50,7 @@ when-inv p f g s e = byBool (p (first s)) (λ q. inl (q, rw q at e)) (λ q. inr 
 pub record Takes {A : Type 0} (n : ℕ) (R : Bytes → Got A) : Type 0 where
   pub less : (s : Bytes) (a : A) (w : Bytes) → R s ≡ got a w → n + length w ≤ length s
 
-past-less : (p : ℕ → Bool) (s : Bytes) → length (past p s) ≤ length s
+pub past-less : (p : ℕ → Bool) (s : Bytes) → length (past p s) ≤ length s
 unfolding past
 past-less p [] = omega arith
 past-less p (c ∷ s) = byBool (p c) (λ e. rw e (omega (arith, past-less p s))) (λ e. rw e (omega arith))
@@ -65,9 +65,6 @@ module _ {A : Type 0} where
   pub takes-less : {R : Bytes → Got A} → Takes 1 R → Takes 0 R
   takes-less f = record { less = λ s b w e. omega (arith, f .less s b w e) }
 
-  pub takes-past : {n : ℕ} {R : Bytes → Got A} (p : ℕ → Bool) → Takes n R → Takes n (λ s. R (past p s))
-  takes-past p f = record { less = λ s b w e. omega (arith, f .less _ b w e, past-less p s) }
-
   on-less : {n : ℕ} {f : ℕ → Bytes → Got A} {g : Bytes → Got A} (p : ℕ → Bool) → p 256 ≡ false → n ≤ 1 → ((c : ℕ) → Takes 0 (f c)) → Takes n g
       → (s : Bytes) (a : A) (w : Bytes) → on p f g s ≡ got a w → n + length w ≤ length s
   unfolding on
@@ -76,20 +73,6 @@ module _ {A : Type 0} where
 
   pub takes-on : {n : ℕ} {f : ℕ → Bytes → Got A} {g : Bytes → Got A} (p : ℕ → Bool) → p 256 ≡ false → n ≤ 1 → ((c : ℕ) → Takes 0 (f c)) → Takes n g → Takes n (on p f g)
   takes-on p z l h k = record { less = on-less p z l h k }
-
-  -- where nothing need be taken, the test may pass at the end too
-  if-less : {f : ℕ → Bytes → Got A} {g : Bytes → Got A} (p : ℕ → Bool) → ((c : ℕ) → Takes 0 (f c)) → Takes 0 g
-      → (s : Bytes) (a : A) (w : Bytes) → on p f g s ≡ got a w → 0 + length w ≤ length s
-  unfolding on
-  if-less p h k [] a w e = byBool (p 256) (λ q. h 256 .less [] a w (rw q at e)) (λ q. k .less [] a w (rw q at e))
-  if-less p h k (c ∷ s) a w e = byBool (p c) (λ q. omega (arith, h c .less s a w (rw q at e))) (λ q. k .less (c ∷ s) a w (rw q at e))
-
-  pub takes-if : {f : ℕ → Bytes → Got A} {g : Bytes → Got A} (p : ℕ → Bool) → ((c : ℕ) → Takes 0 (f c)) → Takes 0 g → Takes 0 (on p f g)
-  takes-if p h k = record { less = if-less p h k }
-
-  pub takes-when : {n : ℕ} {f g : Bytes → Got A} (p : ℕ → Bool) → Takes n f → Takes n g → Takes n (when p f g)
-  unfolding when
-  takes-when p h k = record { less = λ s a w e. byBool (p (first s)) (λ q. h .less s a w (rw q at e)) (λ q. k .less s a w (rw q at e)) }
 
   pub takes-under : {B : Type 0} {n : ℕ} {R : Bytes → Got A} (f : A → B) → Takes n R → Takes n (λ s. under f (R s))
   takes-under {B} {n} {R} f h = record { less = λ s b w e. h .less s _ w (under-inv f (R s) e .1) }
