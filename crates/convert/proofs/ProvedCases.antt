@@ -2,7 +2,7 @@
 use mathlib.Core.Path.{_≡_, refl}
 use mathlib.Core.List.{List, [], _∷_, map}
 use Rattle.convert.proofs.Opened.{convert-opened}
-use Rattle.convert.proofs.Worked.{text, card, lines, made, json, homeLines, Case, converts, refuses, comes-home, turns-away, given, wanted, worked-opened}
+use Rattle.convert.proofs.Worked.{text, card, lines, made, json, Case, converts, refuses, comes-home, turns-away, given, wanted, worked-opened}
 
 unfoldable pub proved-cases : List Case
 proved-cases =

@@ -1,7 +1,7 @@
 -- Inputs that tell two readings of 01 apart, by the points of docs/DECISIONS.md.
 use mathlib.Core.Path.{_≡_, refl}
 use mathlib.Core.List.{List, [], _∷_, _++_, map}
-use Rattle.text.specs.Bytes.{Bytes, ascii}
+use Rattle.text.specs.Bytes.{ascii}
 use Rattle.convert.proofs.Opened.{convert-opened}
 use Rattle.convert.proofs.Worked.{text, card, lines, made, json, homeLines, Case, converts, refuses, comes-home, turns-away, returns-as, settles-as, given, wanted, worked-opened}
 

@@ -2,10 +2,10 @@
 use mathlib.Core.Path.{_≡_, refl}
 use mathlib.Core.List.{List, [], _∷_, _++_, map}
 use lib.ListN.{replicate}
-use Rattle.text.specs.Bytes.{Bytes, ascii}
-use Rattle.convert.specs.Answers.{Answer, no, yes, cardToJson, jsonToCard}
+use Rattle.text.specs.Bytes.{ascii}
+use Rattle.convert.specs.Answers.{no, yes, cardToJson, jsonToCard}
 use Rattle.convert.proofs.Opened.{convert-opened}
-use Rattle.convert.proofs.Worked.{text, card, lines, made, json, homeLines, Case, converts, refuses, comes-home, turns-away, given, wanted, worked-opened}
+use Rattle.convert.proofs.Worked.{text, card, lines, made, json, Case, refuses, turns-away, given, wanted, worked-opened}
 
 unfoldable pub refusals : List Case
 refusals =

@@ -1,7 +1,7 @@
 -- How worked examples are written: a case is an input and what 01 gives for it, and a list of cases holds by computation.
-use mathlib.Core.List.{List, [], _∷_, _++_, map}
+use mathlib.Core.List.{[], _∷_, _++_}
 use Prim.Native.Nat.{ℕ}
-use Prim.Native.Char.{Char, code}
+use Prim.Native.Char.{code}
 use Prim.Native.String.{String, [] as []ˢ, _∷_ as _∷ˢ_}
 use lib.Dec.{eqb}
 use Rattle.text.specs.Choice.{pick}

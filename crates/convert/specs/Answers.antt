@@ -1,12 +1,12 @@
 -- The answers of card to JSON and of JSON to card: 01's refusal numbers in 01's order, each with its place, else the result.
 use mathlib.Core.Bool.{Bool, true, false, _&&_, _||_, not}
-use mathlib.Core.List.{List, [], _∷_, _++_, map}
+use mathlib.Core.List.{List, [], _∷_}
 use mathlib.Core.Option.{Option, none, some}
-use Prim.Native.Nat.{ℕ, zero, suc}
+use Prim.Native.Nat.{ℕ, suc}
 use lib.ListN.{length}
-use lib.Dec.{eqb, ltb, leb}
-use Rattle.text.specs.Choice.{pick, with-some, is-some, both}
-use Rattle.text.specs.Bytes.{Bytes, ascii, empty, any, all, same, among, lowered, each, keep}
+use lib.Dec.{ltb, leb}
+use Rattle.text.specs.Choice.{pick, with-some, is-some}
+use Rattle.text.specs.Bytes.{Bytes, ascii, empty, any, all, same, among, lowered, each}
 use Rattle.text.specs.Utf8.{utf8}
 use Rattle.json.specs.Read.{Reading, tree, refused, reading}
 use Rattle.line.specs.Class.{isName, isStem, isControl}

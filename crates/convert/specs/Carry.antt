@@ -1,14 +1,11 @@
 -- Refusal 13: a string that no vCard line can carry.
-use mathlib.Core.Bool.{Bool, true, false, _&&_, _||_, not}
-use mathlib.Core.List.{List, [], _∷_, _++_, map}
-use mathlib.Core.Option.{Option, none, some}
-use Prim.Native.Nat.{ℕ}
-use lib.Dec.{eqb}
-use Rattle.text.specs.Choice.{pick, with-some}
+use mathlib.Core.Bool.{Bool, true, _&&_, not}
+use mathlib.Core.List.{List, [], _∷_}
+use Rattle.text.specs.Choice.{with-some}
 use Rattle.text.specs.Bytes.{Bytes, any, all, among, is}
-use Rattle.json.specs.Tree.{Member, nameOf}
+use Rattle.json.specs.Tree.{nameOf}
 use Rattle.line.specs.Class.{isControl}
-use Rattle.line.specs.Grammar.{Param, paramValues}
+use Rattle.line.specs.Grammar.{paramValues}
 use Rattle.convert.specs.Table.{Form, text, single, uri, phone, organization, Map, maps}
 use Rattle.convert.specs.Model.{Entry, Kept, Card, part}
 

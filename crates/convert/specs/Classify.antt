@@ -1,10 +1,10 @@
 -- Which line converts: one definition for both directions. A card's lines are classed in order, each by what was seen before it;
 -- an entry of vCardProps is classed after all converted lines ("in its place").
-use mathlib.Core.Bool.{Bool, true, false, _&&_, _||_, not}
-use mathlib.Core.List.{List, [], _∷_, _++_, map}
+use mathlib.Core.Bool.{Bool, true, false, _&&_, not}
+use mathlib.Core.List.{List, [], _∷_, map}
 use mathlib.Core.Option.{Option, none, some, Option·map}
 use Prim.Native.Nat.{ℕ}
-use lib.Dec.{eqb, ltb}
+use lib.Dec.{eqb}
 use lib.ListN.{take}
 use Rattle.text.specs.Choice.{pick, with-some, chain, provided}
 use Rattle.text.specs.Bytes.{Bytes, ascii, empty, any, same, among, lowered, parts, flat, each}
@@ -13,7 +13,7 @@ use Rattle.json.specs.Read.{Reading, tree, refused, reading}
 use Rattle.line.specs.Grammar.{Param, param, Line}
 use Rattle.line.specs.Params.{valuesNamed, onlyNamed, valueType, besidesValue}
 use Rattle.line.specs.Text.{readText}
-use Rattle.convert.specs.Table.{Map, Slot, slotOf, typeNames, vcardType, position, inOrder, reserved}
+use Rattle.convert.specs.Table.{Slot, slotOf, typeNames, vcardType, position, inOrder, reserved}
 use Rattle.convert.specs.Model.{Entry}
 use Rattle.convert.specs.Value.{isKeyText, isPref, readAs, takesType, readName}
 use Rattle.convert.specs.Pointer.{pointed}

@@ -1,13 +1,12 @@
 -- A card's lines to the model.
-use mathlib.Core.Bool.{Bool, true, false}
 use mathlib.Core.List.{List, [], _∷_, _++_, map}
 use mathlib.Core.Option.{Option, none, some}
-use Prim.Native.Nat.{ℕ, zero, suc}
+use Prim.Native.Nat.{ℕ, suc}
 use lib.Dec.{eqb}
 use Rattle.text.specs.Choice.{pick}
 use Rattle.text.specs.Bytes.{Bytes, lowered, flat}
 use Rattle.text.specs.Decimal.{decimal}
-use Rattle.json.specs.Tree.{Json, Member, member}
+use Rattle.json.specs.Tree.{Member, member}
 use Rattle.line.specs.Grammar.{Line}
 use Rattle.line.specs.Params.{valueType, besidesValue, merged}
 use Rattle.convert.specs.Table.{Map, maps}

@@ -2,8 +2,8 @@
 use mathlib.Core.Bool.{Bool, true, false, _&&_, _||_, not}
 use mathlib.Core.List.{List, [], _∷_, _++_, map}
 use mathlib.Core.Option.{Option, none, some, Option·map}
-use Prim.Native.Nat.{ℕ, zero, suc, _+_}
-use lib.ListN.{length, getD, take, drop}
+use Prim.Native.Nat.{ℕ, suc, _+_}
+use lib.ListN.{take, drop}
 use lib.Dec.{eqb}
 use Rattle.text.specs.Choice.{pick, with-some, is-some, both, chain, provided}
 use Rattle.text.specs.Bytes.{Bytes, ascii, empty, any, all, same, among, flat, keep, each}

@@ -1,6 +1,6 @@
 -- Keys: the PROP-ID, or else the prefix, a hyphen and the smallest positive number that no converted line of that map has as
 -- PROP-ID (before or after it) or earlier key.
-use mathlib.Core.Bool.{Bool, true, false, not}
+use mathlib.Core.Bool.{not}
 use mathlib.Core.List.{List, [], _∷_, _++_}
 use Prim.Native.Nat.{ℕ, zero, suc}
 use lib.ListN.{length}

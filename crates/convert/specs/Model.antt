@@ -1,7 +1,7 @@
 -- The middle of both conversions: what a card says, in one form for all that is equal.
 use mathlib.Core.Bool.{Bool, not}
 use mathlib.Core.List.{List, [], _∷_}
-use mathlib.Core.Option.{Option, none, some}
+use mathlib.Core.Option.{Option, none}
 use Prim.Native.Nat.{ℕ}
 use lib.ListN.{getD}
 use Rattle.text.specs.Bytes.{Bytes, any, empty}

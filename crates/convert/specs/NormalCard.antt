@@ -1,15 +1,14 @@
 -- A card's normal form, from 01's section 'Normal forms' alone: which lines, in which order, and each line's own normal form.
 -- It goes from lines to lines and knows neither the model nor JSON's members; that the way home gives it is a theorem.
-use mathlib.Core.Bool.{Bool, true, false, _&&_, _||_, not}
-use mathlib.Core.List.{List, [], _∷_, _++_, map, tail}
-use mathlib.Core.Option.{Option, none, some}
-use Prim.Native.Nat.{ℕ, zero, suc, _+_}
+use mathlib.Core.Bool.{Bool, true, false, _&&_, not}
+use mathlib.Core.List.{List, [], _∷_, _++_, map}
+use mathlib.Core.Option.{none}
+use Prim.Native.Nat.{ℕ, suc, _+_}
 use lib.ListN.{getD}
 use lib.Dec.{eqb}
 use Rattle.text.specs.Choice.{pick, with-some}
 use Rattle.text.specs.Bytes.{Bytes, ascii, empty, any, same, among, lowered, begins, parts, joined, flat, keep}
 use Rattle.text.specs.Decimal.{decimal}
-use Rattle.json.specs.Tree.{Json}
 use Rattle.json.specs.Compact.{compact}
 use Rattle.line.specs.Class.{isControl}
 use Rattle.line.specs.Grammar.{Param, param, Line}
@@ -17,7 +16,6 @@ use Rattle.line.specs.Params.{valuesNamed, valueType, besidesValue, merged}
 use Rattle.line.specs.Text.{readText, splitText, writeText}
 use Rattle.line.specs.Write.{writeCard}
 use Rattle.convert.specs.Table.{Form, text, single, uri, phone, organization, Map, maps, typeNames, vcardType}
-use Rattle.convert.specs.Model.{Entry}
 use Rattle.convert.specs.Classify.{Class, as-version, as-uid, as-kind, as-dropped, as-full, as-parts, as-entry, as-member, as-kept, Classed, classed}
 use Rattle.convert.specs.Keys.{keys}
 use Rattle.convert.specs.Answers.{rawLines, linesOf, orNone}

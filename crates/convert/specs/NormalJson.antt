@@ -1,12 +1,9 @@
 -- The normal form of a JSON card, from 01's section 'Normal forms' alone: a tree's members in the stated order, and what goes, gone.
 -- It goes from tree to tree and knows nothing of vCard; that the way home gives it is a theorem.
-use mathlib.Core.Bool.{Bool, true, false, _&&_, _||_, not}
+use mathlib.Core.Bool.{Bool, true, false, _&&_, not}
 use mathlib.Core.List.{List, [], _∷_, _++_, map}
-use mathlib.Core.Option.{Option, none, some}
-use Prim.Native.Nat.{ℕ}
-use lib.ListN.{length, take, drop}
-use lib.Dec.{eqb}
-use Rattle.text.specs.Choice.{pick, with-some, is-some}
+use lib.ListN.{take, drop}
+use Rattle.text.specs.Choice.{pick, with-some}
 use Rattle.text.specs.Bytes.{Bytes, ascii, empty, same, among, flat, keep}
 use Rattle.json.specs.Tree.{Json, jnull, jtrue, jfalse, jnum, jstr, jarr, jobj, Member, member, nameOf, valueOf, field, object, array, asString, asArray, asObject, elemsOf}
 use Rattle.json.specs.Compact.{compact}

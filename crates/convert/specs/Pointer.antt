@@ -1,6 +1,6 @@
 -- JSPTR: one non-empty RFC 6901 part. `~1` is a slash, `~0` a tilde; a bare slash would begin another part.
 use mathlib.Core.Bool.{Bool, true, false, not}
-use mathlib.Core.List.{List, [], _∷_, _++_}
+use mathlib.Core.List.{[], _∷_, _++_}
 use mathlib.Core.Option.{Option, none, some}
 use Prim.Native.Nat.{ℕ}
 use lib.Dec.{eqb}

@@ -1,9 +1,9 @@
 -- The table 'Converted lines' of 01 as data: one row a map, and the values of TYPE.
-use mathlib.Core.Bool.{Bool, true, false, _||_, _&&_}
+use mathlib.Core.Bool.{Bool}
 use mathlib.Core.List.{List, [], _∷_, _++_, map}
 use mathlib.Core.Option.{Option, none, some}
-use Prim.Native.Nat.{ℕ, zero, suc}
-use lib.Dec.{ltb, eqb}
+use Prim.Native.Nat.{ℕ, suc}
+use lib.Dec.{eqb}
 use Rattle.text.specs.Choice.{pick, with-some}
 use Rattle.text.specs.Bytes.{Bytes, ascii, same, any, keep}
 

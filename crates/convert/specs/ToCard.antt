@@ -1,19 +1,17 @@
 -- The model to a card's lines: VERSION, UID, KIND, FN, N, the maps in table order, JSPROP, kept lines.
-use mathlib.Core.Bool.{Bool, true, false, not}
+use mathlib.Core.Bool.{Bool, true, false}
 use mathlib.Core.List.{List, [], _∷_, _++_, map}
-use mathlib.Core.Option.{Option, none, some}
-use Prim.Native.Nat.{ℕ}
 use lib.ListN.{getD}
 use Rattle.text.specs.Choice.{pick, with-some}
 use Rattle.text.specs.Bytes.{Bytes, ascii, empty, joined, flat}
-use Rattle.json.specs.Tree.{Json, Member, member}
+use Rattle.json.specs.Tree.{Member, member}
 use Rattle.json.specs.Compact.{compact}
 use Rattle.line.specs.Grammar.{Param, param, Line}
 use Rattle.line.specs.Text.{writeText}
 use Rattle.line.specs.Write.{writeCard}
 use Rattle.convert.specs.Table.{Map, maps, typeNames, vcardType, type-name}
-use Rattle.convert.specs.Model.{Entry, Kept, Card, hasParts}
-use Rattle.convert.specs.Value.{filled, writeAs, writtenType, writeName}
+use Rattle.convert.specs.Model.{Entry, Card, hasParts}
+use Rattle.convert.specs.Value.{writeAs, writtenType, writeName}
 use Rattle.convert.specs.Pointer.{pointer}
 use Rattle.convert.specs.FromJson.{keptAsLine}
 

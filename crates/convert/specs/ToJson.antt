@@ -2,11 +2,11 @@
 use mathlib.Core.Bool.{Bool, true, false, not, _||_}
 use mathlib.Core.List.{List, [], _∷_, _++_, map}
 use mathlib.Core.Option.{Option, none, some}
-use Prim.Native.Nat.{ℕ, zero, suc}
+use Prim.Native.Nat.{ℕ}
 use lib.ListN.{getD}
 use lib.Dec.{eqb}
-use Rattle.text.specs.Choice.{pick, is-some}
-use Rattle.text.specs.Bytes.{Bytes, ascii, empty, any, flat, keep}
+use Rattle.text.specs.Choice.{is-some}
+use Rattle.text.specs.Bytes.{Bytes, ascii, empty, any, keep}
 use Rattle.json.specs.Tree.{Json, jstr, jnum, jtrue, Member, member, object, array}
 use Rattle.json.specs.Compact.{compact}
 use Rattle.line.specs.Grammar.{Param, param}

@@ -1,10 +1,10 @@
 -- Property values and the strings they stand for, both ways.
-use mathlib.Core.Bool.{Bool, true, false, _&&_, _||_, not}
+use mathlib.Core.Bool.{Bool, true, false, _&&_, not}
 use mathlib.Core.List.{List, [], _∷_, _++_, map, tail}
 use mathlib.Core.Option.{Option, none, some, Option·map}
-use Prim.Native.Nat.{ℕ, zero, suc}
-use lib.ListN.{length, getD}
-use lib.Dec.{eqb, leb, ltb}
+use Prim.Native.Nat.{zero}
+use lib.ListN.{length}
+use lib.Dec.{eqb, leb}
 use Rattle.text.specs.Choice.{pick, chain, provided}
 use Rattle.text.specs.Bytes.{Bytes, ascii, is, any, all, empty, same, among, begins, isDigit, joined, keep, each}
 use Rattle.text.specs.Decimal.{number}

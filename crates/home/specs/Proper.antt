@@ -1,17 +1,15 @@
 -- What both readers guarantee of a card, and what makes a card come home: the middle of the way home.
 use mathlib.Core.Path.{_≡_}
-use mathlib.Core.Bool.{Bool, true, false, _&&_, _||_, not}
+use mathlib.Core.Bool.{true, false, _&&_, _||_, not}
 use mathlib.Core.List.{List, [], _∷_, map}
-use Prim.Native.Nat.{ℕ}
 use lib.ListN.{length}
 use lib.Dec.{ltb}
 use Rattle.text.specs.Choice.{with-some}
-use Rattle.text.specs.Bytes.{Bytes, ascii, any, all, among, empty, distinct, lowered}
+use Rattle.text.specs.Bytes.{any, all, among, empty, distinct}
 use Rattle.text.specs.Utf8.{utf8}
 use Rattle.json.specs.Tree.{Member, nameOf, valueOf}
 use Rattle.json.proofs.Sound.{Sound}
-use Rattle.line.specs.Grammar.{paramName, paramValues}
-use Rattle.line.specs.Params.{named}
+use Rattle.line.specs.Grammar.{paramValues}
 use Rattle.line.proofs.Merging.{Settled}
 use Rattle.convert.specs.Table.{Map, maps, reserved}
 use Rattle.convert.specs.Model.{Entry, Kept, Card}

@@ -4,11 +4,11 @@ use mathlib.Core.Bool.{Bool, true, false}
 use mathlib.Core.List.{[], _∷_, _++_}
 use mathlib.Core.Logic.{_⊎_, inl, inr}
 use mathlib.Core.Option.{Option, none, some}
-use Prim.Native.Nat.{ℕ, suc, _-_, _≤_, _<_}
+use Prim.Native.Nat.{ℕ, _-_, _≤_, _<_}
 use native.Mathlib.Omega.{arith}
 use lib.ListN.{length, drop, take, getD, length-append, length-drop, take-append-drop}
 use lib.Dec.{eqb}
-use borrow.Author.Tests.{eqb-true, ltb-true, lt-ltb}
+use borrow.Author.Tests.{eqb-true, ltb-true}
 use Rattle.text.specs.Choice.{pick, with-some}
 use Rattle.text.specs.Bytes.{Bytes, is, between, all}
 use Rattle.text.specs.Reader.{Got, got, bad, first, on, when, taken, past, some-of}

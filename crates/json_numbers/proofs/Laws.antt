@@ -1,15 +1,14 @@
 -- Laws of numbers, over plain values.
-use mathlib.Core.Path.{_≡_, refl, sym, ap, _∙_}
-use mathlib.Core.Bool.{Bool, true, false, _||_}
-use mathlib.Core.List.{List, [], _∷_, _++_}
-use Prim.Native.Nat.{ℕ, _+_, _≤_, _<_}
-use native.Mathlib.Omega.{arith}
+use mathlib.Core.Path.{_≡_, refl, ap}
+use mathlib.Core.Bool.{true, false}
+use mathlib.Core.List.{[], _∷_}
+use Prim.Native.Nat.{ℕ, _+_, _≤_}
 use lib.ListN.{length, drop}
-use borrow.Author.Tests.{eq-eqb, ne-eqb}
+use borrow.Author.Tests.{ne-eqb}
 use Rattle.text.specs.declared.Read.{Read}
 use Rattle.text.specs.declared.Read.the-variants.{Next, Bad}
 use Rattle.text.specs.Bytes.{Bytes, is, isDigit}
-use Rattle.text.specs.Reader.{Got, got, bad, bind, under, on, when, taken, past, some-of}
+use Rattle.text.specs.Reader.{got, bad, taken, some-of}
 use Rattle.text.specs.Places.{byteAt, Gives, Passes}
 use Rattle.text.proofs.Places.{same-as, up, here, bad-here, by-under, by-on, not-on, by-when, not-when, bind-under}
 use Rattle.json.specs.Grammar.{isE}

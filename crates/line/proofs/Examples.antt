@@ -1,14 +1,13 @@
 -- Lines by worked examples: the grammar, parameters, folding.
 use mathlib.Core.Path.{_≡_, refl}
-use mathlib.Core.List.{List, [], _∷_, _++_, map}
-use mathlib.Core.Option.{Option, none, some}
-use Prim.Native.Nat.{ℕ}
+use mathlib.Core.List.{[], _∷_, _++_, map}
+use mathlib.Core.Option.{none, some}
 use lib.ListN.{replicate}
-use Rattle.text.specs.Bytes.{Bytes, ascii}
+use Rattle.text.specs.Bytes.{ascii}
 use Rattle.text.specs.Utf8.{encoded}
 use Rattle.line.specs.Physical.{physical, framed}
 use Rattle.line.specs.Unfold.{unfold′}
-use Rattle.line.specs.Grammar.{Param, param, Line, readLine}
+use Rattle.line.specs.Grammar.{param, readLine}
 use Rattle.line.specs.Text.{readText, splitText}
 use Rattle.line.specs.Write.{writeLine, fold}
 use Rattle.line.proofs.Opened.{line-opened}

@@ -1,8 +1,8 @@
 -- The classes of bytes, by RFC 6350's ranges, or 01's where it differs.
-use mathlib.Core.Bool.{Bool, true, false, _&&_, _||_, not}
+use mathlib.Core.Bool.{Bool, _&&_, _||_, not}
 use Prim.Native.Nat.{ℕ}
 use lib.Dec.{eqb, ltb}
-use Rattle.text.specs.Bytes.{between, isDigit, isLetter, isLower}
+use Rattle.text.specs.Bytes.{isDigit, isLetter, isLower}
 
 -- groups and names: letters, digits, hyphens
 unfoldable pub isName : ℕ → Bool

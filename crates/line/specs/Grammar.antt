@@ -1,13 +1,13 @@
 -- The line grammar (refusal 5): optional group and dot, name, parameters (`;name=value,value`), colon, value.
-use mathlib.Core.Bool.{Bool, true, false, _&&_, _||_, not}
-use mathlib.Core.List.{List, [], _∷_, _++_, map}
+use mathlib.Core.Bool.{Bool, _&&_, not}
+use mathlib.Core.List.{List, [], _∷_}
 use mathlib.Core.Option.{Option, none, some}
-use Prim.Native.Nat.{ℕ, zero, suc, _+_}
+use Prim.Native.Nat.{ℕ, _+_}
 use lib.ListN.{length}
-use lib.Dec.{eqb, leb}
-use Rattle.text.specs.Choice.{pick, provided}
-use Rattle.text.specs.Bytes.{Bytes, ascii, is, same, lowered, among}
-use Rattle.text.specs.Reader.{Got, got, bad, bind, under, on, Step, more, last, loop, one, some-of, run-of}
+use lib.Dec.{leb}
+use Rattle.text.specs.Choice.{provided}
+use Rattle.text.specs.Bytes.{Bytes, ascii, is, lowered, among}
+use Rattle.text.specs.Reader.{Got, got, bad, bind, on, Step, more, last, loop, one, some-of, run-of}
 use Rattle.line.specs.Class.{isName, isBare, isQuotable}
 
 -- a parameter's name and its values, one at least

@@ -1,5 +1,5 @@
 -- Parameters by name, in any letter case.
-use mathlib.Core.Bool.{Bool, true, false, not}
+use mathlib.Core.Bool.{Bool, not}
 use mathlib.Core.List.{List, [], _∷_, _++_, map}
 use Rattle.text.specs.Bytes.{Bytes, ascii, all, same, lowered, among, flat, keep}
 use Rattle.line.specs.Grammar.{Param, param, paramName, paramValues}

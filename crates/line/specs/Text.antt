@@ -1,10 +1,10 @@
 -- TEXT values: reading, splitting at bare separators, writing.
 use mathlib.Core.Bool.{Bool, true, false, _&&_, _||_}
-use mathlib.Core.List.{List, [], _∷_, _++_, map}
+use mathlib.Core.List.{List, [], _∷_, _++_}
 use mathlib.Core.Option.{Option, none, some}
 use Prim.Native.Nat.{ℕ}
 use lib.Dec.{eqb}
-use Rattle.text.specs.Choice.{pick, both}
+use Rattle.text.specs.Choice.{pick}
 use Rattle.text.specs.Bytes.{Bytes, onHead}
 
 -- ---- reading: `\\` `\,` `\;` `\n` `\N`; a bare comma or semicolon stands for itself

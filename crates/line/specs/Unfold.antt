@@ -1,7 +1,6 @@
 -- Unfolding: between BEGIN and END a line end followed by space or tab vanishes with that one byte, except before the first line.
 use mathlib.Core.Bool.{Bool, true, false}
 use mathlib.Core.List.{List, [], _∷_, _++_, tail}
-use Rattle.text.specs.Choice.{pick}
 use Rattle.text.specs.Bytes.{Bytes}
 use Rattle.text.specs.Reader.{first}
 use Rattle.line.specs.Class.{isBlank}

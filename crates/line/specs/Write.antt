@@ -1,10 +1,10 @@
 -- Writing lines: parameters, folding, CR LF.
-use mathlib.Core.Bool.{Bool, true, false, _&&_, _||_, not}
-use mathlib.Core.List.{List, [], _∷_, _++_, map}
-use Prim.Native.Nat.{ℕ, zero, suc, _+_}
+use mathlib.Core.Bool.{Bool, _&&_, _||_, not}
+use mathlib.Core.List.{List, [], _∷_, _++_}
+use Prim.Native.Nat.{ℕ, suc, _+_}
 use lib.Dec.{eqb, ltb}
 use Rattle.text.specs.Choice.{pick}
-use Rattle.text.specs.Bytes.{Bytes, ascii, any, all, same, uppered, empty}
+use Rattle.text.specs.Bytes.{Bytes, ascii, all, same, uppered, empty}
 use Rattle.line.specs.Class.{isBare}
 use Rattle.line.specs.Grammar.{Param, param, Line}
 

@@ -1,13 +1,13 @@
 -- Lists of calls, of the plain reader and of any machine that claims to read as it does.
 use mathlib.Core.Bool.{Bool, true, not, _||_}
-use mathlib.Core.List.{List, [], _∷_, _++_, map}
+use mathlib.Core.List.{List, [], _∷_}
 use Prim.Native.Nat.{ℕ}
 use lib.Dec.{eqb}
 use lib.ListN.{take}
 use Rattle.text.specs.Choice.{pick}
 use Rattle.text.specs.Bytes.{Bytes}
 use Rattle.convert.specs.Answers.{Answer, no, yes}
-use Rattle.stream.specs.Plain.{Reader, fresh, Whole, answerTo, Tells, more, refuses, closes, Told, readPiece, readEnd}
+use Rattle.stream.specs.Plain.{Reader, answerTo, Tells, more, refuses, closes, Told, readPiece, readEnd}
 
 -- a call with a piece, or an end call; each has a stem
 pub data Call : Type 0 where

@@ -1,8 +1,7 @@
 -- What demand 3 claims of a machine, for every list of calls from its first state and any card buffer.
 use mathlib.Core.Path.{_≡_}
-use mathlib.Core.Bool.{Bool, true, false, not, _&&_}
+use mathlib.Core.Bool.{Bool, true, false, not}
 use mathlib.Core.List.{List, [], _∷_, _++_, map}
-use Prim.Native.Nat.{ℕ, zero, suc}
 use Rattle.text.specs.Bytes.{Bytes, flat, keep, all, same}
 use Rattle.convert.specs.Answers.{Answer}
 use Rattle.stream.specs.Plain.{Reader, fresh, Whole, Tells, more, refuses, closes, Told}

@@ -3,7 +3,6 @@ use Rattle.text.specs.Bytes.{ascii, same, uppered}
 use native.Mathlib.Nat.{le-refl}
 use mathlib.Core.List.{[], _∷_}
 use denote.Ref.{now}
-use borrow.Author.Needs.{needs}
 use Rattle.output.proofs.Laws.{puts-as}
 use Rattle.output.proofs.Rows.{Here, first!, next!, none, stop!, all, in!, fit!, same!, length-puts}
 use Rattle.line_write.proofs.Naming.{param-is}
