@@ -22,12 +22,13 @@ use Rattle.json.specs.Read.{tree, refused, sound, readingOf, reading}
 use Rattle.json_grammar.proofs.Forms.{Short}
 use Rattle.json_grammar.proofs.Lists.{no-ws}
 use Rattle.json_grammar.proofs.Nested.{has-value}
+use Rattle.json_grammar.specs.Claims.{ReadsGrammar, FailsFirst}
 use Rattle.json_grammar.proofs.Accepted.{reads-text, accepts-only, accepts-bytes}
 use Rattle.json_grammar.proofs.Reached.{accepts-all}
 
 -- ---- acceptance
 
-pub reads-grammar : (d : ℕ) (s : Bytes) → Text d s ↔ ((j : Json) × (text d s ≡ got j []))
+pub reads-grammar : (d : ℕ) (s : Bytes) → ReadsGrammar d s
 reads-grammar d s = (accepts-all d s, λ x. accepts-only d s (x .0) (x .1))
 
 -- of bytes, whatever is left
@@ -72,7 +73,7 @@ module _ (d : ℕ) (u t : Bytes) (e : text d (u ++ t) ≡ bad t) (short : Short 
     with-it = no-more t refl;
   }
 
-pub place-first : (d : ℕ) (s t : Bytes) → text d s ≡ bad t → FirstBad d s (length s - length t)
+pub place-first : (d : ℕ) (s : Bytes) → FailsFirst d s
 place-first d s t e =
     let x = reads-text d .fail s t e in
     let n : length (x .0) ≡ length s - length t = omega (arith, ap length (x .1), length-append (x .0) t) in
