@@ -1,6 +1,6 @@
 // The validating reader: a JSON text of 65,536 bytes and a given depth at most, or the refusal with its place.
 use json_marks::skip_space;
-use json_names::sound_value;
+use json_sound::sound_value;
 use json_scan::text_end;
 use text::Read;
 use text::look;

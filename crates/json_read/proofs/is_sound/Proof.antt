@@ -2,8 +2,8 @@ use denote.Ref.{now}
 use mathlib.Core.Path.{refl}
 use lib.ListN.{length}
 use Rattle.json.specs.Syntax.{value}
-use Rattle.json_names.specs.Sound.{good}
-use Rattle.json_names.proofs.Judging.{judged-as, onward-as}
+use Rattle.json_sound.specs.Sound.{good}
+use Rattle.json_sound.proofs.Judging.{judged-as, onward-as}
 use Rattle.json_read.proofs.Laws.{sound-bad, sound-end}
 use borrow.Author.Needs.{needs}
 use Rattle.json_read.proofs.is_sound.Statement.{statement}

@@ -17,7 +17,7 @@ use Rattle.text.proofs.Fine.{got-rest, bind-inv}
 use Rattle.json.specs.Syntax.{token, characters, name}
 use Rattle.json.proofs.Fine.{token-fine, characters-fine}
 use Rattle.json_strings.specs.Spelled.{spelled, agree}
-use Rattle.json_names.specs.Kept.{meets, Names}
+use Rattle.json_sound.specs.Kept.{meets, Names}
 
 -- ---- one place after the other
 module _ (s : Bytes) (o : Option Bytes) where

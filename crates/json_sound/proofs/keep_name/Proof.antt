@@ -10,12 +10,12 @@ use Rattle.text.proofs.Places.{gives-as, at-next, at-bad, then-bad}
 use Rattle.text.proofs.Fine.{not-bad}
 use Rattle.json.specs.Syntax.{name}
 use Rattle.json.specs.Strings.{decode}
-use Rattle.json_names.specs.Kept.{meets}
+use Rattle.json_sound.specs.Kept.{meets}
 use Rattle.json_strings.proofs.Names.{name-string}
-use Rattle.json_names.proofs.Names.{name-takes, not-paired, already, is-there, meets-among, names-kept}
+use Rattle.json_sound.proofs.Names.{name-takes, not-paired, already, is-there, meets-among, names-kept}
 use borrow.Author.Needs.{needs}
-use Rattle.json_names.proofs.keep_name.Statement.{statement}
-use Rattle.json_names.proofs.keep_name.Tie as tie
+use Rattle.json_sound.proofs.keep_name.Statement.{statement}
+use Rattle.json_sound.proofs.keep_name.Tie as tie
 
 mark-requires : tie.Need-mark-requires
 mark-requires c κs = search needs

@@ -20,9 +20,9 @@ use Rattle.json.specs.Tree.{Json, jnull, jtrue, jfalse, jnum, jstr, jarr, jobj}
 use Rattle.json.specs.Syntax.{characters, number, four, scalar, elements, pairs, value}
 use Rattle.json_strings.specs.Spelled.{spelled}
 use Rattle.json_strings.proofs.Laws.{spelled-is}
-use Rattle.json_names.specs.Sound.{good, goodElems, goodMembers, Judged}
+use Rattle.json_sound.specs.Sound.{good, goodElems, goodMembers, Judged}
 use Rattle.json_scan.proofs.First.{as-flat, as-scalar, as-array, as-object}
-use Rattle.json_names.proofs.Judging.{judged-by, judged-all, judged-under}
+use Rattle.json_sound.proofs.Judging.{judged-by, judged-all, judged-under}
 
 -- a literal or a number
 one-only : {A : Type 0} (x : Got A) (j k : Json) (t : Bytes) → true ≡ good j → bind x (λ a u. got j u) ≡ got k t → true ≡ good k

@@ -16,8 +16,8 @@ ghost use Prim.Native.Nat.{_+_, _*_, _≤_, _<_};
 ghost use lib.ListN.{length, take, drop};
 ghost use Rattle.json.specs.Syntax.{elements, pairs, value};
 ghost use Rattle.json_strings.specs.Spelled.{spelled};
-ghost use Rattle.json_names.specs.Sound.{goodElems, goodMembers, good, Judged, Onward};
-ghost use Rattle.json_names.specs.Kept.{meets, Keeps, KeepsIn};
+ghost use Rattle.json_sound.specs.Sound.{goodElems, goodMembers, good, Judged, Onward};
+ghost use Rattle.json_sound.specs.Kept.{meets, Keeps, KeepsIn};
 
 fn wide(place: u16) -> usize
     ensures { λ r. ⌜ r ≡ place ⌝ }

@@ -5,10 +5,10 @@ use mathlib.Core.Path.{_≡_, refl, sym, ap, _∙_}
 use Prim.Native.Nat.{ℕ, _≤_, _-_}
 use lib.ListN.{length, take, drop, length-take}
 use Rattle.json_strings.specs.Spelled.{spelled, agree}
-use Rattle.json_names.specs.Kept.{meets}
-use Rattle.json_names.proofs.Names.{meets-none, meets-yes, meets-no}
-use Rattle.json_names.proofs.is_kept.Statement.{statement}
-use Rattle.json_names.proofs.is_kept.Tie as tie
+use Rattle.json_sound.specs.Kept.{meets}
+use Rattle.json_sound.proofs.Names.{meets-none, meets-yes, meets-no}
+use Rattle.json_sound.proofs.is_kept.Statement.{statement}
+use Rattle.json_sound.proofs.is_kept.Tie as tie
 
 abbrev Inv-loop : tie.InvT-loop
 Inv-loop s at places count k₀ k = (k ≤ count) × (meets s (spelled s at) (take count places) ≡ meets s (spelled s at) (drop k (take count places)))

@@ -9,32 +9,32 @@ use borrow.Author.Tests.{not-true, not-false}
 use borrow.Rule.Slice.PartMut.{same-len-mid, take-put}
 use Rattle.text.proofs.Places.{turn-as}
 use Rattle.json.specs.Syntax.{value}
-use Rattle.json_names.specs.Sound.{good}
-use Rattle.json_names.specs.Kept.{KeepsIn}
-use Rattle.json_names.proofs.Judging.{judged-as, onward-as, onward-up, onward-stop, scalar-onward}
-use Rattle.json_names.proofs.Walk.{ToElems, elems-none, elems-begin, elems-false, elems-on, elems-last, ToMembers, members-none, members-begin, members-name, members-false, members-on, members-last}
-use Rattle.json_names.proofs.Values.{judges-alone, judges-string, judges-flat, judges-scalar, judges-array, judges-object}
+use Rattle.json_sound.specs.Sound.{good}
+use Rattle.json_sound.specs.Kept.{KeepsIn}
+use Rattle.json_sound.proofs.Judging.{judged-as, onward-as, onward-up, onward-stop, scalar-onward}
+use Rattle.json_sound.proofs.Walk.{ToElems, elems-none, elems-begin, elems-false, elems-on, elems-last, ToMembers, members-none, members-begin, members-name, members-false, members-on, members-last}
+use Rattle.json_sound.proofs.Values.{judges-alone, judges-string, judges-flat, judges-scalar, judges-array, judges-object}
 use Prim.Native.Nat.{ℕ, _<_}
 use borrow.Fn.Kinds.{In}
 use borrow.Fn.PlainCycle.{Measures, is, falls, and}
-use Rattle.json_names.proofs.sound_array.Reads as sound-array
-use Rattle.json_names.proofs.sound_array.Kinds as sound-array-kinds
-use Rattle.json_names.proofs.+sound_array+sound_object+sound_value.Lts-sound_array as sound-array-lts
-use Rattle.json_names.proofs.sound_object.Reads as sound-object
-use Rattle.json_names.proofs.sound_object.Kinds as sound-object-kinds
-use Rattle.json_names.proofs.+sound_array+sound_object+sound_value.Lts-sound_object as sound-object-lts
-use Rattle.json_names.proofs.sound_value.Reads as sound-value
-use Rattle.json_names.proofs.sound_value.Kinds as sound-value-kinds
-use Rattle.json_names.proofs.+sound_array+sound_object+sound_value.Lts-sound_value as sound-value-lts
+use Rattle.json_sound.proofs.sound_array.Reads as sound-array
+use Rattle.json_sound.proofs.sound_array.Kinds as sound-array-kinds
+use Rattle.json_sound.proofs.+sound_array+sound_object+sound_value.Lts-sound_array as sound-array-lts
+use Rattle.json_sound.proofs.sound_object.Reads as sound-object
+use Rattle.json_sound.proofs.sound_object.Kinds as sound-object-kinds
+use Rattle.json_sound.proofs.+sound_array+sound_object+sound_value.Lts-sound_object as sound-object-lts
+use Rattle.json_sound.proofs.sound_value.Reads as sound-value
+use Rattle.json_sound.proofs.sound_value.Kinds as sound-value-kinds
+use Rattle.json_sound.proofs.+sound_array+sound_object+sound_value.Lts-sound_value as sound-value-lts
 use Rattle.json_chars.proofs.string_end.Reads as string-end-reads
 use Rattle.json_equal.proofs.is_paired.Reads as is-paired-reads
 use Rattle.json_marks.proofs.separator.Reads as separator-reads
 use Rattle.json_marks.proofs.skip_space.Reads as skip-space-reads
-use Rattle.json_names.proofs.keep_name.Reads as keep-name-reads
+use Rattle.json_sound.proofs.keep_name.Reads as keep-name-reads
 use Rattle.json_scan.proofs.scalar_end.Reads as scalar-end-reads
 use Rattle.text.proofs.look.Reads as look-reads
-use Rattle.json_names.proofs.+sound_array+sound_object+sound_value.{statement}
-use Rattle.json_names.proofs.+sound_array+sound_object+sound_value.Tie.{close}
+use Rattle.json_sound.proofs.+sound_array+sound_object+sound_value.{statement}
+use Rattle.json_sound.proofs.+sound_array+sound_object+sound_value.Tie.{close}
 
 abbrev μ-sound-array : Measures 2 sound-array-kinds.ps ℕ
 μ-sound-array κs a = a .1 .1 .0 + a .1 .1 .0 + 1

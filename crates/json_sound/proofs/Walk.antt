@@ -23,9 +23,9 @@ use Rattle.json.specs.Strings.{decode}
 use Rattle.json.proofs.Fine.{item-fine, pair-fine, value-fine}
 use Rattle.json_marks.proofs.Laws.{skip-to}
 use Rattle.json_marks.proofs.Separators.{sep-go, sep-stopped, sep-adds}
-use Rattle.json_names.specs.Sound.{goodName, good, goodElems, goodMembers, Judged}
-use Rattle.json_names.specs.Kept.{Names, KeptName, Keeps}
-use Rattle.json_names.proofs.Judging.{judged-by, loop-judged, loop-ended}
+use Rattle.json_sound.specs.Sound.{goodName, good, goodElems, goodMembers, Judged}
+use Rattle.json_sound.specs.Kept.{Names, KeptName, Keeps}
+use Rattle.json_sound.proofs.Judging.{judged-by, loop-judged, loop-ended}
 
 -- ---- elements
 
