@@ -3,7 +3,6 @@ use mathlib.Core.Path.{_≡_, refl, sym, ap, subst, _∙_}
 use mathlib.Core.Bool.{Bool, true, false, _&&_, not}
 use mathlib.Core.List.{[], _∷_, _++_, tail, append-assoc}
 use mathlib.Core.Logic.{_⊎_, inl, inr}
-use mathlib.Core.Option.{some}
 use Prim.Native.Nat.{ℕ}
 use lib.Dec.{eqb}
 use borrow.Author.Tests.{eqb-true, ltb-false}
@@ -14,16 +13,15 @@ use Rattle.text.proofs.Readers.{not-bad, got-rest, got-what, bind-inv, under-in
 use Rattle.json.specs.Grammar.{isSpace, isE}
 use Rattle.json.specs.Tree.{Json}
 use Rattle.json.specs.Syntax.{skip, opt, digits, int, frac, sign, exp, number, four}
-use Rattle.output.specs.Wanted.{chained}
 use Rattle.json_compact.specs.Squeezed.{squeezed}
 use Rattle.json_compact.proofs.Firsts.{byte-first, squeezed-skip}
 
 -- from s, x is written, and then what is written from t
 pub record Copied (s x t : Bytes) : Type 0 where
-  pub so : (r : Bytes) → squeezed t ≡ some r → squeezed s ≡ some (x ++ r)
+  pub so : (r : Bytes) → squeezed t ≡ r → squeezed s ≡ x ++ r
 
 pub copied-then : {s t u : Bytes} (x y : Bytes) → Copied s x t → Copied t y u → Copied s (x ++ y) u
-copied-then x y h k = record { so = λ r e. h .so (y ++ r) (k .so r e) ∙ ap some (sym (append-assoc x y r)) }
+copied-then x y h k = record { so = λ r e. h .so (y ++ r) (k .so r e) ∙ sym (append-assoc x y r) }
 
 -- a byte that is copied
 abbrev pub plain : ℕ → Bool
@@ -45,12 +43,11 @@ plain-is : (b : ℕ) → plain b ≡ true → (c : ℕ) → eqb c b ≡ true →
 plain-is b h c e = rw (eqb-true c b e) h
 
 copied-first : (s : Bytes) → plain (first s) ≡ true → Copied s (first s ∷ []) (tail s)
-unfolding chained
 copied-first [] h = not-both h plain-256
 copied-first (c ∷ s) h =
     let k = and-right (not (isSpace c)) _ h in
     let b = byte-first c s (not-true (isSpace c) (and-left _ _ h)) (not-true (eqb c 34) (and-left _ _ k)) (and-right (not (eqb c 34)) _ k) in
-    record { so = λ r e. b ∙ ap (chained (some (c ∷ []))) e }
+    record { so = λ r e. b ∙ ap (λ (y : Bytes). c ∷ y) e }
 
 pub copied-is : (b : ℕ) → plain b ≡ true → (s : Bytes) → eqb (first s) b ≡ true → Copied s (b ∷ []) (tail s)
 copied-is b h s e = subst (λ (c : ℕ). Copied s (c ∷ []) (tail s)) (eqb-true (first s) b e) (copied-first s (plain-is b h (first s) e))
@@ -64,7 +61,7 @@ abbrev pub Copies : (Bytes → Got Bytes) → Type 0
 Copies R = (s x t : Bytes) → R s ≡ got x t → Copied s x t
 
 copied-none : (s x t : Bytes) → got [] s ≡ got x t → Copied s x t
-copied-none s x t e = record { so = λ r q. ap squeezed (got-rest e) ∙ q ∙ ap (λ (y : Bytes). some (y ++ r)) (got-what e) }
+copied-none s x t e = record { so = λ r q. ap squeezed (got-rest e) ∙ q ∙ ap (λ (y : Bytes). y ++ r) (got-what e) }
 
 copies-on : (p : ℕ → Bool) (f : ℕ → Bytes → Got Bytes) (g : Bytes → Got Bytes) → ((c : ℕ) → p c ≡ true → plain c ≡ true)
     → ((c : ℕ) (s x t : Bytes) → f c s ≡ got x t → (y : Bytes) × (c ∷ y ≡ x) × Copied s y t) → Copies g → Copies (on p f g)

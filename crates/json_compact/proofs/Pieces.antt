@@ -1,40 +1,38 @@
 -- A text piece by piece: the laws of `squeezed`, and one turn of the loop.
 use mathlib.Core.Path.{_≡_, refl, sym, ap, _∙_}
 use mathlib.Core.Bool.{true, false}
-use mathlib.Core.List.{[], _∷_}
-use mathlib.Core.Option.{Option, none, some}
+use mathlib.Core.List.{[], _∷_, _++_}
 use Prim.Native.Nat.{ℕ, zero, suc, _+_, _≤_, _<_}
 use native.Mathlib.Omega.{arith}
 use lib.ListN.{length, drop, getD, length-drop, drop-of-length-le}
 use Rattle.text.specs.Bytes.{Bytes, is, between}
-use Rattle.text.specs.Reader.{Got, got, bad, under}
+use Rattle.text.specs.Reader.{Got, got, bad}
 use Rattle.text.specs.Places.{byteAt, Gives}
 use Rattle.text.specs.declared.Read.{Read}
 use Rattle.text.specs.declared.Read.the-variants.{Next, Bad}
 use Rattle.text.proofs.Cases.{byBool}
 use Rattle.text.proofs.Places.{byte-default, gives-as, at-next, at-bad, on-yes, on-no}
-use Rattle.text.proofs.Readers.{Takes, takes-on, takes-got, takes-under, takes-less, takes-bad}
+use Rattle.text.proofs.Readers.{not-bad, got-what, under-inv, Takes, takes-on, takes-got, takes-under, takes-less, takes-bad}
 use Rattle.json.specs.Grammar.{isSpace}
 use Rattle.json.specs.Strings.{decode}
 use Rattle.json.specs.Syntax.{characters}
 use Rattle.json.proofs.Fine.{space-256, below-256}
 use Rattle.json.proofs.Takes.{takes-characters}
+use Rattle.json.specs.Compact.{quoted}
+use Rattle.json_strings.specs.Spelled.{textAt}
 use Rattle.json_strings.proofs.Laws.{spelled-is}
-use Rattle.output.specs.Wanted.{chained}
-use Rattle.output.proofs.Wanted.{no-some}
-use Rattle.json_write.specs.Respelled.{requoted}
-use Rattle.json_compact.specs.Squeezed.{inQuotes, piece, pieceOf, onward, squeezedIn, squeezed}
+use Rattle.json_compact.specs.Squeezed.{inQuotes, piece, onward, squeezedIn, squeezed}
 
 takes-piece : Takes 1 piece
 unfolding piece
 takes-piece =
-    takes-on isSpace space-256 (omega arith) (λ c. takes-got (some [])) (takes-on (is 34) refl (omega arith) (λ c. takes-under (λ us. inQuotes (decode us)) (takes-less takes-characters))
-    (takes-on (between 0 255) (below-256 0 255 refl) (omega arith) (λ c. takes-got (some (c ∷ []))) (takes-bad 1)))
+    takes-on isSpace space-256 (omega arith) (λ c. takes-got []) (takes-on (is 34) refl (omega arith) (λ c. takes-under (λ us. inQuotes (decode us)) (takes-less takes-characters))
+    (takes-on (between 0 255) (below-256 0 255 refl) (omega arith) (λ c. takes-got (c ∷ [])) (takes-bad 1)))
 
 -- ---- a bound that is high enough plays no part
 
-onward-same : (s : Bytes) (x : Got (Option Bytes)) (f g : Bytes → Option Bytes) → piece s ≡ x → ((t : Bytes) → length t < length s → f t ≡ g t) → onward x f ≡ onward x g
-onward-same s (got w t) f g e h = ap (chained w) (h t (omega (arith, takes-piece .less s w t e)))
+onward-same : (s : Bytes) (x : Got Bytes) (f g : Bytes → Bytes) → piece s ≡ x → ((t : Bytes) → length t < length s → f t ≡ g t) → onward x f ≡ onward x g
+onward-same s (got w t) f g e h = ap (λ (x : Bytes). w ++ x) (h t (omega (arith, takes-piece .less s w t e)))
 onward-same s (bad t) f g e h = refl
 
 enough : (n m : ℕ) (s : Bytes) → length s ≤ n → length s ≤ m → squeezedIn n s ≡ squeezedIn m s
@@ -50,29 +48,29 @@ enough (suc n) (suc m) (c ∷ s) h k =
 
 -- ---- the first piece
 
-pub squeezed-nil : squeezed [] ≡ some []
+pub squeezed-nil : squeezed [] ≡ []
 unfolding squeezed squeezedIn
 squeezed-nil = refl
 
-pub squeezed-on : (s : Bytes) (w : Option Bytes) (t : Bytes) → piece s ≡ got w t → squeezed s ≡ chained w (squeezed t)
+pub squeezed-on : (s : Bytes) (w : Bytes) (t : Bytes) → piece s ≡ got w t → squeezed s ≡ w ++ squeezed t
 unfolding squeezed squeezedIn
 squeezed-on [] w t e = absurd (omega (arith, takes-piece .less [] w t e))
 squeezed-on (c ∷ s) w t e =
-    ap (λ (x : Got (Option Bytes)). onward x (λ t. squeezedIn (length s) t)) e
-    ∙ ap (chained w) (enough (length s) (length t) t (omega (arith, takes-piece .less (c ∷ s) w t e)) (omega arith))
+    ap (λ (x : Got Bytes). onward x (λ t. squeezedIn (length s) t)) e
+    ∙ ap (λ (x : Bytes). w ++ x) (enough (length s) (length t) t (omega (arith, takes-piece .less (c ∷ s) w t e)) (omega arith))
 
-pub squeezed-bad : (s t : Bytes) → 0 < length s → piece s ≡ bad t → squeezed s ≡ none
+pub squeezed-bad : (s t : Bytes) → 0 < length s → piece s ≡ bad t → squeezed s ≡ []
 unfolding squeezed squeezedIn
 squeezed-bad [] t l e = absurd (omega arith)
-squeezed-bad (c ∷ s) t l e = ap (λ (x : Got (Option Bytes)). onward x (λ t. squeezedIn (length s) t)) e
+squeezed-bad (c ∷ s) t l e = ap (λ (x : Got Bytes). onward x (λ t. squeezedIn (length s) t)) e
 
 -- ---- by place
 
 module _ (s : Bytes) (i : ℕ) {r : Read} (h : Gives s i (piece (drop i s)) r) where
-  pub turn-on : {e : ℕ} → r ≡ Next e → squeezed (drop i s) ≡ chained (pieceOf (piece (drop i s))) (squeezed (drop e s))
+  pub turn-on : {e : ℕ} → r ≡ Next e → (w : Bytes) × (piece (drop i s) ≡ got w (drop e s)) × (squeezed (drop i s) ≡ w ++ squeezed (drop e s))
   turn-on {e} q =
       let w = at-next (piece (drop i s)) (gives-as h q) in
-      squeezed-on (drop i s) (w .0) (drop e s) (w .1) ∙ ap (λ (x : Got (Option Bytes)). chained (pieceOf x) (squeezed (drop e s))) (sym (w .1))
+      (w .0, w .1, squeezed-on (drop i s) (w .0) (drop e s) (w .1))
 
   pub turn-less : {e : ℕ} → r ≡ Next e → (i < e) × (e ≤ length s)
   turn-less {e} q =
@@ -82,12 +80,12 @@ module _ (s : Bytes) (i : ℕ) {r : Read} (h : Gives s i (piece (drop i s)) r) w
       let m = rw (length-drop, length-drop) at l in
       (omega (arith, m, g .within), omega (arith, g .within))
 
-  pub turn-bad : {b : ℕ} → i < length s → r ≡ Bad b → squeezed (drop i s) ≡ none
+  pub turn-bad : {b : ℕ} → i < length s → r ≡ Bad b → squeezed (drop i s) ≡ []
   turn-bad {b} l q =
       let n : 0 < length (drop i s) = simp length-drop (omega arith) in
       squeezed-bad (drop i s) (drop b s) n (at-bad (piece (drop i s)) (gives-as h q))
 
-pub turn-end : (s : Bytes) (i : ℕ) → length s ≤ i → squeezed (drop i s) ≡ some []
+pub turn-end : (s : Bytes) (i : ℕ) → length s ≤ i → squeezed (drop i s) ≡ []
 turn-end s i h = rw (drop-of-length-le s h) squeezed-nil
 
 -- ---- what a piece is written as
@@ -95,25 +93,22 @@ turn-end s i h = rw (drop-of-length-le s h) squeezed-nil
 pub byte-same : (s : Bytes) (i : ℕ) → i < length s → getD s i 0 ≡ byteAt s i
 byte-same s i h = byte-default s i 0 256 h
 
-module _ (s : Bytes) (i b : ℕ) (e : b ≡ byteAt s i) where
-  pub piece-space : isSpace b ≡ true → pieceOf (piece (drop i s)) ≡ some []
+module _ (s : Bytes) (i b : ℕ) (e : b ≡ byteAt s i) (w t : Bytes) (p : piece (drop i s) ≡ got w t) where
+  pub piece-space : isSpace b ≡ true → [] ≡ w
   unfolding piece
-  piece-space h = ap pieceOf (on-yes isSpace s i b e _ _ h)
+  piece-space h = got-what (sym (on-yes isSpace s i b e _ _ h) ∙ p)
 
   module _ (h : isSpace b ≡ false) where
-    string-wanted : (y : Got Bytes) → characters (drop (i + 1) s) ≡ y → (x : Bytes) → pieceOf (under (λ us. inQuotes (decode us)) y) ≡ some x → requoted s (i + 1) ≡ some x
-    unfolding requoted
-    string-wanted (got us t) q x p = ap inQuotes (spelled-is s (i + 1) us t q) ∙ p
-    string-wanted (bad t) q x p = no-some p
+    pub piece-string : is 34 b ≡ true → quoted (textAt s (i + 1)) [] ≡ w
+    unfolding piece textAt
+    piece-string k =
+        let j = under-inv (λ us. inQuotes (decode us)) (characters (drop (i + 1) s)) (sym (on-no isSpace s i b e _ _ h ∙ on-yes (is 34) s i b e _ _ k) ∙ p) in
+        ap inQuotes (spelled-is s (i + 1) (j .0) t (j .1)) ∙ j .2
 
-    pub piece-string : is 34 b ≡ true → (x : Bytes) → pieceOf (piece (drop i s)) ≡ some x → requoted s (i + 1) ≡ some x
+    pub piece-byte : is 34 b ≡ false → b ∷ [] ≡ w
     unfolding piece
-    piece-string k x p = string-wanted (characters (drop (i + 1) s)) refl x (sym (ap pieceOf (on-no isSpace s i b e _ _ h ∙ on-yes (is 34) s i b e _ _ k)) ∙ p)
-
-    pub piece-byte : is 34 b ≡ false → (x : Bytes) → pieceOf (piece (drop i s)) ≡ some x → some (b ∷ []) ≡ some x
-    unfolding piece
-    piece-byte k x p =
+    piece-byte k =
         let f = on-no isSpace s i b e _ _ h ∙ on-no (is 34) s i b e _ _ k in
         byBool (between 0 255 b)
-        (λ g. sym (ap pieceOf (f ∙ on-yes (between 0 255) s i b e _ _ g)) ∙ p)
-        (λ g. no-some (sym (ap pieceOf (f ∙ on-no (between 0 255) s i b e _ _ g)) ∙ p))
+        (λ g. got-what (sym (f ∙ on-yes (between 0 255) s i b e _ _ g) ∙ p))
+        (λ g. absurd (not-bad (sym (f ∙ on-no (between 0 255) s i b e _ _ g) ∙ p)))

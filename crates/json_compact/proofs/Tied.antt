@@ -1,7 +1,7 @@
 -- A value of a JSON text is squeezed to its tree's compact text.
 use mathlib.Core.Path.{_≡_, refl, sym, ap, subst, _∙_}
 use mathlib.Core.Bool.{true, false}
-use mathlib.Core.List.{[], _∷_, tail, append-assoc}
+use mathlib.Core.List.{[], _∷_, _++_, tail, append-assoc}
 use mathlib.Core.Logic.{_⊎_, inl, inr}
 use mathlib.Core.Option.{Option, some}
 use Prim.Native.Nat.{ℕ, zero, suc}
@@ -18,23 +18,22 @@ use Rattle.json.specs.Tree.{Json, jnull, jtrue, jfalse, jnum, jstr}
 use Rattle.json.specs.Syntax.{skip, token, characters, number, four, scalar, sep, name}
 use Rattle.json.specs.Strings.{decode, decoded}
 use Rattle.json.specs.Compact.{spelledAll, quoted, written}
-use Rattle.output.specs.Wanted.{chained}
 use Rattle.json_compact.specs.Squeezed.{inQuotes, squeezed}
 use Rattle.json_compact.proofs.Firsts.{string-first, squeezed-skip}
 use Rattle.json_compact.proofs.Copied.{Copied, plain, copied-is, copied-skip, copies-number, copied-one, copied-four}
 
 -- from s, the tree of j is written, if it has one, and then what is written from t
 pub record Tied (s : Bytes) (j : Json) (t : Bytes) : Type 0 where
-  pub so : (k : Json) → decoded j ≡ some k → (r : Bytes) → squeezed t ≡ some r → squeezed s ≡ some (written k r)
+  pub so : (k : Json) → decoded j ≡ some k → (r : Bytes) → squeezed t ≡ r → squeezed s ≡ written k r
 
 -- ---- strings and names
 
-quoted-from : (s us t v r : Bytes) → eqb (first s) 34 ≡ true → characters (tail s) ≡ got us t → decode us ≡ some v → squeezed t ≡ some r → squeezed s ≡ some (quoted v r)
-unfolding chained quoted
+quoted-from : (s us t v r : Bytes) → eqb (first s) 34 ≡ true → characters (tail s) ≡ got us t → decode us ≡ some v → squeezed t ≡ r → squeezed s ≡ quoted v r
+unfolding quoted
 quoted-from [] us t v r h e d q = not-both h refl
 quoted-from (c ∷ s) us t v r h e d q =
-    ap (λ (x : ℕ). squeezed (x ∷ s)) (eqb-true c 34 h) ∙ string-first s us t e ∙ ap (λ (w : Option Bytes). chained (inQuotes w) (squeezed t)) d
-    ∙ ap (chained (inQuotes (some v))) q ∙ ap (λ (x : Bytes). some (34 ∷ x)) (append-assoc (spelledAll v) (34 ∷ []) r)
+    ap (λ (x : ℕ). squeezed (x ∷ s)) (eqb-true c 34 h) ∙ string-first s us t e ∙ ap (λ (w : Option Bytes). inQuotes w ++ squeezed t) d
+    ∙ ap (λ (y : Bytes). inQuotes (some v) ++ y) q ∙ ap (λ (x : Bytes). 34 ∷ x) (append-assoc (spelledAll v) (34 ∷ []) r)
 
 one-inv : (b : ℕ) (s : Bytes) (x : ℕ) (t : Bytes) → one b s ≡ got x t → (eqb (first s) b ≡ true) × (tail s ≡ t)
 unfolding one
@@ -48,7 +47,7 @@ pub plain-marks : (plain 58 ≡ true) × (plain 44 ≡ true) × (plain 93 ≡ tr
 unfolding isSpace between
 plain-marks = (refl, refl, refl, refl, refl, refl, refl)
 
-pub named : (s k t : Bytes) → name s ≡ got k t → (v r : Bytes) → decode k ≡ some v → squeezed t ≡ some r → squeezed s ≡ some (quoted v (58 ∷ r))
+pub named : (s k t : Bytes) → name s ≡ got k t → (v r : Bytes) → decode k ≡ some v → squeezed t ≡ r → squeezed s ≡ quoted v (58 ∷ r)
 unfolding name token
 named s k t e v r d q =
     let i = bind-inv (token 34 s) _ e in
@@ -65,24 +64,24 @@ unfolding decoded written
 tied-string s us t h e = record {
   so = λ k d r q.
       let i = map-inv jstr (decode us) d in
-      quoted-from s us t (i .0) r h e (i .1) q ∙ ap (λ (x : Json). some (written x r)) (i .2);
+      quoted-from s us t (i .0) r h e (i .1) q ∙ ap (λ (x : Json). written x r) (i .2);
 }
 
 tied-number : (s x t : Bytes) → Copied s x t → Tied s (jnum x) t
 unfolding decoded written
-tied-number s x t h = record { so = λ k d r q. h .so r q ∙ ap (λ (x : Json). some (written x r)) (some-same d) }
+tied-number s x t h = record { so = λ k d r q. h .so r q ∙ ap (λ (x : Json). written x r) (some-same d) }
 
 tied-true : (s t : Bytes) → Copied s (116 ∷ 114 ∷ 117 ∷ 101 ∷ []) t → Tied s jtrue t
 unfolding decoded written
-tied-true s t h = record { so = λ k d r q. h .so r q ∙ ap (λ (x : Json). some (written x r)) (some-same d) }
+tied-true s t h = record { so = λ k d r q. h .so r q ∙ ap (λ (x : Json). written x r) (some-same d) }
 
 tied-null : (s t : Bytes) → Copied s (110 ∷ 117 ∷ 108 ∷ 108 ∷ []) t → Tied s jnull t
 unfolding decoded written
-tied-null s t h = record { so = λ k d r q. h .so r q ∙ ap (λ (x : Json). some (written x r)) (some-same d) }
+tied-null s t h = record { so = λ k d r q. h .so r q ∙ ap (λ (x : Json). written x r) (some-same d) }
 
 tied-false : (s u t : Bytes) → Copied s (102 ∷ []) u → Copied u (97 ∷ 108 ∷ 115 ∷ 101 ∷ []) t → Tied s jfalse t
 unfolding decoded written
-tied-false s u t h c = record { so = λ k d r q. h .so _ (c .so r q) ∙ ap (λ (x : Json). some (written x r)) (some-same d) }
+tied-false s u t h c = record { so = λ k d r q. h .so _ (c .so r q) ∙ ap (λ (x : Json). written x r) (some-same d) }
 
 module _ (s : Bytes) (u : Json) (t : Bytes) where
   read-true : four 116 114 117 101 jtrue s ≡ got u t → Tied s u t

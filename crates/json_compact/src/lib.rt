@@ -10,14 +10,13 @@ use text::look;
 ghost use Prim.Native.Nat.{_<_};
 ghost use lib.ListN.{length, drop};
 ghost use Rattle.text.specs.Places.{Gives};
-ghost use Rattle.output.specs.Wanted.{Writes};
-ghost use Rattle.json_compact.specs.Compacts.{Compacts};
-ghost use Rattle.json_compact.specs.Squeezed.{piece, pieceOf};
+ghost use Rattle.json_compact.specs.Compacts.{Compacts, WritesPiece};
+ghost use Rattle.json_compact.specs.Squeezed.{piece};
 
-// The piece at a place.
+// The piece at a place, where there is one.
 fn put_piece(out: &mut [u8], s: &[u8], at: usize) -> Wrote
     requires { ⌜ at < length (now s) ⌝ }
-    ensures { λ r. ⌜ Writes (pieceOf (piece (drop at (now (s .entry))))) (now (out .entry)) r (now (out .exit)) ⌝ }
+    ensures { λ r. ⌜ WritesPiece (piece (drop at (now (s .entry)))) (now (out .entry)) r (now (out .exit)) ⌝ }
 {
     let b = look(s, at);
     if is_space(b) {
@@ -47,7 +46,7 @@ fn piece_end(s: &[u8], at: usize) -> Read
     Read::Bad(at)
 }
 
-// The compact text of the value that a text holds. What a text that is no JSON gives is named by `squeezed`; callers have read it first.
+// The compact text of the value that a text holds. (A text that is no JSON is written piece by piece too, up to where no piece is read.)
 pub fn put_compact(out: &mut [u8], s: &[u8]) -> Wrote
     ensures { λ r. ⌜ Compacts (now (s .entry)) (now (out .entry)) r (now (out .exit)) ⌝ }
 {

@@ -1,17 +1,17 @@
 // What a string of a JSON text stands for, into a lent part.
+use json_equal::is_paired;
 use json_strings::Byte;
 use json_strings::next_byte;
 use output::Wrote;
-ghost use Rattle.output.specs.Wanted.{Writes};
-ghost use Rattle.json_strings.specs.Spelled.{spelled};
+ghost use Rattle.output.specs.Put.{Puts};
+ghost use Rattle.json_strings.specs.Spelled.{textAt};
 
-// The decoded bytes of the string whose first quote stands just before a place. Where a surrogate is alone in it, or it is no string,
-// the bytes before that are written, and none from a place past the end: the contract then says only that some are, and how many.
-// (`json_equal::is_paired` tells which it is.)
+// The decoded bytes of the string whose first quote stands just before a place. Nothing is written where it stands for nothing: a surrogate
+// is alone in it, it is no string, or the place is past the end.
 pub fn decode_into<'a, 'b>(out: &'a mut [u8], s: &'b [u8], at: usize) -> Wrote
-    ensures { λ r. ⌜ Writes (spelled (now (s .entry)) at) (now (out .entry)) r (now (out .exit)) ⌝ }
+    ensures { λ r. ⌜ Puts (now (out .entry)) (textAt (now (s .entry)) at) r (now (out .exit)) ⌝ }
 {
-    if at > s.len() {
+    if !is_paired(s, at) {
         return Wrote::Bytes(0);
     }
     let mut i = at;

@@ -1,7 +1,7 @@
 // The validating reader: a JSON text of 65,536 bytes and a given depth at most, or the refusal with its place.
 use json_marks::skip_space;
-use json_sound::sound_value;
 use json_scan::text_end;
+use json_sound::sound_value;
 use text::Read;
 use text::look;
 ghost use mathlib.Core.Path.{_≡_};

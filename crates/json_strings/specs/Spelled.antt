@@ -5,7 +5,7 @@ use mathlib.Core.Option.{Option, none, some}
 use Prim.Native.Nat.{ℕ, zero, suc, _+_, _-_, _*_, _/_, _%_, _≤_, _<_}
 use lib.ListN.{length, drop}
 use lib.Dec.{eqb, ltb}
-use Rattle.text.specs.Choice.{pick}
+use Rattle.text.specs.Choice.{pick, with-some}
 use Rattle.text.specs.Bytes.{Bytes, same}
 use Rattle.text.specs.Utf8.{encode}
 use Rattle.text.specs.Reader.{Got, got, bad}
@@ -24,6 +24,10 @@ told h (bad t) = none
 -- the bytes that the string from a place on stands for
 unfoldable pub spelled : Bytes → ℕ → Option Bytes
 spelled s at = told 0 (units (drop at s))
+
+-- the same as bytes: no bytes where it stands for nothing
+unfoldable pub textAt : Bytes → ℕ → Bytes
+textAt s at = with-some (spelled s at) (λ x. x) []
 
 abbrev pub pairOf : ℕ → Bytes → ℕ → Option Bytes
 pairOf high s at = told high (units (drop at s))

@@ -32,6 +32,14 @@ pub spell-out : (s : Bytes) (i : ℕ) → length s ≤ i → spelledAll (drop i 
 unfolding spelledAll
 spell-out s i h = rw (drop-of-length-le s h)
 
+pub spelled-none : spelledAll [] ≡ []
+unfolding spelledAll
+spelled-none = refl
+
+pub spelled-first : {b : ℕ} {y u : Bytes} → y ≡ b ∷ u → spelledAll y ≡ spelled b ++ spelledAll u
+unfolding spelledAll
+spelled-first e = ap spelledAll e
+
 -- a string, a name with its colon, and a member, as the rows of pieces that are written
 pub quoted-row : (s : Bytes) → flat ((34 ∷ []) ∷ spelledAll s ∷ (34 ∷ []) ∷ []) ≡ quoted s []
 unfolding flat quoted

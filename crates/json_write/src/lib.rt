@@ -1,4 +1,5 @@
 // Compact JSON: strings, numbers, names and members, each written to a lent part of the output. (`output::put_text` writes true, false and null.)
+use json_equal::is_paired;
 use json_strings::Byte;
 use json_strings::next_byte;
 use output::Wrote;
@@ -8,11 +9,10 @@ ghost use mathlib.Core.Path.{_≡_};
 ghost use mathlib.Core.List.{_∷_, []};
 ghost use Prim.Native.Nat.{_<_};
 ghost use Rattle.output.specs.Put.{Puts};
-ghost use Rattle.output.specs.Wanted.{Writes};
 ghost use Rattle.text.specs.Decimal.{decimal};
 ghost use Rattle.json.specs.Compact.{hexDigit, spelled, spelledAll, quoted};
 ghost use Rattle.json_write.specs.Pieces.{coded};
-ghost use Rattle.json_write.specs.Respelled.{respelled, requoted};
+ghost use Rattle.json_strings.specs.Spelled.{textAt};
 
 fn hex_digit(d: u8) -> u8
     requires { ⌜ d < 16 ⌝ }
@@ -139,12 +139,12 @@ pub fn put_number(out: &mut [u8], n: usize) -> Wrote
     Wrote::Bytes(ab)
 }
 
-// The string from a place on (after its first quote), without its quotes and spelled anew. Where a surrogate is alone in it, or it is
-// no string, the bytes before that are; from a place past the end, none: the contract then says only that some are written.
+// The string from a place on (after its first quote), without its quotes and spelled anew. Nothing is written where it stands for nothing, as
+// in `json_decode`.
 pub fn put_respelled(out: &mut [u8], s: &[u8], from: usize) -> Wrote
-    ensures { λ r. ⌜ Writes (respelled (now (s .entry)) from) (now (out .entry)) r (now (out .exit)) ⌝ }
+    ensures { λ r. ⌜ Puts (now (out .entry)) (spelledAll (textAt (now (s .entry)) from)) r (now (out .exit)) ⌝ }
 {
-    if from > s.len() {
+    if !is_paired(s, from) {
         return Wrote::Bytes(0);
     }
     let mut at = 0;
@@ -172,7 +172,7 @@ pub fn put_respelled(out: &mut [u8], s: &[u8], from: usize) -> Wrote
 
 // The same with its quotes.
 pub fn put_requoted(out: &mut [u8], s: &[u8], from: usize) -> Wrote
-    ensures { λ r. ⌜ Writes (requoted (now (s .entry)) from) (now (out .entry)) r (now (out .exit)) ⌝ }
+    ensures { λ r. ⌜ Puts (now (out .entry)) (quoted (textAt (now (s .entry)) from) []) r (now (out .exit)) ⌝ }
 {
     let Wrote::Bytes(a) = put_byte(out, b'"') else {
         return Wrote::Full;

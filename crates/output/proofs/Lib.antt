@@ -2,4 +2,3 @@ pub mod Laws
 pub mod Pieces
 pub mod Rows
 pub mod Rests
-pub mod Wanted

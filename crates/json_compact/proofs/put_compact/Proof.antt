@@ -4,8 +4,8 @@ use native.Mathlib.Omega.{arith}
 use borrow.Author.Needs.{needs}
 use denote.Ref.{now}
 use lib.ListN.{length, drop}
-use Rattle.output.specs.Wanted.{Toward}
-use Rattle.output.proofs.Wanted.{Place, place, toward-all, toward-as, toward-next, toward-stop, toward-done, toward-none, toward-in, toward-fit, toward-same}
+use Rattle.output.specs.Put.{Rest}
+use Rattle.output.proofs.Rests.{rest-all, rest-as, rest-next, rest-stop, rest-done, rest-in, rest-fit, rest-same, Going, going}
 use Rattle.json_compact.specs.Squeezed.{squeezed}
 use Rattle.json_compact.proofs.Pieces.{turn-on, turn-less, turn-bad, turn-end}
 use Rattle.json_compact.proofs.Text.{compacts}
@@ -13,17 +13,19 @@ use Rattle.json_compact.proofs.put_compact.Statement.{statement}
 use Rattle.json_compact.proofs.put_compact.Tie as tie
 
 abbrev Inv-loop : tie.InvT-loop
-Inv-loop out₀ s at₀ i₀ out at i = (i ≤ length s) × Toward (squeezed s) out₀ (squeezed (drop i s)) at out
+Inv-loop out₀ s at₀ i₀ out at i = (i ≤ length s) × Rest out₀ (squeezed s) (squeezed (drop i s)) at out
 
 abbrev μ-loop : tie.MeasureT-loop
 μ-loop out₀ s at₀ i₀ out at i = length s - i
 
 -- after a piece
-abbrev wrote : tie.After-known-told2 Inv-loop μ-loop → Place
-wrote c = place (toward-next _ (toward-as (turn-on (now (c .before .before .before .before .before .before .before .before .before .before .before .before .before .before .before .args .s)) (c .before .before .before .before .before .before .before .before .before .before .before .before .loop .i) (c .before .before .before .before .before .before .before .before .before .before .piece-end .ensures) (c .before .before .before .before .before .before .before .before .e .given .1)) (c .before .before .before .before .before .before .before .before .before .before .before .before .loop .inv .1)) (c .before .before .before .before .before .put-piece .ensures) (c .before .n .given .1))
+abbrev wrote : tie.After-known-told2 Inv-loop μ-loop → Going
+wrote c =
+    let w = turn-on (now (c .before .before .before .before .before .before .before .before .before .before .before .before .before .before .before .args .s)) (c .before .before .before .before .before .before .before .before .before .before .before .before .loop .i) (c .before .before .before .before .before .before .before .before .before .before .piece-end .ensures) (c .before .before .before .before .before .before .before .before .e .given .1) in
+    going (rest-next (squeezed (drop (c .before .before .before .before .before .before .before .before .e .given .0 .0) (now (c .before .before .before .before .before .before .before .before .before .before .before .before .before .before .before .args .s)))) (rest-as (w .2) (c .before .before .before .before .before .before .before .before .before .before .before .before .loop .inv .1)) (c .before .before .before .before .before .put-piece .ensures (w .0) _ (w .1)) (c .before .n .given .1))
 
 loop-holds : tie.Need-loop-holds Inv-loop μ-loop
-loop-holds c = (search needs, toward-all _ _)
+loop-holds c = (search needs, rest-all _ _)
 
 piece-end-requires : tie.Need-piece-end-requires Inv-loop μ-loop
 piece-end-requires c κs = c .loop-test .taken
@@ -35,16 +37,16 @@ enum-told : tie.Need-enum-told Inv-loop μ-loop
 enum-told c = c .match .keys2
 
 same-length : tie.Need-same-length Inv-loop μ-loop
-same-length c = toward-same (c .before .before .before .before .loop .inv .1)
+same-length c = rest-same (c .before .before .before .before .loop .inv .1)
 
 returns : tie.Need-returns Inv-loop μ-loop
-returns c = compacts (now (c .before .before .before .before .before .before .before .args .s)) (λ i. omega (arith, c .before .before .before .before .before .shared-slice-known .given i)) (toward-none (turn-bad (now (c .before .before .before .before .before .before .before .args .s)) (c .before .before .before .before .loop .i) (c .before .before .piece-end .ensures) (c .before .before .before .loop-test .taken) (c .enum-told .given .1)) (c .before .before .before .before .loop .inv .1))
+returns c = compacts (now (c .before .before .before .before .before .before .before .args .s)) (rest-done (turn-bad (now (c .before .before .before .before .before .before .before .args .s)) (c .before .before .before .before .loop .i) (c .before .before .piece-end .ensures) (c .before .before .before .loop-test .taken) (c .enum-told .given .1)) (c .before .before .before .before .loop .inv .1))
 
 sub-put-piece : tie.Need-sub-put-piece Inv-loop μ-loop
-sub-put-piece c = toward-in (c .before .before .before .before .before .loop .inv .1)
+sub-put-piece c = rest-in (c .before .before .before .before .before .loop .inv .1)
 
 part-put-piece-start : tie.Need-part-put-piece-start Inv-loop μ-loop
-part-put-piece-start c = toward-in (c .before .before .before .before .before .loop .inv .1)
+part-put-piece-start c = rest-in (c .before .before .before .before .before .loop .inv .1)
 
 part-put-piece-end : tie.Need-part-put-piece-end Inv-loop μ-loop
 part-put-piece-end c = le-refl _
@@ -62,10 +64,10 @@ same-length-2 : tie.Need-same-length-2 Inv-loop μ-loop
 same-length-2 c = search needs
 
 returns-2 : tie.Need-returns-2 Inv-loop μ-loop
-returns-2 c = compacts (now (c .before .before .before .before .before .before .before .before .before .before .before .before .before .before .args .s)) (λ i. omega (arith, c .before .before .before .before .before .before .before .before .before .before .before .before .shared-slice-known .given i)) (toward-stop _ (toward-as (turn-on (now (c .before .before .before .before .before .before .before .before .before .before .before .before .before .before .args .s)) (c .before .before .before .before .before .before .before .before .before .before .before .loop .i) (c .before .before .before .before .before .before .before .before .before .piece-end .ensures) (c .before .before .before .before .before .before .before .e .given .1)) (c .before .before .before .before .before .before .before .before .before .before .before .loop .inv .1)) (c .before .before .before .before .put-piece .ensures) (c .enum-told2 .given .1))
+returns-2 c = let w = turn-on (now (c .before .before .before .before .before .before .before .before .before .before .before .before .before .before .args .s)) (c .before .before .before .before .before .before .before .before .before .before .before .loop .i) (c .before .before .before .before .before .before .before .before .before .piece-end .ensures) (c .before .before .before .before .before .before .before .e .given .1) in compacts (now (c .before .before .before .before .before .before .before .before .before .before .before .before .before .before .args .s)) (rest-stop (squeezed (drop (c .before .before .before .before .before .before .before .e .given .0 .0) (now (c .before .before .before .before .before .before .before .before .before .before .before .before .before .before .args .s)))) (rest-as (w .2) (c .before .before .before .before .before .before .before .before .before .before .before .loop .inv .1)) (c .before .before .before .before .put-piece .ensures (w .0) _ (w .1)) (c .enum-told2 .given .1))
 
 add-at : tie.Need-add-at Inv-loop μ-loop
-add-at c = toward-fit (wrote c .left) (c .before .before .before .before .before .before .before .before .before .before .before .before .before .before .before .good .0 .0)
+add-at c = rest-fit (wrote c .left) (c .before .before .before .before .before .before .before .before .before .before .before .before .before .before .before .good .0 .0)
 
 loop-less : tie.Need-loop-less Inv-loop μ-loop
 loop-less c = omega (arith, turn-less (now (c .before .before .before .before .before .before .before .before .before .before .before .before .before .before .before .args .s)) (c .before .before .before .before .before .before .before .before .before .before .before .before .loop .i) (c .before .before .before .before .before .before .before .before .before .before .piece-end .ensures) (c .before .before .before .before .before .before .before .before .e .given .1))
@@ -74,10 +76,10 @@ loop-again : tie.Need-loop-again Inv-loop μ-loop
 loop-again c = (omega (arith, turn-less (now (c .before .before .before .before .before .before .before .before .before .before .before .before .before .before .before .args .s)) (c .before .before .before .before .before .before .before .before .before .before .before .before .loop .i) (c .before .before .before .before .before .before .before .before .before .before .piece-end .ensures) (c .before .before .before .before .before .before .before .before .e .given .1)), wrote c .left)
 
 same-length-3 : tie.Need-same-length-3 Inv-loop μ-loop
-same-length-3 c = toward-same (c .before .loop .inv .1)
+same-length-3 c = rest-same (c .before .loop .inv .1)
 
 returns-3 : tie.Need-returns-3 Inv-loop μ-loop
-returns-3 c = compacts (now (c .before .before .before .before .args .s)) (λ i. omega (arith, c .before .before .shared-slice-known .given i)) (toward-done (turn-end (now (c .before .before .before .before .args .s)) (c .before .loop .i) (c .loop-test .left)) (c .before .loop .inv .1))
+returns-3 c = compacts (now (c .before .before .before .before .args .s)) (rest-done (turn-end (now (c .before .before .before .before .args .s)) (c .before .loop .i) (c .loop-test .left)) (c .before .loop .inv .1))
 
 pub put-compact-spec : {M : Type 1} → statement M
 put-compact-spec =

@@ -4,7 +4,6 @@ use Prim.Native.Nat.{ℕ}
 use denote.Ref.{now}
 use borrow.Author.Tests.{eq-eqb, ne-eqb}
 use Rattle.output.proofs.Laws.{start, done, puts-as}
-use Rattle.output.proofs.Wanted.{puts-writes, writes-as}
 use Rattle.json_compact.proofs.Pieces.{piece-space, piece-string, piece-byte, byte-same}
 use borrow.Author.Needs.{needs}
 use Rattle.json_compact.proofs.put_piece.Statement.{statement}
@@ -17,7 +16,7 @@ is-space-requires : tie.Need-is-space-requires
 is-space-requires c κs = search needs
 
 returns : tie.Need-returns
-returns c = writes-as (λ x e. sym (piece-space (now (c .before .before .before .before .before .args .s)) (c .before .before .before .before .before .args .at) _ (c .before .before .look .ensures .0) (sym (c .before .is-space .ensures) ∙ (c .if1 .taken))) ∙ e) (puts-writes (done (start _)))
+returns c = λ w t p. puts-as (piece-space (now (c .before .before .before .before .before .args .s)) (c .before .before .before .before .before .args .at) _ (c .before .before .look .ensures .0) w t p (sym (c .before .is-space .ensures) ∙ (c .if1 .taken))) (done (start _))
 
 add-put-requoted : tie.Need-add-put-requoted
 add-put-requoted c = search needs
@@ -29,7 +28,7 @@ same-length : tie.Need-same-length
 same-length c = search needs
 
 returns-2 : tie.Need-returns-2
-returns-2 c = writes-as (piece-string (now (c .before .before .before .before .before .before .before .before .before .before .args .s)) (c .before .before .before .before .before .before .before .before .before .before .args .at) _ (c .before .before .before .before .before .before .before .look .ensures .0) (sym (c .before .before .before .before .before .before .is-space .ensures) ∙ (c .before .before .before .before .before .if1 .left)) (eq-eqb _ _ (c .before .before .before .before .if2 .taken))) (c .before .before .put-requoted .ensures)
+returns-2 c = λ w t p. puts-as (piece-string (now (c .before .before .before .before .before .before .before .before .before .before .args .s)) (c .before .before .before .before .before .before .before .before .before .before .args .at) _ (c .before .before .before .before .before .before .before .look .ensures .0) w t p (sym (c .before .before .before .before .before .before .is-space .ensures) ∙ (c .before .before .before .before .before .if1 .left)) (eq-eqb _ _ (c .before .before .before .before .if2 .taken))) (c .before .before .put-requoted .ensures)
 
 shared-slice-read-put-byte : tie.Need-shared-slice-read-put-byte
 shared-slice-read-put-byte c = search needs
@@ -41,7 +40,7 @@ same-length-2 : tie.Need-same-length-2
 same-length-2 c = search needs
 
 returns-3 : tie.Need-returns-3
-returns-3 c = writes-as (piece-byte (now (c .before .before .before .before .before .before .before .before .before .before .before .args .s)) (c .before .before .before .before .before .before .before .before .before .before .before .args .at) _ (c .before .before .before .before .before .before .before .before .look .ensures .0) (sym (c .before .before .before .before .before .before .before .is-space .ensures) ∙ (c .before .before .before .before .before .before .if1 .left)) (ne-eqb _ _ (c .before .before .before .before .before .if2 .left))) (puts-writes (puts-as (ap (λ (x : ℕ). x ∷ []) (byte-same (now (c .before .before .before .before .before .before .before .before .before .before .before .args .s)) (c .before .before .before .before .before .before .before .before .before .before .before .args .at) (c .before .before .before .before .before .before .before .before .before .before .before .pre) ∙ sym (c .before .before .before .before .before .before .before .before .look .ensures .0))) (c .before .before .put-byte .ensures)))
+returns-3 c = λ w t p. puts-as (ap (λ (x : ℕ). x ∷ []) (byte-same (now (c .before .before .before .before .before .before .before .before .before .before .before .args .s)) (c .before .before .before .before .before .before .before .before .before .before .before .args .at) (c .before .before .before .before .before .before .before .before .before .before .before .pre) ∙ sym (c .before .before .before .before .before .before .before .before .look .ensures .0)) ∙ piece-byte (now (c .before .before .before .before .before .before .before .before .before .before .before .args .s)) (c .before .before .before .before .before .before .before .before .before .before .before .args .at) _ (c .before .before .before .before .before .before .before .before .look .ensures .0) w t p (sym (c .before .before .before .before .before .before .before .is-space .ensures) ∙ (c .before .before .before .before .before .before .if1 .left)) (ne-eqb _ _ (c .before .before .before .before .before .if2 .left))) (c .before .before .put-byte .ensures)
 
 pub put-piece-spec : {M : Type 1} → statement M
 put-piece-spec =
