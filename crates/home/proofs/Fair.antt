@@ -3,11 +3,11 @@ use mathlib.Core.Path.{_≡_, refl, ap, _∙_}
 use mathlib.Core.Bool.{Bool, true, false, _&&_, _||_, not}
 use mathlib.Core.List.{List, [], _∷_}
 use Prim.Native.Nat.{ℕ}
-use lib.Dec.{eqb, ltb}
-use borrow.Author.Tests.{eqb-true, ne-eqb}
+use lib.Dec.{eqb}
+use borrow.Author.Tests.{eqb-true}
 use Rattle.text.specs.Bytes.{Bytes, ascii, is, all, empty, between, uppered}
 use Rattle.text.specs.Utf8.{utf8}
-use Rattle.text.proofs.Cases.{byBool, implied, beyond, tests, and-left, and-right, not-both}
+use Rattle.text.proofs.Cases.{byBool, implied, and-left, and-right, not-both}
 use Rattle.text.proofs.Lists.{all-head, all-tail, all-not, all-imply, any-imply}
 use Rattle.text.proofs.Characters.{isByte, utf8-bytes}
 use Rattle.line.specs.Class.{isName, isBare, isControl, isQuotable}
@@ -20,7 +20,7 @@ use Rattle.convert.specs.Carry.{carriedRaw, carriedParam}
 use Rattle.convert.specs.FromJson.{isLowerWord}
 use Rattle.convert.specs.Answers.{garbled, ungrammatical}
 use Rattle.home.proofs.WrittenClean.{isPrinted, raw-clean, clean-append, clean-before}
-use Rattle.home.proofs.Words.{names-lower, word-lower, group-lower}
+use Rattle.home.proofs.Words.{names-lower, word-lower, group-lower, no-name}
 use Rattle.home.proofs.Clean.{Clean}
 
 abbrev pub fairValue : Bytes → Bool
@@ -99,13 +99,9 @@ fair-grammatical l f = rw (read-line l (writable-line l f) (accepted-line l f))
 
 -- ---- it is clean
 
-high-name : (c : ℕ) → ltb c 128 ≡ false → isName c ≡ false
-unfolding isName
-high-name c l = rw (beyond 65 90 c (omega tests), beyond 97 122 c (omega tests), beyond 48 57 c (omega tests), ne-eqb c 45 (omega tests))
-
 pub name-printed : (c : ℕ) → isName c ≡ true → isPrinted c ≡ true
 unfolding isName isControl between
-name-printed c h = implied isName isPrinted 128 c refl (high-name c) h
+name-printed c h = implied isName isPrinted 128 c refl (no-name c) h
 
 names-printed : (n : Bytes) → isLowerWord n ≡ true → all isPrinted (uppered n) ≡ true
 names-printed n h = all-imply isName isPrinted name-printed (uppered n) (uppered-names n (names-lower n (and-right (not (empty n)) _ h)))

@@ -11,12 +11,12 @@ use Rattle.text.specs.Bytes.{Bytes, is, between}
 use Rattle.text.specs.Utf8.{Due, start, broken, next, run, atStart, utf8, encode}
 use Rattle.text.specs.Reader.{got}
 use Rattle.text.proofs.Cases.{byBool, tests, and-left, and-right, between-true, beyond, not-both}
-use Rattle.text.proofs.Characters.{run-append, run-utf8, utf8-run}
+use Rattle.text.proofs.Characters.{run-append, run-utf8, utf8-run, at-start}
 use Rattle.text.proofs.Choices.{none-some, some-same}
 use Rattle.text.proofs.Encoding.{encode-utf8}
 use Rattle.json.specs.Syntax.{characters}
 use Rattle.json.specs.Strings.{isHigh, isLow, joinedPair, before, decodeAfter, decode}
-use Rattle.json.proofs.Whole.{stepUnit, runUnits, at-start, characters-whole}
+use Rattle.json.proofs.Whole.{stepUnit, runUnits, characters-whole}
 
 units-broken : (us : Bytes) → runUnits broken us ≡ start → ⊥
 unfolding runUnits next

@@ -26,11 +26,11 @@ pub sep-comma : {B : Type 0} (b : B) (g : B → B) (t : Bytes) → (sep 93 b g (
 unfolding sep on skip past isSpace
 sep-comma b g t = (refl, refl)
 
-token-quote : (t : Bytes) → token 34 (34 ∷ t) ≡ got 34 t
+pub token-quote : (t : Bytes) → token 34 (34 ∷ t) ≡ got 34 t
 unfolding token one on skip past isSpace
 token-quote t = refl
 
-token-colon : (t : Bytes) → token 58 (58 ∷ t) ≡ got 58 t
+pub token-colon : (t : Bytes) → token 58 (58 ∷ t) ≡ got 58 t
 unfolding token one on skip past isSpace
 token-colon t = refl
 

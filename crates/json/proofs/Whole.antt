@@ -1,5 +1,5 @@
 -- The units of a string of a JSON text are whole characters.
-use mathlib.Core.Path.{_≡_, refl, sym, ap, subst, _∙_}
+use mathlib.Core.Path.{_≡_, refl, ap, subst, _∙_}
 use mathlib.Core.Bool.{true, false, _&&_}
 use mathlib.Core.List.{[], _∷_, _++_, tail}
 use mathlib.Core.Logic.{_⊎_, inl, inr}
@@ -12,7 +12,7 @@ use Rattle.text.specs.Bytes.{Bytes, is, between}
 use Rattle.text.specs.Utf8.{Due, start, due, broken, lead, tails, next, atStart}
 use Rattle.text.specs.Reader.{got, bad, under, first, on, Step, more, last}
 use Rattle.text.proofs.Cases.{byBool, tests, implied, and-right, between-true, beyond, not-both}
-use Rattle.text.proofs.Characters.{lead-high, later, later-lead, later-bounds}
+use Rattle.text.proofs.Characters.{lead-high, later, later-lead, later-bounds, at-start}
 use Rattle.text.proofs.Readers.{not-bad, got-what, bind-inv, under-inv, on-inv, Keeps, loop-keeps}
 use Rattle.json.specs.Grammar.{isHex, isShort}
 use Rattle.json.specs.Syntax.{hexVal, hex, hex4, short, escape, leads, isLead, tailBytes, following, push, character, characters}
@@ -66,11 +66,6 @@ unfolding isShort
 short-high c l =
     let h = ltb-false c 128 l in
     rw (ne-eqb c 34 (omega arith), ne-eqb c 92 (omega arith), ne-eqb c 47 (omega arith), ne-eqb c 98 (omega arith), ne-eqb c 102 (omega arith), ne-eqb c 110 (omega arith), ne-eqb c 114 (omega arith), ne-eqb c 116 (omega arith))
-
-pub at-start : (d : Due) → atStart d ≡ true → d ≡ start
-at-start start e = refl
-at-start (due low high k) e = not-both refl (sym e)
-at-start broken e = not-both refl (sym e)
 
 short-step : (c : ℕ) → isShort c ≡ true → stepUnit start (short c) ≡ start
 unfolding isShort short next lead

@@ -5,6 +5,7 @@ use mathlib.Core.List.{[], _∷_, _++_}
 use Prim.Native.Nat.{ℕ, zero, suc, _-_, _≤_}
 use native.Mathlib.Omega.{arith}
 use lib.ListN.{length, take, drop, length-drop, length-append}
+use lib.Seq.{take-append-seam}
 use Rattle.text.specs.declared.Read.{Read}
 use Rattle.text.specs.declared.Read.the-variants.{Next, Bad}
 use Rattle.text.specs.Bytes.{Bytes}
@@ -42,17 +43,13 @@ as-next s at want (Bad b) g q = absurd (not-bad (sym (at-bad want g) ∙ q))
 
 -- ---- where a value stands
 
-front : (x u : Bytes) → take (length x) (x ++ u) ≡ x
-front [] u = refl
-front (c ∷ x) u = ap (λ (y : Bytes). c ∷ y) (front x u)
-
 module _ (d : ℕ) (s t : Bytes) {r : Read} {a x : ℕ} (b : skip t ≡ drop a s) (l : a ≤ length s) (g : Gives s a (value d (drop a s)) r) (ex : x ≡ placeOf r) where
   -- a number takes as many bytes as its spelling has
   spelling : (u y : Bytes) → value d t ≡ got (jnum y) u → u ≡ drop x s → x ≤ length s → take (x - a) (drop a s) ≡ y
   spelling u y w q h =
       let c : drop a s ≡ y ++ u = sym b ∙ number-spelled y u d t w in
       let n : length y ≡ x - a = omega (arith, ap length c, length-append y u, ap length q, length-drop a s, length-drop x s) in
-      ap (λ (i : ℕ). take i (drop a s)) (sym n) ∙ ap (take (length y)) c ∙ front y u
+      ap (λ (i : ℕ). take i (drop a s)) (sym n) ∙ ap (take (length y)) c ∙ take-append-seam y u
 
   pub stands : (j : Json) (u : Bytes) → value d t ≡ got j u → Stands s t j u a x
   stands j u w =

@@ -1,14 +1,15 @@
 -- Every scalar, list of items and member name of the grammar is read; the white space that may stand at its end is left.
-use mathlib.Core.Path.{_≡_, refl, sym, ap, _∙_}
+use mathlib.Core.Path.{_≡_, sym, ap, _∙_}
 use mathlib.Core.List.{[], _∷_, _++_, append-assoc}
 use mathlib.Core.Logic.{inl, inr}
 use Prim.Native.Nat.{ℕ, zero, suc}
 use Rattle.text.specs.Bytes.{Bytes}
-use Rattle.text.specs.Reader.{Got, got, bind, under, on, Step, more, last, after, turns, loop, past, one}
+use Rattle.text.specs.Reader.{Got, got, bind, under, Step, more, last, after, turns, loop, one}
 use Rattle.text.proofs.Readers.{Moves, not-bad, bind-inv, loop-enough, turns-more, turns-last}
 use Rattle.json.specs.Tree.{jnull, jtrue, jfalse, jnum, jstr}
-use Rattle.json.specs.Grammar.{Lang, _then_, Many, none-more, one-more, isSpace, Ws, Mark, String, Scalar, Value}
+use Rattle.json.specs.Grammar.{Lang, _then_, Many, none-more, one-more, Ws, Mark, String, Scalar, Value}
 use Rattle.json.specs.Syntax.{skip, token, name, value}
+use Rattle.json.proofs.Values.{token-quote, token-colon}
 use Rattle.json.proofs.Numbers.{Stops}
 use Rattle.json.proofs.Values.{lit-null, lit-true, lit-false, a-string, a-number}
 use Rattle.json_grammar.proofs.Rows.{one-is}
@@ -97,19 +98,11 @@ module _ {B : Type 0} (P : Lang) (close : ℕ) (f : Bytes → Got (Step B))
 
 -- ---- names
 
-quote : (t : Bytes) → token 34 (34 ∷ t) ≡ got 34 t
-unfolding token one on skip past isSpace
-quote t = refl
-
-colon : (t : Bytes) → token 58 (58 ∷ t) ≡ got 58 t
-unfolding token one on skip past isSpace
-colon t = refl
-
 pub name-all : (q k s : Bytes) → String q → Mark 58 k → (n : Bytes) × (y : Bytes) × Ws y × (name (q ++ (k ++ s)) ≡ got n (y ++ s))
 unfolding name String
 name-all q k s x m =
     let c = characters-all (x .1) (k ++ s) (x .4) in
     let i = mark-cases 58 k m in
     let e : q ++ (k ++ s) ≡ 34 ∷ (x .1 ++ (k ++ s)) = ap (λ (z : Bytes). z ++ (k ++ s)) (x .2 ∙ ap (λ (z : Bytes). z ++ x .1) (one-is 34 (x .0) (x .3))) in
-    let t : token 58 (k ++ s) ≡ got 58 (i .1 ++ s) = ap (token 58) (mark-before 58 k s (i .0) (i .1) (i .4)) ∙ token-ws 58 (i .0) (58 ∷ (i .1 ++ s)) (i .2) ∙ colon (i .1 ++ s) in
-    (c .what, i .1, i .3, ap name e ∙ rw (quote (x .1 ++ (k ++ s)), c .gives, t))
+    let t : token 58 (k ++ s) ≡ got 58 (i .1 ++ s) = ap (token 58) (mark-before 58 k s (i .0) (i .1) (i .4)) ∙ token-ws 58 (i .0) (58 ∷ (i .1 ++ s)) (i .2) ∙ token-colon (i .1 ++ s) in
+    (c .what, i .1, i .3, ap name e ∙ rw (token-quote (x .1 ++ (k ++ s)), c .gives, t))

@@ -7,6 +7,7 @@ use mathlib.Core.Option.{Option, none, some}
 use Prim.Native.Nat.{ℕ, zero, suc, _-_, _≤_, _<_}
 use native.Mathlib.Omega.{arith}
 use lib.ListN.{length, take, length-append}
+use lib.Seq.{take-append-seam}
 use lib.Dec.{ltb}
 use Rattle.text.specs.Choice.{pick, with-some}
 use Rattle.text.specs.Bytes.{Bytes, all}
@@ -49,10 +50,6 @@ unfolding Completes
 completes d u (inl e) = subst (Completes d) (sym e) (has-text d)
 completes d u (inr q) = (q .0, q .2)
 
-take-front : (u t : Bytes) → take (length u) (u ++ t) ≡ u
-take-front [] t = refl
-take-front (c ∷ u) t = ap (λ (z : Bytes). c ∷ z) (take-front u t)
-
 take-next : (u r : Bytes) (c : ℕ) → take (suc (length u)) (u ++ c ∷ r) ≡ u ++ c ∷ []
 take-next [] r c = refl
 take-next (b ∷ u) r c = ap (λ (z : Bytes). b ∷ z) (take-next u r c)
@@ -68,7 +65,7 @@ module _ (d : ℕ) (u t : Bytes) (e : text d (u ++ t) ≡ bad t) (short : Short 
   place-at : FirstBad d (u ++ t) (length u)
   place-at = record {
     within = omega (arith, length-append u t);
-    before = subst (Completes d) (sym (take-front u t)) (completes d u short);
+    before = subst (Completes d) (sym (take-append-seam u t)) (completes d u short);
     no-text = not-refused d (u ++ t) t e;
     with-it = no-more t refl;
   }

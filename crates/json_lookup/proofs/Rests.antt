@@ -6,6 +6,7 @@ use mathlib.Core.Logic.{_⊎_, inl, inr}
 use Prim.Native.Nat.{ℕ, _-_}
 use native.Mathlib.Omega.{arith}
 use lib.ListN.{length, take, drop, length-append}
+use lib.Seq.{take-append-seam, drop-append-seam}
 use lib.Dec.{eqb}
 use Rattle.text.specs.Bytes.{Bytes, is}
 use Rattle.text.specs.Reader.{got, bad, first, on, Step, more, last, past}
@@ -74,20 +75,12 @@ ends-name s k w e =
 
 -- ---- the end of a text by its length, and what stands before it
 
-drop-front : (x w : Bytes) → drop (length x) (x ++ w) ≡ w
-drop-front [] w = refl
-drop-front (c ∷ x) w = drop-front x w
-
-take-front : (x w : Bytes) → take (length x) (x ++ w) ≡ x
-take-front [] w = refl
-take-front (c ∷ x) w = ap (λ (y : Bytes). c ∷ y) (take-front x w)
-
 pub end-by-length : (s w : Bytes) → Ends s w → drop (length s - length w) s ≡ w
 end-by-length s w h =
     let n : length s - length w ≡ length (h .0) = omega (arith, ap length (h .1), length-append (h .0) w) in
-    ap (λ (i : ℕ). drop i s) n ∙ ap (drop (length (h .0))) (h .1) ∙ drop-front (h .0) w
+    ap (λ (i : ℕ). drop i s) n ∙ ap (drop (length (h .0))) (h .1) ∙ drop-append-seam (h .0) w
 
 pub before-by-length : (s w : Bytes) (h : Ends s w) → take (length s - length w) s ≡ h .0
 before-by-length s w h =
     let n : length s - length w ≡ length (h .0) = omega (arith, ap length (h .1), length-append (h .0) w) in
-    ap (λ (i : ℕ). take i s) n ∙ ap (take (length (h .0))) (h .1) ∙ take-front (h .0) w
+    ap (λ (i : ℕ). take i s) n ∙ ap (take (length (h .0))) (h .1) ∙ take-append-seam (h .0) w

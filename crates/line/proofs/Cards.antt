@@ -19,7 +19,7 @@ use Rattle.line.specs.Physical.{physical, framed}
 use Rattle.line.specs.Unfold.{unfold′}
 use Rattle.line.specs.Write.{writeValue, writeValues, writeParams, writeGroup, writeLine, writeCard}
 use Rattle.line.proofs.Parameters.{isWord, writableParam, uppered-names, uppered-word, params-name}
-use Rattle.line.proofs.Lines.{writable, upperLine, read-line}
+use Rattle.line.proofs.Lines.{writable, upperLine, read-line, dot-stops}
 use Rattle.line.proofs.Pieces.{pieces, Unblank, unfold-all}
 use Rattle.line.proofs.Frame.{NoLf, Named, AllNamed, past-lowered, framed-card}
 
@@ -95,10 +95,6 @@ begins-line : (g n t : Bytes) → empty g || all isName g ≡ true → isWord n 
 unfolding writeGroup
 begins-line [] n t hg hn = first-word (uppered n) t (uppered-word n hn)
 begins-line (c ∷ g) n t hg hn = name-blank c (all-head isName c g hg)
-
-dot-stops : (t : Bytes) → isName (first (46 ∷ t)) ≡ false
-unfolding isName between
-dot-stops t = refl
 
 dot-lowered : (t : Bytes) → first (lowered (46 ∷ t)) ≡ 46
 unfolding lowered lower between

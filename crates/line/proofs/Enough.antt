@@ -1,4 +1,4 @@
--- A loop over values or parameters is its first turn, and the loop again.
+-- A turn over values or parameters that goes on takes a byte at least.
 use mathlib.Core.Path.{_≡_, refl, ap}
 use mathlib.Core.Bool.{true, false}
 use mathlib.Core.List.{List, [], _∷_, tail}
@@ -7,43 +7,14 @@ use native.Mathlib.Omega.{arith}
 use lib.Dec.{eqb}
 use lib.ListN.{length}
 use Rattle.text.specs.Bytes.{Bytes, is}
-use Rattle.text.specs.Reader.{Got, got, bad, bind, under, first, on, Step, more, last, after, turns, loop, one, some-of}
+use Rattle.text.specs.Reader.{Got, got, first, on, Step, more, last, after, turns, loop, one, some-of}
+use Rattle.text.proofs.Readers.{Moves}
 use Rattle.text.proofs.Fine.{bind-inv, under-inv, got-rest, got-what, not-bad, Fine, fine-got, fine-weak, fine-bind, fine-on, one-fine, some-fine, run-fine}
 use Rattle.line.specs.Class.{isName, isBare, isQuotable}
 use Rattle.line.specs.Grammar.{Param, param, word, paramValue, valueTurn, parameter, paramTurn}
 use Rattle.text.proofs.Cases.{byBool}
 use Rattle.line.proofs.Opened.{line-opened}
 use Rattle.line.proofs.Shapes.{onward, valued, named, added}
-
--- a turn that goes on takes a byte at least
-pub record Shrinks {B : Type 0} (f : Bytes → Got (Step B)) : Type 0 where
-  pub less : (s : Bytes) (g : B → B) (t : Bytes) → f s ≡ got (more g) t → length t < length s
-
-module _ {B : Type 0} (f : Bytes → Got (Step B)) (h : Shrinks f) where
-  enough-next : (n m : ℕ) (w : Got (Step B)) → ((g : B → B) (t : Bytes) → w ≡ got (more g) t → turns f n t ≡ turns f m t)
-      → bind w (λ v t. after v t (turns f n)) ≡ bind w (λ v t. after v t (turns f m))
-  enough-next n m (got (more g) t) r = ap (under g) (r g t refl)
-  enough-next n m (got (last b) t) r = refl
-  enough-next n m (bad t) r = refl
-
-  enough-same : (n m : ℕ) (s : Bytes) → length s < n → length s < m → turns f n s ≡ turns f m s
-  unfolding turns
-  enough-same zero m s k l = absurd (omega arith)
-  enough-same (suc n) zero s k l = absurd (omega arith)
-  enough-same (suc n) (suc m) s k l =
-      enough-next n m (f s) (λ g t e. enough-same n m t (omega (arith, h .less s g t e)) (omega (arith, h .less s g t e)))
-
-  pub loop-more : (s t : Bytes) (g : B → B) → f s ≡ got (more g) t → loop f s ≡ under g (loop f t)
-  unfolding loop turns
-  loop-more s t g e = rw e (ap (under g) (enough-same (length s) (suc (length t)) t (omega (arith, h .less s g t e)) (omega arith)))
-
-  pub loop-last : (s t : Bytes) (b : B) → f s ≡ got (last b) t → loop f s ≡ got b t
-  unfolding loop turns
-  loop-last s t b e = rw e
-
-  pub loop-bad : (s t : Bytes) → f s ≡ bad t → loop f s ≡ bad t
-  unfolding loop turns
-  loop-bad s t e = rw e
 
 -- ---- what a reader leaves is no longer than what it was given
 
@@ -84,11 +55,9 @@ value-takes s w t e =
     let i = bind-inv (paramValue s) onward e in
     omega (arith, value-fine .less s _ _ (i .2), onward-takes (i .0) (i .1) w t (i .3))
 
-pub value-shrinks : Shrinks valueTurn
+pub value-shrinks : Moves valueTurn
 unfolding valueTurn
-value-shrinks = record {
-  less = λ s g t e. let i = bind-inv (paramValue s) onward e in omega (arith, value-fine .less s _ _ (i .2), onward-more (i .0) (i .1) g t (i .3));
-}
+value-shrinks s g t e = let i = bind-inv (paramValue s) onward e in omega (arith, value-fine .less s _ _ (i .2), onward-more (i .0) (i .1) g t (i .3))
 
 after-takes : (n : ℕ) (w : Step (List Bytes)) (t : Bytes) (vs : List Bytes) (u : Bytes)
     → ((vs : List Bytes) → turns valueTurn n t ≡ got vs u → length u ≤ length t) → after w t (turns valueTurn n) ≡ got vs u → length u ≤ length t
@@ -119,17 +88,15 @@ parameter-takes s p u e =
     let f : k .1 ≡ u = got-rest (k .3) in
     omega (arith, some-fine isName name-end .less s _ _ (i .2), one-fine 61 refl .less (i .1) _ _ (j .2), values-takes (j .1) _ _ (k .2), ap length f)
 
-pub param-shrinks : Shrinks paramTurn
+pub param-shrinks : Moves paramTurn
 unfolding paramTurn on
-param-shrinks = record {
-  less = λ s g t e.
-      byBool (eqb (first s) 58)
-      (λ q. absurd (let f : last [] ≡ more g = got-what (rw q at e) in let z : _≡_ {A = ℕ} 0 1 = cc in omega arith))
-      (λ q.
-      byBool (eqb (first s) 59)
-      (λ r.
-      let i = bind-inv (parameter (tail s)) added (rw (q, r) at e) in
-      let f : i .1 ≡ t = got-rest (i .3) in
-      omega (arith, tail-shorter s 59 refl r, parameter-takes (tail s) _ _ (i .2), ap length f))
-      (λ r. absurd (not-bad (rw (q, r) at e))));
-}
+param-shrinks s g t e =
+    byBool (eqb (first s) 58)
+    (λ q. absurd (let f : last [] ≡ more g = got-what (rw q at e) in let z : _≡_ {A = ℕ} 0 1 = cc in omega arith))
+    (λ q.
+    byBool (eqb (first s) 59)
+    (λ r.
+    let i = bind-inv (parameter (tail s)) added (rw (q, r) at e) in
+    let f : i .1 ≡ t = got-rest (i .3) in
+    omega (arith, tail-shorter s 59 refl r, parameter-takes (tail s) _ _ (i .2), ap length f))
+    (λ r. absurd (not-bad (rw (q, r) at e))))

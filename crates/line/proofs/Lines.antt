@@ -29,7 +29,7 @@ after-name : (g n : Bytes) (ps : List Param) (t : Bytes) → all writableParam p
 unfolding afterName
 after-name g n ps t h = rw (params-read ps t h)
 
-dot-stops : (t : Bytes) → isName (first (46 ∷ t)) ≡ false
+pub dot-stops : (t : Bytes) → isName (first (46 ∷ t)) ≡ false
 unfolding isName between
 dot-stops t = refl
 

@@ -10,7 +10,8 @@ use Rattle.text.specs.Reader.{Got, got, bad, bind, loop}
 use Rattle.text.proofs.Fine.{under-inv, got-rest, got-what}
 use Rattle.line.specs.Grammar.{Param, param, valueTurn, paramTurn}
 use Rattle.line.proofs.Shapes.{added}
-use Rattle.line.proofs.Enough.{loop-more, loop-last, value-shrinks, param-shrinks}
+use Rattle.text.proofs.Readers.{loop-more, loop-last}
+use Rattle.line.proofs.Enough.{value-shrinks, param-shrinks}
 use Rattle.line_scan.specs.declared.Param.the-variants.{At as Param-At, Bad as Param-Bad}
 use Rattle.line_scan.specs.declared.Param.{Param as Found}
 use Rattle.line_scan.specs.declared.Value.the-variants.{At as Value-At, Bad as Value-Bad}

@@ -18,7 +18,7 @@ unfolding run
 run-append d [] t = refl
 run-append d (c ∷ s) t = run-append (next d c) s t
 
-at-start : (d : Due) → atStart d ≡ true → d ≡ start
+pub at-start : (d : Due) → atStart d ≡ true → d ≡ start
 at-start start e = refl
 at-start (due low high k) e = not-both refl (sym e)
 at-start broken e = not-both refl (sym e)

@@ -138,41 +138,26 @@ abbrev pub Takes : {A : Type 0} → (Bytes → Got A) → Type 0
 Takes {A} R = (s : Bytes) (a : A) (w : Bytes) → R s ≡ got a w → 1 + length w ≤ length s
 
 module _ {B : Type 0} (f : Bytes → Got (Step B)) (takes : Takes f) where
-  enough-next : (n m : ℕ) (w : Got (Step B)) → ((t : Bytes) (v : Step B) → w ≡ got v t → turns f n t ≡ turns f m t)
-      → bind w (λ v t. after v t (turns f n)) ≡ bind w (λ v t. after v t (turns f m))
-  enough-next n m (got (more g) t) r = ap (under g) (r t (more g) refl)
-  enough-next n m (got (last b) t) r = refl
-  enough-next n m (bad t) r = refl
-
-  enough-same : (n m : ℕ) (s : Bytes) → length s < n → length s < m → turns f n s ≡ turns f m s
-  unfolding turns
-  enough-same zero m s k l = absurd (omega arith)
-  enough-same (suc n) zero s k l = absurd (omega arith)
-  enough-same (suc n) (suc m) s k l =
-      enough-next n m (f s) (λ t v e. enough-same n m t (omega (arith, takes s v t e)) (omega (arith, takes s v t e)))
+  moves : readers.Moves f
+  moves s g t e = omega (arith, takes s (more g) t e)
 
   pub loop-more : (s t : Bytes) (g : B → B) → f s ≡ got (more g) t → loop f s ≡ under g (loop f t)
-  unfolding loop turns
-  loop-more s t g e = rw e (ap (under g) (enough-same (length s) (suc (length t)) t (omega (arith, takes s (more g) t e)) (omega arith)))
+  loop-more = readers.loop-more f moves
 
   pub loop-last : (s t : Bytes) (b : B) → f s ≡ got (last b) t → loop f s ≡ got b t
-  unfolding loop turns
-  loop-last s t b e = rw e
+  loop-last = readers.loop-last f moves
 
   pub loop-bad : (s t : Bytes) → f s ≡ bad t → loop f s ≡ bad t
-  unfolding loop turns
-  loop-bad s t e = rw e
-
-  after-same : (n : ℕ) (w : Step B) (v : Bytes) → turns f n v ≡ loop f v → after w v (turns f n) ≡ after w v (loop f)
-  after-same n (more g) v e = ap (under g) e
-  after-same n (last b) v e = refl
+  loop-bad = readers.loop-bad f moves
 
   -- a loop that read something, by its first turn
   pub loop-split : (s : Bytes) (b : B) (t : Bytes) → loop f s ≡ got b t → (w : Step B) × (v : Bytes) × (f s ≡ got w v) × (after w v (loop f) ≡ got b t)
-  unfolding loop turns
-  loop-split s b t e =
-      let i = bind-inv (f s) (λ w v. after w v (turns f (length s))) e in
-      (i .0, i .1, i .2, sym (after-same (length s) (i .0) (i .1) (enough-same (length s) (suc (length (i .1))) (i .1) (omega (arith, takes s (i .0) (i .1) (i .2))) (omega arith))) ∙ i .3)
+  loop-split s b t e = by (f s) refl
+    where
+      by : (x : Got (Step B)) → f s ≡ x → (w : Step B) × (v : Bytes) × (f s ≡ got w v) × (after w v (loop f) ≡ got b t)
+      by (got (more g) v) q = (more g, v, q, sym (loop-more s v g q) ∙ e)
+      by (got (last c) v) q = (last c, v, q, sym (loop-last s v c q) ∙ e)
+      by (bad v) q = absurd (not-bad (sym (loop-bad s v q) ∙ e))
 
 -- ---- runs and single bytes
 taken-none : (p : ℕ → Bool) (s : Bytes) → length s ≤ length (past p s) → taken p s ≡ []

@@ -152,6 +152,33 @@ module _ {B : Type 0} (f : Bytes → Got (Step B)) where
   unfolding loop
   takes-loop-none h = record { less = λ s b w e. takes-turns h (suc (length s)) .less s b w e }
 
+-- ---- a loop is its first turn, and the loop again
+module _ {B : Type 0} (f : Bytes → Got (Step B)) (moves : Moves f) where
+  enough-next : (n m : ℕ) (w : Got (Step B)) → ((g : B → B) (t : Bytes) → w ≡ got (more g) t → turns f n t ≡ turns f m t)
+      → bind w (λ v t. after v t (turns f n)) ≡ bind w (λ v t. after v t (turns f m))
+  enough-next n m (got (more g) t) r = ap (under g) (r g t refl)
+  enough-next n m (got (last b) t) r = refl
+  enough-next n m (bad t) r = refl
+
+  enough-same : (n m : ℕ) (s : Bytes) → length s < n → length s < m → turns f n s ≡ turns f m s
+  unfolding turns
+  enough-same zero m s k l = absurd (omega arith)
+  enough-same (suc n) zero s k l = absurd (omega arith)
+  enough-same (suc n) (suc m) s k l =
+      enough-next n m (f s) (λ g t e. enough-same n m t (omega (arith, moves s g t e)) (omega (arith, moves s g t e)))
+
+  pub loop-more : (s t : Bytes) (g : B → B) → f s ≡ got (more g) t → loop f s ≡ under g (loop f t)
+  unfolding loop turns
+  loop-more s t g e = rw e (ap (under g) (enough-same (length s) (suc (length t)) t (omega (arith, moves s g t e)) (omega arith)))
+
+  pub loop-last : (s t : Bytes) (b : B) → f s ≡ got (last b) t → loop f s ≡ got b t
+  unfolding loop turns
+  loop-last s t b e = rw e
+
+  pub loop-bad : (s t : Bytes) → f s ≡ bad t → loop f s ≡ bad t
+  unfolding loop turns
+  loop-bad s t e = rw e
+
 -- the last turn gives it, and every other turn keeps it
 abbrev pub Keeps : {B : Type 0} → (B → Type 0) → Step B → Type 0
 Keeps {B} P (more g) = (b : B) → P b → P (g b)
