@@ -109,6 +109,10 @@ module _ (a b c d e f g : List Bytes) where
   unfolding writeName writtenParts
   split-seven = split-joined 59 (writePart (a ++ f)) _ refl (sealed-parts (writtenParts seven))
 
+  -- what is written is read part by part
+  pub read-parts : all (all filled) seven ≡ true → each partValues (splitText 59 (writeName seven)) ≡ some (writtenParts seven)
+  read-parts h = rw split-seven (each-part (writtenParts seven) (written-filled h))
+
   -- no empty value, no value in both of two parts that are written together, and some value
   pub read-name : all (all filled) seven ≡ true → apart a f ≡ true → apart e g ≡ true → hasParts seven ≡ true → readName (writeName seven) ≡ some seven
   unfolding readName writtenParts

@@ -1,18 +1,17 @@
 -- Worked examples: what is allowed for a line, and what is not.
-use mathlib.Core.Path.{_≡_, refl, sym, ap, subst, _∙_}
-use mathlib.Core.Bool.{Bool, true, false}
+use mathlib.Core.Path.{_≡_, refl, sym, ap}
+use mathlib.Core.Logic.{inl}
+use mathlib.Core.Bool.{Bool, false}
 use mathlib.Core.List.{List, [], _∷_}
-use mathlib.Core.Option.{Option, none, some}
-use Rattle.text.specs.Bytes.{Bytes, ascii, same}
+use mathlib.Core.Option.{Option}
+use Rattle.text.specs.Choice.{with-some}
+use Rattle.text.specs.Bytes.{Bytes, ascii, any, empty, same}
 use Rattle.text.proofs.Cases.{not-both}
-use Rattle.text.proofs.Choices.{some-same}
 use Rattle.line.specs.Grammar.{Param, param, Line}
-use Rattle.convert.specs.Table.{Slot, slotOf}
-use Rattle.convert.specs.Model.{Entry, Kept}
 use Rattle.convert.specs.Value.{headOr}
-use Rattle.convert.specs.Classify.{nothing, entryOf}
+use Rattle.line.specs.Params.{named}
 use Rattle.convert.proofs.Opened.{convert-opened}
-use Rattle.home.specs.Allowed.{Allowed, uid, kind, full, parts, entry, member, kept, here, AllStand, no-more, one-more, carries, carriedLines}
+use Rattle.home.specs.Allowed.{stringsOf, Allowed, uid, kind, full, parts, entry, member, kept, here, AllStand, no-more, one-more, carries, carriedLines}
 
 abbrev line : Bytes → List Param → Bytes → Line
 line n ps v = record { group = []; name = n; params = ps; value = v }
@@ -25,47 +24,78 @@ tel = line (ascii "TEL") (param (ascii "TYPE") (ascii "CELL" ∷ []) ∷ []) (as
 abbrev telHome : Bytes → Line
 telHome k = line (ascii "TEL") (param (ascii "PROP-ID") (k ∷ []) ∷ param (ascii "TYPE") (ascii "cell" ∷ []) ∷ []) (ascii "+41 1")
 
-first-allowed : Allowed tel (telHome (ascii "PHONE-1"))
-unfolding convert-opened
-first-allowed = entry refl _ refl _ (ascii "PHONE-1") refl refl (λ z. not-both refl z)
-
-second-allowed : Allowed tel (telHome (ascii "PHONE-2"))
-unfolding convert-opened
-second-allowed = entry refl _ refl _ (ascii "PHONE-2") refl refl (λ z. not-both refl z)
+tel-allowed : (k : Bytes) → Allowed tel (telHome k)
+unfolding convert-opened stringsOf
+tel-allowed k =
+    entry
+    (record {
+      name = refl;
+      listed = refl;
+      takes = ((refl, refl), (refl, refl));
+      value = (refl, refl);
+      key = k;
+      made = refl;
+      given = inl refl;
+      pref = refl;
+      types = λ t. refl;
+      strings = ascii "+41 1" ∷ [];
+      said = (refl, refl);
+    })
 
 both-stand : AllStand [] (tel ∷ tel ∷ []) (telHome (ascii "PHONE-1") ∷ telHome (ascii "PHONE-2") ∷ [])
-both-stand = one-more first-allowed (one-more second-allowed no-more here) here
+both-stand = one-more (tel-allowed (ascii "PHONE-1")) (one-more (tel-allowed (ascii "PHONE-2")) no-more here) here
 
 -- ---- another value is not allowed
 
 abbrev note : Bytes → Line
 note v = line (ascii "NOTE") [] v
 
-textsOf : Option Entry → List Bytes
-textsOf (some e) = e .texts
-textsOf none = []
-
-abbrev isA : List Bytes → Bool
-isA vs = same (headOr [] vs) (ascii "a")
-
-other-entry : (w : Slot) → slotOf (ascii "note") ≡ some w → (isA (textsOf (entryOf nothing w (note (ascii "a")))) ≡ true) × (isA (textsOf (entryOf nothing w (note (ascii "b")))) ≡ false)
-unfolding convert-opened textsOf
-other-entry w o =
-    subst (λ (w : Slot). (isA (textsOf (entryOf nothing w (note (ascii "a")))) ≡ true) × (isA (textsOf (entryOf nothing w (note (ascii "b")))) ≡ false)) (some-same o) (refl, refl)
+abbrev isA : Option (List Bytes) → Bool
+isA o = with-some o (λ vs. same (headOr [] vs) (ascii "a")) false
 
 other-value : Allowed (note (ascii "a")) (note (ascii "b")) → ⊥
-unfolding convert-opened textsOf
+unfolding convert-opened stringsOf
 other-value (uid b p q e) = not-both (b .0) refl
 other-value (kind b p q e) = not-both (b .0) refl
 other-value (full b p q v x y) = not-both (b .0) refl
-other-value (parts b p q ps x y) = not-both (b .0) refl
-other-value (entry n w o e k x y q) =
-    let t = other-entry w o in
-    let a : isA (textsOf (entryOf nothing w (note (ascii "a")))) ≡ isA (e .texts) = ap (λ (z : Option Entry). isA (textsOf z)) x in
-    let b : isA (textsOf (entryOf nothing w (note (ascii "b")))) ≡ isA (e .texts) = ap (λ (z : Option Entry). isA (textsOf z)) y in
-    not-both (sym a ∙ t .0) (sym b ∙ t .1)
-other-value (member b p q n x y j u v) = not-both (b .0) refl
-other-value (kept e) = not-both (ap (λ (z : Kept). same (z .value) (ascii "a")) e) refl
+other-value (parts b p q s) = not-both (b .0) refl
+other-value (entry s) = not-both (sym (ap isA (s .said .0))) (sym (ap isA (s .said .1)))
+other-value (member b s) = not-both (b .0) refl
+other-value (kept s) = not-both (ap (λ (v : Bytes). same v (ascii "a")) (s .value)) refl
+
+-- ---- a parameter or a group may not go
+
+abbrev telUser : Line
+telUser = line (ascii "TEL") (param (ascii "USERNAME") (ascii "x" ∷ []) ∷ []) (ascii "1")
+
+abbrev telGroup : Line
+telGroup = record { group = ascii "g"; name = ascii "TEL"; params = []; value = ascii "1" }
+
+abbrev telPlain : Line
+telPlain = line (ascii "TEL") (param (ascii "PROP-ID") (ascii "PHONE-1" ∷ []) ∷ []) (ascii "1")
+
+abbrev isUser : List Param → Bool
+isUser ps = any (named (ascii "username")) ps
+
+lost-parameter : Allowed telUser telPlain → ⊥
+unfolding convert-opened
+lost-parameter (uid b p q e) = not-both (b .0) refl
+lost-parameter (kind b p q e) = not-both (b .0) refl
+lost-parameter (full b p q v x y) = not-both (b .0) refl
+lost-parameter (parts b p q s) = not-both (b .0) refl
+lost-parameter (entry s) = not-both (s .takes .0 .1) refl
+lost-parameter (member b s) = not-both (b .0) refl
+lost-parameter (kept s) = not-both (ap isUser (s .params)) refl
+
+lost-group : Allowed telGroup telPlain → ⊥
+unfolding convert-opened
+lost-group (uid b p q e) = not-both (b .0) refl
+lost-group (kind b p q e) = not-both (b .0) refl
+lost-group (full b p q v x y) = not-both (b .0) refl
+lost-group (parts b p q s) = not-both (b .0) refl
+lost-group (entry s) = not-both (s .takes .0 .0) refl
+lost-group (member b s) = not-both (b .0) refl
+lost-group (kept s) = not-both refl (ap (λ (g : Bytes). empty g) (s .group))
 
 -- ---- a derived FN and VERSION are the only lines that need not stand
 

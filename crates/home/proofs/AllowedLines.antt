@@ -1,41 +1,49 @@
 -- The normal form of each line is allowed for it.
 use mathlib.Core.Path.{_≡_, refl, sym, ap, _∙_}
-use mathlib.Core.Bool.{true, false, _&&_}
+use mathlib.Core.Logic.{inl, inr}
+use mathlib.Core.Bool.{true, false, _&&_, not}
 use mathlib.Core.List.{List, [], _∷_, append-nil}
 use mathlib.Core.Option.{some}
-use lib.Dec.{ltb}
+use Prim.Native.Nat.{ℕ}
+use lib.ListN.{length}
+use lib.Dec.{ltb, leb}
 use Rattle.text.specs.Choice.{provided}
-use Rattle.text.specs.Bytes.{Bytes, ascii, any, all, empty, same, among, between, lower, lowered, keep, flat}
-use Rattle.text.proofs.Cases.{byBool, not-both}
+use Rattle.text.specs.Bytes.{Bytes, ascii, any, all, empty, same, among, between, lower, lowered, keep, flat, each}
+use Rattle.text.proofs.Cases.{byBool, not-both, and-left}
+use Rattle.text.proofs.Choices.{none-some, some-same}
+use Rattle.text.proofs.Lists.{each-length}
 use Rattle.text.proofs.Letters.{lowered-lowered}
 use Rattle.text.proofs.Same.{same-true}
 use Rattle.json.specs.Tree.{Json}
 use Rattle.json.specs.Compact.{compact}
+use Rattle.json.specs.Read.{Reading, tree, refused, reading}
 use Rattle.json.proofs.Trees.{reading-compact}
 use Rattle.line.specs.Grammar.{Param, param, Line}
 use Rattle.line.specs.Params.{named, valuesNamed, lacking, onlyNamed, valueType, besidesValue}
-use Rattle.line.specs.Text.{readText, writeText}
+use Rattle.line.specs.Text.{readText, splitText, writeText}
 use Rattle.line.proofs.Texts.{read-write}
 use Rattle.convert.specs.Table.{Slot, slotOf}
-use Rattle.convert.specs.Model.{Entry}
-use Rattle.convert.specs.Value.{isKeyText, readName, writeName, writtenParts}
-use Rattle.convert.specs.Classify.{nothing, bare, sole, memberName, memberValue, entryOf}
+use Rattle.convert.specs.Model.{Entry, Kept, part}
+use Rattle.convert.specs.Value.{filled, isKeyText, partValues, without, ownParts, readName, writeName, writtenParts}
+use Rattle.convert.specs.Classify.{nothing, bare, sole, treeOf, memberName, memberValue, entryOf}
 use Rattle.convert.specs.FromCard.{keptLine}
 use Rattle.convert.specs.FromJson.{keptAsLine}
 use Rattle.convert.specs.NormalCard.{plainLine, renewed, nameValues, nameText, entryForm, keptForm, propId}
 use Rattle.convert.specs.Answers.{isNamed, onlyUri, misused}
+use Rattle.convert.proofs.Names.{read-parts}
 use Rattle.convert.proofs.Entries.{Proper, entry-read}
 use Rattle.convert.proofs.KeptLines.{ProperKept, kept-line}
-use Rattle.home.specs.Allowed.{plain, withKey, Allowed, uid, kind, full, parts, entry, member, kept}
+use Rattle.home.specs.Allowed.{plain, nameStrings, partStrings, SameName, SameKept, Allowed, uid, kind, full, parts, entry, member, kept}
 use Rattle.home.proofs.Known.{onProvided, onChain}
 use Rattle.home.proofs.CleanLines.{CleanLine}
 use Rattle.home.proofs.ReadNames.{name-well}
 use Rattle.home.proofs.Bridge.{all-filled}
-use Rattle.home.proofs.CardClasses.{name-back}
 use Rattle.home.proofs.NormalCardParts.{name-read}
-use Rattle.home.proofs.NormalCardRest.{values-besides}
-use Rattle.home.proofs.NormalCardEntries.{entry-key, entry-which, entry-line}
+use Rattle.home.proofs.NormalCardRest.{values-besides, sole-inv}
+use Rattle.home.proofs.NormalCardEntries.{rekeyed, entry-key, entry-which, entry-line}
 use Rattle.home.proofs.Slots.{slot-row}
+use Rattle.home.proofs.MapLines.{key-filled}
+use Rattle.home.proofs.OwnEntry.{OwnEntry, own-entry, with-value}
 use Rattle.home.proofs.LineEntries.{entry-drawn}
 use Rattle.home.proofs.Pointed.{value-sound}
 use Rattle.line.proofs.Merging.{none-left}
@@ -68,7 +76,7 @@ module _ (l : Line) (h : LineFine l) where
       bad e = rw (same-true (lowered (l .name)) (ascii "kind") n, e)
 
   pub uid-allowed : isNamed (ascii "uid") l ≡ true → Allowed l (plainLine (ascii "uid") [] (l .value))
-  unfolding same lowered lower between
+  unfolding same lowered lower between onlyUri
   uid-allowed n = uid (n, refl) (uid-used n) refl refl
 
   pub kind-allowed : isNamed (ascii "kind") l ≡ true → Allowed l (plainLine (ascii "kind") [] (lowered (l .value)))
@@ -88,28 +96,41 @@ written-name : (ps : List (List Bytes)) → nameText ps ≡ writeName ps
 unfolding writeName writtenParts nameText
 written-name ps = refl
 
-parts-back : (l : Line) (ps : List (List Bytes)) → CleanLine l → readName (l .value) ≡ some ps → readName (nameText (nameValues (l .value))) ≡ some ps
+-- the strings of each part, as they came and as they are written
+parts-back : (l : Line) (ps : List (List Bytes)) → CleanLine l → readName (l .value) ≡ some ps → SameName (l .value) (nameText (nameValues (l .value)))
+unfolding readName nameStrings partStrings partValues ownParts writtenParts without
 parts-back l ps c e =
     let w = name-well (l .value) ps (c .value) e in
-    ap (λ (x : List (List Bytes)). readName (nameText x)) (sym (name-read (l .value) ps e .0))
-    ∙ ap readName (written-name ps)
-    ∙ name-back ps (w .0 .seven) (all-filled ps (w .0 .whole)) (w .0 .apart-0) (w .0 .apart-4) (w .1)
+    onProvided (leb (length (splitText 59 (l .value))) 7) _ e λ few a.
+    onChain (each partValues (splitText 59 (l .value))) _ a λ came p b.
+    onProvided (any (λ vs. not (empty vs)) came) (some (ownParts came)) b λ t r.
+    let i : ownParts came ≡ ps = some-same r in
+    let j : ps ≡ nameValues (l .value) = name-read (l .value) ps e .0 in
+    let written : nameText (nameValues (l .value)) ≡ writeName (ownParts came) = ap nameText (sym j ∙ sym i) ∙ written-name (ownParts came) in
+    let g : all (all filled) (ownParts came) ≡ true = rw (← i) at (all-filled ps (w .0 .whole)) in
+    record {
+      came = came;
+      came-is = p;
+      few = ap (λ (k : ℕ). leb k 7) (each-length partValues (splitText 59 (l .value)) came p) ∙ few;
+      home-is = ap (λ (x : Bytes). each partValues (splitText 59 x)) written
+          ∙ read-parts (without (part came 5) (part came 0)) (part came 1) (part came 2) (part came 3) (without (part came 6) (part came 4)) (part came 5) (part came 6) g;
+    }
 
 pub parts-allowed : (l : Line) (ps : List (List Bytes)) → CleanLine l → isNamed (ascii "n") l ≡ true → plain l ≡ true → readName (l .value) ≡ some ps → Allowed l (plainLine (ascii "n") [] (nameText (nameValues (l .value))))
 unfolding same lowered lower between
-parts-allowed l ps c n p e = parts (n, refl) p (plain-line (ascii "n") (nameText (nameValues (l .value)))) ps e (parts-back l ps c e)
+parts-allowed l ps c n p e = parts (n, refl) p (plain-line (ascii "n") (nameText (nameValues (l .value)))) (parts-back l ps c e)
 
 -- ---- the maps
 
 module _ (l : Line) (w : Slot) (e : Entry) (c : CleanLine l) (o : slotOf (lowered (l .name)) ≡ some w) (t : ltb (w .map .types) 10 ≡ true) (h : entryOf nothing w l ≡ some e) where
-  proper : (k : Bytes) → isKeyText k ≡ true → Proper (w .map) (withKey k e)
+  proper : (k : Bytes) → isKeyText k ≡ true → Proper (w .map) (rekeyed k e)
   proper k v =
       let d = entry-drawn nothing w l e c (slot-row (lowered (l .name)) w o .1) h .0 in
       record { key = v; texts = d .texts .form; codes = d .codes; order = d .order; table = t; pref = d .pref }
 
-  entry-back : (k : Bytes) → isKeyText k ≡ true → entryOf nothing w (entryForm (w .map) k l) ≡ some (withKey k e)
+  entry-back : (k : Bytes) → isKeyText k ≡ true → entryOf nothing w (entryForm (w .map) k l) ≡ some (rekeyed k e)
   unfolding any
-  entry-back k v = ap (entryOf nothing w) (sym (entry-line nothing w l e h o k)) ∙ entry-read nothing w (withKey k e) (proper k v) (entry-which nothing w l e h) refl
+  entry-back k v = ap (entryOf nothing w) (sym (entry-line nothing w l e h o k)) ∙ entry-read nothing w (rekeyed k e) (proper k v) (entry-which nothing w l e h) refl
 
   form-name : (k : Bytes) → entryForm (w .map) k l .name ≡ lowered (l .name)
   unfolding entryForm
@@ -118,7 +139,23 @@ module _ (l : Line) (w : Slot) (e : Entry) (c : CleanLine l) (o : slotOf (lowere
   pub entry-allowed : (k : Bytes) → isKeyText k ≡ true → (empty (propId l) ≡ false → k ≡ propId l) → Allowed l (entryForm (w .map) k l)
   entry-allowed k v q =
       let i : e .key ≡ propId l = entry-key nothing w l e h in
-      entry (ap lowered (form-name k) ∙ lowered-lowered (l .name)) w o e k h (entry-back k v) (λ z. q (ap (λ (x : Bytes). empty x) (sym i) ∙ z) ∙ sym i)
+      let name : lowered (entryForm (w .map) k l .name) ≡ lowered (l .name) = ap lowered (form-name k) ∙ lowered-lowered (l .name) in
+      let came : OwnEntry l e = own-entry w l e o h in
+      let home : OwnEntry (entryForm (w .map) k l) (rekeyed k e) = own-entry w (entryForm (w .map) k l) (rekeyed k e) (ap slotOf name ∙ o) (entry-back k v) in
+      entry
+      (record {
+        name = name;
+        listed = came .listed;
+        takes = (came .takes, home .takes);
+        value = (came .value, home .value);
+        key = k;
+        made = home .ids ∙ rw (key-filled k v);
+        given = byBool (empty (e .key)) (λ t. inl (came .ids ∙ rw t)) (λ t. inr (came .ids ∙ rw t (ap (λ (x : Bytes). x ∷ []) (i ∙ sym (q (ap (λ (x : Bytes). empty x) (sym i) ∙ t))))));
+        pref = home .prefs ∙ sym (came .prefs);
+        types = λ t. home .types t ∙ sym (came .types t);
+        strings = e .texts;
+        said = (came .said, home .said);
+      })
 
 -- ---- JSPROP
 
@@ -133,24 +170,41 @@ pointing-values : (vs : List Bytes) → (besidesValue (pointing vs) ≡ pointing
 unfolding besidesValue lacking onlyNamed all among any named same lowered lower between valuesNamed keep flat
 pointing-values vs = (refl, refl, append-nil vs)
 
-name-back-again : (ps : List Param) (n : Bytes) → memberName nothing (besidesValue ps) ≡ some n → memberName nothing (besidesValue (pointing (valuesNamed (ascii "jsptr") ps))) ≡ some n
-unfolding memberName same
-name-back-again ps n e =
-    let vs : List Bytes = valuesNamed (ascii "jsptr") (besidesValue ps) in
-    let us : List Bytes = valuesNamed (ascii "jsptr") ps in
-    onChain (provided (onlyNamed (ascii "jsptr" ∷ []) (besidesValue ps)) (sole vs)) _ e λ p a b.
-    onProvided (onlyNamed (ascii "jsptr" ∷ []) (besidesValue ps)) (sole vs) a λ t r.
-    let q : sole us ≡ some p = ap sole (sym (values-besides (ascii "jsptr") ps refl)) ∙ r in
-    rw (pointing-values us .0, pointing-values us .1, pointing-values us .2, q) b
+pointing-taken : (vs : List Bytes) → onlyNamed (ascii "jsptr" ∷ ascii "value" ∷ []) (pointing vs) ≡ true
+unfolding onlyNamed all among any same lowered lower between
+pointing-taken vs = refl
 
-value-back : (v : Bytes) (j : Json) → memberValue v ≡ some j → memberValue (writeText false (compact j)) ≡ some j
-unfolding memberValue
-value-back v j e = rw (read-write false (compact j), reading-compact 15 j (value-sound v j e))
+-- a line that takes JSPTR, besides VALUE
+pointer-taken : (ps : List Param) → onlyNamed (ascii "jsptr" ∷ []) (besidesValue ps) ≡ true → onlyNamed (ascii "jsptr" ∷ ascii "value" ∷ []) ps ≡ true
+unfolding among any same
+pointer-taken ps h = with-value (ascii "jsptr" ∷ []) (ascii "jsptr" ∷ ascii "value" ∷ []) (λ n e. byBool (same n (ascii "jsptr")) (λ q. rw q) (λ q. not-both e (rw q))) refl ps h
+
+tree-read : (r : Reading) (j : Json) → treeOf r ≡ some j → r ≡ tree j
+tree-read (tree i) j e = ap tree (some-same e)
+tree-read (refused n) j e = none-some e
 
 pub member-allowed : (l : Line) (n : Bytes) (j : Json) → isNamed (ascii "jsprop") l ≡ true → bare l ≡ true → memberName nothing (besidesValue (l .params)) ≡ some n → memberValue (l .value) ≡ some j
     → Allowed l (plainLine (ascii "jsprop") (pointing (valuesNamed (ascii "jsptr") (l .params))) (writeText false (compact j)))
+unfolding memberName memberValue same
 member-allowed l n j a b m v =
-    member (a, own-names .1) b (pointing-bare (writeText false (compact j)) (ascii "jsprop") (valuesNamed (ascii "jsptr") (l .params))) n m (name-back-again (l .params) n m) j v (value-back (l .value) j v)
+    let ps : List Param = besidesValue (l .params) in
+    let us : List Bytes = valuesNamed (ascii "jsptr") (l .params) in
+    onChain (provided (onlyNamed (ascii "jsptr" ∷ []) ps) (sole (valuesNamed (ascii "jsptr") ps))) _ m λ p c d.
+    onProvided (onlyNamed (ascii "jsptr" ∷ []) ps) (sole (valuesNamed (ascii "jsptr") ps)) c λ t r.
+    onChain (readText (l .value)) _ v λ came e f.
+    let one : us ≡ p ∷ [] = sym (values-besides (ascii "jsptr") (l .params) refl) ∙ sole-inv (valuesNamed (ascii "jsptr") ps) p r in
+    member (a, own-names .1)
+    (record {
+      takes = ((and-left (empty (l .group)) _ b, pointer-taken (l .params) t), (refl, pointing-taken us));
+      value = (b, pointing-bare (writeText false (compact j)) (ascii "jsprop") us);
+      pointer = p;
+      points = (one, pointing-values us .2 ∙ one);
+      json = j;
+      came = came;
+      home = compact j;
+      came-is = (e, tree-read (reading 15 came) j f);
+      home-is = (read-write false (compact j), reading-compact 15 j (value-sound (l .value) j v));
+    })
 
 -- ---- kept lines
 
@@ -174,5 +228,17 @@ module _ (l : Line) (h : LineFine l) where
   unfolding keptAsLine keptLine keptForm
   as-line = refl
 
+  pub kept-same : SameKept l (keptForm l)
+  unfolding keptLine
+  kept-same =
+      let e : keptLine (keptForm l) ≡ keptLine l = ap keptLine as-line ∙ kept-line (keptLine l) kept-fine in
+      record {
+        name = ap (λ (k : Kept). k .name) e;
+        group = ap (λ (k : Kept). k .group) e;
+        params = ap (λ (k : Kept). k .params) e;
+        type = ap (λ (k : Kept). k .type) e;
+        value = ap (λ (k : Kept). k .value) e;
+      }
+
   pub kept-allowed : Allowed l (keptForm l)
-  kept-allowed = kept (ap keptLine as-line ∙ kept-line (keptLine l) kept-fine)
+  kept-allowed = kept kept-same

@@ -1,19 +1,16 @@
 -- What is allowed stays allowed in upper-case names, as a line is written.
-use mathlib.Core.Path.{_≡_, _∙_}
+use mathlib.Core.Path.{_≡_, ap, _∙_}
 use mathlib.Core.Bool.{true, _&&_}
 use mathlib.Core.List.{List, [], _∷_, map}
-use mathlib.Core.Option.{some}
-use Rattle.text.specs.Bytes.{Bytes, ascii, empty}
+use Rattle.text.specs.Bytes.{Bytes, ascii, empty, among, lowered, uppered, parts as parts-at, flat}
 use Rattle.text.proofs.Letters.{lowered-uppered}
-use Rattle.line.specs.Grammar.{Param, Line}
-use Rattle.line.specs.Params.{besidesValue}
+use Rattle.line.specs.Grammar.{Line}
+use Rattle.line.specs.Params.{valueType, besidesValue, merged}
 use Rattle.line.proofs.Parameters.{upperParam}
 use Rattle.line.proofs.Lines.{upperLine}
-use Rattle.line.proofs.Uppered.{valuesNamed-upper, besidesValue-upper, valueType-upper, onlyNamed-upper}
-use Rattle.convert.specs.Classify.{nothing, bare, memberName}
+use Rattle.line.proofs.Uppered.{valuesNamed-upper, besidesValue-upper, valueType-upper, onlyNamed-upper, merged-upper}
 use Rattle.convert.specs.Answers.{isNamed}
-use Rattle.convert.proofs.Cases.{entry-upper, kept-upper}
-use Rattle.home.specs.Allowed.{plain, Allowed, uid, kind, full, parts, entry, member, kept}
+use Rattle.home.specs.Allowed.{untyped, plain, Takes, taken, SameEntry, SameMember, SameKept, Allowed, uid, kind, full, parts, entry, member, kept}
 use Rattle.home.proofs.Images.{empty-map}
 
 module _ (h : Line) where
@@ -23,21 +20,63 @@ module _ (h : Line) where
   no-params : empty (h .group) && empty (h .params) ≡ true → empty (h .group) && empty (upperLine h .params) ≡ true
   no-params e = rw (empty-map upperParam (h .params)) e
 
-  bare-upper : bare h ≡ true → bare (upperLine h) ≡ true
+  bare-upper : untyped h ≡ true → untyped (upperLine h) ≡ true
   bare-upper e = rw (valueType-upper (h .params)) e
 
   plain-upper : plain h ≡ true → plain (upperLine h) ≡ true
   plain-upper e = rw (valueType-upper (h .params), besidesValue-upper (h .params), empty-map upperParam (besidesValue (h .params))) e
 
-name-upper : (ps : List Param) (n : Bytes) → memberName nothing (besidesValue ps) ≡ some n → memberName nothing (besidesValue (map upperParam ps)) ≡ some n
-unfolding memberName
-name-upper ps n e = rw (besidesValue-upper ps, onlyNamed-upper (ascii "jsptr" ∷ []) (besidesValue ps), valuesNamed-upper (ascii "jsptr") (besidesValue ps)) e
+  takes-upper : (ns : List Bytes) → Takes ns h → Takes ns (upperLine h)
+  takes-upper ns t = (t .0, onlyNamed-upper ns (h .params) ∙ t .1)
+
+module _ (l h : Line) where
+  entry-upper : SameEntry l h → SameEntry l (upperLine h)
+  entry-upper s =
+      let n : lowered (uppered (h .name)) ≡ lowered (h .name) = lowered-uppered (h .name) in
+      let v : valueType (map upperParam (h .params)) ≡ valueType (h .params) = valueType-upper (h .params) in
+      record {
+        name = n ∙ s .name;
+        listed = s .listed;
+        takes = (s .takes .0, rw n (takes-upper h (taken (lowered (h .name))) (s .takes .1)));
+        value = (s .value .0, rw (n, v) (s .value .1));
+        key = s .key;
+        made = valuesNamed-upper (ascii "prop-id") (h .params) ∙ s .made;
+        given = s .given;
+        pref = valuesNamed-upper (ascii "pref") (h .params) ∙ s .pref;
+        types = λ t. ap (λ (vs : List Bytes). among t (map lowered (flat (map (parts-at 44) vs)))) (valuesNamed-upper (ascii "type") (h .params)) ∙ s .types t;
+        strings = s .strings;
+        said = (s .said .0, rw (n, v) (s .said .1));
+      }
+
+  member-upper : SameMember l h → SameMember l (upperLine h)
+  member-upper s =
+      record {
+        takes = (s .takes .0, takes-upper h (ascii "jsptr" ∷ ascii "value" ∷ []) (s .takes .1));
+        value = (s .value .0, bare-upper h (s .value .1));
+        pointer = s .pointer;
+        points = (s .points .0, valuesNamed-upper (ascii "jsptr") (h .params) ∙ s .points .1);
+        json = s .json;
+        came = s .came;
+        home = s .home;
+        came-is = s .came-is;
+        home-is = s .home-is;
+      }
+
+  pub kept-upper : SameKept l h → SameKept l (upperLine h)
+  kept-upper s =
+      record {
+        name = lowered-uppered (h .name) ∙ s .name;
+        group = s .group;
+        params = ap merged (besidesValue-upper (h .params)) ∙ merged-upper (besidesValue (h .params)) ∙ s .params;
+        type = valueType-upper (h .params) ∙ s .type;
+        value = s .value;
+      }
 
 pub allowed-upper : (l h : Line) → Allowed l h → Allowed l (upperLine h)
 allowed-upper l h (uid b p q e) = uid (b .0, named-upper h (ascii "uid") (b .1)) p (no-params h q) e
 allowed-upper l h (kind b p q e) = kind (b .0, named-upper h (ascii "kind") (b .1)) p (no-params h q) e
 allowed-upper l h (full b p q v x y) = full (b .0, named-upper h (ascii "fn") (b .1)) p (plain-upper h q) v x y
-allowed-upper l h (parts b p q ps x y) = parts (b .0, named-upper h (ascii "n") (b .1)) p (plain-upper h q) ps x y
-allowed-upper l h (entry n w o e k x y q) = entry (lowered-uppered (h .name) ∙ n) w o e k x (entry-upper nothing w h ∙ y) q
-allowed-upper l h (member b p q n x y j u v) = member (b .0, named-upper h (ascii "jsprop") (b .1)) p (bare-upper h q) n x (name-upper (h .params) n y) j u v
-allowed-upper l h (kept e) = kept (kept-upper h ∙ e)
+allowed-upper l h (parts b p q s) = parts (b .0, named-upper h (ascii "n") (b .1)) p (plain-upper h q) s
+allowed-upper l h (entry s) = entry (entry-upper l h s)
+allowed-upper l h (member b s) = member (b .0, named-upper h (ascii "jsprop") (b .1)) (member-upper l h s)
+allowed-upper l h (kept s) = kept (kept-upper l h s)

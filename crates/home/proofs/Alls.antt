@@ -1,9 +1,10 @@
 -- A statement about every element of a list; what each of them gives.
 use mathlib.Core.Path.{_≡_, refl, sym, ap, ap₂, subst, _∙_}
-use mathlib.Core.Logic.{_⊎_, inl, inr}
+use mathlib.Core.Logic.{inl, inr}
 use mathlib.Core.Bool.{Bool, true, false, not}
 use mathlib.Core.List.{List, [], _∷_, _++_, map}
 use mathlib.Core.Option.{Option, some}
+pub use Rattle.home.specs.Members.{In}
 use Rattle.text.specs.Bytes.{Bytes, any, all, same, among, distinct, keep, flat, each}
 use Rattle.text.proofs.Cases.{byBool, and-left, and-right, or-left, or-right, not-true}
 use Rattle.text.proofs.Choices.{some-same, both-inv}
@@ -87,10 +88,6 @@ kept-distinct f p (x ∷ xs) h =
 
 -- ---- elements
 
-abbrev pub In : {A : Type 0} → A → List A → Type 0
-In x [] = ⊥
-In x (y ∷ ys) = (x ≡ y) ⊎ In x ys
-
 pub in-all : {A : Type 0} (P : A → Type 0) (xs : List A) → ((x : A) → In x xs → P x) → All P xs
 in-all P [] h = tt
 in-all P (x ∷ xs) h = (h x (inl refl), in-all P xs (λ y i. h y (inr i)))
@@ -100,12 +97,12 @@ all-in P [] x h i = absurd i
 all-in P (y ∷ ys) x h (inl e) = subst P (sym e) (h .0)
 all-in P (y ∷ ys) x h (inr i) = all-in P ys x (h .1) i
 
-in-left : {A : Type 0} (x : A) (xs ys : List A) → In x xs → In x (xs ++ ys)
+pub in-left : {A : Type 0} (x : A) (xs ys : List A) → In x xs → In x (xs ++ ys)
 in-left x [] ys i = absurd i
 in-left x (z ∷ xs) ys (inl e) = inl e
 in-left x (z ∷ xs) ys (inr i) = inr (in-left x xs ys i)
 
-in-right : {A : Type 0} (x : A) (xs ys : List A) → In x ys → In x (xs ++ ys)
+pub in-right : {A : Type 0} (x : A) (xs ys : List A) → In x ys → In x (xs ++ ys)
 in-right x [] ys i = i
 in-right x (z ∷ xs) ys i = inr (in-right x xs ys i)
 
@@ -120,3 +117,10 @@ pub in-among : {A : Type 0} (f : A → Bytes) (x : A) (xs : List A) → In x xs 
 in-among f x [] i = absurd i
 in-among f x (y ∷ ys) (inl e) = subst (λ (z : Bytes). among z (f y ∷ map f ys) ≡ true) (ap f (sym e)) (among-head (f y) (map f ys))
 in-among f x (y ∷ ys) (inr i) = among-later (f x) (f y) (map f ys) (in-among f x ys i)
+
+-- what is kept
+pub keep-there : {A : Type 0} (p : A → Bool) (x : A) (xs : List A) → In x xs → p x ≡ true → In x (keep p xs)
+unfolding keep
+keep-there p x [] h e = h
+keep-there p x (y ∷ ys) (inl q) e = let r : p y ≡ true = subst (λ (z : _). p z ≡ true) q e in rw r (inl q)
+keep-there p x (y ∷ ys) (inr h) e = byBool (p y) (λ r. rw r (inr (keep-there p x ys h e))) (λ r. rw r (keep-there p x ys h e))

@@ -12,6 +12,7 @@ use Rattle.convert.specs.Classify.{Seen, nothing, see, classify, classedAfter, 
 use Rattle.convert.specs.NormalCard.{normalLines}
 use Rattle.convert.specs.Answers.{lineRoom}
 use Rattle.home.specs.Allowed.{AllStand, carriedLines, newLines}
+use Rattle.home.specs.Turns.{InTurn}
 use Rattle.home.proofs.Alls.{All}
 use Rattle.home.proofs.Accepted.{GoodLines}
 use Rattle.text.proofs.Lists.{each-length}
@@ -21,6 +22,8 @@ use Rattle.home.proofs.LineSays.{class-says}
 use Rattle.home.proofs.InSections.{lines-reordered}
 use Rattle.home.proofs.SectionsStand.{ClassedFine, sections-stand}
 use Rattle.home.proofs.Standing.{stand-reordered}
+use Rattle.home.proofs.TurnsKept.{lines-parted}
+use Rattle.home.proofs.InTurn.{lines-in-turn}
 
 all-say : (s : Seen) (ls : List Line) → All LineGood ls → All ClassedFine (classedAfter s ls)
 unfolding classedAfter
@@ -41,3 +44,9 @@ lines-few raw ls g = fits (length raw) (length ls) (each-length readLine raw ls 
 -- The normal form of an accepted card has VERSION, the lines made where none came, and for each line that came one line allowed for it.
 pub every-line : (stem : Bytes) (n : ℕ) (raw : List Bytes) (ls : List Line) → GoodLines raw ls → AllStand (newLines stem n ls) (carriedLines ls) (normalLines stem n (classed ls))
 every-line stem n raw ls g = lines-stand stem n ls (lines-good raw ls (g .read) (g .clean) (g .used) (g .filled)) (lines-few raw ls g)
+
+-- and it is in 01's order, each section in the order in which its lines came
+pub every-turn : (stem : Bytes) (n : ℕ) (raw : List Bytes) (ls : List Line) → GoodLines raw ls → InTurn (carriedLines ls) (normalLines stem n (classed ls))
+unfolding classed
+every-turn stem n raw ls g =
+    lines-in-turn (classedAfter nothing ls) (all-say nothing ls (lines-good raw ls (g .read) (g .clean) (g .used) (g .filled))) (rw (classed-length nothing ls) (lines-few raw ls g)) stem n (carriedLines ls) (lines-parted nothing ls)

@@ -20,7 +20,8 @@ use Rattle.convert.specs.NormalCard.{normalLines}
 use Rattle.convert.specs.Answers.{yes, seek, given, cardRoom, lineRoom, jsonRoom, isStemText, isCardNumber, linesOf, orNone, fitted, cardToJson, jsonToCard}
 use Rattle.home.specs.Proper.{ProperCard}
 use Rattle.home.specs.Allowed.{AllStand, carriedLines, newLines}
-use Rattle.home.proofs.Seeking.{yes-same, seek-fine, given-false, fitted-inv}
+use Rattle.home.specs.Turns.{InTurn}
+use Rattle.home.proofs.Seeking.{seek-fine, given-false, fitted-inv}
 use Rattle.home.proofs.Accepted.{AcceptedCard, accepted-card}
 use Rattle.home.proofs.CardLines.{card-unfolded, card-read}
 use Rattle.home.proofs.CardAnswer.{card-to-json}
@@ -29,18 +30,19 @@ use Rattle.home.proofs.WayHome.{written, normalOf, card-is-proper, card
 use Rattle.home.proofs.Respelled.{lines}
 use Rattle.home.proofs.Standing.{stand-map}
 use Rattle.home.proofs.AllowedUpper.{allowed-upper}
-use Rattle.home.proofs.EveryLine.{every-line}
+use Rattle.home.proofs.EveryLine.{every-line, every-turn}
+use Rattle.home.proofs.InTurn.{turn-upper}
 
-written-inv : (ls : List Line) (b : Bytes) → written ls ≡ yes b → (ltb lineRoom (length ls) ≡ false) × (ltb cardRoom (length b) ≡ false) × (b ≡ writeCard ls)
+written-inv : (lent : ℕ) (ls : List Line) (b : Bytes) → written lent ls ≡ yes b → (ltb lineRoom (length ls) ≡ false) × (ltb cardRoom (length b) ≡ false) × (b ≡ writeCard ls)
 unfolding seek
-written-inv ls b e =
-    let i = seek-fine (given 3 (ltb lineRoom (length ls))) [] (fitted cardRoom cardRoom (writeCard ls)) b e in
-    let f = fitted-inv cardRoom cardRoom (writeCard ls) b (i .1) in
+written-inv lent ls b e =
+    let i = seek-fine (given 3 (ltb lineRoom (length ls))) [] (fitted cardRoom lent (writeCard ls)) b e in
+    let f = fitted-inv cardRoom lent (writeCard ls) b (i .1) in
     (given-false 3 (ltb lineRoom (length ls)) (i .0), ap (λ (x : Bytes). ltb cardRoom (length x)) (f .2) ∙ f .0, f .2)
 
-json-fits : (r : Bytes) → ltb jsonRoom (length r) ≡ false → fitted jsonRoom jsonRoom r ≡ yes r
+json-fits : (lent : ℕ) (r : Bytes) → ltb jsonRoom (length r) ≡ false → ltb lent (length r) ≡ false → fitted jsonRoom lent r ≡ yes r
 unfolding fitted seek
-json-fits r h = rw h
+json-fits lent r h l = rw (h, l)
 
 -- a card that goes to JSON j and comes home as b: the model between them
 record Way (stem : Bytes) (n : ℕ) (s j b : Bytes) : Type 0 where
@@ -53,9 +55,9 @@ record Way (stem : Bytes) (n : ℕ) (s j b : Bytes) : Type 0 where
   room : ltb cardRoom (length b) ≡ false
   home : b ≡ printCard card
 
-module _ (stem : Bytes) (n : ℕ) (s j b : Bytes) (out : cardToJson stem n jsonRoom s ≡ yes j) (back : jsonToCard cardRoom j ≡ yes b) where
+module _ (stem : Bytes) (n lent lent′ : ℕ) (s j b : Bytes) (out : cardToJson stem n lent s ≡ yes j) (back : jsonToCard lent′ j ≡ yes b) where
   accepted : AcceptedCard stem n s j
-  accepted = accepted-card stem n jsonRoom s j out
+  accepted = accepted-card stem n lent s j out
 
   the-lines : lines s ≡ linesOf (accepted .raw)
   the-lines = ap (λ (o : Option (List Bytes)). linesOf (orNone o)) (accepted .raws)
@@ -65,7 +67,7 @@ module _ (stem : Bytes) (n : ℕ) (s j b : Bytes) (out : cardToJson stem n jsonR
   way =
       let ls : List Line = linesOf (accepted .raw) in
       let normal : cardLines (cardOfLines stem n ls) ≡ normalOf stem n s = lines-normal stem n ls (record { once = accepted .good .once; valued = accepted .good .filled }) ∙ ap (λ (x : List Line). normalLines stem n (classed x)) (sym the-lines) in
-      let w = written-inv (normalOf stem n s) b (sym (card-comes-home stem n s j out) ∙ back) in
+      let w = written-inv lent′ (normalOf stem n s) b (sym (card-comes-home stem n lent lent′ s j out) ∙ back) in
       record {
         card = cardOfLines stem n ls;
         proper = card-is-proper stem n (accepted .raw) (accepted .stem-fits) (accepted .good);
@@ -92,18 +94,27 @@ module _ (stem : Bytes) (n : ℕ) (s j b : Bytes) (out : cardToJson stem n jsonR
       let ls : List Line = linesOf (accepted .raw) in
       rw (home-lines, the-lines) (stand-map upperLine allowed-upper (every-line stem n (accepted .raw) ls (accepted .good)))
 
-  -- ---- a card that came home comes home unchanged, whatever the stem and number
+  -- in 01's order, each section in the order in which its lines came
+  pub lines-come-home-in-turn : InTurn (carriedLines (lines s)) (lines b)
+  lines-come-home-in-turn =
+      let ls : List Line = linesOf (accepted .raw) in
+      rw (home-lines, the-lines) (turn-upper (carriedLines ls) (normalLines stem n (classed ls)) (every-turn stem n (accepted .raw) ls (accepted .good)))
 
-  pub same-json-again : (stem′ : Bytes) (n′ : ℕ) → isStemText stem′ ≡ true → isCardNumber n′ ≡ true → cardToJson stem′ n′ jsonRoom b ≡ yes j
-  same-json-again stem′ n′ p q =
+  -- ---- a card that came home comes home unchanged, whatever the stem and number, in any output that is long enough
+
+  pub same-json-again : (stem′ : Bytes) (n′ room : ℕ) → isStemText stem′ ≡ true → isCardNumber n′ ≡ true → ltb room (length j) ≡ false → cardToJson stem′ n′ room b ≡ yes j
+  same-json-again stem′ n′ room p q o =
       let c : Card = way .card in
       let f : ltb jsonRoom (length (printJson c)) ≡ false = ap (λ (x : Bytes). ltb jsonRoom (length x)) (sym (way .json)) ∙ way .fits in
-      ap (cardToJson stem′ n′ jsonRoom) (way .home)
-      ∙ card-to-json c (way .proper) (way .few) stem′ n′ jsonRoom (and-true p q) (ap (λ (x : Bytes). ltb cardRoom (length x)) (sym (way .home)) ∙ way .room)
-      ∙ json-fits (printJson c) f
+      ap (cardToJson stem′ n′ room) (way .home)
+      ∙ card-to-json c (way .proper) (way .few) stem′ n′ room (and-true p q) (ap (λ (x : Bytes). ltb cardRoom (length x)) (sym (way .home)) ∙ way .room)
+      ∙ json-fits room (printJson c) f (ap (λ (x : Bytes). ltb room (length x)) (sym (way .json)) ∙ o)
       ∙ ap yes (sym (way .json))
 
-  pub home-again : (stem′ : Bytes) (n′ : ℕ) (k : Bytes) → cardToJson stem′ n′ jsonRoom b ≡ yes k → jsonToCard cardRoom k ≡ yes b
-  home-again stem′ n′ k e =
-      let a = accepted-card stem′ n′ jsonRoom b k e in
-      ap (jsonToCard cardRoom) (yes-same (sym e ∙ same-json-again stem′ n′ (a .stem-fits) (a .number-fits))) ∙ back
+  pub home-again : (stem′ : Bytes) (n′ room : ℕ) (k : Bytes) → cardToJson stem′ n′ room b ≡ yes k → jsonToCard lent′ k ≡ yes b
+  home-again stem′ n′ room k e =
+      let a = accepted-card stem′ n′ room b k e in
+      let c : Card = way .card in
+      let r : fitted jsonRoom room (printJson c) ≡ yes k =
+      sym (card-to-json c (way .proper) (way .few) stem′ n′ room (and-true (a .stem-fits) (a .number-fits)) (ap (λ (x : Bytes). ltb cardRoom (length x)) (sym (way .home)) ∙ way .room)) ∙ ap (cardToJson stem′ n′ room) (sym (way .home)) ∙ e in
+      ap (jsonToCard lent′) (fitted-inv jsonRoom room (printJson c) k r .2 ∙ sym (way .json)) ∙ back

@@ -19,7 +19,7 @@ use Rattle.home.proofs.Slots.{at, slot-row}
 use Rattle.home.proofs.LineSays.{Says, class-says, comes, carries-class}
 use Rattle.home.proofs.Standing.{into-before, Reordered, none-left, one-placed}
 
-abbrev ClassSays : Classed → Type 0
+abbrev pub ClassSays : Classed → Type 0
 ClassSays c = Says (c .line) (c .class)
 
 all-say : (s : Seen) (ls : List Line) → All ClassSays (classedAfter s ls)

@@ -63,6 +63,11 @@ pub mod WayHome
 pub mod Respelled
 pub mod CardAnswer
 pub mod Example
+pub mod MemberIn
+pub mod NameStands
+pub mod EntryStands
+pub mod PropStands
+pub mod EveryMember
 pub mod ReadForms
 pub mod ReadNames
 pub mod Slots
@@ -85,6 +90,10 @@ pub mod AllowedUpper
 pub mod InSections
 pub mod SectionsStand
 pub mod EveryLine
+pub mod TurnsKept
+pub mod InTurn
+pub mod OwnEntry
 pub mod HomeAgain
+pub mod MemberHome
 pub mod StandsPlainly
 pub mod AllowedExample

@@ -1,5 +1,5 @@
 -- What a line's class says of the line alone, whatever was seen before it; and which lines have none.
-use mathlib.Core.Path.{_≡_, refl, sym}
+use mathlib.Core.Path.{_≡_, refl, sym, ap, _∙_}
 use mathlib.Core.Bool.{Bool, true, false, _&&_, not}
 use mathlib.Core.List.{List, [], _∷_}
 use mathlib.Core.Option.{Option, none, some}
@@ -9,7 +9,7 @@ use Rattle.text.specs.Bytes.{Bytes, ascii, any, empty, same, among, lowered}
 use Rattle.text.proofs.Cases.{byBool, and-left}
 use Rattle.text.proofs.Choices.{none-some}
 use Rattle.text.proofs.Same.{same-true}
-use Rattle.line.specs.Grammar.{Param, Line}
+use Rattle.line.specs.Grammar.{Param, param, Line}
 use Rattle.line.specs.Params.{valuesNamed, onlyNamed, valueType, besidesValue}
 use Rattle.line.specs.Text.{readText}
 use Rattle.convert.specs.Table.{Slot, slotOf, reserved}
@@ -18,7 +18,7 @@ use Rattle.convert.specs.Pointer.{pointed}
 use Rattle.convert.specs.Model.{Entry}
 use Rattle.convert.specs.Classify.{Class, as-version, as-uid, as-kind, as-dropped, as-full, as-parts, as-entry, as-member, as-kept, Seen, nothing, isId, bare, isDerived, fullClass, partsClass, sole, memberName, memberValue, memberClass, keyFrom, allowed, entryOf, entryClass, classify}
 use Rattle.convert.specs.Answers.{isNamed}
-use Rattle.home.specs.Allowed.{plain, carries}
+use Rattle.home.specs.Allowed.{plain, onlyDerived, carries}
 use Rattle.home.proofs.Known.{onProvided, onChain, onSome}
 
 -- ---- what converts after some lines converts by itself
@@ -120,6 +120,13 @@ module _ (s : Seen) (l : Line) where
   comes-full =
       byBool (bare l && isDerived (besidesValue (l .params))) (λ d. rw d) (λ d. rw d (comes-with (provided (plain l && not (s .full)) (readText (l .value))) as-full (λ v. refl)))
 
+  own-derived : (ps : List Param) → onlyDerived ps ≡ isDerived ps
+  unfolding isDerived
+  own-derived [] = refl
+  own-derived (param n [] ∷ ps) = refl
+  own-derived (param n (v ∷ []) ∷ ps) = refl
+  own-derived (param n (v ∷ (w ∷ ws)) ∷ ps) = refl
+
   comes-parts : comes (partsClass s l) ≡ true
   unfolding partsClass
   comes-parts = comes-with (provided (plain l && not (s .parts)) (readName (l .value))) as-parts (λ ps. refl)
@@ -139,7 +146,7 @@ module _ (s : Seen) (l : Line) where
       byBool (isNamed (ascii "version") l) (λ a. rw a) λ a.
       byBool (isNamed (ascii "uid") l) (λ b. rw (same-true (lowered (l .name)) (ascii "uid") b)) λ b.
       byBool (isNamed (ascii "kind") l) (λ c. rw (same-true (lowered (l .name)) (ascii "kind") c)) λ c.
-      byBool (isNamed (ascii "fn") l) (λ d. rw (a, b, c, d) (sym comes-full)) λ d.
+      byBool (isNamed (ascii "fn") l) (λ d. rw (a, b, c, d) (ap (λ (x : Bool). not (bare l && x)) (own-derived (besidesValue (l .params))) ∙ sym comes-full)) λ d.
       byBool (isNamed (ascii "n") l) (λ e. rw (a, b, c, d, e) (sym comes-parts)) λ e.
       byBool (isNamed (ascii "jsprop") l) (λ f. rw (a, b, c, d, e, f) (sym comes-member)) λ f.
       rw (a, b, c, d, e, f) (sym comes-entry)

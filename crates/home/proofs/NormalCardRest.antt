@@ -36,7 +36,7 @@ values-besides n ps h = rw (keep-weaker (named n) (λ p. not (named (ascii "valu
 
 -- ---- JSPROP
 
-sole-inv : (vs : List Bytes) (v : Bytes) → sole vs ≡ some v → vs ≡ v ∷ []
+pub sole-inv : (vs : List Bytes) (v : Bytes) → sole vs ≡ some v → vs ≡ v ∷ []
 sole-inv [] v e = none-some e
 sole-inv (x ∷ []) v e = ap (λ (y : Bytes). y ∷ []) (some-same e)
 sole-inv (x ∷ (y ∷ ys)) v e = none-some e

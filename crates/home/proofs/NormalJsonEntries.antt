@@ -28,7 +28,7 @@ use Rattle.home.proofs.Alls.{All}
 
 -- ---- what the law needs of a row of the table
 
-abbrev isOrganizationForm : Form → Bool
+abbrev pub isOrganizationForm : Form → Bool
 isOrganizationForm text = false
 isOrganizationForm single = false
 isOrganizationForm uri = false
@@ -108,7 +108,7 @@ unit-object (mcons n j (mcons m k os)) v s d o f a =
     let r = among-one m (ascii "name") (and-left _ _ (and-right (among n (ascii "name" ∷ [])) _ o)) in
     not-both (same-among n m (map nameOf (membersOf os)) (same-eq (same-true n (ascii "name") q ∙ sym (same-true m (ascii "name") r)))) (not-true _ (and-left _ _ d))
 
-unit-read : (j : Json) (s : Bytes) → distinctNames j ≡ true → unitFrom j ≡ some s → j ≡ unitJson s
+pub unit-read : (j : Json) (s : Bytes) → distinctNames j ≡ true → unitFrom j ≡ some s → j ≡ unitJson s
 unfolding unitFrom
 unit-read jnull s d e = none-some e
 unit-read jtrue s d e = none-some e
@@ -121,7 +121,7 @@ unit-read (jobj os) s d e =
     onChain (field (ascii "name") (membersOf os)) asString r λ v f a.
     unit-object os v s (object-distinct os d .0) o f a
 
-unit-filled : (s : Bytes) → filled s ≡ isUnit (unitJson s)
+pub unit-filled : (s : Bytes) → filled s ≡ isUnit (unitJson s)
 unfolding isUnit membersOf fromMembers field same
 unit-filled s = refl
 
@@ -212,7 +212,7 @@ module _ (m : Map) (r : Row m) where
       (ap (λ (l : List Member). member k (object l))
       (ap₂ _++_ (ap₂ _++_ (ap₂ _++_ (ap₂ _++_ (kind-part (m .kinds) ms w (r .kinds) e1) (content-part m r ms vs n e2)) (contexts-form ms xs fs g)) (features-form ms xs fs g)) (pref-part ms p e5)))
 
-  entries-read : (ms : List Member) (es : List Entry) → mapFrom ms m ≡ some es → each (entryFrom m) (with-some (field (m .member) ms) fieldsOf []) ≡ some es
+  pub entries-read : (ms : List Member) (es : List Entry) → mapFrom ms m ≡ some es → each (entryFrom m) (with-some (field (m .member) ms) fieldsOf []) ≡ some es
   unfolding mapFrom each
   entries-read ms es e =
       onOptional (field (m .member) ms) [] (λ j. chain (asObject j) (each (entryFrom m))) e

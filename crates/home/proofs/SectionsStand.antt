@@ -22,6 +22,7 @@ use Rattle.convert.specs.Classify.{Class, as-version, as-uid, as-kind, as-dropp
 use Rattle.convert.specs.NormalCard.{plainLine, renewed, nameValues, nameText, entryForm, keptForm, Section, nowhere, uids, kinds, fulls, names, members, kepts, map-at, sectionOf, sectionNumber, section, propId, entryForms, mapForms, memberForm, derivedForm, normalLines}
 use Rattle.convert.specs.Keys.{fresh, keysAfter, keys}
 use Rattle.home.specs.Allowed.{Allowed, here, AllStand, no-more, one-more, whereNone}
+use Rattle.home.specs.Members.{Pairwise, no-pair, pair}
 use Rattle.home.proofs.Alls.{All}
 use Rattle.home.proofs.Classes.{elsewhere}
 use Rattle.home.proofs.Slots.{at, at-all, slot-row}
@@ -46,11 +47,11 @@ rows-fit = ((refl, refl), ((refl, refl), ((refl, refl), ((refl, refl), ((refl, r
 -- ---- one line
 
 -- its PROP-ID is a key or empty, and its normal form with a fitting key is allowed
-abbrev RowLine : Map → Line → Type 0
+abbrev pub RowLine : Map → Line → Type 0
 RowLine m l = (isIdText (propId l) ≡ true) × ((k : Bytes) → isKeyText k ≡ true → (empty (propId l) ≡ false → k ≡ propId l) → Allowed l (entryForm m k l))
 
 -- what a line of the section is
-abbrev Fits : Section → Line → Type 0
+abbrev pub Fits : Section → Line → Type 0
 Fits nowhere l = Unit {0}
 Fits uids l = Allowed l (plainLine (ascii "uid") [] (l .value))
 Fits kinds l = Allowed l (plainLine (ascii "kind") [] (lowered (l .value)))
@@ -114,7 +115,7 @@ section-first : (n : Section) (l : Line) (c : Class) (cs : List Classed) → sec
 unfolding section keep
 section-first n l c cs = byBool (eqb (sectionNumber (sectionOf c)) (sectionNumber n)) (λ e. rw e) (λ e. rw e)
 
-section-fits : (n : Section) (cs : List Classed) → All ClassedFine cs → All (Fits n) (section n cs)
+pub section-fits : (n : Section) (cs : List Classed) → All ClassedFine cs → All (Fits n) (section n cs)
 unfolding section keep
 section-fits n [] h = tt
 section-fits n (c ∷ cs) h =
@@ -145,13 +146,17 @@ unfolding all
 ids-text m [] h = refl
 ids-text m (l ∷ ls) h = and-true (h .0 .0) (ids-text m ls (h .1))
 
-forms-stand : (m : Map) (ks : List Bytes) (ls : List Line) → All (RowLine m) ls → all isKeyText ks ≡ true → KeysFit (map propId ls) ks → AllStand [] ls (entryForms m ks ls)
+pair-stand : {ls hs : List Line} → Pairwise Allowed ls hs → AllStand [] ls hs
+pair-stand no-pair = no-more
+pair-stand (pair a s) = one-more a (pair-stand s) here
+
+forms-stand : (m : Map) (ks : List Bytes) (ls : List Line) → All (RowLine m) ls → all isKeyText ks ≡ true → KeysFit (map propId ls) ks → Pairwise Allowed ls (entryForms m ks ls)
 unfolding entryForms all
-forms-stand m [] [] h a f = no-more
+forms-stand m [] [] h a f = no-pair
 forms-stand m [] (l ∷ ls) h a f = absurd f
 forms-stand m (k ∷ ks) [] h a f = absurd f
 forms-stand m (k ∷ ks) (l ∷ ls) h a f =
-    one-more (h .0 .1 k (and-left (isKeyText k) (all isKeyText ks) a) (f .0)) (forms-stand m ks ls (h .1) (and-right (isKeyText k) (all isKeyText ks) a) (f .1)) here
+    pair (h .0 .1 k (and-left (isKeyText k) (all isKeyText ks) a) (f .0)) (forms-stand m ks ls (h .1) (and-right (isKeyText k) (all isKeyText ks) a) (f .1))
 
 length-map : {A B : Type 0} (f : A → B) (xs : List A) → length (map f xs) ≡ length xs
 length-map f [] = refl
@@ -164,7 +169,7 @@ section-length n cs =
     omega (arith, length-map (λ (c : Classed). c .line) (keep p cs), length-keep p cs)
 
 module _ (cs : List Classed) (h : All ClassedFine cs) (few : length cs ≤ 512) where
-  map-stands : (i : ℕ) (m : Map) → at i maps ≡ some m → AllStand [] (section (map-at i) cs) (entryForms m (keys (m .prefix) (map propId (section (map-at i) cs))) (section (map-at i) cs))
+  pub map-stands : (i : ℕ) (m : Map) → at i maps ≡ some m → Pairwise Allowed (section (map-at i) cs) (entryForms m (keys (m .prefix) (map propId (section (map-at i) cs))) (section (map-at i) cs))
   map-stands i m r =
       let ls : List Line = section (map-at i) cs in
       let a : All (RowLine m) ls = rows ls (section-fits (map-at i) cs h) in
@@ -182,12 +187,12 @@ module _ (cs : List Classed) (h : All ClassedFine cs) (few : length cs ≤ 512) 
   maps-stand : (i : ℕ) (ms : List Map) → RowsFrom i ms → AllStand [] (mapSections i ms cs) (mapForms i ms cs)
   unfolding mapSections mapForms
   maps-stand i [] r = no-more
-  maps-stand i (m ∷ ms) r = stand-both (map-stands i m (r .0)) (maps-stand (suc i) ms (r .1))
+  maps-stand i (m ∷ ms) r = stand-both (pair-stand (map-stands i m (r .0))) (maps-stand (suc i) ms (r .1))
 
 -- ---- JSPROP
 
-member-stands : (l : Line) (c : Class) → Says l c → (ls hs : List Line) → AllStand [] ls hs
-    → AllStand [] (pick (eqb (sectionNumber (sectionOf c)) 5) (l ∷ ls) ls) (memberForm (record { line = l; class = c }) ++ hs)
+member-stands : (l : Line) (c : Class) → Says l c → (ls hs : List Line) → Pairwise Allowed ls hs
+    → Pairwise Allowed (pick (eqb (sectionNumber (sectionOf c)) 5) (l ∷ ls) ls) (memberForm (record { line = l; class = c }) ++ hs)
 member-stands l as-version h ls hs s = s
 member-stands l (as-uid v) h ls hs s = s
 member-stands l (as-kind v) h ls hs s = s
@@ -195,12 +200,12 @@ member-stands l as-dropped h ls hs s = s
 member-stands l (as-full v) h ls hs s = s
 member-stands l (as-parts ps) h ls hs s = s
 member-stands l (as-entry i e) h ls hs s = rw (elsewhere i 5 refl) s
-member-stands l (as-member n j) h ls hs s = one-more (member-allowed l n j (h .0) (h .1) (h .2) (h .3)) s here
+member-stands l (as-member n j) h ls hs s = pair (member-allowed l n j (h .0) (h .1) (h .2) (h .3)) s
 member-stands l as-kept h ls hs s = s
 
-members-stand : (cs : List Classed) → All ClassedFine cs → AllStand [] (section members cs) (flat (map memberForm cs))
+pub members-stand : (cs : List Classed) → All ClassedFine cs → Pairwise Allowed (section members cs) (flat (map memberForm cs))
 unfolding section keep flat
-members-stand [] h = no-more
+members-stand [] h = no-pair
 members-stand (c ∷ cs) h = rw (section-first members (c .line) (c .class) cs) (member-stands (c .line) (c .class) (h .0 .1) (section members cs) _ (members-stand cs (h .1)))
 
 -- ---- all sections
@@ -222,7 +227,7 @@ sections-stand stem n cs h few =
     let fs = stand-made (λ (l : Line). plainLine (ascii "fn") [] (renewed false (l .value))) (derivedForm (section names cs)) (section fulls cs) (section-fits fulls cs h) in
     let ns = stand-each (λ (l : Line). plainLine (ascii "n") [] (nameText (nameValues (l .value)))) (section names cs) (section-fits names cs h) in
     let ms = maps-stand cs h few 0 maps (refl, (refl, (refl, (refl, (refl, (refl, (refl, tt))))))) in
-    let js = members-stand cs h in
+    let js = pair-stand (members-stand cs h) in
     let xs = stand-each keptForm (section kepts cs) (section-fits kepts cs h) in
     rw (← no-new version (whereNone (section uids cs) (plainLine (ascii "uid") [] (stem ++ 45 ∷ decimal n))) (whereNone (section fulls cs) (derivedForm (section names cs))))
     (stand-both vs (stand-both (stand-both (stand-both (stand-both (stand-both (stand-both us ks) fs) ns) ms) js) xs))

@@ -1,21 +1,17 @@
 -- What it says that all lines stand: each line that came has its line, unknown ones unchanged, and there are as many as came.
-use mathlib.Core.Path.{_≡_, refl, sym, subst, _∙_}
+use mathlib.Core.Path.{_≡_, refl, sym, subst}
 use mathlib.Core.Logic.{inl, inr}
-use mathlib.Core.Bool.{Bool, true, false}
+use mathlib.Core.Bool.{true, false}
 use mathlib.Core.List.{List, [], _∷_, map}
-use mathlib.Core.Option.{none}
 use Prim.Native.Nat.{ℕ, _+_}
 use lib.ListN.{length}
-use Rattle.text.specs.Bytes.{Bytes, ascii, any, same, among, lowered, keep}
-use Rattle.text.proofs.Cases.{byBool, not-both, or-left, or-right}
-use Rattle.text.proofs.Choices.{none-some}
+use Rattle.text.specs.Bytes.{Bytes, ascii, any, same, among, lowered}
+use Rattle.text.proofs.Cases.{not-both, or-left, or-right}
 use Rattle.line.specs.Grammar.{Line}
 use Rattle.line.proofs.Lines.{upperLine}
-use Rattle.convert.specs.Table.{slotOf}
-use Rattle.convert.specs.FromCard.{keptLine}
-use Rattle.convert.specs.Answers.{yes, cardRoom, jsonRoom, isNamed, cardToJson, jsonToCard}
-use Rattle.home.specs.Allowed.{Allowed, uid, kind, full, parts, entry, member, kept, Into, here, later, AllStand, no-more, one-more, carries, carriedLines, newLines}
-use Rattle.home.proofs.Alls.{In}
+use Rattle.convert.specs.Answers.{yes, isNamed, cardToJson, jsonToCard}
+use Rattle.home.specs.Allowed.{entryNames, SameKept, Allowed, uid, kind, full, parts, entry, member, kept, Into, here, later, AllStand, no-more, one-more, carries, carriedLines, newLines}
+use Rattle.home.proofs.Alls.{In, keep-there}
 use Rattle.home.proofs.Respelled.{lines}
 use Rattle.home.proofs.Standing.{as-many}
 use Rattle.home.proofs.HomeAgain.{every-line-comes-home}
@@ -36,12 +32,6 @@ line-stands l no-more e = absurd e
 line-stands l (one-more {h = h} a s i) (inl e) = (h, into-there i, subst (λ (x : Line). Allowed x h) (sym e) a)
 line-stands l (one-more a s i) (inr e) = let t = line-stands l s e in (t .0, into-others (t .0) i (t .1), t .2)
 
-keep-there : {A : Type 0} (p : A → Bool) (x : A) (xs : List A) → In x xs → p x ≡ true → In x (keep p xs)
-unfolding keep
-keep-there p x [] h e = h
-keep-there p x (y ∷ ys) (inl q) e = let r : p y ≡ true = subst (λ (z : _). p z ≡ true) q e in rw r (inl q)
-keep-there p x (y ∷ ys) (inr h) e = byBool (p y) (λ r. rw r (inr (keep-there p x ys h e))) (λ r. rw r (keep-there p x ys h e))
-
 -- ---- unknown lines
 
 -- the names that are known besides those of the maps
@@ -49,7 +39,7 @@ abbrev knownNames : List Bytes
 knownNames = ascii "version" ∷ ascii "uid" ∷ ascii "kind" ∷ ascii "fn" ∷ ascii "n" ∷ ascii "jsprop" ∷ []
 
 abbrev pub Unknown : Line → Type 0
-Unknown l = (among (lowered (l .name)) knownNames ≡ false) × (slotOf (lowered (l .name)) ≡ none)
+Unknown l = (among (lowered (l .name)) knownNames ≡ false) × (among (lowered (l .name)) entryNames ≡ false)
 
 -- none of the names is the line's
 not-named : (l : Line) → Unknown l
@@ -64,14 +54,14 @@ not-named l u =
     let e = or-right (same n (ascii "n")) _ d in
     (or-left _ _ (u .0), or-left _ _ a, or-left _ _ b, or-left _ _ c, or-left _ _ d, or-left _ _ e)
 
-pub unknown-kept : (l h : Line) → Unknown l → Allowed l h → keptLine h ≡ keptLine l
+pub unknown-kept : (l h : Line) → Unknown l → Allowed l h → SameKept l h
 unknown-kept l h u (uid b p q e) = not-both (b .0) (not-named l u .1)
 unknown-kept l h u (kind b p q e) = not-both (b .0) (not-named l u .2)
 unknown-kept l h u (full b p q v x y) = not-both (b .0) (not-named l u .3)
-unknown-kept l h u (parts b p q ps x y) = not-both (b .0) (not-named l u .4)
-unknown-kept l h u (entry n w o e k x y q) = none-some (sym (u .1) ∙ o)
-unknown-kept l h u (member b p q n x y j v z) = not-both (b .0) (not-named l u .5)
-unknown-kept l h u (kept e) = e
+unknown-kept l h u (parts b p q s) = not-both (b .0) (not-named l u .4)
+unknown-kept l h u (entry s) = not-both (s .listed) (u .1)
+unknown-kept l h u (member b s) = not-both (b .0) (not-named l u .5)
+unknown-kept l h u (kept s) = s
 
 unknown-carries : (l : Line) → Unknown l → carries l ≡ true
 unfolding carries
@@ -79,9 +69,9 @@ unknown-carries l u = let n = not-named l u in rw (n .0, n .3)
 
 -- ---- of a card that came home
 
-module _ (stem : Bytes) (n : ℕ) (s j b : Bytes) (out : cardToJson stem n jsonRoom s ≡ yes j) (back : jsonToCard cardRoom j ≡ yes b) where
+module _ (stem : Bytes) (n lent lent′ : ℕ) (s j b : Bytes) (out : cardToJson stem n lent s ≡ yes j) (back : jsonToCard lent′ j ≡ yes b) where
   stand : AllStand (map upperLine (newLines stem n (lines s))) (carriedLines (lines s)) (lines b)
-  stand = every-line-comes-home stem n s j b out back
+  stand = every-line-comes-home stem n lent lent′ s j b out back
 
   -- each line but VERSION and a derived FN has a line allowed for it
   pub line-comes-home : (l : Line) → In l (lines s) → carries l ≡ true → (h : Line) × In h (lines b) × Allowed l h
@@ -89,7 +79,7 @@ module _ (stem : Bytes) (n : ℕ) (s j b : Bytes) (out : cardToJson stem n jsonR
   line-comes-home l i c = line-stands l stand (keep-there carries l (lines s) i c)
 
   -- a line of an unknown name is kept as it is
-  pub unknown-comes-home : (l : Line) → In l (lines s) → Unknown l → (h : Line) × In h (lines b) × (keptLine h ≡ keptLine l)
+  pub unknown-comes-home : (l : Line) → In l (lines s) → Unknown l → (h : Line) × In h (lines b) × SameKept l h
   unknown-comes-home l i u = let t = line-comes-home l i (unknown-carries l u) in (t .0, t .1, unknown-kept l (t .0) u (t .2))
 
   -- as many lines as came, and the new ones

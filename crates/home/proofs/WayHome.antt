@@ -1,7 +1,7 @@
--- Demand 2: what goes out and comes home is the normal form, and the way home is refused only by 3, exactly when the normal form is
--- over its room.
+-- Demand 2: what goes out and comes home is the normal form, whatever output is lent; the way home is refused only by 3, exactly when the normal
+-- form is over its room, and else by 14, exactly when it is longer than the lent output.
 use mathlib.Core.Path.{_≡_, sym, ap, _∙_}
-use mathlib.Core.Bool.{true, false}
+use mathlib.Core.Bool.{Bool, true, false}
 use mathlib.Core.List.{List, [], _∷_}
 use mathlib.Core.Option.{Option}
 use Prim.Native.Nat.{ℕ}
@@ -31,29 +31,29 @@ use Rattle.home.proofs.NormalCard.{lines-normal}
 
 -- ---- JSON to a card and home again
 
--- For every JSON: where it gives a card, that card gives the JSON's normal form with any valid stem and number, or 3 where the
--- normal form is over its room.
-pub json-comes-home : (stem : Bytes) (n : ℕ) (s b : Bytes) → isStemText stem ≡ true → isCardNumber n ≡ true → jsonToCard cardRoom s ≡ yes b → cardToJson stem n jsonRoom b ≡ fitted jsonRoom jsonRoom (normalJson s)
-json-comes-home stem n s b a k e =
-    let i = accepted-json cardRoom s b e in
+-- For every JSON and whatever output is lent: where it gives a card, that card gives the JSON's normal form with any valid stem and number, or 3
+-- where the normal form is over its room, else 14 where it is longer than the output.
+pub json-comes-home : (stem : Bytes) (n lent lent′ : ℕ) (s b : Bytes) → isStemText stem ≡ true → isCardNumber n ≡ true → jsonToCard lent s ≡ yes b → cardToJson stem n lent′ b ≡ fitted jsonRoom lent′ (normalJson s)
+json-comes-home stem n lent lent′ s b a k e =
+    let i = accepted-json lent s b e in
     let p : ProperCard (i .card) = json-proper s (i .json) (i .card) (i .read) (i .from) (i .carries) in
-    ap (cardToJson stem n jsonRoom) (i .result)
-    ∙ card-to-json (i .card) p (i .lines) stem n jsonRoom (and-true a k) (ap (λ (x : Bytes). ltb cardRoom (length x)) (sym (i .result)) ∙ i .room)
-    ∙ ap (fitted jsonRoom jsonRoom) (compact-normal s (i .json) (i .card) (i .read) (i .from))
+    ap (cardToJson stem n lent′) (i .result)
+    ∙ card-to-json (i .card) p (i .lines) stem n lent′ (and-true a k) (ap (λ (x : Bytes). ltb cardRoom (length x)) (sym (i .result)) ∙ i .room)
+    ∙ ap (fitted jsonRoom lent′) (compact-normal s (i .json) (i .card) (i .read) (i .from))
 
 -- ---- a card to JSON and home again
 
--- a card of these lines, or 3 where they or their bytes are over their room
-abbrev pub written : List Line → Answer
-written ls = seek (given 3 (ltb lineRoom (length ls)) ∷ []) (fitted cardRoom cardRoom (writeCard ls))
+-- a card of these lines, or 3 where they or their bytes are over their room, or 14 where the bytes are longer than the lent output
+abbrev pub written : ℕ → List Line → Answer
+written lent ls = seek (given 3 (ltb lineRoom (length ls)) ∷ []) (fitted cardRoom lent (writeCard ls))
 
 -- the lines of a card's normal form
 abbrev pub normalOf : Bytes → ℕ → Bytes → List Line
 normalOf stem n s = normalLines stem n (classed (linesOf (orNone (rawLines s))))
 
-proper-json : (c : Card) → ProperCard c → ltb jsonRoom (length (printJson c)) ≡ false → jsonToCard cardRoom (printJson c) ≡ written (cardLines c)
+proper-json : (lent : ℕ) (c : Card) → ProperCard c → ltb jsonRoom (length (printJson c)) ≡ false → jsonToCard lent (printJson c) ≡ written lent (cardLines c)
 unfolding jsonToCard convertModel printCard seek
-proper-json c p r = rw (r, json-read c p, json-home c p, p .carries)
+proper-json lent c p r = rw (r, json-read c p, json-home c p, p .carries)
 
 -- an accepted card is proper
 pub card-is-proper : (stem : Bytes) (n : ℕ) (raw : List Bytes) → isStemText stem ≡ true → GoodLines raw (linesOf raw) → ProperCard (cardOfLines stem n (linesOf raw))
@@ -63,31 +63,42 @@ card-is-proper stem n raw h g =
     few : (m k : ℕ) → k ≡ m → ltb lineRoom m ≡ false → leb k 512 ≡ true
     few m k e h = omega testing
 
--- For every card, stem and number: where it gives JSON, that JSON gives exactly the card's normal form, or 3 where the normal form is over
--- its room (lines or bytes).
-pub card-comes-home : (stem : Bytes) (n : ℕ) (s j : Bytes) → cardToJson stem n jsonRoom s ≡ yes j → jsonToCard cardRoom j ≡ written (normalOf stem n s)
-card-comes-home stem n s j e =
-    let i = accepted-card stem n jsonRoom s j e in
+-- For every card, stem and number, and whatever output is lent: where it gives JSON, that JSON gives exactly the card's normal form, or 3 where
+-- the normal form is over its room (lines or bytes), else 14 where it is longer than the output.
+pub card-comes-home : (stem : Bytes) (n lent lent′ : ℕ) (s j : Bytes) → cardToJson stem n lent s ≡ yes j → jsonToCard lent′ j ≡ written lent′ (normalOf stem n s)
+card-comes-home stem n lent lent′ s j e =
+    let i = accepted-card stem n lent s j e in
     let c : Card = cardOfLines stem n (linesOf (i .raw)) in
     let p : ProperCard c = card-is-proper stem n (i .raw) (i .stem-fits) (i .good) in
     let l : linesOf (orNone (rawLines s)) ≡ linesOf (i .raw) = ap (λ (o : Option (List Bytes)). linesOf (orNone o)) (i .raws) in
-    ap (jsonToCard cardRoom) (i .result)
-    ∙ proper-json c p (ap (λ (x : Bytes). ltb jsonRoom (length x)) (sym (i .result)) ∙ i .room)
-    ∙ ap written (lines-normal stem n (linesOf (i .raw)) (record { once = i .good .once; valued = i .good .filled }) ∙ ap (λ (ls : List Line). normalLines stem n (classed ls)) (sym l))
+    ap (jsonToCard lent′) (i .result)
+    ∙ proper-json lent′ c p (ap (λ (x : Bytes). ltb jsonRoom (length x)) (sym (i .result)) ∙ i .room)
+    ∙ ap (written lent′) (lines-normal stem n (linesOf (i .raw)) (record { once = i .good .once; valued = i .good .filled }) ∙ ap (λ (ls : List Line). normalLines stem n (classed ls)) (sym l))
 
 -- ---- the same in plain cases
 
--- the normal form comes home where it fits its room
-pub normal-comes-home : (stem : Bytes) (n : ℕ) (s j : Bytes) → cardToJson stem n jsonRoom s ≡ yes j
-    → ltb lineRoom (length (normalOf stem n s)) ≡ false → ltb cardRoom (length (normalCard stem n s)) ≡ false → jsonToCard cardRoom j ≡ yes (normalCard stem n s)
-unfolding normalCard seek fitted
-normal-comes-home stem n s j e l r = card-comes-home stem n s j e ∙ rw (l, r)
+module _ (stem : Bytes) (n lent lent′ : ℕ) (s j : Bytes) (out : cardToJson stem n lent s ≡ yes j) where
+  abbrev many : Bool
+  many = ltb lineRoom (length (normalOf stem n s))
 
--- and 3 where it has too many lines or bytes
-pub too-many-lines : (stem : Bytes) (n : ℕ) (s j : Bytes) → cardToJson stem n jsonRoom s ≡ yes j → ltb lineRoom (length (normalOf stem n s)) ≡ true → jsonToCard cardRoom j ≡ no 3 0
-unfolding seek
-too-many-lines stem n s j e l = card-comes-home stem n s j e ∙ rw l
+  abbrev long : ℕ → Bool
+  long room = ltb room (length (normalCard stem n s))
 
-pub too-many-bytes : (stem : Bytes) (n : ℕ) (s j : Bytes) → cardToJson stem n jsonRoom s ≡ yes j → ltb cardRoom (length (normalCard stem n s)) ≡ true → jsonToCard cardRoom j ≡ no 3 0
-unfolding normalCard seek fitted
-too-many-bytes stem n s j e r = card-comes-home stem n s j e ∙ byBool (ltb lineRoom (length (normalOf stem n s))) (λ l. rw l) (λ l. rw (l, r))
+  -- the normal form comes home where it fits its room and the output
+  pub normal-comes-home : many ≡ false → long cardRoom ≡ false → long lent′ ≡ false → jsonToCard lent′ j ≡ yes (normalCard stem n s)
+  unfolding normalCard seek fitted
+  normal-comes-home l r o = card-comes-home stem n lent lent′ s j out ∙ rw (l, r, o)
+
+  -- 3 where it has too many lines or bytes
+  pub too-many-lines : many ≡ true → jsonToCard lent′ j ≡ no 3 0
+  unfolding seek
+  too-many-lines l = card-comes-home stem n lent lent′ s j out ∙ rw l
+
+  pub too-many-bytes : long cardRoom ≡ true → jsonToCard lent′ j ≡ no 3 0
+  unfolding normalCard seek fitted
+  too-many-bytes r = card-comes-home stem n lent lent′ s j out ∙ byBool many (λ l. rw l) (λ l. rw (l, r))
+
+  -- and else 14 where the output is too short
+  pub output-short : many ≡ false → long cardRoom ≡ false → long lent′ ≡ true → jsonToCard lent′ j ≡ no 14 0
+  unfolding normalCard seek fitted
+  output-short l r o = card-comes-home stem n lent lent′ s j out ∙ rw (l, r, o)

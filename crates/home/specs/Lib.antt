@@ -1,2 +1,4 @@
 pub mod Proper
 pub mod Allowed
+pub mod Members
+pub mod Turns

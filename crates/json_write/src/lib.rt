@@ -11,7 +11,7 @@ ghost use Prim.Native.Nat.{_<_};
 ghost use Rattle.output.specs.Put.{Puts};
 ghost use Rattle.text.specs.Decimal.{decimal};
 ghost use Rattle.json.specs.Compact.{hexDigit, spelled, spelledAll, quoted};
-ghost use Rattle.json_write.specs.Pieces.{coded};
+ghost use Rattle.json_write.specs.Pieces.{coded, Bare};
 ghost use Rattle.json_strings.specs.Spelled.{textAt};
 
 fn hex_digit(d: u8) -> u8
@@ -29,8 +29,8 @@ fn put_code(out: &mut [u8], c: u8) -> Wrote
     put_text(out, &g)
 }
 
-// A byte of a string, escaped where it must be.
-fn put_byte_spelled(out: &mut [u8], c: u8) -> Wrote
+// A byte of a string, escaped where it must be: the rare one.
+fn put_escaped(out: &mut [u8], c: u8) -> Wrote
     ensures { λ r. ⌜ Puts (now (out .entry)) (spelled c) r (now (out .exit)) ⌝ }
 {
     if c == b'"' {
@@ -58,6 +58,32 @@ fn put_byte_spelled(out: &mut [u8], c: u8) -> Wrote
         return put_code(out, c);
     }
     put_byte(out, c)
+}
+
+// A byte that stands for itself in a string.
+fn is_bare(c: u8) -> bool
+    ensures { λ r. ⌜ Bare c r ⌝ }
+{
+    if c == 34 {
+        return false;
+    }
+    if c == 92 {
+        return false;
+    }
+    if c < 32 {
+        return false;
+    }
+    c != 127
+}
+
+// A byte of a string: small, so that a loop over bytes has the bare byte in it and the rare one behind a call.
+pub fn put_byte_spelled(out: &mut [u8], c: u8) -> Wrote
+    ensures { λ r. ⌜ Puts (now (out .entry)) (spelled c) r (now (out .exit)) ⌝ }
+{
+    if is_bare(c) {
+        return put_byte(out, c);
+    }
+    put_escaped(out, c)
 }
 
 // A string without its quotes.

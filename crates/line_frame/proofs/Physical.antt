@@ -158,7 +158,7 @@ module _ (s : Bytes) (at lf : ℕ) (is : lf ≡ at + length (taken notLf (drop a
   first-line h next e = rw (first-raw h, e)
 
   -- an LF stands there, whatever follows
-  lf-there : lf < length s → getD s lf 0 ≡ 10
+  pub lf-there : lf < length s → getD s lf 0 ≡ 10
   lf-there h =
       let n : length (taken notLf (drop at s)) < length (drop at s) = simp length-drop (omega arith) in
       ap (λ m. getD s m 0) is ∙ sym (getD-drop at s (length (taken notLf (drop at s))) 0) ∙ stops-at (drop at s) n

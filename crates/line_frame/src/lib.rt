@@ -24,7 +24,7 @@ pub fn size_of(s: &[u8]) -> usize
 }
 
 // Where the line that begins at `at` has its LF, or where the bytes end.
-fn lf_at(s: &[u8], at: usize) -> usize
+pub fn lf_at(s: &[u8], at: usize) -> usize
     ensures { λ r. ⌜ r ≡ at + length (taken notLf (drop at (now (s .entry)))) ⌝ }
 {
     let mut i = at;

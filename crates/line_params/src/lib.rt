@@ -123,7 +123,7 @@ pub fn first_value(s: &[u8], at: usize, name: &[u8]) -> FirstValue
     }
 }
 
-fn value_from(s: &[u8], at: usize) -> FirstValue
+pub fn value_from(s: &[u8], at: usize) -> FirstValue
     requires { ⌜ at ≤ length (now s) ⌝ }
     ensures { λ r. ⌜ ValueFrom (now (s .entry)) at r ⌝ }
 {

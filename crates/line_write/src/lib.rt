@@ -120,7 +120,7 @@ fn char_width(c: u8) -> usize
 }
 
 // Whether the line is folded before c, which stands after so many bytes.
-fn folds_before(column: usize, c: u8) -> bool
+pub fn folds_before(column: usize, c: u8) -> bool
     ensures { λ r. ⌜ r ≡ breaks column (width c) ⌝ }
 {
     let w = char_width(c);
