@@ -4,7 +4,7 @@ use mathlib.Core.Bool.{Bool, true, false, _&&_}
 use mathlib.Core.List.{List, [], _∷_, _++_, tail}
 use mathlib.Core.Logic.{_⊎_, inl, inr, ⊎-elim}
 use mathlib.Core.Option.{Option, none, some}
-use Prim.Native.Nat.{ℕ, suc, _-_}
+use Prim.Native.Nat.{ℕ, suc, _+_, _-_}
 use native.Mathlib.Omega.{arith}
 use lib.ListN.{length, take, drop, length-append}
 use lib.Dec.{eqb, leb}
@@ -16,11 +16,13 @@ use Rattle.text.proofs.Cases.{byBool, and-left, and-right}
 use Rattle.text.proofs.Choices.{some-same, map-inv, both-inv}
 use Rattle.text.proofs.Readers.{not-bad, got-what, bind-inv, under-inv, on-inv, when-inv}
 use Rattle.text.proofs.Same.{same-swap}
-use Rattle.json.specs.Tree.{Json, jnull, jtrue, jfalse, jnum, jstr, jarr, jobj, Members, mnil, mcons, member, membersOf, asObject, field}
+use Rattle.json.specs.Tree.{Json, jnull, jtrue, jfalse, jnum, jstr, jarr, jobj, Members, mnil, mcons, membersOf, asObject, field}
 use Rattle.json.specs.Syntax.{skip, name, scalar, elements, pair, pairs, value, text}
 use Rattle.json.specs.Strings.{decode, decoded, decodedElems, decodedMembers, names, distinctNames, distinctMembers}
 use Rattle.json.specs.Read.{tree, refused, sound, readingOf, reading}
-use Rattle.json.specs.Lookup.{Span, spanOf, spans, given, found, isTree, room, lookUp, partOf}
+use Rattle.json.specs.Lookup.{Span, spanOf, spans, given, found, isTree, room, lookUp, partOf, Part as Found}
+use Rattle.json_access.specs.declared.Part.{Part}
+use Rattle.json_lookup.specs.Finds.{placeOf}
 use Rattle.json.proofs.Fine.{value-fine}
 use Rattle.json.proofs.Sound.{Sound}
 use Rattle.json.proofs.Scalars.{scalar-gives}
@@ -159,6 +161,13 @@ module _ (s m : Bytes) where
       read (got u t) e = judged u t e (decoded u) refl
       read (bad t) e = refl
 
-  -- both promises of the look-up
-  pub located-held : {part : Bytes} → part ≡ partOf s (lookUp s m) → (part ≡ partOf s (lookUp s m)) × Holds part (valueOf s m)
-  located-held e = (e, subst (λ (x : Bytes). Holds x (valueOf s m)) (sym e) part-held)
+-- the bytes of the part that was found
+bytes-at : (s : Bytes) (r : Part) (o : Option Found) → r ≡ placeOf o → take (r .end - r .start) (drop (r .start) s) ≡ partOf s o
+unfolding partOf
+bytes-at s r none e = rw e
+bytes-at s r (some p) e = let n : p .offset + p .size - p .offset ≡ p .size = omega arith in rw (e, n)
+
+-- the promises of the look-up
+pub part-handed : (s m : Bytes) (r : Part) → r ≡ placeOf (lookUp s m)
+    → (take (r .end - r .start) (drop (r .start) s) ≡ partOf s (lookUp s m)) × Holds (take (r .end - r .start) (drop (r .start) s)) (valueOf s m)
+part-handed s m r e = let h = bytes-at s r (lookUp s m) e in (h, subst (λ (x : Bytes). Holds x (valueOf s m)) (sym h) (part-held s m))

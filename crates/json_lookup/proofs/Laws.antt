@@ -22,7 +22,7 @@ use Rattle.json.specs.Tree.{Json, jobj}
 use Rattle.json.specs.Syntax.{skip, name, sep, pair, pairs, value, text}
 use Rattle.json.specs.Strings.{decode}
 use Rattle.json.specs.Read.{Reading, tree, refused, readingOf, reading}
-use Rattle.json.specs.Lookup.{Span, spanOf, spans, given, found, isTree, room, lookUp, partOf}
+use Rattle.json.specs.Lookup.{Span, spanOf, spans, given, found, isTree, room, lookUp}
 use Rattle.json.proofs.Fine.{name-fine, value-fine, sep-fine}
 use Rattle.json_marks.proofs.Laws.{skip-to}
 use Rattle.json_strings.specs.Spelled.{spelled, spells}
@@ -35,7 +35,7 @@ use Rattle.json_access.specs.declared.Places.{Places}
 use Rattle.json_access.specs.Access.{TellsMember}
 use Rattle.json_access.specs.declared.Part.{Part}
 use Rattle.json_lookup.proofs.Spans.{spanAt, span-turn, spanned}
-use Rattle.json_lookup.specs.Finds.{Finds, FindsIn, Locates}
+use Rattle.json_lookup.specs.Finds.{nowhere, placeOf, Finds, FindsIn}
 
 -- ---- members
 span-takes : (d : ℕ) → Takes (spanOf d)
@@ -91,8 +91,8 @@ matched k m q e = ap (λ (x : Option Bytes). spells x m) e ∙ go (decode k)
 
 module _ (s : Bytes) (at : ℕ) (m : Bytes) (i : ℕ) (todo : Todo s at m i) (r : Places) (told : TellsMember 15 s i r) (b : Bool) (eb : b ≡ spells (spelled s (r .name)) m) where
   pub found-here : b ≡ true → r .start ≤ r .end → r .end ≤ length s → (ps : List Span) (t : Bytes) → loop (spanOf 15) (drop at s) ≡ got ps t
-      → take (r .end - r .start) (drop (r .start) s) ≡ partOf s (found (length s) m ps)
-  unfolding found partOf
+      → record { start = r .start; end = r .end } ≡ placeOf (found (length s) m ps)
+  unfolding found
   found-here q l h ps t x =
       let y = todo ps t x in
       let z = span-here s i (y .0) t (y .1) in
@@ -100,7 +100,8 @@ module _ (s : Bytes) (at : ℕ) (m : Bytes) (i : ℕ) (todo : Todo s at m i) (r 
       let c : with-some (decode (z .key)) (same m) false ≡ true = sym (matched (z .key) m _ (k .0)) ∙ sym eb ∙ q in
       let o : length s - length (skip (z .rest-key)) ≡ r .start = rw (k .1 .begins, length-drop (r .start) s) (omega arith) in
       let p : length (skip (z .rest-key)) - length (z .rest-val) ≡ r .end - r .start = rw (k .1 .begins, k .1 .ends, length-drop (r .start) s, length-drop (r .end) s) (omega arith) in
-      sym (ap (partOf s) (y .2 ∙ ap (found (length s) m) (z .is)) ∙ rw (c, o, p))
+      let w : r .start + (r .end - r .start) ≡ r .end = omega arith in
+      sym (ap placeOf (y .2 ∙ ap (found (length s) m) (z .is)) ∙ rw (c, o, p, w))
 
   module _ (q : b ≡ false) where
     pub found-on : (j : ℕ) → GivesT s (r .end) (sep 125 zero suc (drop (r .end) s)) (Go j) → Todo s at m j
@@ -115,8 +116,8 @@ module _ (s : Bytes) (at : ℕ) (m : Bytes) (i : ℕ) (todo : Todo s at m i) (r 
         let l = under-inv (λ (ps : List Span). p ∷ ps) (loop (spanOf 15) (drop j s)) (sym (loop-more (spanOf 15) (span-takes 15) (drop i s) (drop j s) (λ ps. p ∷ ps) f) ∙ y .1) in
         (l .0, l .1, y .2 ∙ ap (found (length s) m) (sym (l .2)) ∙ rw c)
 
-    pub found-last : (v : Read) → GivesT s (r .end) (sep 125 zero suc (drop (r .end) s)) (Stop v) → (ps : List Span) (t : Bytes) → loop (spanOf 15) (drop at s) ≡ got ps t → [] ≡ partOf s (found (length s) m ps)
-    unfolding found partOf
+    pub found-last : (v : Read) → GivesT s (r .end) (sep 125 zero suc (drop (r .end) s)) (Stop v) → (ps : List Span) (t : Bytes) → loop (spanOf 15) (drop at s) ≡ got ps t → nowhere ≡ placeOf (found (length s) m ps)
+    unfolding found
     found-last v w ps t x =
         let y = todo ps t x in
         let z = span-here s i (y .0) t (y .1) in
@@ -125,19 +126,19 @@ module _ (s : Bytes) (at : ℕ) (m : Bytes) (i : ℕ) (todo : Todo s at m i) (r 
         let c : with-some (decode (z .key)) (same m) false ≡ false = sym (matched (z .key) m _ (k .0)) ∙ sym eb ∙ q in
         let l = loop-split (spanOf 15) (span-takes 15) (drop i s) (y .0) t (y .1) in
         let n = sep-stop (p ∷ []) (λ ps. p ∷ ps) 125 w (l .0) (l .1) (sym (ap (sep 125 (p ∷ []) (λ ps. p ∷ ps)) (k .1 .ends)) ∙ sym (z .turn) ∙ l .2) in
-        sym (ap (partOf s) (y .2 ∙ ap (found (length s) m) (sym (got-what (rw n at (l .3))))) ∙ rw c)
+        sym (ap placeOf (y .2 ∙ ap (found (length s) m) (sym (got-what (rw n at (l .3))))) ∙ rw c)
 
 -- ---- a text
 -- no members
 module _ (s m : Bytes) (i b : ℕ) (h : Passes isSpace s 0 i) (e : b ≡ byteAt s i) where
-  pub no-object : (b ≡ 123 → ⊥) → [] ≡ partOf s (found (length s) m (given (spans 15 s)))
-  unfolding spans found partOf
-  no-object n = sym (ap (λ (x : Got (List Span)). partOf s (found (length s) m (given x))) (ap (on (is 123) _ bad) (skip-to h) ∙ on-no (is 123) s i b e _ _ (ne-eqb _ _ n)))
+  pub no-object : (b ≡ 123 → ⊥) → nowhere ≡ placeOf (found (length s) m (given (spans 15 s)))
+  unfolding spans found
+  no-object n = sym (ap (λ (x : Got (List Span)). placeOf (found (length s) m (given x))) (ap (on (is 123) _ bad) (skip-to h) ∙ on-no (is 123) s i b e _ _ (ne-eqb _ _ n)))
 
   module _ (q : b ≡ 123) (j c : ℕ) (k : Passes isSpace s (i + 1) j) (f : c ≡ byteAt s j) where
-    pub no-member : c ≡ 125 → [] ≡ partOf s (found (length s) m (given (spans 15 s)))
-    unfolding spans found partOf
-    no-member p = sym (ap (λ (x : Got (List Span)). partOf s (found (length s) m (given x)))
+    pub no-member : c ≡ 125 → nowhere ≡ placeOf (found (length s) m (given (spans 15 s)))
+    unfolding spans found
+    no-member p = sym (ap (λ (x : Got (List Span)). placeOf (found (length s) m (given x)))
         (ap (on (is 123) _ bad) (skip-to h) ∙ on-yes (is 123) s i b e _ _ (eq-eqb _ _ q) ∙ ap (on (is 125) _ _) (skip-to k) ∙ on-yes (is 125) s j c f _ _ (eq-eqb _ _ p)))
 
     spans-from : (c ≡ 125 → ⊥) → spans 15 s ≡ loop (spanOf 15) (drop j s)
@@ -160,7 +161,7 @@ module _ (s m : Bytes) (i b : ℕ) (h : Passes isSpace s 0 i) (e : b ≡ byteAt 
         let v = bind-inv (value 16 s) (λ j t. when (is 256) (got j) bad (skip t)) x in
         let u = under-inv jobj (loop (pair (value 15)) (drop j s)) (sym (value-from n) ∙ v .2) in
         let p = spanned 15 s (suc (length (drop j s))) (drop j s) (u .0) (v .1) (take j s, sym (take-append-drop j s)) (u .1) in
-        finds (p .0) (v .1) (p .1) ∙ sym (ap (λ (z : Got (List Span)). partOf s (found (length s) m (given z))) (spans-from n ∙ p .1))
+        finds (p .0) (v .1) (p .1) ∙ sym (ap (λ (z : Got (List Span)). placeOf (found (length s) m (given z))) (spans-from n ∙ p .1))
 
 -- ---- by the reader's verdict
 module _ (s m : Bytes) where
@@ -168,8 +169,8 @@ module _ (s m : Bytes) where
   refused-by (tree j) n = absurd (n refl)
   refused-by (refused k) n = refl
 
-  pub not-sound : (v : Verdict) → v ≡ verdict 16 s → (v ≡ Sound → ⊥) → [] ≡ partOf s (lookUp s m)
-  unfolding verdict lookUp partOf
+  pub not-sound : (v : Verdict) → v ≡ verdict 16 s → (v ≡ Sound → ⊥) → nowhere ≡ placeOf (lookUp s m)
+  unfolding verdict lookUp
   not-sound v e n =
       byBool (leb (length s) room)
       (λ p. sym (rw (p, refused-by (reading 16 s) (λ z. n (e ∙ rw p z)))))
@@ -183,7 +184,7 @@ module _ (s m : Bytes) where
   got-by n (got j t) e = (j, t, refl)
   got-by n (bad t) e = let r : _≡_ {A = ℕ} 0 1 = cc in absurd (omega arith)
 
-  pub is-sound : (v : Verdict) → v ≡ verdict 16 s → v ≡ Sound → (r : Part) → FindsIn s m r → Locates s m r
+  pub is-sound : (v : Verdict) → v ≡ verdict 16 s → v ≡ Sound → (r : Part) → FindsIn s m r → r ≡ placeOf (lookUp s m)
   unfolding verdict lookUp reading
   is-sound v e q r finds =
       byBool (leb (length s) room)

@@ -11,8 +11,9 @@ use text::look;
 ghost use mathlib.Core.Path.{_≡_};
 ghost use Prim.Native.Nat.{_≤_};
 ghost use lib.ListN.{length};
+ghost use denote.Ref.{ptr};
 ghost use Rattle.json.specs.Lookup.{lookUp, partOf};
-ghost use Rattle.json_lookup.specs.Finds.{Bounds, Finds, FindsIn, Locates};
+ghost use Rattle.json_lookup.specs.Finds.{Bounds, Finds, FindsIn, placeOf, standsAt};
 ghost use Rattle.json_lookup.specs.Held.{valueOf, Holds};
 
 // The value of the first member of that name, from a member's place of an object on. Nothing is found where the part is empty.
@@ -57,9 +58,10 @@ fn find_in<'a, 'b>(s: &'a [u8], name: &'b [u8]) -> Part
     find_from(s, j, name)
 }
 
+// From where to where that value stands; 0 to 0 where there is none.
 fn locate<'a, 'b>(s: &'a [u8], name: &'b [u8]) -> Part
     ensures { λ r. ⌜ Bounds (length (now (s .entry))) r ⌝ }
-    ensures { λ r. ⌜ Locates (now (s .entry)) (now (name .entry)) r ⌝ }
+    ensures { λ r. ⌜ r ≡ placeOf (lookUp (now (s .entry)) (now (name .entry))) ⌝ }
 {
     match read(s, 16) {
         Verdict::Sound => find_in(s, name),
@@ -68,9 +70,11 @@ fn locate<'a, 'b>(s: &'a [u8], name: &'b [u8]) -> Part
     }
 }
 
-// The value of the top-level member of that name, as that very part: read alone, it is the value that the text's tree has there. Empty where the text is over 65,536 bytes, no JSON, no object, or has no such member.
+// The value of the top-level member of that name, as that very part of the caller's text: its bytes, the place in memory where they stand, and,
+// read alone, the value that the text's tree has there. Empty where the text is over 65,536 bytes, no JSON, no object, or has no such member.
 pub fn look_up<'a, 'b>(json: &'a [u8], name: &'b [u8]) -> &'a [u8]
     ensures { λ r. ⌜ now r ≡ partOf (now (json .entry)) (lookUp (now (json .entry)) (now (name .entry))) ⌝ }
+    ensures { λ r. ⌜ ptr r ≡ standsAt (ptr (json .entry)) (lookUp (now (json .entry)) (now (name .entry))) ⌝ }
     ensures { λ r. ⌜ Holds (now r) (valueOf (now (json .entry)) (now (name .entry))) ⌝ }
 {
     let p = locate(json, name);

@@ -1,5 +1,8 @@
-use denote.Ref.{now}
-use Rattle.json_lookup.proofs.Held.{located-held}
+use denote.Ref.{now, ptr}
+use mathlib.Core.Path.{ap}
+use Prim.Native.Nat.{_+_}
+use Rattle.json_access.specs.declared.Part.{Part}
+use Rattle.json_lookup.proofs.Held.{part-handed}
 use borrow.Author.Needs.{needs}
 use Rattle.json_lookup.proofs.look_up.Statement.{statement}
 use Rattle.json_lookup.proofs.look_up.Tie as tie
@@ -17,7 +20,11 @@ part-result-end : tie.Need-part-result-end
 part-result-end c = search needs
 
 returns : tie.Need-returns
-returns c = located-held (now (c .before .before .before .before .args .json)) (now (c .before .before .before .before .args .name)) (c .before .locate .ensures .1)
+returns c =
+    let json = c .before .before .before .before .args .json in
+    let e = c .before .locate .ensures .1 in
+    let h = part-handed (now json) (now (c .before .before .before .before .args .name)) (c .before .locate .result) e in
+    (h .0, (ap (λ (p : Part). (ptr json .0, p .start + ptr json .1)) e, h .1))
 
 pub look-up-spec : {M : Type 1} → statement M
 look-up-spec =
