@@ -128,6 +128,7 @@ accepted-card stem n lent s j e =
 -- ---- JSON
 
 pub record AcceptedJson (s b : Bytes) : Type 0 where
+  pub input : ltb jsonRoom (length s) ≡ false
   pub json : Json
   pub card : Card
   pub read : reading 16 s ≡ tree json
@@ -160,6 +161,7 @@ accepted-json lent s b e =
     let m = model-inv lent (t .1) b (t .4) in
     let f = fitted-inv cardRoom lent (printCard (t .1)) b (m .2) in
     record {
+      input = i .0;
       json = t .0;
       card = t .1;
       read = t .2;

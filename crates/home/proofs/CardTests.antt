@@ -216,10 +216,10 @@ module _ (c : Card) (p : ProperCard c) where
   unfolding Passes
   none-misused = no-line 7 misused upperLine (cardLines c) (all-mono Passes (λ l. misused (upperLine l) ≡ false) (λ l q. q .0) (cardLines c) (card-passes c p))
 
-  no-second : secondFrom 1 [] (map upperLine (cardLines c)) ≡ none
+  pub no-second : secondFrom 1 [] (map upperLine (cardLines c)) ≡ none
   no-second = rw (card-parted c) (parted-second c p)
 
-  none-emptied : atLine 9 emptied (map upperLine (cardLines c)) ≡ fine
+  pub none-emptied : atLine 9 emptied (map upperLine (cardLines c)) ≡ fine
   unfolding Passes
   none-emptied = no-line 9 emptied upperLine (cardLines c) (all-mono Passes (λ l. emptied (upperLine l) ≡ false) (λ l q. q .1) (cardLines c) (card-passes c p))
 

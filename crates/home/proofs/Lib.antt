@@ -59,6 +59,8 @@ pub mod PlainLines
 pub mod CardTests
 pub mod CardSize
 pub mod WayHome
+pub mod PlainCases
+pub mod Refolded
 pub mod Respelled
 pub mod CardAnswer
 pub mod Example

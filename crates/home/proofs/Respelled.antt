@@ -3,18 +3,23 @@ use mathlib.Core.Path.{_≡_, refl, sym, ap, _∙_}
 use mathlib.Core.List.{List, [], _∷_, map, map-map}
 use mathlib.Core.Option.{Option, none, some}
 use Prim.Native.Nat.{ℕ}
+use lib.Dec.{ltb}
 use Rattle.text.specs.Choice.{with-some}
 use Rattle.text.specs.Bytes.{Bytes, lowered, flat}
+use Rattle.text.proofs.Choices.{some-same}
 use Rattle.text.proofs.Letters.{lowered-lowered, lowered-empty}
 use Rattle.line.specs.Grammar.{Line}
+use Rattle.line.specs.Physical.{sizeOf}
 use Rattle.line.proofs.Lines.{upperLine}
 use Rattle.convert.specs.Table.{Slot, slotOf}
 use Rattle.convert.specs.Classify.{Class, as-version, as-uid, as-kind, as-dropped, as-full, as-parts, as-entry, as-member, as-kept, Seen, nothing, see, fullClass, partsClass, memberClass, entryOf, entryClass, classify, Classed, classedAfter, classed}
 use Rattle.convert.specs.FromCard.{Gives, gives, keptLine, gathered, cardOfClassed, cardOfLines}
 use Rattle.convert.specs.ToJson.{printJson}
-use Rattle.convert.specs.Answers.{yes, cardToJson, jsonRoom, rawLines, linesOf, orNone}
+use Rattle.convert.specs.Answers.{yes, cardToJson, cardRoom, rawLines, linesOf, orNone}
 use Rattle.convert.proofs.Cases.{classify-upper, kept-upper}
+use Rattle.home.specs.Spelled.{Spells}
 use Rattle.home.proofs.Accepted.{accepted-card}
+use Rattle.home.proofs.Refolded.{spelled-lines}
 
 -- a line with its group in lower case, and names in upper case: what is left of its letter case
 abbrev pub lowerGroup : Line → Line
@@ -99,13 +104,20 @@ same-card stem n ls ms e =
 abbrev pub lines : Bytes → List Line
 lines s = linesOf (orNone (rawLines s))
 
--- Two accepted cards whose unfolded lines differ in the letter case of names and groups alone have the same JSON, byte for byte; so what
--- comes home is the same too. Refolding and other line ends do not show in the unfolded lines at all.
-pub respelled-same : (stem : Bytes) (n : ℕ) (s t j k : Bytes) → map caseless (lines s) ≡ map caseless (lines t)
-    → cardToJson stem n jsonRoom s ≡ yes j → cardToJson stem n jsonRoom t ≡ yes k → j ≡ k
-respelled-same stem n s t j k e a b =
-    let x = accepted-card stem n jsonRoom s j a in
-    let y = accepted-card stem n jsonRoom t k b in
-    let p : lines s ≡ linesOf (x .raw) = ap (λ (o : Option (List Bytes)). linesOf (orNone o)) (x .raws) in
-    let q : lines t ≡ linesOf (y .raw) = ap (λ (o : Option (List Bytes)). linesOf (orNone o)) (y .raws) in
-    x .result ∙ ap printJson (same-card stem n (linesOf (x .raw)) (linesOf (y .raw)) (ap (map caseless) (sym p) ∙ e ∙ ap (map caseless) q)) ∙ sym (y .result)
+-- Two cards that spell the same lines, folded and ended as they may be, get the same answer, a refusal too, where both or neither are over their room.
+pub refolded-same : (stem : Bytes) (n lent : ℕ) (ls : List Bytes) (s t : Bytes) → Spells ls s → Spells ls t → ltb cardRoom (sizeOf s) ≡ ltb cardRoom (sizeOf t)
+    → cardToJson stem n lent s ≡ cardToJson stem n lent t
+unfolding cardToJson
+refolded-same stem n lent ls s t x y r = rw (spelled-lines x, spelled-lines y, r)
+
+-- Two accepted cards whose lines differ, besides, in the letter case of names and groups have the same JSON, byte for byte; so what comes home is the
+-- same too.
+pub respelled-same : (stem : Bytes) (n lent lent′ : ℕ) (ls ms : List Bytes) (s t j k : Bytes) → Spells ls s → Spells ms t → map caseless (linesOf ls) ≡ map caseless (linesOf ms)
+    → cardToJson stem n lent s ≡ yes j → cardToJson stem n lent′ t ≡ yes k → j ≡ k
+respelled-same stem n lent lent′ ls ms s t j k v w e a b =
+    let x = accepted-card stem n lent s j a in
+    let y = accepted-card stem n lent′ t k b in
+    let p : ls ≡ x .raw = some-same (sym (spelled-lines v) ∙ x .raws) in
+    let q : ms ≡ y .raw = some-same (sym (spelled-lines w) ∙ y .raws) in
+    x .result ∙ ap printJson (same-card stem n (linesOf (x .raw)) (linesOf (y .raw))
+    (ap (λ (l : List Bytes). map caseless (linesOf l)) (sym p) ∙ e ∙ ap (λ (l : List Bytes). map caseless (linesOf l)) q)) ∙ sym (y .result)

@@ -2,3 +2,4 @@ pub mod Proper
 pub mod Allowed
 pub mod Members
 pub mod Turns
+pub mod Spelled

@@ -46,7 +46,7 @@ abbrev pub Inner : List Bytes → Type 0
 Inner [] = Unit {0}
 Inner (p ∷ ps) = (isBegin p ≡ false) × (isEnd p ≡ false) × Inner ps
 
-inner-append : (ps qs : List Bytes) → Inner ps → Inner qs → Inner (ps ++ qs)
+pub inner-append : (ps qs : List Bytes) → Inner ps → Inner qs → Inner (ps ++ qs)
 inner-append [] qs a b = b
 inner-append (p ∷ ps) qs a b = (a .0, a .1, inner-append ps qs (a .2) b)
 
