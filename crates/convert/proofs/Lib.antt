@@ -3,6 +3,7 @@ pub mod Worked
 pub mod ProvedCases
 pub mod Figures
 pub mod Refusals
+pub mod Limits
 pub mod Readings
 pub mod Pointers
 pub mod Forms

@@ -9,6 +9,7 @@ use Rattle.text.specs.Choice.{pick, with-some, is-some}
 use Rattle.text.specs.Bytes.{Bytes, ascii, empty, any, all, same, among, lowered, each}
 use Rattle.text.specs.Utf8.{utf8}
 use Rattle.json.specs.Read.{Reading, tree, refused, reading}
+use Rattle.json.specs.Lookup.{room}
 use Rattle.line.specs.Class.{isName, isStem, isControl}
 use Rattle.line.specs.Physical.{physical, sizeOf, framed}
 use Rattle.line.specs.Unfold.{unfold′}
@@ -35,8 +36,13 @@ cardRoom = 32768
 abbrev pub lineRoom : ℕ
 lineRoom = 512
 
+-- the same as the look-up's
 abbrev pub jsonRoom : ℕ
-jsonRoom = 65536
+jsonRoom = room
+
+-- of a given card, and of a stream's
+abbrev pub lastNumber : ℕ
+lastNumber = 999999
 
 -- ---- refusals in order
 
@@ -75,7 +81,7 @@ isStemText s = filled s && leb (length s) 200 && all isStem s
 
 -- 15: a given card number from 1 to 999,999
 unfoldable pub isCardNumber : ℕ → Bool
-isCardNumber n = leb 1 n && leb n 999999
+isCardNumber n = leb 1 n && leb n lastNumber
 
 -- 4: not UTF-8 after unfolding, or a control
 unfoldable pub garbled : Bytes → Bool
