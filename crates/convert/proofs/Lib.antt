@@ -27,3 +27,4 @@ pub mod CardJson
 pub mod Seeking
 pub mod AlikeTexts
 pub mod AnswerLaws
+pub mod Demand1

@@ -7,7 +7,6 @@ use lib.ListN.{length, replicate}
 use lib.Dec.{ltb}
 use Rattle.text.specs.Choice.{pick}
 use Rattle.text.specs.Bytes.{Bytes, ascii, flat}
-use Rattle.text.proofs.Cases.{byBool}
 use Rattle.json.specs.Read.{reading}
 use Rattle.line.specs.Grammar.{Line}
 use Rattle.line.specs.Physical.{sizeOf}
@@ -16,8 +15,9 @@ use Rattle.convert.specs.FromCard.{cardOfLines}
 use Rattle.convert.specs.Carry.{carried}
 use Rattle.convert.specs.ToCard.{cardLines, printCard}
 use Rattle.convert.specs.ToJson.{printJson}
-use Rattle.convert.specs.Answers.{no, yes, seek, fitted, isStemText, isCardNumber, rawLines, lineTests, convertLines, convertCard, cardToJson, convertModel, convertTree, jsonToCard}
+use Rattle.convert.specs.Answers.{no, yes, seek, isStemText, isCardNumber, rawLines, lineTests, convertLines, convertCard, cardToJson, convertModel, convertTree, jsonToCard}
 use Rattle.convert.proofs.Opened.{convert-opened}
+use Rattle.convert.proofs.Demand1.{fitted-grounds, model-is}
 use Rattle.convert.proofs.Worked.{text, card, lines, made, json, homeLines, Case, converts, refuses, comes-home, turns-away, returns-as, given, wanted, worked-opened}
 
 -- ---- room: laws, for every input
@@ -34,26 +34,19 @@ unfolding jsonToCard
 json-bytes lent s = refl
 
 -- a result: 3 exactly over its room, and then 14 exactly over the lent output
-fits : (full lent : ℕ) (r : Bytes) → fitted full lent r ≡ pick (ltb full (length r)) (no 3 0) (pick (ltb lent (length r)) (no 14 0) (yes r))
-unfolding fitted seek
-fits full lent r = byBool (ltb full (length r)) (λ e. rw e) (λ e. rw e (byBool (ltb lent (length r)) (λ f. rw f) (λ f. rw f)))
-
 pub json-result : (stem : Bytes) (n lent : ℕ) (raw : List Bytes) (ls : List Line)
     → convertLines stem n lent raw ls
     ≡ seek (lineTests raw ls) (pick (ltb 65536 (length (printJson (cardOfLines stem n ls)))) (no 3 0)
     (pick (ltb lent (length (printJson (cardOfLines stem n ls)))) (no 14 0) (yes (printJson (cardOfLines stem n ls)))))
 unfolding convertLines
-json-result stem n lent raw ls = rw (fits 65536 lent (printJson (cardOfLines stem n ls)))
+json-result stem n lent raw ls = rw (fitted-grounds 65536 lent (printJson (cardOfLines stem n ls)))
 
 -- of JSON to card: 13, then 512 lines, then 32,768 bytes, then the output
 pub card-result : (lent : ℕ) (c : Card)
     → convertModel lent c
     ≡ pick (not (carried c)) (no 13 0) (pick (ltb 512 (length (cardLines c))) (no 3 0)
     (pick (ltb 32768 (length (printCard c))) (no 3 0) (pick (ltb lent (length (printCard c))) (no 14 0) (yes (printCard c)))))
-unfolding convertModel seek
-card-result lent c =
-    byBool (not (carried c)) (λ e. rw e)
-    (λ e. rw e (byBool (ltb 512 (length (cardLines c))) (λ f. rw f) (λ f. rw (f, fits 32768 lent (printCard c)))))
+card-result lent c = model-is lent c
 
 -- ---- lines: 512, and 3 before 4
 

@@ -11,5 +11,6 @@ pub mod ToCard
 pub mod Carry
 pub mod Answers
 pub mod Served
+pub mod Demand1
 pub mod NormalCard
 pub mod NormalJson
