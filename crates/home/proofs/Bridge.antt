@@ -20,7 +20,7 @@ use Rattle.convert.specs.Classify.{Seen}
 use Rattle.convert.specs.FromJson.{keptStands}
 use Rattle.convert.specs.Carry.{carriedRaw, carriedText, carriedMaps, carriedParam, carriedKept, apart, carried}
 use Rattle.convert.proofs.Proper as Readable
-use Rattle.home.specs.Proper.{ProperEntries, ProperMaps, ProperMembers, AllKeptFine, ProperCard}
+use Rattle.home.proofs.Proper.{ProperEntries, ProperMaps, ProperMembers, AllKeptFine, ProperCard}
 use Rattle.home.proofs.Stands.{stands-inv}
 use Rattle.home.proofs.KeptFacts.{proper-kept}
 use Rattle.home.proofs.Alls.{All}

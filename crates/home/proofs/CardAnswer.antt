@@ -9,7 +9,7 @@ use Rattle.convert.specs.Model.{Card}
 use Rattle.convert.specs.ToCard.{cardLines, printCard}
 use Rattle.convert.specs.ToJson.{printJson}
 use Rattle.convert.specs.Answers.{cardRoom, lineRoom, jsonRoom, isStemText, isCardNumber, rawLines, fitted, convertLines, convertCard, cardToJson}
-use Rattle.home.specs.Proper.{ProperCard}
+use Rattle.home.proofs.Proper.{ProperCard}
 use Rattle.home.proofs.CardLines.{card-unfolded, card-read}
 use Rattle.home.proofs.CardTests.{card-answered}
 use Rattle.home.proofs.CardSize.{card-size}

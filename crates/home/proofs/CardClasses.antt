@@ -22,7 +22,7 @@ use Rattle.convert.specs.ToCard.{property, whereFilled, lineWhere, derivedLine,
 use Rattle.convert.specs.Carry.{apart}
 use Rattle.convert.proofs.Names.{read-name}
 use Rattle.convert.proofs.Written.{version-class, uid-class, kind-class, full-class, parts-class, full-written, parts-written, derived-written}
-use Rattle.home.specs.Proper.{ProperCard}
+use Rattle.home.proofs.Proper.{ProperCard}
 use Rattle.home.proofs.Given.{noGives, plus, Section, no-lines, one-line, both-sections, section-to}
 use Rattle.home.proofs.Alike.{Alike, classify-alike}
 use Rattle.home.proofs.Rows.{rows}

@@ -20,7 +20,7 @@ use Rattle.convert.specs.ToCard.{cardLines}
 use Rattle.convert.proofs.Keyed.{keys-given}
 use Rattle.convert.proofs.Names.{full}
 use Rattle.convert.proofs.NameJson.{no-parts}
-use Rattle.home.specs.Proper.{ProperEntries, ProperMaps, ProperCard}
+use Rattle.home.proofs.Proper.{ProperEntries, ProperMaps, ProperCard}
 use Rattle.home.proofs.Given.{noGives, plus, gathered-given, inMap-append}
 use Rattle.home.proofs.MapLines.{placedFrom, key-filled, keyOf}
 use Rattle.home.proofs.CardClasses.{optional, cardGives, card-classed, seven}

@@ -26,7 +26,7 @@ use Rattle.convert.specs.Carry.{carriedText, carriedParam, carriedAs, carriedMa
 use Rattle.convert.specs.FromJson.{isLowerWord, keptAsLine, keptStands, seenIn}
 use Rattle.convert.specs.ToCard.{property, whereFilled, lineWhere, derivedLine, fullLine, entryLine, mapsLines, memberLine, cardLines, printCard}
 use Rattle.convert.specs.Answers.{rawLines, linesOf}
-use Rattle.home.specs.Proper.{ProperEntries, ProperMaps, ProperMembers, AllKeptFine, ProperCard}
+use Rattle.home.proofs.Proper.{ProperEntries, ProperMaps, ProperMembers, AllKeptFine, ProperCard}
 use Rattle.home.proofs.Rows.{Row, Rows, rows}
 use Rattle.home.proofs.Carried.{Carried, is-carried}
 use Rattle.home.proofs.WrittenClean.{isPrinted, clean-printed, raw-clean}

@@ -27,7 +27,7 @@ use Rattle.convert.specs.Classify.{Class, as-version, as-uid, as-kind, as-dropp
 use Rattle.convert.specs.FromCard.{placed, Gives, gathered, firstOf, orElse, mapsFrom, madeUid, cardOfClassed, cardOfLines}
 use Rattle.convert.specs.FromJson.{isLowerWord, keptStands, seenIn}
 use Rattle.convert.specs.Answers.{isStemText, garbled, misused, secondFrom, emptied}
-use Rattle.home.specs.Proper.{ProperMember, ProperMembers, KeptFine, AllKeptFine, ProperMaps, ProperCard}
+use Rattle.home.proofs.Proper.{ProperMember, ProperMembers, KeptFine, AllKeptFine, ProperMaps, ProperCard}
 use Rattle.home.proofs.Alls.{All, all-test, all-mono, all-two, each-gives, In, in-all, all-in, in-among}
 use Rattle.home.proofs.Words.{or-word}
 use Rattle.home.proofs.Clean.{isAscii, Clean}

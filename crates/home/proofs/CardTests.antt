@@ -26,7 +26,7 @@ use Rattle.convert.specs.FromJson.{isLowerWord, seenIn}
 use Rattle.convert.specs.ToCard.{property, whereFilled, derivedLine, fullLine, cardLines}
 use Rattle.convert.specs.Answers.{Answer, fine, lineRoom, seek, given, firstFrom, atLine, garbled, ungrammatical, isNamed, isVersionLine, versionFirst, onlyUri, misused, secondFrom, emptied, lineTests}
 use Rattle.convert.proofs.Cases.{empty-upper}
-use Rattle.home.specs.Proper.{ProperCard}
+use Rattle.home.proofs.Proper.{ProperCard}
 use Rattle.home.proofs.Rows.{rows}
 use Rattle.home.proofs.Fair.{Fair, fair-garbled, fair-grammatical}
 use Rattle.home.proofs.Parted.{versionLine, uidLine, kindLines, laterLines, card-parted, later-each}

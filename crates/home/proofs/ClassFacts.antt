@@ -17,7 +17,7 @@ use Rattle.convert.specs.Classify.{Class, as-version, as-uid, as-kind, as-dropp
 use Rattle.convert.specs.FromCard.{keptLine}
 use Rattle.convert.specs.FromJson.{isLowerWord, neverKept}
 use Rattle.convert.specs.Answers.{isNamed, emptied}
-use Rattle.home.specs.Proper.{ProperMember}
+use Rattle.home.proofs.Proper.{ProperMember}
 use Rattle.home.proofs.Alls.{All, all-mono, all-kept}
 use Rattle.home.proofs.Slots.{at, slot-row}
 use Rattle.home.proofs.CleanLines.{CleanValue, CleanParam}

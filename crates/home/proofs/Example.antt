@@ -9,7 +9,7 @@ use Rattle.convert.specs.Table.{maps}
 use Rattle.convert.specs.Model.{Entry, Kept, Card}
 use Rattle.convert.proofs.Opened.{convert-opened}
 use Rattle.convert.proofs.Forms.{formed}
-use Rattle.home.specs.Proper.{ProperCard}
+use Rattle.home.proofs.Proper.{ProperCard}
 
 abbrev phoneOf : Entry
 phoneOf = record { key = ascii "P1"; which = 0; texts = ascii "tel:+1" ∷ []; types = 0 ∷ 3 ∷ []; pref = ascii "1" }

@@ -22,7 +22,7 @@ use Rattle.convert.specs.FromJson.{isLowerWord}
 use Rattle.convert.specs.ToCard.{paramOf, entryLine}
 use Rattle.convert.proofs.Types.{typeText, below}
 use Rattle.convert.proofs.Entries.{Proper}
-use Rattle.home.specs.Proper.{ProperEntry}
+use Rattle.home.proofs.Proper.{ProperEntry}
 use Rattle.home.proofs.Rows.{others, Row}
 use Rattle.home.proofs.Fair.{Fair, fairValue, fairParam}
 use Rattle.home.proofs.FairValues.{keys-fair, names-fair, form-clean}

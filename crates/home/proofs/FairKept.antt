@@ -19,7 +19,7 @@ use Rattle.convert.specs.Classify.{Seen}
 use Rattle.convert.specs.Carry.{carriedParam, carriedKept}
 use Rattle.convert.specs.FromJson.{isLowerWord, neverKept, keptAsLine}
 use Rattle.convert.specs.ToCard.{memberLine}
-use Rattle.home.specs.Proper.{ProperMember, KeptFine}
+use Rattle.home.proofs.Proper.{ProperMember, KeptFine}
 use Rattle.home.proofs.WrittenClean.{raw-clean, clean-text, compact-clean}
 use Rattle.home.proofs.Fair.{Fair, fairValue, fairParam}
 use Rattle.home.proofs.FairValues.{names-fair, pointer-fair}

@@ -19,7 +19,7 @@ use Rattle.convert.specs.Carry.{carriedRaw, carriedParam, carriedKept}
 use Rattle.convert.specs.Classify.{Class, as-version, as-uid, as-kind, as-dropped, as-full, as-parts, as-entry, as-member, as-kept, Seen, classify, Classed}
 use Rattle.convert.specs.FromCard.{keptLine, Placed, Gives, gives, gathered, firstOf, orElse}
 use Rattle.convert.specs.FromJson.{isLowerWord, keptStands, keptAsLine, neverKept}
-use Rattle.home.specs.Proper.{ProperMember, KeptFine}
+use Rattle.home.proofs.Proper.{ProperMember, KeptFine}
 use Rattle.home.proofs.Alls.{All, all-flat, In, in-flat}
 use Rattle.home.proofs.Stands.{stands}
 use Rattle.home.proofs.CleanTexts.{CleanText}

@@ -18,7 +18,7 @@ use Rattle.convert.specs.ToJson.{printJson}
 use Rattle.convert.specs.ToCard.{cardLines, printCard}
 use Rattle.convert.specs.NormalCard.{normalLines}
 use Rattle.convert.specs.Answers.{yes, seek, given, cardRoom, lineRoom, jsonRoom, isStemText, isCardNumber, linesOf, orNone, fitted, cardToJson, jsonToCard}
-use Rattle.home.specs.Proper.{ProperCard}
+use Rattle.home.proofs.Proper.{ProperCard}
 use Rattle.home.specs.Allowed.{AllStand, carriedLines, newLines}
 use Rattle.home.specs.Turns.{InTurn}
 use Rattle.convert.proofs.Seeking.{seek-fine, given-false, fitted-inv}

@@ -21,7 +21,7 @@ use Rattle.convert.specs.Value.{isKeyText, isPref}
 use Rattle.convert.specs.FromJson.{onlyMembers, optional, isTrue, flagOf, flagsFrom, contentFrom, entryMembers, entryFrom, mapFrom}
 use Rattle.convert.proofs.Orders.{inOrder-again}
 use Rattle.convert.proofs.Types.{below}
-use Rattle.home.specs.Proper.{ProperEntry, ProperEntries, ProperMaps}
+use Rattle.home.proofs.Proper.{ProperEntry, ProperEntries, ProperMaps}
 use Rattle.home.proofs.Alls.{All, all-test, test-all, all-mono, each-gives, each-called}
 use Rattle.home.proofs.SoundLists.{SoundMember, object-sound, optional-inv, optional-holds, no-field}
 use Rattle.home.proofs.Positions.{position-inside, inOrder-all}

@@ -20,7 +20,7 @@ use Rattle.convert.specs.Value.{filled}
 use Rattle.convert.specs.FromJson.{seenIn, cardFromJson}
 use Rattle.convert.specs.ToJson.{where′, mapsJson, nameJson, keptJson, membersJson, printJson}
 use Rattle.convert.proofs.CardJson.{card-json}
-use Rattle.home.specs.Proper.{ProperMembers, ProperCard}
+use Rattle.home.proofs.Proper.{ProperMembers, ProperCard}
 use Rattle.home.proofs.Alls.{All, all-joined, all-test, test-all}
 use Rattle.home.proofs.Words.{group-utf8}
 use Rattle.home.proofs.SoundLists.{SoundMember}

@@ -16,7 +16,7 @@ use Rattle.line.specs.Grammar.{Param, param, paramName, paramValues}
 use Rattle.convert.specs.Model.{Kept}
 use Rattle.convert.specs.Classify.{Seen}
 use Rattle.convert.specs.FromJson.{isLowerWord, strings, paramFrom, isGroup, groupFrom, keptFromFour, keptFrom, keptStands}
-use Rattle.home.specs.Proper.{KeptFine}
+use Rattle.home.proofs.Proper.{KeptFine}
 use Rattle.home.proofs.Alls.{All, all-test, test-all, all-mono, all-kept, each-gives, each-called, kept-distinct}
 use Rattle.home.proofs.SoundLists.{SoundMember, string-sound, array-sound, object-sound}
 use Rattle.home.proofs.Words.{word-lowered, or-word, distinct-settled}

@@ -21,7 +21,7 @@ use Rattle.convert.specs.Value.{filled}
 use Rattle.convert.specs.Carry.{carried}
 use Rattle.convert.specs.Classify.{Seen}
 use Rattle.convert.specs.FromJson.{required, optional, isLowerWord, isText, nameless, nameFrom, mapFrom, keptFrom, keptStands, seenIn, standing, otherMembers, cardFromMembers, cardFromJson}
-use Rattle.home.specs.Proper.{ProperMember, ProperMembers, KeptFine, AllKeptFine, ProperCard}
+use Rattle.home.proofs.Proper.{ProperMember, ProperMembers, KeptFine, AllKeptFine, ProperCard}
 use Rattle.home.proofs.Alls.{All, each-gives, kept-distinct}
 use Rattle.home.proofs.SoundLists.{SoundMember, string-sound, array-sound, object-sound, field-sound, optional-holds}
 use Rattle.home.proofs.Words.{or-word}

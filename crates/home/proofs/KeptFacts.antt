@@ -13,7 +13,7 @@ use Rattle.convert.specs.FromCard.{Gives, gives}
 use Rattle.convert.specs.FromJson.{isLowerWord, keptAsLine, keptStands}
 use Rattle.convert.proofs.KeptLines.{ProperKept, kept-line}
 pub use Rattle.home.proofs.Stands.{Stands, stands-inv as stands, lowerParam as paramStands}
-use Rattle.home.specs.Proper.{KeptFine, AllKeptFine}
+use Rattle.home.proofs.Proper.{KeptFine, AllKeptFine}
 use Rattle.home.proofs.Given.{plus, Section, no-lines, one-line, both-sections, section-to}
 use Rattle.home.proofs.Words.{word-lowered, group-lowered}
 use Rattle.home.proofs.Stands.{Stands, stands-inv, lowerParam}

@@ -25,7 +25,7 @@ use Rattle.convert.specs.Classify.{id, isId}
 use Rattle.convert.specs.FromCard.{Placed, placed, inMap, withKeys, keyedEntries, mapsFrom}
 use Rattle.convert.specs.FromJson.{idsFrom}
 use Rattle.convert.proofs.Keyed.{keys-distinct}
-use Rattle.home.specs.Proper.{ProperEntries, ProperMaps}
+use Rattle.home.proofs.Proper.{ProperEntries, ProperMaps}
 use Rattle.home.proofs.Alls.{All, In}
 use Rattle.home.proofs.Slots.{at}
 use Rattle.home.proofs.LineEntries.{Drawn}

@@ -1,3 +1,4 @@
+pub mod Proper
 pub mod Alls
 pub mod SoundLists
 pub mod Positions
@@ -98,3 +99,4 @@ pub mod HomeAgain
 pub mod MemberHome
 pub mod StandsPlainly
 pub mod AllowedExample
+pub mod Demand2

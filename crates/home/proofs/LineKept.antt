@@ -26,7 +26,7 @@ use Rattle.convert.specs.FromCard.{keptLine}
 use Rattle.convert.specs.FromJson.{isLowerWord, isGroup, keptAsLine, neverKept}
 use Rattle.convert.specs.Answers.{isNamed, onlyUri, valueFits, misused}
 use Rattle.convert.proofs.KeptLines.{ProperKept, kept-line, valueParam}
-use Rattle.home.specs.Proper.{KeptFine}
+use Rattle.home.proofs.Proper.{KeptFine}
 use Rattle.home.proofs.Alls.{All, all-test, test-all, all-mono, all-two, all-kept, all-joined}
 use Rattle.home.proofs.Words.{or-word}
 use Rattle.home.proofs.Stands.{lowerParam}

@@ -21,7 +21,7 @@ use Rattle.convert.specs.FromCard.{Placed, placed, Gives}
 use Rattle.convert.specs.FromJson.{idsFrom}
 use Rattle.convert.specs.ToCard.{entryLine, mapsLines}
 use Rattle.convert.proofs.Entries.{Proper, entry-read}
-use Rattle.home.specs.Proper.{ProperEntries, ProperMaps}
+use Rattle.home.proofs.Proper.{ProperEntries, ProperMaps}
 use Rattle.home.proofs.Given.{plus, Section, no-lines, one-line, both-sections, section-to}
 use Rattle.home.proofs.Rows.{others, Row, Rows}
 

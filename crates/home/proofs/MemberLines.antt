@@ -17,7 +17,7 @@ use Rattle.convert.specs.Classify.{as-member, Seen, memberClass, classify}
 use Rattle.convert.specs.FromCard.{Gives, gives}
 use Rattle.convert.specs.ToCard.{memberLine}
 use Rattle.convert.proofs.Written.{member-class, member-written}
-use Rattle.home.specs.Proper.{ProperMember, ProperMembers}
+use Rattle.home.proofs.Proper.{ProperMember, ProperMembers}
 use Rattle.home.proofs.MapLines.{or-shift}
 use Rattle.home.proofs.Given.{plus, Section, no-lines, one-line, both-sections, section-to}
 

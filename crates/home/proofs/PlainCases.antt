@@ -21,7 +21,7 @@ use Rattle.convert.specs.NormalCard.{normalLines, normalCard}
 use Rattle.convert.specs.NormalJson.{normalJson}
 use Rattle.convert.specs.Answers.{no, yes, seek, cardRoom, lineRoom, jsonRoom, isStemText, isCardNumber, rawLines, linesOf, orNone, fitted, cardToJson, jsonToCard}
 use Rattle.convert.proofs.Seeking.{at-line-none}
-use Rattle.home.specs.Proper.{ProperCard}
+use Rattle.home.proofs.Proper.{ProperCard}
 use Rattle.home.proofs.Accepted.{accepted-json}
 use Rattle.home.proofs.JsonHome.{json-read, json-home}
 use Rattle.home.proofs.JsonProper.{json-proper}

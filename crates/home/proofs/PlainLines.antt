@@ -26,7 +26,7 @@ use Rattle.convert.specs.Answers.{valueFits}
 use Rattle.convert.proofs.Types.{typeText}
 use Rattle.convert.proofs.Entries.{four, the-value, prefValues, entry-params}
 use Rattle.convert.proofs.KeptLines.{no-values, valueParam}
-use Rattle.home.specs.Proper.{ProperEntries, ProperMaps, KeptFine, AllKeptFine}
+use Rattle.home.proofs.Proper.{ProperEntries, ProperMaps, KeptFine, AllKeptFine}
 use Rattle.home.proofs.Rows.{others, Row, Rows}
 use Rattle.home.proofs.KeptFacts.{no-value}
 use Rattle.home.proofs.Words.{word-lowered, names-lower}

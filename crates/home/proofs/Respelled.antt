@@ -10,23 +10,16 @@ use Rattle.text.proofs.Choices.{some-same}
 use Rattle.text.proofs.Letters.{lowered-lowered, lowered-empty}
 use Rattle.line.specs.Grammar.{Line}
 use Rattle.line.specs.Physical.{sizeOf}
-use Rattle.line.proofs.Lines.{upperLine}
 use Rattle.convert.specs.Table.{Slot, slotOf}
 use Rattle.convert.specs.Classify.{Class, as-version, as-uid, as-kind, as-dropped, as-full, as-parts, as-entry, as-member, as-kept, Seen, nothing, see, fullClass, partsClass, memberClass, entryOf, entryClass, classify, Classed, classedAfter, classed}
 use Rattle.convert.specs.FromCard.{Gives, gives, keptLine, gathered, cardOfClassed, cardOfLines}
 use Rattle.convert.specs.ToJson.{printJson}
-use Rattle.convert.specs.Answers.{yes, cardToJson, cardRoom, rawLines, linesOf, orNone}
+use Rattle.convert.specs.Answers.{yes, cardToJson, cardRoom, linesOf}
 use Rattle.convert.proofs.Cases.{classify-upper, kept-upper}
+pub use Rattle.home.specs.Demand2.{lines, lowerGroup, caseless}
 use Rattle.home.specs.Spelled.{Spells}
 use Rattle.home.proofs.Accepted.{accepted-card}
 use Rattle.home.proofs.Refolded.{spelled-lines}
-
--- a line with its group in lower case, and names in upper case: what is left of its letter case
-abbrev pub lowerGroup : Line → Line
-lowerGroup l = record { group = lowered (l .group); name = l .name; params = l .params; value = l .value }
-
-abbrev pub caseless : Line → Line
-caseless l = upperLine (lowerGroup l)
 
 -- ---- the class of a line
 
@@ -99,10 +92,6 @@ same-card stem n ls ms e =
     card-given stem n ls ms (sym (given-caseless nothing ls) ∙ ap (given nothing) e ∙ given-caseless nothing ms)
 
 -- ---- accepted cards
-
--- the lines of a card, unfolded and read
-abbrev pub lines : Bytes → List Line
-lines s = linesOf (orNone (rawLines s))
 
 -- Two cards that spell the same lines, folded and ended as they may be, get the same answer, a refusal too, where both or neither are over their room.
 pub refolded-same : (stem : Bytes) (n lent : ℕ) (ls : List Bytes) (s t : Bytes) → Spells ls s → Spells ls t → ltb cardRoom (sizeOf s) ≡ ltb cardRoom (sizeOf t)

@@ -12,7 +12,7 @@ use Rattle.convert.specs.Table.{Map, contextCodes, featureCodes}
 use Rattle.convert.specs.Model.{Entry}
 use Rattle.convert.specs.Value.{filled, isPref}
 use Rattle.convert.specs.ToJson.{where′, contentJson, flagsJson, entryJson, mapsJson}
-use Rattle.home.specs.Proper.{ProperEntry, ProperEntries, ProperMaps}
+use Rattle.home.proofs.Proper.{ProperEntry, ProperEntries, ProperMaps}
 use Rattle.home.proofs.Alls.{All, all-joined}
 use Rattle.home.proofs.SoundLists.{SoundMember}
 use Rattle.home.proofs.Sublists.{Sub, none-of, sub-nothing, sub-distinct}

@@ -22,7 +22,7 @@ use Rattle.convert.specs.Value.{filled}
 use Rattle.convert.specs.Classify.{Seen}
 use Rattle.convert.specs.FromJson.{isLowerWord, isGroup, keptStands}
 use Rattle.convert.specs.ToJson.{where′, whereSome, componentsOf, nameJson, valuesJson, paramJson, keptJson}
-use Rattle.home.specs.Proper.{KeptFine, AllKeptFine}
+use Rattle.home.proofs.Proper.{KeptFine, AllKeptFine}
 use Rattle.home.proofs.Alls.{All, all-joined, test-all}
 use Rattle.home.proofs.Stands.{lowerParam, stands-inv}
 use Rattle.home.proofs.SoundLists.{SoundMember}

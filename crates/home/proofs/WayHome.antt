@@ -2,7 +2,7 @@
 -- form is over its room, and else by 14, exactly when it is longer than the lent output.
 use mathlib.Core.Path.{_≡_, sym, ap, _∙_}
 use mathlib.Core.Bool.{Bool, true, false}
-use mathlib.Core.List.{List, [], _∷_}
+use mathlib.Core.List.{List}
 use mathlib.Core.Option.{Option}
 use Prim.Native.Nat.{ℕ}
 use lib.ListN.{length}
@@ -11,7 +11,6 @@ use Rattle.text.specs.Bytes.{Bytes}
 use Rattle.text.proofs.Cases.{byBool, and-true, testing}
 use Rattle.text.proofs.Lists.{each-length}
 use Rattle.line.specs.Grammar.{Line, readLine}
-use Rattle.line.specs.Write.{writeCard}
 use Rattle.convert.specs.Model.{Card}
 use Rattle.convert.specs.Classify.{classed}
 use Rattle.convert.specs.FromCard.{cardOfLines}
@@ -19,8 +18,9 @@ use Rattle.convert.specs.ToJson.{printJson}
 use Rattle.convert.specs.ToCard.{cardLines, printCard}
 use Rattle.convert.specs.NormalCard.{normalLines, normalCard}
 use Rattle.convert.specs.NormalJson.{normalJson}
-use Rattle.convert.specs.Answers.{Answer, no, yes, seek, given, cardRoom, lineRoom, jsonRoom, isStemText, isCardNumber, rawLines, linesOf, orNone, fitted, cardToJson, convertModel, jsonToCard}
-use Rattle.home.specs.Proper.{ProperCard}
+use Rattle.convert.specs.Answers.{no, yes, seek, cardRoom, lineRoom, jsonRoom, isStemText, isCardNumber, rawLines, linesOf, orNone, fitted, cardToJson, convertModel, jsonToCard}
+pub use Rattle.home.specs.Demand2.{written, normalOf}
+use Rattle.home.proofs.Proper.{ProperCard}
 use Rattle.home.proofs.Accepted.{GoodLines, accepted-card, accepted-json}
 use Rattle.home.proofs.JsonHome.{json-read, json-home}
 use Rattle.home.proofs.JsonProper.{json-proper}
@@ -42,14 +42,6 @@ json-comes-home stem n lent lent′ s b a k e =
     ∙ ap (fitted jsonRoom lent′) (compact-normal s (i .json) (i .card) (i .read) (i .from))
 
 -- ---- a card to JSON and home again
-
--- a card of these lines, or 3 where they or their bytes are over their room, or 14 where the bytes are longer than the lent output
-abbrev pub written : ℕ → List Line → Answer
-written lent ls = seek (given 3 (ltb lineRoom (length ls)) ∷ []) (fitted cardRoom lent (writeCard ls))
-
--- the lines of a card's normal form
-abbrev pub normalOf : Bytes → ℕ → Bytes → List Line
-normalOf stem n s = normalLines stem n (classed (linesOf (orNone (rawLines s))))
 
 proper-json : (lent : ℕ) (c : Card) → ProperCard c → ltb jsonRoom (length (printJson c)) ≡ false → jsonToCard lent (printJson c) ≡ written lent (cardLines c)
 unfolding jsonToCard convertModel printCard seek

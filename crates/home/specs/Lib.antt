@@ -1,5 +1,5 @@
-pub mod Proper
 pub mod Allowed
 pub mod Members
 pub mod Turns
 pub mod Spelled
+pub mod Demand2

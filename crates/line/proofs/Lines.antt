@@ -6,21 +6,19 @@ use mathlib.Core.Option.{some}
 use Prim.Native.Nat.{ℕ, suc, _+_}
 use native.Mathlib.Omega.{arith}
 use lib.ListN.{length}
-use Rattle.text.specs.Bytes.{Bytes, is, all, empty, between, upper, uppered}
+use Rattle.text.specs.Bytes.{Bytes, all, empty, between, uppered}
 use Rattle.text.specs.Reader.{got, first, on}
 use Rattle.text.proofs.Cases.{and-left, and-right}
 use Rattle.text.proofs.Letters.{lowered-uppered}
 use Rattle.line.specs.Class.{isName}
-use Rattle.line.specs.Grammar.{Param, param, Line, parameter, afterName, lineReader, valueCount, fits, isFrameName, accepted, readLine}
+use Rattle.line.specs.Grammar.{Param, param, Line, afterName, lineReader, valueCount, fits, isFrameName, accepted, readLine}
 use Rattle.line.specs.Write.{writeParams, writeGroup, writeLine}
+-- what is read of a written line
+pub use Rattle.line.specs.Upper.{upperLine}
 use Rattle.line.proofs.Parameters.{isWord, writableParam, upperParam, uppered-word, word-read, params-read, params-dot, params-name}
 
 unfoldable pub writable : Line → Bool
 writable l = (empty (l .group) || all isName (l .group)) && (isWord (l .name) && all writableParam (l .params))
-
--- what is read of a written line
-abbrev pub upperLine : Line → Line
-upperLine l = record { group = l .group; name = uppered (l .name); params = map upperParam (l .params); value = l .value }
 
 -- ---- lines
 

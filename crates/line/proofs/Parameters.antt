@@ -1,8 +1,8 @@
 -- Written parameters are read back, their names in upper case.
 use mathlib.Core.Path.{_≡_, refl, ap}
 use mathlib.Core.Bool.{Bool, true, false, _&&_, not}
-use mathlib.Core.List.{List, [], _∷_, _++_, map, tail}
-use Prim.Native.Nat.{ℕ, suc, _+_, _<_}
+use mathlib.Core.List.{List, [], _∷_, _++_, map}
+use Prim.Native.Nat.{ℕ, suc, _<_}
 use native.Mathlib.Omega.{arith}
 use lib.ListN.{length}
 use lib.Dec.{eqb}
@@ -16,6 +16,7 @@ use Rattle.text.proofs.Readers.{Takes, takes-got, takes-bad, takes-less, takes-
 use Rattle.line.specs.Class.{isName, isBare, isQuotable}
 use Rattle.line.specs.Grammar.{Param, param, word, paramValue, valueTurn, parameter, paramTurn}
 use Rattle.line.specs.Write.{writeValue, writeValues, writeParams}
+pub use Rattle.line.specs.Upper.{upperParam}
 
 -- ---- what can be written
 
@@ -25,9 +26,6 @@ isWord n = not (empty n) && all isName n
 
 unfoldable pub writableParam : Param → Bool
 writableParam (param n vs) = isWord n && (not (empty vs) && all (all isQuotable) vs)
-
-abbrev pub upperParam : Param → Param
-upperParam (param n vs) = param (uppered n) vs
 
 -- ---- names
 

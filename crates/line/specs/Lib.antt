@@ -5,3 +5,4 @@ pub mod Grammar
 pub mod Params
 pub mod Text
 pub mod Write
+pub mod Upper

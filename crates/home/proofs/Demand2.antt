@@ -1,0 +1,26 @@
+-- Demand 2 of the definitions, all of it.
+use Rattle.convert.specs.Answers.{cardToJson, jsonToCard}
+use Rattle.home.specs.Demand2.{Demand2}
+use Rattle.home.proofs.WayHome.{card-comes-home, json-comes-home}
+use Rattle.home.proofs.PlainCases.{card-or-3, json-or-3, own-normal, same-card-from-normal}
+use Rattle.home.proofs.HomeAgain.{every-line-comes-home, lines-come-home-in-turn, same-json-again, home-again}
+use Rattle.home.proofs.MemberHome.{every-member-comes-home}
+use Rattle.home.proofs.Respelled.{refolded-same, respelled-same}
+
+pub demand-2 : Demand2 cardToJson jsonToCard
+demand-2 =
+    record {
+      card-normal = card-comes-home;
+      json-normal = json-comes-home;
+      card-only-3 = card-or-3;
+      json-only-3 = json-or-3;
+      every-line = every-line-comes-home;
+      in-turn = lines-come-home-in-turn;
+      every-member = every-member-comes-home;
+      same-json = same-json-again;
+      home-again = home-again;
+      own-normal = own-normal;
+      same-card = same-card-from-normal;
+      refolded = refolded-same;
+      respelled = respelled-same;
+    }
