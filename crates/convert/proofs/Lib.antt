@@ -4,6 +4,7 @@ pub mod ProvedCases
 pub mod Figures
 pub mod Refusals
 pub mod Limits
+pub mod Unknown
 pub mod Readings
 pub mod Pointers
 pub mod Forms
