@@ -62,6 +62,7 @@ pub mod CardSize
 pub mod WayHome
 pub mod PlainCases
 pub mod Refolded
+pub mod EverySpelling
 pub mod Respelled
 pub mod CardAnswer
 pub mod Example
