@@ -3,7 +3,7 @@ use mathlib.Core.Path.{_≡_, refl}
 use mathlib.Core.List.{List, [], _∷_, _++_, map}
 use Rattle.text.specs.Bytes.{Bytes, ascii}
 use Rattle.convert.proofs.Opened.{convert-opened}
-use Rattle.convert.proofs.Worked.{text, card, lines, made, json, homeLines, Case, converts, comes-home, returns-as, given, wanted, worked-opened}
+use Rattle.convert.specs.Worked.{text, card, lines, made, json, homeLines, Case, converts, comes-home, returns-as, given, wanted, worked-opened}
 
 -- N of figure 12, less SORT-AS, both ways
 abbrev figure12 : Bytes

@@ -1,5 +1,4 @@
 pub mod Opened
-pub mod Worked
 pub mod ProvedCases
 pub mod Figures
 pub mod Refusals

@@ -18,7 +18,7 @@ use Rattle.convert.specs.ToJson.{printJson}
 use Rattle.convert.specs.Answers.{no, yes, seek, isStemText, isCardNumber, rawLines, lineTests, convertLines, convertCard, cardToJson, convertModel, convertTree, jsonToCard}
 use Rattle.convert.proofs.Opened.{convert-opened}
 use Rattle.convert.proofs.Demand1.{fitted-grounds, model-is}
-use Rattle.convert.proofs.Worked.{text, card, lines, made, json, homeLines, Case, converts, refuses, comes-home, turns-away, returns-as, given, wanted, worked-opened}
+use Rattle.convert.specs.Worked.{text, card, lines, made, json, homeLines, Case, converts, refuses, comes-home, turns-away, returns-as, given, wanted, worked-opened}
 
 -- ---- room: laws, for every input
 

@@ -3,7 +3,7 @@ use mathlib.Core.Path.{_≡_, refl}
 use mathlib.Core.List.{List, [], _∷_, _++_, map}
 use Rattle.text.specs.Bytes.{ascii}
 use Rattle.convert.proofs.Opened.{convert-opened}
-use Rattle.convert.proofs.Worked.{text, card, lines, made, json, homeLines, Case, converts, refuses, comes-home, turns-away, returns-as, settles-as, given, wanted, worked-opened}
+use Rattle.convert.specs.Worked.{text, card, lines, made, json, homeLines, Case, converts, refuses, comes-home, turns-away, returns-as, settles-as, given, wanted, worked-opened}
 
 -- lines, bytes, unfolding, refusals 4 to 10
 unfoldable pub line-readings : List Case

@@ -5,7 +5,7 @@ use lib.ListN.{replicate}
 use Rattle.text.specs.Bytes.{ascii}
 use Rattle.convert.specs.Answers.{no, yes, cardToJson, jsonToCard}
 use Rattle.convert.proofs.Opened.{convert-opened}
-use Rattle.convert.proofs.Worked.{text, card, lines, made, json, Case, refuses, turns-away, given, wanted, worked-opened}
+use Rattle.convert.specs.Worked.{text, card, lines, made, json, Case, refuses, turns-away, given, wanted, worked-opened}
 
 unfoldable pub refusals : List Case
 refusals =

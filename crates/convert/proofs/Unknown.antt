@@ -2,7 +2,7 @@
 use mathlib.Core.Path.{_≡_, refl}
 use mathlib.Core.List.{List, [], _∷_, map}
 use Rattle.convert.proofs.Opened.{convert-opened}
-use Rattle.convert.proofs.Worked.{lines, made, json, homeLines, Case, converts, comes-home, turns-away, settles-as, given, wanted, worked-opened}
+use Rattle.convert.specs.Worked.{lines, made, json, homeLines, Case, converts, comes-home, turns-away, settles-as, given, wanted, worked-opened}
 
 unfoldable pub unknown-members : List Case
 unknown-members =

@@ -14,3 +14,5 @@ pub mod Served
 pub mod Demand1
 pub mod NormalCard
 pub mod NormalJson
+pub mod Worked
+pub mod ProvedCases

@@ -1,5 +1,6 @@
 -- Demand 2 of the definitions, all of it.
 use Rattle.convert.specs.Answers.{cardToJson, jsonToCard}
+use Rattle.convert.proofs.ProvedCases.{cases-hold}
 use Rattle.home.specs.Demand2.{Demand2}
 use Rattle.home.proofs.WayHome.{card-comes-home, json-comes-home}
 use Rattle.home.proofs.PlainCases.{card-or-3, json-or-3, own-normal, same-card-from-normal}
@@ -10,6 +11,7 @@ use Rattle.home.proofs.Respelled.{refolded-same, respelled-same}
 pub demand-2 : Demand2 cardToJson jsonToCard
 demand-2 =
     record {
+      cases = cases-hold;
       card-normal = card-comes-home;
       json-normal = json-comes-home;
       card-only-3 = card-or-3;

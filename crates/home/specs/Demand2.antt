@@ -17,6 +17,8 @@ use Rattle.convert.specs.Classify.{classed}
 use Rattle.convert.specs.NormalCard.{normalLines, normalCard}
 use Rattle.convert.specs.NormalJson.{normalJson}
 use Rattle.convert.specs.Answers.{Answer, no, yes, seek, given, cardRoom, lineRoom, jsonRoom, isStemText, isCardNumber, rawLines, linesOf, orNone, fitted}
+use Rattle.convert.specs.Worked.{givenBy, wanted}
+use Rattle.convert.specs.ProvedCases.{proved-cases}
 use Rattle.home.specs.Allowed.{AllStand, carriedLines, newLines}
 use Rattle.home.specs.Members.{TextStands}
 use Rattle.home.specs.Spelled.{Spells}
@@ -46,6 +48,8 @@ caseless l = upperLine (lowerGroup l)
 -- ---- the demand; lent lengths are any, so nothing asks for a full room
 
 pub record Demand2 (toJson : (stem : Bytes) (n lent : ℕ) (card : Bytes) → Answer) (toCard : (lent : ℕ) (json : Bytes) → Answer) : Type 0 where
+  -- 01's twelve proved cases: a converter that keeps every line, or gives one fixed card, does not meet them.
+  pub cases : map (givenBy toJson toCard) proved-cases ≡ map wanted proved-cases
   -- A card's JSON gives exactly the card's normal form; 3 where that is over its room, else 14 where it is longer than the output.
   pub card-normal : (stem : Bytes) (n lent lent′ : ℕ) (s j : Bytes) → toJson stem n lent s ≡ yes j → toCard lent′ j ≡ written lent′ (normalOf stem n s)
   -- A JSON's card gives exactly the JSON's normal form, with any valid stem and number; 3 and 14 likewise.

@@ -2,7 +2,7 @@
 use mathlib.Core.Path.{_≡_, ap, _∙_}
 use mathlib.Core.List.{List, [], _∷_, map}
 use Rattle.convert.specs.Answers.{no, yes}
-use Rattle.convert.proofs.Worked.{text}
+use Rattle.convert.specs.Worked.{text}
 use Rattle.stream.specs.Calls.{shows-more, shows, Reply}
 use Rattle.stream.specs.Demand.{Demand3}
 use Rattle.stream.proofs.Wrong.{tried, as-plain, supposed, supposed-valid, supposed-is}

@@ -51,13 +51,17 @@ pub data Case : Type 0 where
   returns-as : (card normal : Bytes) → Case
   settles-as : (json normal : Bytes) → Case
 
-unfoldable pub given : Case → Answer
-given (converts c j) = cardToJson (ascii "reg") 1 65536 c
-given (refuses c n p) = cardToJson (ascii "reg") 1 65536 c
-given (comes-home j c) = jsonToCard 32768 j
-given (turns-away j n p) = jsonToCard 32768 j
-given (returns-as c d) = yes (normalCard (ascii "reg") 1 c)
-given (settles-as j k) = yes (normalJson j)
+-- what a converter from cards to JSON and one from JSON to cards give
+unfoldable pub givenBy : (toJson : (stem : Bytes) (n lent : ℕ) (card : Bytes) → Answer) (toCard : (lent : ℕ) (json : Bytes) → Answer) → Case → Answer
+givenBy f g (converts c j) = f (ascii "reg") 1 65536 c
+givenBy f g (refuses c n p) = f (ascii "reg") 1 65536 c
+givenBy f g (comes-home j c) = g 32768 j
+givenBy f g (turns-away j n p) = g 32768 j
+givenBy f g (returns-as c d) = yes (normalCard (ascii "reg") 1 c)
+givenBy f g (settles-as j k) = yes (normalJson j)
+
+abbrev pub given : Case → Answer
+given c = givenBy cardToJson jsonToCard c
 
 unfoldable pub wanted : Case → Answer
 wanted (converts c j) = yes j
@@ -68,5 +72,5 @@ wanted (returns-as c d) = yes d
 wanted (settles-as j k) = yes k
 
 unfoldable pub worked-opened : Unit {0}
-unfolding spelt text card lines made json homeLines given wanted
+unfolding spelt text card lines made json homeLines givenBy wanted
 worked-opened = tt
