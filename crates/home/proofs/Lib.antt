@@ -101,3 +101,4 @@ pub mod MemberHome
 pub mod StandsPlainly
 pub mod AllowedExample
 pub mod Demand2
+pub mod WrongConverters
