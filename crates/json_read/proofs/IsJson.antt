@@ -102,6 +102,7 @@ to-decode (one-pair {h = u} {l = v} {us = us} h l p) =
 
 mutual
   unfolding decoded AllPaired decode
+
   pub decoded-paired : (j : Json) {k : Json} → decoded j ≡ some k → AllPaired j
   decoded-paired jnull e = tt
   decoded-paired jtrue e = tt
@@ -124,6 +125,7 @@ mutual
 
 mutual
   unfolding decoded AllPaired decode
+
   pub paired-decoded : (j : Json) → AllPaired j → (k : Json) × (decoded j ≡ some k)
   paired-decoded jnull h = (jnull, refl)
   paired-decoded jtrue h = (jtrue, refl)
@@ -177,6 +179,7 @@ distinct-none ns h = byBool (distinct ns) (λ e. e) (λ e. absurd (h (repeats ns
 
 mutual
   unfolding distinctNames NoRepeats
+
   names-no-repeats : (k : Json) → distinctNames k ≡ true → NoRepeats k
   names-no-repeats jnull e = tt
   names-no-repeats jtrue e = tt
@@ -196,6 +199,7 @@ mutual
 
 mutual
   unfolding distinctNames NoRepeats
+
   names-distinct : (k : Json) → NoRepeats k → distinctNames k ≡ true
   names-distinct jnull h = refl
   names-distinct jtrue h = refl

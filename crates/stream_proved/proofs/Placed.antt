@@ -117,7 +117,7 @@ capitals-short false = lit≤ tt
 front-is : (l d : Bytes) → isBegin (withoutCr l) ≡ true → cap ≤ length d → frontOf d (min (length l) far) ≡ fronting (uppered l ++ 10 ∷ []) d
 unfolding frontOf
 front-is l d e room =
-    front-put d (pick (leb 12 (min (length l) far)) capital-cr-lf capital-lf) (capitals-short (leb 12 (min (length l) far))) room 
+    front-put d (pick (leb 12 (min (length l) far)) capital-cr-lf capital-lf) (capitals-short (leb 12 (min (length l) far))) room
     ∙ ap (λ (x : Bytes). fronting x d) (front-line l e)
 
 -- ---- a byte
