@@ -27,7 +27,9 @@ same-bytes-requires-2 : tie.Need-same-bytes-requires-2
 same-bytes-requires-2 c κs = search needs
 
 returns-2 : tie.Need-returns-2
-returns-2 c = is-word (now (c .before .before .before .before .before .before .before .args .p)) (ascii "version") (take 5 reserved) (word-version) (sym (c .before .same-bytes2 .ensures) ∙ (c .if2 .taken))
+returns-2 c =
+    is-word (now (c .before .before .before .before .before .before .before .args .p)) (ascii "version") (take 5 reserved) (word-version)
+    (sym (c .before .same-bytes2 .ensures) ∙ (c .if2 .taken))
 
 slice-aggregate-same-bytes-3 : tie.Need-slice-aggregate-same-bytes-3
 slice-aggregate-same-bytes-3 c = search needs
@@ -36,7 +38,9 @@ same-bytes-requires-3 : tie.Need-same-bytes-requires-3
 same-bytes-requires-3 c κs = search needs
 
 returns-3 : tie.Need-returns-3
-returns-3 c = is-word (now (c .before .before .before .before .before .before .before .before .before .before .args .p)) (ascii "uid") (take 5 reserved) (word-uid) (sym (c .before .same-bytes3 .ensures) ∙ (c .if3 .taken))
+returns-3 c =
+    is-word (now (c .before .before .before .before .before .before .before .before .before .before .args .p)) (ascii "uid") (take 5 reserved) (word-uid)
+    (sym (c .before .same-bytes3 .ensures) ∙ (c .if3 .taken))
 
 slice-aggregate-same-bytes-4 : tie.Need-slice-aggregate-same-bytes-4
 slice-aggregate-same-bytes-4 c = search needs
@@ -45,7 +49,9 @@ same-bytes-requires-4 : tie.Need-same-bytes-requires-4
 same-bytes-requires-4 c κs = search needs
 
 returns-4 : tie.Need-returns-4
-returns-4 c = is-word (now (c .before .before .before .before .before .before .before .before .before .before .before .before .before .args .p)) (ascii "kind") (take 5 reserved) (word-kind) (sym (c .before .same-bytes4 .ensures) ∙ (c .if4 .taken))
+returns-4 c =
+    is-word (now (c .before .before .before .before .before .before .before .before .before .before .before .before .before .args .p)) (ascii "kind") (take 5 reserved) (word-kind)
+    (sym (c .before .same-bytes4 .ensures) ∙ (c .if4 .taken))
 
 slice-aggregate-same-bytes-5 : tie.Need-slice-aggregate-same-bytes-5
 slice-aggregate-same-bytes-5 c = search needs
@@ -54,7 +60,9 @@ same-bytes-requires-5 : tie.Need-same-bytes-requires-5
 same-bytes-requires-5 c κs = search needs
 
 returns-5 : tie.Need-returns-5
-returns-5 c = c .same-bytes5 .ensures ∙ sym (last-head (now (c .before .before .before .before .before .before .before .before .before .before .before .before .before .before .before .args .p)) (sym (c .before .before .before .before .before .before .before .before .before .before .before .before .same-bytes .ensures) ∙ (c .before .before .before .before .before .before .before .before .before .before .before .if1 .left)) (sym (c .before .before .before .before .before .before .before .before .before .same-bytes2 .ensures) ∙ (c .before .before .before .before .before .before .before .before .if2 .left)) (sym (c .before .before .before .before .before .before .same-bytes3 .ensures) ∙ (c .before .before .before .before .before .if3 .left)) (sym (c .before .before .before .same-bytes4 .ensures) ∙ (c .before .before .if4 .left)))
+returns-5 c =
+    c .same-bytes5 .ensures ∙ sym
+    (last-head (now (c .before .before .before .before .before .before .before .before .before .before .before .before .before .before .before .args .p)) (sym (c .before .before .before .before .before .before .before .before .before .before .before .before .same-bytes .ensures) ∙ (c .before .before .before .before .before .before .before .before .before .before .before .if1 .left)) (sym (c .before .before .before .before .before .before .before .before .before .same-bytes2 .ensures) ∙ (c .before .before .before .before .before .before .before .before .if2 .left)) (sym (c .before .before .before .before .before .before .same-bytes3 .ensures) ∙ (c .before .before .before .before .before .if3 .left)) (sym (c .before .before .before .same-bytes4 .ensures) ∙ (c .before .before .if4 .left)))
 
 pub is-head-spec : {M : Type 1} → statement M
 is-head-spec =

@@ -23,7 +23,9 @@ same-length : tie.Need-same-length
 same-length c = search needs
 
 returns : tie.Need-returns
-returns c = absurd (never-full (now (c .before .before .before .before .before .before .before .before .args .v)) (now (c .before .before .before .before .before .before .before .before .args .scratch)) (c .before .before .before .before .before .before .before .before .pre .fits) (sym (c .before .before .before .before .read-text .ensures .said) ∙ (c .enum-told .given .1)))
+returns c =
+    absurd
+    (never-full (now (c .before .before .before .before .before .before .before .before .args .v)) (now (c .before .before .before .before .before .before .before .before .args .scratch)) (c .before .before .before .before .before .before .before .before .pre .fits) (sym (c .before .before .before .before .read-text .ensures .said) ∙ (c .enum-told .given .1)))
 
 sub-read : tie.Need-sub-read
 sub-read c = search needs
@@ -44,7 +46,12 @@ same-length-2 : tie.Need-same-length-2
 same-length-2 c = search needs
 
 returns-2 : tie.Need-returns-2
-returns-2 c = sym (ap soundly (c .enum-told2 .given .1)) ∙ judged-text (now (c .before .before .before .before .before .before .before .before .before .before .before .before .before .before .args .v)) _ (c .before .before .read .result) (c .before .before .before .before .before .before .before .before .before .before .before .before .before .before .pre .small) ((written (c .before .before .before .before .before .before .n .given .0 .0) (c .before .before .before .before .before .before .before .before .before .before .read-text .ensures) (c .before .before .before .before .before .before .n .given .1)) .1) (c .before .before .read .ensures .0)
+returns-2 c =
+    sym (ap soundly (c .enum-told2 .given .1)) ∙ judged-text
+    (now (c .before .before .before .before .before .before .before .before .before .before .before .before .before .before .args .v)) _ (c .before .before .read .result)
+    (c .before .before .before .before .before .before .before .before .before .before .before .before .before .before .pre .small)
+    ((written (c .before .before .before .before .before .before .n .given .0 .0) (c .before .before .before .before .before .before .before .before .before .before .read-text .ensures) (c .before .before .before .before .before .before .n .given .1)) .1)
+    (c .before .before .read .ensures .0)
 
 enum-told-3 : tie.Need-enum-told-3
 enum-told-3 c = search needs
@@ -53,7 +60,12 @@ same-length-3 : tie.Need-same-length-3
 same-length-3 c = search needs
 
 returns-3 : tie.Need-returns-3
-returns-3 c = sym (ap soundly (c .enum-told3 .given .1)) ∙ judged-text (now (c .before .before .before .before .before .before .before .before .before .before .before .before .before .before .args .v)) _ (c .before .before .read .result) (c .before .before .before .before .before .before .before .before .before .before .before .before .before .before .pre .small) ((written (c .before .before .before .before .before .before .n .given .0 .0) (c .before .before .before .before .before .before .before .before .before .before .read-text .ensures) (c .before .before .before .before .before .before .n .given .1)) .1) (c .before .before .read .ensures .0)
+returns-3 c =
+    sym (ap soundly (c .enum-told3 .given .1)) ∙ judged-text
+    (now (c .before .before .before .before .before .before .before .before .before .before .before .before .before .before .args .v)) _ (c .before .before .read .result)
+    (c .before .before .before .before .before .before .before .before .before .before .before .before .before .before .pre .small)
+    ((written (c .before .before .before .before .before .before .n .given .0 .0) (c .before .before .before .before .before .before .before .before .before .before .read-text .ensures) (c .before .before .before .before .before .before .n .given .1)) .1)
+    (c .before .before .read .ensures .0)
 
 enum-told-4 : tie.Need-enum-told-4
 enum-told-4 c = search needs
@@ -62,7 +74,12 @@ same-length-4 : tie.Need-same-length-4
 same-length-4 c = search needs
 
 returns-4 : tie.Need-returns-4
-returns-4 c = sym (ap soundly (c .enum-told4 .given .1)) ∙ judged-text (now (c .before .before .before .before .before .before .before .before .before .before .before .before .before .before .args .v)) _ (c .before .before .read .result) (c .before .before .before .before .before .before .before .before .before .before .before .before .before .before .pre .small) ((written (c .before .before .before .before .before .before .n .given .0 .0) (c .before .before .before .before .before .before .before .before .before .before .read-text .ensures) (c .before .before .before .before .before .before .n .given .1)) .1) (c .before .before .read .ensures .0)
+returns-4 c =
+    sym (ap soundly (c .enum-told4 .given .1)) ∙ judged-text
+    (now (c .before .before .before .before .before .before .before .before .before .before .before .before .before .before .args .v)) _ (c .before .before .read .result)
+    (c .before .before .before .before .before .before .before .before .before .before .before .before .before .before .pre .small)
+    ((written (c .before .before .before .before .before .before .n .given .0 .0) (c .before .before .before .before .before .before .before .before .before .before .read-text .ensures) (c .before .before .before .before .before .before .n .given .1)) .1)
+    (c .before .before .read .ensures .0)
 
 pub is-json-spec : {M : Type 1} → statement M
 is-json-spec =
