@@ -15,8 +15,8 @@ use Rattle.line.specs.Params.{valuesNamed, besidesValue, lacking, named}
 use Rattle.convert.specs.Model.{Kept}
 use Rattle.convert.specs.FromCard.{keptLine}
 use Rattle.convert.specs.ToJson.{valuesJson, paramJson}
-use Rattle.convert_put.specs.Pieces.{memberBytes}
-use Rattle.convert_put.proofs.Compact.{quoted-append}
+use Rattle.convert_put.specs.Pieces.{memberBytes, inside}
+use Rattle.convert_put.proofs.Compact.{quoted-append, inside-append}
 use Rattle.output.specs.Put.{Puts, Sofar}
 use Rattle.output.specs.declared.Wrote.{Wrote}
 use Rattle.output.specs.declared.Wrote.the-variants.{Bytes as Wrote-Bytes, Full}
@@ -25,25 +25,7 @@ use Rattle.line_table.specs.Table.{nameAt, rowsIn, lineIn}
 use Rattle.line_table.specs.Spread.{namesOf}
 use Rattle.line_table.proofs.Rows.{rows-none, line-rows}
 use Rattle.table_kept.proofs.Names.{member-at, kept-names-more, kept-params, values-besides}
-use Rattle.to_json_kept.specs.Entry.{inside, paramPiece}
-
--- ---- members with commas
-
-or-true : (b : Bool) → b || true ≡ true
-or-true true = refl
-or-true false = refl
-
-or-false : (b : Bool) → b || false ≡ b
-or-false true = refl
-or-false false = refl
-
-pub inside-append : (b : Bool) (ms ns : List Member) → inside b (ms ++ ns) ≡ inside b ms ++ inside (b || not (empty ms)) ns
-unfolding inside
-inside-append b [] ns = ap (λ c. inside c ns) (sym (or-false b))
-inside-append b (m ∷ ms) ns =
-    ap (λ (l : Bytes). pick b (44 ∷ []) [] ++ (memberBytes m ++ l)) (inside-append true ms ns)
-    ∙ ap (λ c. pick b (44 ∷ []) [] ++ (memberBytes m ++ (inside true ms ++ inside c ns))) (sym (or-true b))
-    ∙ simp append-assoc
+use Rattle.to_json_kept.specs.Entry.{paramPiece}
 
 -- ---- the names so far
 
@@ -73,6 +55,10 @@ unfolding besidesValue lacking keep namesOf
 no-names s t = ap (λ ps. namesOf (besidesValue ps)) (rows-none s t)
 
 -- ---- one member more
+
+or-false : (b : Bool) → b || false ≡ b
+or-false true = refl
+or-false false = refl
 
 picked : (on : Bool) (f : Bytes → Member) (x : Bytes) → map f (pick on (x ∷ []) []) ≡ pick on (f x ∷ []) []
 picked true f x = refl

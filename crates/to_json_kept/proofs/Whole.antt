@@ -10,8 +10,8 @@ use borrow.Author.Tests.{lt-ltb, le-ltb, ltb-true, ltb-false}
 use Rattle.text.specs.Choice.{pick}
 use Rattle.text.specs.Bytes.{Bytes, ascii, between, same, lower, lowered, empty, flat}
 use Rattle.text.proofs.Cases.{byBool}
-use Rattle.json.specs.Tree.{Json, jstr, Member, member, object, array, fromElems, fromMembers}
-use Rattle.json.specs.Compact.{spelled, spelledAll, quoted, written, writtenElems, elemsAfter, writtenMembers}
+use Rattle.json.specs.Tree.{Json, jstr, Member, member, object, array, fromElems}
+use Rattle.json.specs.Compact.{spelled, spelledAll, quoted, written, writtenElems, elemsAfter}
 use Rattle.line.specs.Grammar.{Line, Param, param}
 use Rattle.line.specs.Params.{valuesNamed, valueType, firstOr}
 use Rattle.line.proofs.Named.{valuesNamed-append, valuesNamed-none}
@@ -19,8 +19,8 @@ use Rattle.convert.specs.Model.{Kept}
 use Rattle.convert.specs.Value.{filled}
 use Rattle.convert.specs.FromCard.{keptLine}
 use Rattle.convert.specs.ToJson.{where′, paramJson, keptJson}
-use Rattle.convert_put.specs.Pieces.{memberBytes, after}
-use Rattle.convert_put.proofs.Compact.{quoted-append, object-bytes}
+use Rattle.convert_put.specs.Pieces.{memberBytes, inside}
+use Rattle.convert_put.proofs.Compact.{quoted-append, inside-append, inside-object}
 use Rattle.output.specs.Put.{Puts}
 use Rattle.output.specs.declared.Wrote.{Wrote}
 use Rattle.output.proofs.Laws.{puts-as}
@@ -29,8 +29,7 @@ use Rattle.line_table.proofs.Rows.{rows-more, rows-none, rows-split, line-rows}
 use Rattle.table_kept.proofs.Lists.{values-more}
 use Rattle.table_entry.proofs.Entry.{part-empty, part-some}
 use Rattle.table_entry.proofs.Spread.{kept-held}
-use Rattle.to_json_kept.specs.Entry.{inside, groupPiece, headPiece, tailPiece, ValueRow}
-use Rattle.to_json_kept.proofs.Params.{inside-append}
+use Rattle.to_json_kept.specs.Entry.{groupPiece, headPiece, tailPiece, ValueRow}
 
 -- ---- the type
 
@@ -106,19 +105,6 @@ span-filled s a b h =
     byBool (ltb a b) (λ e. e ∙ sym (ap not (part-some s a b (ltb-true a b e) (h .within)))) (λ e. e ∙ sym (ap not (part-empty s a b (ltb-false a b e))))
 
 -- ---- the whole
-
-inside-after : (ms : List Member) → inside true ms ≡ after ms
-unfolding inside after
-inside-after [] = refl
-inside-after (m ∷ ms) = ap (λ (x : Bytes). 44 ∷ (memberBytes m ++ x)) (inside-after ms)
-
-pub inside-object : (ms : List Member) (u : Bytes) → written (object ms) u ≡ 123 ∷ (inside false ms ++ (125 ∷ u))
-unfolding inside written writtenMembers fromMembers
-inside-object [] u = refl
-inside-object (m ∷ ms) u =
-    object-bytes m ms u
-    ∙ ap (λ (x : Bytes). 123 ∷ (memberBytes m ++ (x ++ (125 ∷ u)))) (sym (inside-after ms))
-    ∙ ap (λ (x : Bytes). 123 ∷ x) (sym (append-assoc (memberBytes m) (inside true ms) (125 ∷ u)))
 
 seam : (n g i t : Bytes) → (91 ∷ (n ++ (44 ∷ 123 ∷ (g ++ [])))) ++ (i ++ (t ++ [])) ≡ 91 ∷ (n ++ (44 ∷ 123 ∷ (g ++ (i ++ t))))
 seam n g i t = simp (append-nil, append-assoc)

@@ -1,25 +1,16 @@
 -- A kept line as an entry of vCardProps, in the pieces that the code writes.
 use mathlib.Core.Path.{_≡_}
-use mathlib.Core.Bool.{Bool, true, false, not}
-use mathlib.Core.List.{List, [], _∷_, _++_}
+use mathlib.Core.Bool.{Bool}
+use mathlib.Core.List.{List, [], _∷_}
 use Prim.Native.Nat.{ℕ, _≤_}
 use lib.Dec.{ltb}
 use lib.ListN.{getD}
 use Rattle.text.specs.Choice.{pick}
 use Rattle.text.specs.Bytes.{Bytes, ascii, empty, lowered, flat}
-use Rattle.json.specs.Tree.{Member, member}
 use Rattle.json.specs.Compact.{quoted, written}
 use Rattle.line.specs.Params.{valuesNamed, valueType}
-use Rattle.convert.specs.FromCard.{keptLine}
-use Rattle.convert.specs.Model.{Kept}
-use Rattle.convert.specs.ToJson.{valuesJson, paramJson}
-use Rattle.convert_put.specs.Pieces.{memberBytes}
+use Rattle.convert.specs.ToJson.{valuesJson}
 use Rattle.line_table.specs.Table.{part, valueAt, lineIn}
-
--- members with commas between them; the flag says that another came before
-unfoldable pub inside : Bool → List Member → Bytes
-inside begun [] = []
-inside begun (m ∷ ms) = pick begun (44 ∷ []) [] ++ (memberBytes m ++ inside true ms)
 
 -- a parameter of that name in lower case: all its values, wherever they stand
 abbrev pub paramPiece : Bool → Bytes → List ℕ → Bytes → Bytes

@@ -9,7 +9,8 @@ use Rattle.convert.specs.FromCard.{keptLine}
 
 use Rattle.convert.specs.ToJson.{paramJson}
 
-use Rattle.to_json_kept.specs.Entry.{inside, tailPiece}
+use Rattle.to_json_kept.specs.Entry.{tailPiece}
+use Rattle.convert_put.specs.Pieces.{inside}
 use native.Mathlib.Nat.{le-refl}
 use mathlib.Core.List.{[], _∷_}
 use denote.Ref.{now}
