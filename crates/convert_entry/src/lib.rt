@@ -16,6 +16,7 @@ use convert_tests::is_pref;
 use convert_tests::is_used;
 use convert_types::mark_types;
 use line_name::is_named;
+use line_parts::has_other;
 use line_text::is_text;
 use line_text::part_end;
 
@@ -149,9 +150,8 @@ fn begins_tel(v: &[u8]) -> bool
     (v[0] == 116) & ((v[1] == 101) & ((v[2] == 108) & (v[3] == 58)))
 }
 
-// Whether the value can be read in that form (all but ORG's).
+// Whether the value can be read in that form. ORG: an escape is in one part as in the whole, and a part is filled.
 pub fn reads_as(form: usize, kind: usize, v: &[u8]) -> bool
-    requires { ⌜ form < 4 ⌝ }
     ensures { λ r. ⌜ ReadsAs form kind (now (v .entry)) r ⌝ }
 {
     if form == 2 {
@@ -162,6 +162,12 @@ pub fn reads_as(form: usize, kind: usize, v: &[u8]) -> bool
     }
     if form == 1 {
         if part_end(v, 0, 44) < v.len() {
+            return false;
+        }
+        return is_text(v);
+    }
+    if form == 4 {
+        if !has_other(v, b';', b';') {
             return false;
         }
         return is_text(v);
