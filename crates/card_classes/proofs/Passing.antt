@@ -1,0 +1,143 @@
+-- One line more, and the end of the pass.
+use mathlib.Core.Path.{_≡_, refl, sym, ap, _∙_}
+use mathlib.Core.Bool.{Bool, true, false, not}
+use mathlib.Core.List.{List, [], _∷_, _++_, map, append-assoc}
+use mathlib.Core.Option.{Option, none, some}
+use Prim.Native.Nat.{ℕ, suc, _+_, _≤_, _<_}
+use native.Mathlib.Omega.{arith}
+use native.Mathlib.Numerals.{add-one}
+use lib.ListN.{length, take, drop, getD, set, length-append}
+use lib.Seq.{take-suc, take-suc-set, take-all}
+use Rattle.text.specs.Choice.{is-some}
+use Rattle.text.specs.Bytes.{Bytes, each}
+use Rattle.text.proofs.Lists.{map-both, each-both}
+use Rattle.text.proofs.Choices.{none-some}
+use Rattle.line.specs.Grammar.{Line, readLine}
+use Rattle.line_unfold.specs.Table.{Laid}
+use Rattle.line_table.specs.Spread.{spreadLine, valued}
+use Rattle.line_table.specs.Table.{lineIn}
+use Rattle.convert.specs.Classify.{Seen, see, Class, Classed, classify, onward, classedAfter, classed, nothing}
+use Rattle.convert.specs.Answers.{Answer, no, seek, atLine, givenAt, firstFrom, ungrammatical, linesOf, orNone, misused, emptied, isVersionLine}
+use Rattle.convert_entry.specs.Rows.{codeOf}
+use Rattle.table_entry.proofs.Spread.{classify-spread}
+use Rattle.class_line.specs.declared.Class.{Class as Answered}
+use Rattle.class_line.specs.Class.{Classes, numberOf, seenWith}
+use Rattle.card_lines.specs.Classified.{Turned, Classified}
+use Rattle.card_garbled.specs.Garbled.{OfLines}
+use Rattle.card_garbled.proofs.First.{first-on, first-here, first-end}
+use Rattle.card_refusals.specs.declared.Judged.{Judged}
+use Rattle.card_refusals.specs.declared.Refusal.{Refusal}
+use Rattle.card_refusals.specs.declared.Refusal.the-variants.{None, At}
+use Rattle.card_refusals.specs.Line.{Coded}
+use Rattle.card_refusals.specs.Judged.{judged, judgedWith, laterTests, refusalOf, answered}
+use Rattle.card_refusals.proofs.Judging.{judged-snoc, refusal-told}
+use Rattle.card_refusals.proofs.Spread.{misused-spread, version-spread, emptied-spread, coded-spread}
+use Rattle.card_seen.specs.Ids.{Remembers}
+use Rattle.card_seen.specs.Settled.{Follows}
+use Rattle.card_classes.specs.declared.Pass.{Pass}
+use Rattle.card_classes.specs.Pass.{linesIn, numbersIn, Ready, Sofar, Noted, NextLine, Through, Passed}
+
+-- ---- lists of classed lines
+
+turned-snoc : (cs : List Classed) (c : Classed) (seen : Seen) → Turned cs → c .class ≡ classify seen (c .line) → Turned (cs ++ c ∷ [])
+turned-snoc [] c seen t e = ((seen, e), tt)
+turned-snoc (x ∷ cs) c seen t e = (t .0, turned-snoc cs c seen (t .1) e)
+
+lines-length : (cs : List Classed) → length (linesIn cs) ≡ length cs
+lines-length [] = refl
+lines-length (c ∷ cs) = ap suc (lines-length cs)
+
+after-cons : (seen : Seen) (l : Line) (rest : List Line) → classedAfter seen (l ∷ rest) ≡ record { line = l; class = classify seen l } ∷ classedAfter (see seen (classify seen l)) rest
+unfolding classedAfter
+after-cons seen l rest = refl
+
+after-none : (seen : Seen) → classedAfter seen [] ≡ []
+unfolding classedAfter
+after-none seen = refl
+
+-- ---- one line more
+
+module _ {bytes s t codes ids codes′ ids′ prints′ : List ℕ} {k code : ℕ} {p r : Pass} {j : Judged} {class : Answered} (low : k < 512)
+    (is : Coded code (lineIn s t))
+    (judges : j ≡ judgedWith (p .judged) (k + 1) code (misused (lineIn s t)) (emptied (lineIn s t)) (isVersionLine (lineIn s t)))
+    (classes : Classes s t (p .full) (p .parts) class)
+    (noted : Noted bytes s codes ids k p j class codes′ ids′ prints′ r)
+    (room : k < length codes) where
+  module _ (done : List Classed) (sofar : Sofar bytes codes ids k p done) (l : Line) (held : lineIn s t ≡ spreadLine l) (has : valued (l .params) ≡ true) where
+    abbrev seen : Seen
+    seen = sofar .seen
+
+    abbrev new : Classed
+    new = record { line = l; class = classify seen l }
+
+    classified : classify seen (lineIn s t) ≡ classify seen l
+    classified = ap (classify seen) held ∙ classify-spread l has seen
+
+    sees : see seen (classify seen l) ≡ seenWith seen s class
+    sees = ap (see seen) (sym classified) ∙ classes .sees seen (sofar .full) (sofar .parts)
+
+    follows : Follows bytes s ids′ class (noted .settled) seen
+    follows = noted .settles .says seen (sofar .full) (sofar .parts) (sofar .remembers)
+
+    lines : linesIn (done ++ new ∷ []) ≡ linesIn done ++ l ∷ []
+    lines = map-both (λ (c : Classed). c .line) done (new ∷ [])
+
+    left : (rest : List Line) → classed (linesIn (done ++ new ∷ []) ++ rest) ≡ (done ++ new ∷ []) ++ classedAfter (seenWith seen s class) rest
+    left rest =
+        ap (λ ls. classed (ls ++ rest)) lines
+        ∙ ap classed (append-assoc (linesIn done) (l ∷ []) rest)
+        ∙ sofar .left (l ∷ rest)
+        ∙ ap (λ cs. done ++ cs) (after-cons seen l rest ∙ ap (λ x. new ∷ classedAfter x rest) sees)
+        ∙ sym (append-assoc done (new ∷ []) (classedAfter (seenWith seen s class) rest))
+
+    code-is : noted .settled .code ≡ codeOf (classify seen l)
+    code-is = sym (follows .code) ∙ sym (classes .code seen (sofar .full) (sofar .parts)) ∙ ap codeOf classified
+
+    numbers : take (k + 1) codes′ ≡ numbersIn (done ++ new ∷ [])
+    numbers =
+        ap (take (k + 1)) (noted .stored)
+        ∙ ap (λ m. take m (set codes k (noted .settled .code))) (add-one k)
+        ∙ take-suc-set codes k (noted .settled .code) room
+        ∙ ap (λ cs. cs ++ noted .settled .code ∷ []) (sofar .numbers)
+        ∙ ap (λ c. numbersIn done ++ c ∷ []) code-is
+        ∙ sym (map-both (λ (c : Classed). codeOf (c .class)) done (new ∷ []))
+
+    line-number : suc (length (linesIn done)) ≡ k + 1
+    line-number = omega (arith, lines-length done, sofar .counted)
+
+    coded : Coded code l
+    coded = coded-spread l (rw held at is)
+
+    judged-on : r .judged ≡ judged (linesIn (done ++ new ∷ []))
+    judged-on =
+        noted .judged
+        ∙ judges
+        ∙ ap (λ m. judgedWith (p .judged) (k + 1) code m (emptied (lineIn s t)) (isVersionLine (lineIn s t))) (ap misused held ∙ misused-spread l has)
+        ∙ ap (λ e. judgedWith (p .judged) (k + 1) code (misused l) e (isVersionLine (lineIn s t))) (ap emptied held ∙ emptied-spread l)
+        ∙ ap (λ v. judgedWith (p .judged) (k + 1) code (misused l) (emptied l) v) (ap isVersionLine held ∙ version-spread l has)
+        ∙ ap (λ x. judgedWith x (k + 1) code (misused l) (emptied l) (isVersionLine l)) (sofar .judged)
+        ∙ ap (λ i. judgedWith (judged (linesIn done)) i code (misused l) (emptied l) (isVersionLine l)) (sym line-number)
+        ∙ sym (judged-snoc (linesIn done) l code coded)
+        ∙ ap judged (sym lines)
+
+    pub sofar-more : Sofar bytes codes′ ids′ (k + 1) r (done ++ new ∷ [])
+    sofar-more = record {
+      counted = length-append done (new ∷ []) ∙ ap (λ m. m + 1) (sofar .counted);
+      seen = seenWith seen s class;
+      left = left;
+      turned = turned-snoc done new seen (sofar .turned) refl;
+      numbers = numbers;
+      judged = judged-on;
+      full = follows .full ∙ sym (noted .full);
+      parts = follows .parts ∙ sym (noted .parts);
+      remembers = rw (noted .count) (follows .remembers);
+    }
+
+  pub next-line : NextLine bytes s t codes ids k p codes′ ids′ prints′ r
+  next-line = record {
+    ready = noted .ready;
+    goes = λ done sofar l held has. (classify (sofar .seen) l, sofar-more done sofar l held has);
+  }
+
+pub judged-same : (j : Judged) (k code : ℕ) {m n e f v w : Bool} → m ≡ n → e ≡ f → v ≡ w → judgedWith j k code m e v ≡ judgedWith j k code n f w
+judged-same j k code p q r = rw (p, q, r)
