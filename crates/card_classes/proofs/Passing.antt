@@ -1,7 +1,7 @@
 -- One line more, and the end of the pass.
 use mathlib.Core.Path.{_≡_, refl, sym, ap, _∙_}
 use mathlib.Core.Bool.{Bool, true, false, not}
-use mathlib.Core.List.{List, [], _∷_, _++_, map, append-assoc}
+use mathlib.Core.List.{List, [], _∷_, _++_, map, append-assoc, append-nil}
 use mathlib.Core.Option.{Option, none, some}
 use Prim.Native.Nat.{ℕ, suc, _+_, _≤_, _<_}
 use native.Mathlib.Omega.{arith}
@@ -9,13 +9,12 @@ use native.Mathlib.Numerals.{add-one}
 use lib.ListN.{length, take, drop, getD, set, length-append}
 use lib.Seq.{take-suc, take-suc-set, take-all}
 use Rattle.text.specs.Choice.{is-some}
-use Rattle.text.specs.Bytes.{Bytes, each}
+use Rattle.text.specs.Bytes.{Bytes, any, among, each}
 use Rattle.text.proofs.Lists.{map-both, each-both}
-use Rattle.text.proofs.Choices.{none-some}
 use Rattle.line.specs.Grammar.{Line, readLine}
 use Rattle.line_unfold.specs.Table.{Laid}
 use Rattle.line_table.specs.Spread.{spreadLine, valued}
-use Rattle.line_table.specs.Table.{lineIn}
+use Rattle.line_table.specs.Table.{lineIn, Holds}
 use Rattle.convert.specs.Classify.{Seen, see, Class, Classed, classify, onward, classedAfter, classed, nothing}
 use Rattle.convert.specs.Answers.{Answer, no, seek, atLine, givenAt, firstFrom, ungrammatical, linesOf, orNone, misused, emptied, isVersionLine}
 use Rattle.convert_entry.specs.Rows.{codeOf}
@@ -32,7 +31,7 @@ use Rattle.card_refusals.specs.Line.{Coded}
 use Rattle.card_refusals.specs.Judged.{judged, judgedWith, laterTests, refusalOf, answered}
 use Rattle.card_refusals.proofs.Judging.{judged-snoc, refusal-told}
 use Rattle.card_refusals.proofs.Spread.{misused-spread, version-spread, emptied-spread, coded-spread}
-use Rattle.card_seen.specs.Ids.{Remembers}
+use Rattle.card_seen.specs.Ids.{idsAt, Remembers}
 use Rattle.card_seen.specs.Settled.{Follows}
 use Rattle.card_classes.specs.declared.Pass.{Pass}
 use Rattle.card_classes.specs.Pass.{linesIn, numbersIn, Ready, Sofar, Noted, NextLine, Through, Passed}
@@ -141,3 +140,128 @@ module _ {bytes s t codes ids codes′ ids′ prints′ : List ℕ} {k code : �
 
 pub judged-same : (j : Judged) (k code : ℕ) {m n e f v w : Bool} → m ≡ n → e ≡ f → v ≡ w → judgedWith j k code m e v ≡ judgedWith j k code n f w
 judged-same j k code p q r = rw (p, q, r)
+
+-- ---- before the first line
+
+remembers-none : (bytes ids : List ℕ) → Remembers bytes ids 0 nothing
+unfolding idsAt any among
+remembers-none bytes ids = record { keys = λ i key h. refl; names = λ p name h. refl }
+
+classed-is : (ls : List Line) → classed ls ≡ classedAfter nothing ls
+unfolding classed
+classed-is ls = refl
+
+each-none : each readLine [] ≡ some []
+unfolding each
+each-none = refl
+
+pub through-none : (bytes codes ids : List ℕ) (raw : List Bytes) (p : Pass) → p ≡ record { judged = judged []; full = false; parts = false; count = 0 }
+    → Through bytes codes ids raw 0 p
+through-none bytes codes ids raw p e =
+    rw e (record {
+      done = [];
+      sofar = record {
+        counted = refl;
+        seen = nothing;
+        left = classed-is;
+        turned = tt;
+        numbers = refl;
+        judged = refl;
+        full = refl;
+        parts = refl;
+        remembers = remembers-none bytes ids;
+      };
+      read = each-none;
+      sought = refl;
+    })
+
+-- ---- by the grammar or not
+
+each-one : (s : Bytes) (l : Line) → readLine s ≡ some l → each readLine (s ∷ []) ≡ some (l ∷ [])
+unfolding each
+each-one s l e = rw e
+
+off-grammar : (s : Bytes) → readLine s ≡ none → ungrammatical s ≡ true
+unfolding ungrammatical
+off-grammar s e = rw e
+
+by-grammar : (s : Bytes) (l : Line) → readLine s ≡ some l → ungrammatical s ≡ false
+unfolding ungrammatical
+by-grammar s l e = rw e
+
+not-none : {number place : ℕ} {P : Type 0} → At number place ≡ None → P
+not-none e = absurd (let z : _≡_ {A = ℕ} 0 1 = cc in omega arith)
+
+module _ {bytes codes ids : List ℕ} {raw : List Bytes} {k : ℕ} {p : Pass} (through : Through bytes codes ids raw k p) where
+  module _ {s : Bytes} (h : k < length raw) (at : s ≡ getD raw k []) where
+    -- 5 at this line
+    pub through-bad : (starts : List ℕ) (n : ℕ) → readLine s ≡ none → Passed bytes starts codes n (At 5 (k + 1)) raw
+    unfolding seek
+    through-bad starts n e =
+        let found : firstFrom 1 ungrammatical raw ≡ some (k + 1) =
+              through .sought ∙ first-here ungrammatical [] raw k h (ap ungrammatical (sym at) ∙ off-grammar s e) in
+        record { refusals = λ a. rw found; classes = λ z. not-none z }
+
+    pub through-next : {t codes′ ids′ prints′ : List ℕ} {r : Pass} → Holds s t → NextLine bytes s t codes ids k p codes′ ids′ prints′ r
+        → Through bytes codes′ ids′ raw (k + 1) r
+    through-next holds next =
+        let l : Line = holds .line in
+        let done : List Classed = through .done in
+        let step = next .goes done (through .sofar) l (holds .held) (holds .valued) in
+        let new : Classed = record { line = l; class = step .0 } in
+        record {
+          done = done ++ new ∷ [];
+          sofar = step .1;
+          read =
+              ap (λ m. each readLine (take m raw)) (add-one k)
+              ∙ ap (each readLine) (take-suc raw k [] h)
+              ∙ each-both readLine (take k raw) (getD raw k [] ∷ []) (linesIn done) (l ∷ []) (through .read)
+              (ap (λ x. each readLine (x ∷ [])) (sym at) ∙ each-one s l (holds .is))
+              ∙ ap some (sym (map-both (λ (c : Classed). c .line) done (new ∷ [])));
+          sought = through .sought ∙ first-on ungrammatical [] raw k h (ap ungrammatical (sym at) ∙ by-grammar s l (holds .is));
+        }
+
+  -- ---- after the last line
+
+  module _ {starts : List ℕ} {n : ℕ} (laid : Laid raw n bytes starts) (room : n ≤ length codes) (last : n ≤ k) (most : k ≤ n) where
+    abbrev ls : List Line
+    ls = linesIn (through .done)
+
+    all-through : length raw ≤ k
+    all-through = omega (arith, laid .count, last)
+
+    k-is : k ≡ n
+    k-is = omega (arith, last, most)
+
+    read-all : each readLine raw ≡ some ls
+    read-all = ap (each readLine) (sym (take-all k raw all-through)) ∙ through .read
+
+    lines-are : linesOf raw ≡ ls
+    unfolding linesOf
+    lines-are = ap orNone read-all
+
+    classed-all : classed ls ≡ through .done
+    classed-all =
+        ap classed (sym (append-nil ls))
+        ∙ through .sofar .left []
+        ∙ ap (λ cs. through .done ++ cs) (after-none (through .sofar .seen))
+        ∙ append-nil (through .done)
+
+    classified-all : Classified bytes starts codes n (through .done)
+    classified-all = record {
+      raw = raw;
+      laid = laid;
+      read = read-all;
+      wide = room;
+      numbers = ap (λ m. take m codes) (sym k-is) ∙ through .sofar .numbers;
+      turns = through .sofar .turned;
+    }
+
+    pub through-end : (r : Refusal) → r ≡ refusalOf (p .judged) → Passed bytes starts codes n r raw
+    unfolding seek
+    through-end r e = record {
+      refusals = λ a.
+          let fine : firstFrom 1 ungrammatical raw ≡ none = through .sought ∙ first-end ungrammatical [] raw k all-through in
+          rw (fine, lines-are, e ∙ ap refusalOf (through .sofar .judged)) (refusal-told ls a);
+      classes = λ z. rw (lines-are, classed-all) classified-all;
+    }

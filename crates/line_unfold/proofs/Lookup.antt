@@ -38,7 +38,7 @@ flat-at (l ∷ ls) (suc j) h =
     ap (λ u. l ++ u) (flat-at ls j g) ∙ sym (append-assoc l (flat (take j ls)) (getD ls j [] ++ flat (drop (suc j) ls)))
 
 module _ (ls : List Bytes) (k : ℕ) (out table : List ℕ) (is : Laid ls k out table) (j : ℕ) (h : j < k) where
-  start : getD table j 0 ≡ length (flat (take j ls))
+  pub start : getD table j 0 ≡ length (flat (take j ls))
   start =
       let a : j < k + 1 = omega arith in
       let b : j ≤ length ls = omega (arith, is .count) in
@@ -54,12 +54,12 @@ module _ (ls : List Bytes) (k : ℕ) (out table : List ℕ) (is : Laid ls k out 
       ∙ mark-at 0 ls (j + 1) b
       ∙ (let e : length (flat (take (j + 1) ls)) ≡ length (flat (take j ls)) + length (getD ls j []) = rw add-one (flat-take-suc ls j c) in omega arith)
 
-  table-long : j + 1 < length table
+  pub table-long : j + 1 < length table
   table-long =
       let a : length (take (k + 1) table) ≡ suc (length ls) = ap length (is .starts) ∙ marks-length 0 ls in
       omega (arith, is .count, simp length-take at a)
 
-  out-is : out ≡ flat (take j ls) ++ (getD ls j [] ++ (flat (drop (suc j) ls) ++ drop (length (flat ls)) out))
+  pub out-is : out ≡ flat (take j ls) ++ (getD ls j [] ++ (flat (drop (suc j) ls) ++ drop (length (flat ls)) out))
   out-is =
       let c : j < length ls = omega (arith, is .count) in
       sym (take-append-drop (length (flat ls)) out)
