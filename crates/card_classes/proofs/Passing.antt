@@ -9,12 +9,14 @@ use native.Mathlib.Numerals.{add-one}
 use lib.ListN.{length, take, drop, getD, set, length-append}
 use lib.Seq.{take-suc, take-suc-set, take-all}
 use Rattle.text.specs.Choice.{is-some}
-use Rattle.text.specs.Bytes.{Bytes, any, among, each}
+use Rattle.text.specs.Bytes.{Bytes, any, among, each, flat}
+use Rattle.text.proofs.Cases.{not-both}
 use Rattle.text.proofs.Lists.{map-both, each-both}
 use Rattle.line.specs.Grammar.{Line, readLine}
-use Rattle.line_unfold.specs.Table.{Laid}
+use Rattle.line_unfold.specs.Table.{Laid, lineAt}
+use Rattle.line_unfold.proofs.Lookup.{line-is, start, out-is}
 use Rattle.line_table.specs.Spread.{spreadLine, valued}
-use Rattle.line_table.specs.Table.{lineIn, Holds}
+use Rattle.line_table.specs.Table.{lineIn, Holds, Filled}
 use Rattle.convert.specs.Classify.{Seen, see, Class, Classed, classify, onward, classedAfter, classed, nothing}
 use Rattle.convert.specs.Answers.{Answer, no, seek, atLine, givenAt, firstFrom, ungrammatical, linesOf, orNone, misused, emptied, isVersionLine}
 use Rattle.convert_entry.specs.Rows.{codeOf}
@@ -31,10 +33,10 @@ use Rattle.card_refusals.specs.Line.{Coded}
 use Rattle.card_refusals.specs.Judged.{judged, judgedWith, laterTests, refusalOf, answered}
 use Rattle.card_refusals.proofs.Judging.{judged-snoc, refusal-told}
 use Rattle.card_refusals.proofs.Spread.{misused-spread, version-spread, emptied-spread, coded-spread}
-use Rattle.card_seen.specs.Ids.{idsAt, Remembers}
+use Rattle.card_seen.specs.Ids.{idsAt, Remembers, Cut}
 use Rattle.card_seen.specs.Settled.{Follows}
 use Rattle.card_classes.specs.declared.Pass.{Pass}
-use Rattle.card_classes.specs.Pass.{linesIn, numbersIn, Ready, Sofar, Noted, NextLine, Through, Passed}
+use Rattle.card_classes.specs.Pass.{linesIn, numbersIn, Ready, Sofar, Noted, NextLine, Through, Passed, Room, Lent, fresh}
 
 -- ---- lists of classed lines
 
@@ -155,8 +157,7 @@ each-none : each readLine [] ≡ some []
 unfolding each
 each-none = refl
 
-pub through-none : (bytes codes ids : List ℕ) (raw : List Bytes) (p : Pass) → p ≡ record { judged = judged []; full = false; parts = false; count = 0 }
-    → Through bytes codes ids raw 0 p
+pub through-none : (bytes codes ids : List ℕ) (raw : List Bytes) (p : Pass) → p ≡ fresh → Through bytes codes ids raw 0 p
 through-none bytes codes ids raw p e =
     rw e (record {
       done = [];
@@ -265,3 +266,42 @@ module _ {bytes codes ids : List ℕ} {raw : List Bytes} {k : ℕ} {p : Pass} (t
           rw (fine, lines-are, e ∙ ap refusalOf (through .sofar .judged)) (refusal-told ls a);
       classes = λ z. rw (lines-are, classed-all) classified-all;
     }
+
+-- ---- as the code goes
+
+pub filled : (s t : List ℕ) (r : Bool) → r ≡ true → Filled s t r → Holds s t
+filled s t true e h = h
+filled s t false e h = not-both e refl
+
+pub unfilled : (s t : List ℕ) (r : Bool) → r ≡ false → Filled s t r → readLine s ≡ none
+unfilled s t false e h = h
+unfilled s t true e h = not-both refl e
+
+module _ {raw : List Bytes} {n : ℕ} {bytes starts : List ℕ} (laid : Laid raw n bytes starts) {k : ℕ} (h : k < n) {s : Bytes} (e : s ≡ lineAt bytes starts k) where
+  pub line-here : s ≡ getD raw k []
+  line-here = e ∙ line-is raw n bytes starts laid k h
+
+  pub line-cut : Cut bytes s (getD starts k 0)
+  line-cut = record {
+    before = flat (take k raw);
+    after = flat (drop (suc k) raw) ++ drop (length (flat raw)) bytes;
+    is = out-is raw n bytes starts laid k h ∙ ap (λ l. flat (take k raw) ++ (l ++ (flat (drop (suc k) raw) ++ drop (length (flat raw)) bytes))) (sym line-here);
+    begins = sym (start raw n bytes starts laid k h);
+  }
+
+  pub line-room : {text : Bytes} → Room bytes text → Room s text
+  line-room room =
+      let w : length s ≤ length bytes = omega (arith, simp length-append at (ap length (line-cut .is))) in
+      record { fits = omega (arith, w, room .fits); small = omega (arith, w, room .small) }
+
+pub ready-none : {codes ids prints table text bytes : List ℕ} (p : Pass) → p ≡ fresh → Lent codes ids prints table text bytes → Ready bytes codes ids prints 0 p
+ready-none p e lent =
+    rw e (record {
+      table = record {
+        listed = record { few = omega arith; wide = lent .keys; span = λ k h. absurd (omega (arith, h)) };
+        long = lent .printed;
+        print = λ k h. absurd (omega (arith, h));
+      };
+      few = omega arith;
+      room = lent .numbers;
+    })

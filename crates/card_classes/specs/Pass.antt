@@ -1,6 +1,6 @@
 -- The pass over a card's lines: what holds after the first k of them, and what the pass answers.
 use mathlib.Core.Path.{_≡_}
-use mathlib.Core.Bool.{Bool, true}
+use mathlib.Core.Bool.{Bool, true, false}
 use mathlib.Core.List.{List, [], _∷_, _++_, map}
 use mathlib.Core.Option.{some}
 use Prim.Native.Nat.{ℕ, _+_, _≤_, _<_}
@@ -76,6 +76,22 @@ pub record Through (bytes codes ids : List ℕ) (raw : List Bytes) (k : ℕ) (p 
 -- lines are laid there
 abbrev pub HasLines : Bytes → List ℕ → ℕ → Type 0
 HasLines bytes starts n = (raw : List Bytes) × Laid raw n bytes starts
+
+-- a scratch for the TEXT of a line
+pub record Room (s text : Bytes) : Type 0 where
+  pub fits : length s ≤ length text
+  pub small : length s ≤ 65536
+
+-- the tables that the pass is lent
+pub record Lent (codes ids prints table text bytes : List ℕ) : Type 0 where
+  pub numbers : 512 ≤ length codes
+  pub keys : 1536 ≤ length ids
+  pub printed : 512 ≤ length prints
+  pub parts : 264 ≤ length table
+  pub room : Room bytes text
+
+abbrev pub fresh : Pass
+fresh = record { judged = judged []; full = false; parts = false; count = 0 }
 
 -- refusals 5 to 10 in 01's order, and the class of each line where none is given
 pub record Passed (bytes starts codes : List ℕ) (n : ℕ) (r : Refusal) (raw : List Bytes) : Type 0 where

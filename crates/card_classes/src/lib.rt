@@ -9,13 +9,14 @@ ghost use Rattle.class_line.specs.Class.{ClassIn};
 ghost use Rattle.card_refusals.specs.Line.{Coded};
 ghost use Rattle.card_refusals.specs.Judged.{judgedWith};
 ghost use Rattle.card_seen.specs.Ids.{Cut};
-ghost use Rattle.card_classes.specs.Pass.{Ready, Noted};
+ghost use Rattle.card_classes.specs.Pass.{Ready, Noted, fresh};
 use card_refusals::Judged;
 use card_refusals::is_emptied;
 use card_refusals::is_misused;
 use card_refusals::is_version_line;
 use card_refusals::judge;
 use card_seen::settle;
+use card_refusals::unjudged;
 use class_line::Class;
 
 // What is carried from line to line: what refusals 6 to 10 ask, whether FN and N have converted, how many keys are noted.
@@ -69,5 +70,18 @@ fn pass_line(
         full: r.full,
         parts: r.parts,
         count: r.count,
+    }
+}
+
+// Before the first line.
+fn begun() -> Pass
+    ensures { λ r. ⌜ r ≡ fresh ⌝ }
+{
+    let judged = unjudged();
+    Pass {
+        judged,
+        full: false,
+        parts: false,
+        count: 0,
     }
 }
