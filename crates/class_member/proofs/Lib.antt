@@ -1,0 +1,3 @@
+pub mod Pointing
+pub mod Values
+pub mod Members
