@@ -14,7 +14,7 @@ use Rattle.convert_entry.specs.Rows.{codeOf}
 use Rattle.card_find.specs.Found.{Without, First}
 
 -- a part of the model to which the lines of one class alone give
-abbrev Of : {A : Type 0} → (Gives → List A) → ℕ → Type 0
+abbrev pub Of : {A : Type 0} → (Gives → List A) → ℕ → Type 0
 Of f code = (l : Line) (c : Class) → (codeOf c ≡ code → ⊥) → f (gives l c) ≡ []
 
 module _ {A : Type 0} (f : Gives → List A) (code : ℕ) (of : Of f code) where
