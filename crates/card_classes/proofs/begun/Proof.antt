@@ -2,9 +2,6 @@ use Rattle.card_classes.specs.Pass.{fresh}
 use borrow.Author.Needs.{needs}
 use Rattle.card_classes.proofs.begun.Statement.{statement}
 use Rattle.card_classes.proofs.begun.Tie as tie
-use Rattle.card_classes.proofs.begun.Reads as reads
-use Rattle.card_classes.proofs.begun.Lts as lts
-use Rattle.card_refusals.proofs.unjudged.Reads as unjudged-reads
 
 unjudged-requires : tie.Need-unjudged-requires
 unjudged-requires c κs = search needs

@@ -4,12 +4,6 @@ use Rattle.card_classes.proofs.Passing.{judged-same}
 use borrow.Author.Needs.{needs}
 use Rattle.card_classes.proofs.judge_line.Statement.{statement}
 use Rattle.card_classes.proofs.judge_line.Tie as tie
-use Rattle.card_classes.proofs.judge_line.Reads as reads
-use Rattle.card_classes.proofs.judge_line.Lts as lts
-use Rattle.card_refusals.proofs.is_emptied.Reads as is-emptied-reads
-use Rattle.card_refusals.proofs.is_misused.Reads as is-misused-reads
-use Rattle.card_refusals.proofs.is_version_line.Reads as is-version-line-reads
-use Rattle.card_refusals.proofs.judge.Reads as judge-reads
 
 is-misused-requires : tie.Need-is-misused-requires
 is-misused-requires c κs = search needs
@@ -27,7 +21,11 @@ judge-requires : tie.Need-judge-requires
 judge-requires c κs = search needs
 
 returns : tie.Need-returns
-returns c = c .judge .ensures ∙ judged-same (c .before .before .before .before .before .before .before .before .before .args .j) (c .before .before .before .before .before .before .before .before .before .args .k + 1) (c .before .before .before .before .before .before .before .before .before .args .code) (c .before .before .before .is-misused .ensures) (c .before .before .is-emptied .ensures) (c .before .is-version-line .ensures)
+returns c =
+    let at-is-emptied = c .before .before in
+    let at-is-misused = at-is-emptied .before in
+    let start = at-is-misused .before .before .before .before .before .before in
+    c .judge .ensures ∙ judged-same (start .args .j) (start .args .k + 1) (start .args .code) (at-is-misused .is-misused .ensures) (at-is-emptied .is-emptied .ensures) (c .before .is-version-line .ensures)
 
 pub judge-line-spec : {M : Type 1} → statement M
 judge-line-spec =

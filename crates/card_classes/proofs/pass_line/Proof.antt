@@ -5,9 +5,6 @@ use lib.ListN.{length-set}
 use borrow.Author.Needs.{needs}
 use Rattle.card_classes.proofs.pass_line.Statement.{statement}
 use Rattle.card_classes.proofs.pass_line.Tie as tie
-use Rattle.card_classes.proofs.pass_line.Reads as reads
-use Rattle.card_classes.proofs.pass_line.Lts as lts
-use Rattle.card_seen.proofs.settle.Reads as settle-reads
 
 settle-requires : tie.Need-settle-requires
 settle-requires c κs = search needs
@@ -25,7 +22,10 @@ same-length-3 : tie.Need-same-length-3
 same-length-3 c = search needs
 
 returns : tie.Need-returns
-returns c = record { ready = record { table = c .before .before .before .before .settle .ensures .table; few = omega (arith, c .before .before .before .before .settle .ensures .few, c .before .before .before .before .before .before .before .before .before .before .before .before .pre .1 .few); room = simp length-set (c .before .before .before .before .before .before .before .before .before .before .before .before .pre .1 .room) }; judged = refl; settled = c .before .before .before .before .settle .result; settles = c .before .before .before .before .settle .ensures; stored = refl; full = refl; parts = refl; count = refl }
+returns c =
+    let at-settle = c .before .before .before .before in
+    let start = at-settle .before .before .before .before .before .before .before .before in
+    record { ready = record { table = at-settle .settle .ensures .table; few = omega (arith, at-settle .settle .ensures .few, start .pre .1 .few); room = simp length-set (start .pre .1 .room) }; judged = refl; settled = at-settle .settle .result; settles = at-settle .settle .ensures; stored = refl; full = refl; parts = refl; count = refl }
 
 pub pass-line-spec : {M : Type 1} → statement M
 pass-line-spec =

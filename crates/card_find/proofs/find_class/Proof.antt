@@ -7,8 +7,6 @@ use Prim.Native.Nat.{ℕ, _-_, _≤_, _<_}
 use lib.ListN.{length, getD}
 use Rattle.card_find.proofs.find_class.Statement.{statement}
 use Rattle.card_find.proofs.find_class.Tie as tie
-use Rattle.card_find.proofs.find_class.Reads as reads
-use Rattle.card_find.proofs.find_class.Lts as lts
 
 abbrev Inv-loop : tie.InvT-loop
 Inv-loop codes n code k₀ k = (k ≤ n) × ((i : ℕ) → i < k → getD codes i 0 ≡ code → ⊥)

@@ -10,11 +10,6 @@ use Rattle.line.specs.Class.{isControl}
 use Rattle.card_garbled.proofs.Lines.{Sought, plain-as, sought-on, sought-here, sought-end}
 use Rattle.card_garbled.proofs.first_garbled.Statement.{statement}
 use Rattle.card_garbled.proofs.first_garbled.Tie as tie
-use Rattle.card_garbled.proofs.first_garbled.Reads as reads
-use Rattle.card_garbled.proofs.first_garbled.Lts as lts
-use Rattle.card_garbled.proofs.is_plain.Reads as is-plain-reads
-use Rattle.line_check.proofs.is_garbled.Reads as is-garbled-reads
-use Rattle.line_unfold.proofs.line_at.Reads as line-at-reads
 
 -- as `is_garbled` answers it
 abbrev garbledNow : Bytes → Bool
@@ -52,7 +47,11 @@ add-result c = omega (arith, c .before .before .before .before .before .before .
 
 -- src/lib.rt:32:13
 returns-2 : tie.Need-returns-2 Inv-loop μ-loop
-returns-2 c = sought-here (c .before .before .before .before .loop .inv .1) (c .before .before .before .loop-test .taken) (c .before .is-garbled .result) (c .before .is-garbled .ensures ∙ ap garbledNow (c .before .before .line-at .ensures)) (c .if2 .taken)
+returns-2 c =
+    let at-line-at = c .before .before in
+    let at-loop-test = at-line-at .before in
+    let at-loop = at-loop-test .before in
+    sought-here (at-loop .loop .inv .1) (at-loop-test .loop-test .taken) (c .before .is-garbled .result) (c .before .is-garbled .ensures ∙ ap garbledNow (at-line-at .line-at .ensures)) (c .if2 .taken)
 
 -- src/lib.rt:34:9
 add-k : tie.Need-add-k Inv-loop μ-loop
@@ -64,7 +63,11 @@ loop-less c = search needs
 
 -- src/lib.rt:30:5
 loop-again : tie.Need-loop-again Inv-loop μ-loop
-loop-again c = (search needs, sought-on (c .before .before .before .before .loop .inv .1) (c .before .before .before .loop-test .taken) (c .before .is-garbled .result) (c .before .is-garbled .ensures ∙ ap garbledNow (c .before .before .line-at .ensures)) (c .if2 .left))
+loop-again c =
+    let at-line-at = c .before .before in
+    let at-loop-test = at-line-at .before in
+    let at-loop = at-loop-test .before in
+    (search needs, sought-on (at-loop .loop .inv .1) (at-loop-test .loop-test .taken) (c .before .is-garbled .result) (c .before .is-garbled .ensures ∙ ap garbledNow (at-line-at .line-at .ensures)) (c .if2 .left))
 
 -- src/lib.rt:23:1
 returns-3 : tie.Need-returns-3 Inv-loop μ-loop

@@ -3,9 +3,6 @@ use Rattle.card_garbled.proofs.Lines.{plain-when}
 use borrow.Author.Needs.{needs}
 use Rattle.card_garbled.proofs.is_plain.Statement.{statement}
 use Rattle.card_garbled.proofs.is_plain.Tie as tie
-use Rattle.card_garbled.proofs.is_plain.Reads as reads
-use Rattle.card_garbled.proofs.is_plain.Lts as lts
-use Rattle.line_check.proofs.has_odd.Reads as has-odd-reads
 
 -- src/lib.rt:13:9
 returns : tie.Need-returns
@@ -41,7 +38,9 @@ has-odd-requires c κs = search needs
 
 -- src/lib.rt:9:1
 returns-3 : tie.Need-returns-3
-returns-3 c = plain-when (now (c .before .before .before .before .before .before .before .args .scratch)) (now (c .before .before .before .before .before .before .before .args .starts)) (c .before .before .before .before .before .before .before .args .n) (c .has-odd .result) (c .has-odd .ensures)
+returns-3 c =
+    let start = c .before .before .before .before .before .before .before in
+    plain-when (now (start .args .scratch)) (now (start .args .starts)) (start .args .n) (c .has-odd .result) (c .has-odd .ensures)
 
 pub is-plain-spec : {M : Type 1} → statement M
 is-plain-spec =

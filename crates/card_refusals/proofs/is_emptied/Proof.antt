@@ -8,9 +8,6 @@ use Rattle.card_refusals.proofs.Lines.{uid-emptied, kind-emptied, other
 use borrow.Author.Needs.{needs}
 use Rattle.card_refusals.proofs.is_emptied.Statement.{statement}
 use Rattle.card_refusals.proofs.is_emptied.Tie as tie
-use Rattle.card_refusals.proofs.is_emptied.Reads as reads
-use Rattle.card_refusals.proofs.is_emptied.Lts as lts
-use Rattle.card_refusals.proofs.is_word.Reads as is-word-reads
 
 shared-slice-read-a : tie.Need-shared-slice-read-a
 shared-slice-read-a c = search needs
@@ -19,7 +16,9 @@ shared-slice-read-b : tie.Need-shared-slice-read-b
 shared-slice-read-b c = search needs
 
 returns : tie.Need-returns
-returns c = sym (uid-emptied (lineIn (now (c .before .before .before .before .before .args .s)) (now (c .before .before .before .before .before .args .t))) (c .before .before .before .before .before .args .code) (c .before .before .before .before .before .pre .1) (c .if1 .taken) ∙ value-empty (now (c .before .before .before .before .before .args .s)) (now (c .before .before .before .before .before .args .t)) (c .before .before .before .before .before .pre .0 .value))
+returns c =
+    let start = c .before .before .before .before .before in
+    sym (uid-emptied (lineIn (now (start .args .s)) (now (start .args .t))) (start .args .code) (start .pre .1) (c .if1 .taken) ∙ value-empty (now (start .args .s)) (now (start .args .t)) (start .pre .0 .value))
 
 sub-is-word : tie.Need-sub-is-word
 sub-is-word c = search needs
@@ -34,10 +33,15 @@ is-word-requires : tie.Need-is-word-requires
 is-word-requires c κs = search needs
 
 returns-2 : tie.Need-returns-2
-returns-2 c = ap not (c .is-word .ensures) ∙ sym (kind-emptied (lineIn (now (c .before .before .before .before .before .before .before .before .args .s)) (now (c .before .before .before .before .before .before .before .before .args .t))) (c .before .before .before .before .before .before .before .before .args .code) (c .before .before .before .before .before .before .before .before .pre .1) (c .before .before .if2 .taken) ∙ ap (λ v. not (isWord v)) (value-is (now (c .before .before .before .before .before .before .before .before .args .s)) (now (c .before .before .before .before .before .before .before .before .args .t))))
+returns-2 c =
+    let at-if2 = c .before .before in
+    let start = at-if2 .before .before .before .before .before .before in
+    ap not (c .is-word .ensures) ∙ sym (kind-emptied (lineIn (now (start .args .s)) (now (start .args .t))) (start .args .code) (start .pre .1) (at-if2 .if2 .taken) ∙ ap (λ v. not (isWord v)) (value-is (now (start .args .s)) (now (start .args .t))))
 
 returns-3 : tie.Need-returns-3
-returns-3 c = sym (other-emptied (lineIn (now (c .before .before .before .before .before .before .args .s)) (now (c .before .before .before .before .before .before .args .t))) (c .before .before .before .before .before .before .args .code) (c .before .before .before .before .before .before .pre .1) (c .before .if1 .left) (c .if2 .left))
+returns-3 c =
+    let start = c .before .before .before .before .before .before in
+    sym (other-emptied (lineIn (now (start .args .s)) (now (start .args .t))) (start .args .code) (start .pre .1) (c .before .if1 .left) (c .if2 .left))
 
 pub is-emptied-spec : {M : Type 1} → statement M
 is-emptied-spec =

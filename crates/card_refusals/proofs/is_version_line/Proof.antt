@@ -9,25 +9,30 @@ use Rattle.card_refusals.proofs.Lines.{other-name, version-grouped, ver
 use borrow.Author.Needs.{needs}
 use Rattle.card_refusals.proofs.is_version_line.Statement.{statement}
 use Rattle.card_refusals.proofs.is_version_line.Tie as tie
-use Rattle.card_refusals.proofs.is_version_line.Reads as reads
-use Rattle.card_refusals.proofs.is_version_line.Lts as lts
-use Rattle.convert_tests.proofs.same_bytes.Reads as same-bytes-reads
-use Rattle.table_entry.proofs.has_group.Reads as has-group-reads
 
 returns : tie.Need-returns
-returns c = sym (other-name (lineIn (now (c .before .before .before .args .s)) (now (c .before .before .before .args .t))) (c .before .before .before .args .code) (c .before .before .before .pre .1) (c .if1 .taken))
+returns c =
+    let start = c .before .before .before in
+    sym (other-name (lineIn (now (start .args .s)) (now (start .args .t))) (start .args .code) (start .pre .1) (c .if1 .taken))
 
 has-group-requires : tie.Need-has-group-requires
 has-group-requires c κs = search needs
 
 returns-2 : tie.Need-returns-2
-returns-2 c = sym (version-grouped (lineIn (now (c .before .before .before .before .before .args .s)) (now (c .before .before .before .before .before .args .t))) (c .before .before .before .before .before .args .code) (c .before .before .before .before .before .pre .1) (c .before .has-group .ensures ∙ ap not (c .if2 .taken)))
+returns-2 c =
+    let start = c .before .before .before .before .before in
+    sym (version-grouped (lineIn (now (start .args .s)) (now (start .args .t))) (start .args .code) (start .pre .1) (c .before .has-group .ensures ∙ ap not (c .if2 .taken)))
 
 shared-slice-read-if3 : tie.Need-shared-slice-read-if3
 shared-slice-read-if3 c = search needs
 
 returns-3 : tie.Need-returns-3
-returns-3 c = sym (version-params (lineIn (now (c .before .before .before .before .before .before .before .args .s)) (now (c .before .before .before .before .before .before .before .args .t))) (c .before .before .before .before .before .before .before .args .code) (c .before .before .before .before .before .before .before .pre .1) (c .before .before .before .before .if1 .left) (c .before .before .before .has-group .ensures ∙ ap not (c .before .before .if2 .left)) (params-empty (now (c .before .before .before .before .before .before .before .args .s)) (now (c .before .before .before .before .before .before .before .args .t)) ∙ ne-eqb _ 0 (c .if3 .taken)))
+returns-3 c =
+    let at-if2 = c .before .before in
+    let at-has-group = at-if2 .before in
+    let at-if1 = at-has-group .before in
+    let start = at-if1 .before .before .before in
+    sym (version-params (lineIn (now (start .args .s)) (now (start .args .t))) (start .args .code) (start .pre .1) (at-if1 .if1 .left) (at-has-group .has-group .ensures ∙ ap not (at-if2 .if2 .left)) (params-empty (now (start .args .s)) (now (start .args .t)) ∙ ne-eqb _ 0 (c .if3 .taken)))
 
 shared-slice-read-a : tie.Need-shared-slice-read-a
 shared-slice-read-a c = search needs
@@ -51,7 +56,13 @@ same-bytes-requires : tie.Need-same-bytes-requires
 same-bytes-requires c κs = search needs
 
 returns-4 : tie.Need-returns-4
-returns-4 c = c .same-bytes .ensures ∙ sym (version-value (lineIn (now (c .before .before .before .before .before .before .before .before .before .before .before .before .args .s)) (now (c .before .before .before .before .before .before .before .before .before .before .before .before .args .t))) (c .before .before .before .before .before .before .before .before .before .before .before .before .args .code) (c .before .before .before .before .before .before .before .before .before .before .before .before .pre .1) (c .before .before .before .before .before .before .before .before .before .if1 .left) (c .before .before .before .before .before .before .before .before .has-group .ensures ∙ ap not (c .before .before .before .before .before .before .before .if2 .left)) (params-empty (now (c .before .before .before .before .before .before .before .before .before .before .before .before .args .s)) (now (c .before .before .before .before .before .before .before .before .before .before .before .before .args .t)) ∙ eq-eqb _ 0 (c .before .before .before .before .before .if3 .left)) ∙ ap (λ v. same v (ascii "4.0")) (value-is (now (c .before .before .before .before .before .before .before .before .before .before .before .before .args .s)) (now (c .before .before .before .before .before .before .before .before .before .before .before .before .args .t))))
+returns-4 c =
+    let at-if3 = c .before .before .before .before .before in
+    let at-if2 = at-if3 .before .before in
+    let at-has-group = at-if2 .before in
+    let at-if1 = at-has-group .before in
+    let start = at-if1 .before .before .before in
+    c .same-bytes .ensures ∙ sym (version-value (lineIn (now (start .args .s)) (now (start .args .t))) (start .args .code) (start .pre .1) (at-if1 .if1 .left) (at-has-group .has-group .ensures ∙ ap not (at-if2 .if2 .left)) (params-empty (now (start .args .s)) (now (start .args .t)) ∙ eq-eqb _ 0 (at-if3 .if3 .left)) ∙ ap (λ v. same v (ascii "4.0")) (value-is (now (start .args .s)) (now (start .args .t))))
 
 pub is-version-line-spec : {M : Type 1} → statement M
 is-version-line-spec =

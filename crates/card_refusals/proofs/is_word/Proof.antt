@@ -4,9 +4,6 @@ use Rattle.card_refusals.proofs.Lines.{no-word, word-all}
 use borrow.Author.Needs.{needs}
 use Rattle.card_refusals.proofs.is_word.Statement.{statement}
 use Rattle.card_refusals.proofs.is_word.Tie as tie
-use Rattle.card_refusals.proofs.is_word.Reads as reads
-use Rattle.card_refusals.proofs.is_word.Lts as lts
-use Rattle.line_class.proofs.all_of.Reads as all-of-reads
 
 returns : tie.Need-returns
 returns c = sym (no-word (now (c .before .before .args .v)) (c .if1 .taken))

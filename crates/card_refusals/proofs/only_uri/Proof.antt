@@ -4,9 +4,6 @@ use Rattle.card_refusals.proofs.Lines.{only-none, only-others, only-val
 use borrow.Author.Needs.{needs}
 use Rattle.card_refusals.proofs.only_uri.Statement.{statement}
 use Rattle.card_refusals.proofs.only_uri.Tie as tie
-use Rattle.card_refusals.proofs.only_uri.Reads as reads
-use Rattle.card_refusals.proofs.only_uri.Lts as lts
-use Rattle.convert_entry.proofs.value_kind.Reads as value-kind-reads
 
 shared-slice-read-n : tie.Need-shared-slice-read-n
 shared-slice-read-n c = search needs
@@ -18,13 +15,19 @@ shared-slice-read-if2 : tie.Need-shared-slice-read-if2
 shared-slice-read-if2 c = search needs
 
 returns-2 : tie.Need-returns-2
-returns-2 c = sym (only-others (now (c .before .before .before .before .before .before .before .before .before .args .s)) (now (c .before .before .before .before .before .before .before .before .before .args .t)) (c .before .before .before .before .before .before .before .before .before .pre .row) (c .before .before .if1 .left) (c .if2 .taken))
+returns-2 c =
+    let at-if1 = c .before .before in
+    let start = at-if1 .before .before .before .before .before .before .before in
+    sym (only-others (now (start .args .s)) (now (start .args .t)) (start .pre .row) (at-if1 .if1 .left) (c .if2 .taken))
 
 value-kind-requires : tie.Need-value-kind-requires
 value-kind-requires c κs = search needs
 
 returns-3 : tie.Need-returns-3
-returns-3 c = sym (only-value (now (c .before .before .before .before .before .before .before .before .before .before .args .s)) (now (c .before .before .before .before .before .before .before .before .before .before .args .t)) (c .before .before .before .before .before .before .before .before .before .before .pre .row) (c .before .before .before .if1 .left) (c .before .if2 .left) (c .value-kind .result) (c .value-kind .ensures _ (c .before .before .before .before .before .before .before .before .before .before .pre .row)))
+returns-3 c =
+    let at-if1 = c .before .before .before in
+    let start = at-if1 .before .before .before .before .before .before .before in
+    sym (only-value (now (start .args .s)) (now (start .args .t)) (start .pre .row) (at-if1 .if1 .left) (c .before .if2 .left) (c .value-kind .result) (c .value-kind .ensures _ (start .pre .row)))
 
 pub only-uri-spec : {M : Type 1} → statement M
 only-uri-spec =

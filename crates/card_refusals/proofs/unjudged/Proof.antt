@@ -2,8 +2,6 @@ use mathlib.Core.Path.{sym}
 use Rattle.card_refusals.proofs.Judging.{judged-none}
 use Rattle.card_refusals.proofs.unjudged.Statement.{statement}
 use Rattle.card_refusals.proofs.unjudged.Tie as tie
-use Rattle.card_refusals.proofs.unjudged.Reads as reads
-use Rattle.card_refusals.proofs.unjudged.Lts as lts
 
 returns : tie.Need-returns
 returns c = sym judged-none

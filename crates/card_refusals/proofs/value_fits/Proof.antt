@@ -6,9 +6,6 @@ use Rattle.card_refusals.proofs.Lines.{value-none, value-many, value-on
 use borrow.Author.Needs.{needs}
 use Rattle.card_refusals.proofs.value_fits.Statement.{statement}
 use Rattle.card_refusals.proofs.value_fits.Tie as tie
-use Rattle.card_refusals.proofs.value_fits.Reads as reads
-use Rattle.card_refusals.proofs.value_fits.Lts as lts
-use Rattle.card_refusals.proofs.is_word.Reads as is-word-reads
 
 shared-slice-read-k : tie.Need-shared-slice-read-k
 shared-slice-read-k c = search needs
@@ -29,10 +26,16 @@ sub-is-word : tie.Need-sub-is-word
 sub-is-word c = let f = first-kind (c .before .before .before .before .before .before .before .before .before .pre .1 .1) (c .before .before .before .if1 .left) in f .ordered
 
 part-is-word-start : tie.Need-part-is-word-start
-part-is-word-start c = let f = first-kind (c .before .before .before .before .before .before .before .before .before .pre .1 .1) (c .before .before .before .if1 .left) in omega (arith, f .ordered, f .within)
+part-is-word-start c =
+    let at-if1 = c .before .before .before in
+    let start = at-if1 .before .before .before .before .before .before in
+    let f = first-kind (start .pre .1 .1) (at-if1 .if1 .left) in omega (arith, f .ordered, f .within)
 
 part-is-word-end : tie.Need-part-is-word-end
-part-is-word-end c = let f = first-kind (c .before .before .before .before .before .before .before .before .before .pre .1 .1) (c .before .before .before .if1 .left) in omega (arith, f .ordered, f .within)
+part-is-word-end c =
+    let at-if1 = c .before .before .before in
+    let start = at-if1 .before .before .before .before .before .before in
+    let f = first-kind (start .pre .1 .1) (at-if1 .if1 .left) in omega (arith, f .ordered, f .within)
 
 is-word-requires : tie.Need-is-word-requires
 is-word-requires c κs = search needs

@@ -10,9 +10,6 @@ use Rattle.card_seen.specs.Ids.{idsAt}
 use Rattle.card_seen.proofs.Keys.{used-none, used-here, used-later}
 use Rattle.card_seen.proofs.is_listed.Statement.{statement}
 use Rattle.card_seen.proofs.is_listed.Tie as tie
-use Rattle.card_seen.proofs.is_listed.Reads as reads
-use Rattle.card_seen.proofs.is_listed.Lts as lts
-use Rattle.convert_tests.proofs.is_id.Reads as is-id-reads
 
 abbrev Inv-loop : tie.InvT-loop
 Inv-loop bytes ids n i key k₀ k = (k ≤ n) × (any (isId i key) (idsAt bytes ids k) ≡ any (isId i key) (idsAt bytes ids n))
@@ -33,40 +30,76 @@ mul-j : tie.Need-mul-j Inv-loop μ-loop
 mul-j c = omega (arith, c .before .before .before .before .before .pre .few, c .before .before .before .before .before .pre .wide, c .loop-test .taken, c .before .loop .inv .0)
 
 shared-slice-read-j : tie.Need-shared-slice-read-j Inv-loop μ-loop
-shared-slice-read-j c = omega (arith, c .before .before .before .before .before .before .pre .few, c .before .before .before .before .before .before .pre .wide, c .before .loop-test .taken, c .before .before .loop .inv .0)
+shared-slice-read-j c =
+    let at-loop = c .before .before in
+    let start = at-loop .before .before .before .before in
+    omega (arith, start .pre .few, start .pre .wide, c .before .loop-test .taken, at-loop .loop .inv .0)
 
 add-a : tie.Need-add-a Inv-loop μ-loop
-add-a c = omega (arith, c .before .before .before .before .before .before .pre .few, c .before .before .before .before .before .before .pre .wide, c .before .loop-test .taken, c .before .before .loop .inv .0)
+add-a c =
+    let at-loop = c .before .before in
+    let start = at-loop .before .before .before .before in
+    omega (arith, start .pre .few, start .pre .wide, c .before .loop-test .taken, at-loop .loop .inv .0)
 
 mul-a : tie.Need-mul-a Inv-loop μ-loop
 mul-a c = search needs
 
 shared-slice-read-a : tie.Need-shared-slice-read-a Inv-loop μ-loop
-shared-slice-read-a c = omega (arith, c .before .before .before .before .before .before .before .pre .few, c .before .before .before .before .before .before .before .pre .wide, c .before .before .loop-test .taken, c .before .before .before .loop .inv .0)
+shared-slice-read-a c =
+    let at-loop-test = c .before .before in
+    let at-loop = at-loop-test .before in
+    let start = at-loop .before .before .before .before in
+    omega (arith, start .pre .few, start .pre .wide, at-loop-test .loop-test .taken, at-loop .loop .inv .0)
 
 add-b : tie.Need-add-b Inv-loop μ-loop
-add-b c = omega (arith, c .before .before .before .before .before .before .before .pre .few, c .before .before .before .before .before .before .before .pre .wide, c .before .before .loop-test .taken, c .before .before .before .loop .inv .0)
+add-b c =
+    let at-loop-test = c .before .before in
+    let at-loop = at-loop-test .before in
+    let start = at-loop .before .before .before .before in
+    omega (arith, start .pre .few, start .pre .wide, at-loop-test .loop-test .taken, at-loop .loop .inv .0)
 
 mul-b : tie.Need-mul-b Inv-loop μ-loop
-mul-b c = omega (arith, c .before .before .before .before .before .before .before .pre .few, c .before .before .before .before .before .before .before .pre .wide, c .before .before .loop-test .taken, c .before .before .before .loop .inv .0)
+mul-b c =
+    let at-loop-test = c .before .before in
+    let at-loop = at-loop-test .before in
+    let start = at-loop .before .before .before .before in
+    omega (arith, start .pre .few, start .pre .wide, at-loop-test .loop-test .taken, at-loop .loop .inv .0)
 
 shared-slice-read-b : tie.Need-shared-slice-read-b Inv-loop μ-loop
-shared-slice-read-b c = omega (arith, c .before .before .before .before .before .before .before .before .pre .few, c .before .before .before .before .before .before .before .before .pre .wide, c .before .before .before .loop-test .taken, c .before .before .before .before .loop .inv .0)
+shared-slice-read-b c =
+    let at-loop-test = c .before .before .before in
+    let at-loop = at-loop-test .before in
+    let start = at-loop .before .before .before .before in
+    omega (arith, start .pre .few, start .pre .wide, at-loop-test .loop-test .taken, at-loop .loop .inv .0)
 
 is-id-requires : tie.Need-is-id-requires Inv-loop μ-loop
-is-id-requires c κs = let w = c .before .before .before .before .before .before .before .before .pre .span (c .before .before .before .before .loop .k - 1) (omega (arith, c .before .before .before .loop-test .taken, c .before .before .before .before .loop .inv .0)) in (w .ordered, w .within)
+is-id-requires c κs =
+    let at-loop-test = c .before .before .before in
+    let at-loop = at-loop-test .before in
+    let start = at-loop .before .before .before .before in
+    let w = start .pre .span (at-loop .loop .k - 1) (omega (arith, at-loop-test .loop-test .taken, at-loop .loop .inv .0)) in (w .ordered, w .within)
 
 returns : tie.Need-returns Inv-loop μ-loop
-returns c = sym (used-here (now (c .before .before .before .before .before .before .before .before .before .before .args .bytes)) (now (c .before .before .before .before .before .before .before .before .before .before .args .ids)) (c .before .before .before .before .before .before .before .before .before .before .args .i) (now (c .before .before .before .before .before .before .before .before .before .before .args .key)) (c .before .before .before .before .before .before .loop .k) (c .before .before .before .before .before .loop-test .taken) (c .before .is-id .result) (c .before .is-id .ensures) (c .if1 .taken)) ∙ (c .before .before .before .before .before .before .loop .inv .1)
+returns c =
+    let at-loop-test = c .before .before .before .before .before in
+    let at-loop = at-loop-test .before in
+    let start = at-loop .before .before .before .before in
+    sym (used-here (now (start .args .bytes)) (now (start .args .ids)) (start .args .i) (now (start .args .key)) (at-loop .loop .k) (at-loop-test .loop-test .taken) (c .before .is-id .result) (c .before .is-id .ensures) (c .if1 .taken)) ∙ (at-loop .loop .inv .1)
 
 loop-less : tie.Need-loop-less Inv-loop μ-loop
 loop-less c = search needs
 
 loop-again : tie.Need-loop-again Inv-loop μ-loop
-loop-again c = (omega (arith, c .before .before .before .before .before .before .loop .inv .0), sym (used-later (now (c .before .before .before .before .before .before .before .before .before .before .args .bytes)) (now (c .before .before .before .before .before .before .before .before .before .before .args .ids)) (c .before .before .before .before .before .before .before .before .before .before .args .i) (now (c .before .before .before .before .before .before .before .before .before .before .args .key)) (c .before .before .before .before .before .before .loop .k) (c .before .before .before .before .before .loop-test .taken) (c .before .is-id .result) (c .before .is-id .ensures) (c .if1 .left)) ∙ (c .before .before .before .before .before .before .loop .inv .1))
+loop-again c =
+    let at-loop-test = c .before .before .before .before .before in
+    let at-loop = at-loop-test .before in
+    let start = at-loop .before .before .before .before in
+    (omega (arith, at-loop .loop .inv .0), sym (used-later (now (start .args .bytes)) (now (start .args .ids)) (start .args .i) (now (start .args .key)) (at-loop .loop .k) (at-loop-test .loop-test .taken) (c .before .is-id .result) (c .before .is-id .ensures) (c .if1 .left)) ∙ (at-loop .loop .inv .1))
 
 returns-2 : tie.Need-returns-2 Inv-loop μ-loop
-returns-2 c = sym (used-none (now (c .before .before .before .before .before .args .bytes)) (now (c .before .before .before .before .before .args .ids)) (c .before .before .before .before .before .args .i) (now (c .before .before .before .before .before .args .key)) (c .before .loop .k) (omega (arith, c .loop-test .left))) ∙ (c .before .loop .inv .1)
+returns-2 c =
+    let start = c .before .before .before .before .before in
+    sym (used-none (now (start .args .bytes)) (now (start .args .ids)) (start .args .i) (now (start .args .key)) (c .before .loop .k) (omega (arith, c .loop-test .left))) ∙ (c .before .loop .inv .1)
 
 pub is-listed-spec : {M : Type 1} → statement M
 is-listed-spec =

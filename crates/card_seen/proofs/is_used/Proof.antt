@@ -6,16 +6,14 @@ use Rattle.card_seen.proofs.Prints.{unprinted}
 use borrow.Author.Needs.{needs}
 use Rattle.card_seen.proofs.is_used.Statement.{statement}
 use Rattle.card_seen.proofs.is_used.Tie as tie
-use Rattle.card_seen.proofs.is_used.Reads as reads
-use Rattle.card_seen.proofs.is_used.Lts as lts
-use Rattle.card_seen.proofs.is_listed.Reads as is-listed-reads
-use Rattle.json_sound.proofs.any_print.Reads as any-print-reads
 
 any-print-requires : tie.Need-any-print-requires
 any-print-requires c κs = search needs
 
 returns : tie.Need-returns
-returns c = sym (unprinted (c .before .before .before .before .before .before .pre .0) (c .before .before .before .before .before .before .args .i) (c .before .before .before .before .before .before .args .p) (now (c .before .before .before .before .before .before .args .key)) (c .before .before .before .before .before .before .pre .1) (absent-as (now (c .before .before .before .before .before .before .args .prints)) (c .before .before .before .before .before .before .args .p) 0 (c .before .before .before .before .before .before .args .n) (c .before .any-print .ensures) (not-true (c .before .any-print .result) (c .if1 .taken))))
+returns c =
+    let start = c .before .before .before .before .before .before in
+    sym (unprinted (start .pre .0) (start .args .i) (start .args .p) (now (start .args .key)) (start .pre .1) (absent-as (now (start .args .prints)) (start .args .p) 0 (start .args .n) (c .before .any-print .ensures) (not-true (c .before .any-print .result) (c .if1 .taken))))
 
 is-listed-requires : tie.Need-is-listed-requires
 is-listed-requires c κs = search needs

@@ -7,11 +7,6 @@ use Rattle.card_seen.proofs.Settling.{notes-not, notes-one}
 use borrow.Author.Needs.{needs}
 use Rattle.card_seen.proofs.note_key.Statement.{statement}
 use Rattle.card_seen.proofs.note_key.Tie as tie
-use Rattle.card_seen.proofs.note_key.Reads as reads
-use Rattle.card_seen.proofs.note_key.Lts as lts
-use Rattle.card_seen.proofs.is_used.Reads as is-used-reads
-use Rattle.card_seen.proofs.print_of.Reads as print-of-reads
-use Rattle.card_seen.proofs.put_id.Reads as put-id-reads
 
 sub-print-of : tie.Need-sub-print-of
 sub-print-of c = search needs
@@ -47,10 +42,14 @@ returns : tie.Need-returns
 returns c = notes-not (c .before .before .before .before .before .before .before .before .before .before .before .pre .0) (c .before .is-used .result) (c .before .is-used .ensures) (c .if1 .taken)
 
 add-put-id : tie.Need-add-put-id
-add-put-id c = let w = cut-span (c .before .before .before .before .before .before .before .before .before .before .before .before .before .pre .4) (c .before .before .before .before .before .before .before .before .before .before .before .before .before .pre .3) in omega (arith, w .ordered, w .within)
+add-put-id c =
+    let start = c .before .before .before .before .before .before .before .before .before .before .before .before .before in
+    let w = cut-span (start .pre .4) (start .pre .3) in omega (arith, w .ordered, w .within)
 
 add-put-id-2 : tie.Need-add-put-id-2
-add-put-id-2 c = let w = cut-span (c .before .before .before .before .before .before .before .before .before .before .before .before .before .pre .4) (c .before .before .before .before .before .before .before .before .before .before .before .before .before .pre .3) in omega (arith, w .ordered, w .within)
+add-put-id-2 c =
+    let start = c .before .before .before .before .before .before .before .before .before .before .before .before .before in
+    let w = cut-span (start .pre .4) (start .pre .3) in omega (arith, w .ordered, w .within)
 
 put-id-requires : tie.Need-put-id-requires
 put-id-requires c κs = search needs
@@ -62,7 +61,13 @@ same-length-4 : tie.Need-same-length-4
 same-length-4 c = search needs
 
 returns-2 : tie.Need-returns-2
-returns-2 c = notes-one (c .before .before .before .before .before .before .before .before .before .before .before .before .before .before .before .before .before .before .pre .0) (c .before .before .before .before .before .before .before .before .is-used .result) (c .before .before .before .before .before .before .before .before .is-used .ensures) (c .before .before .before .before .before .before .before .if1 .left) (c .before .before .before .before .before .before .before .before .before .before .before .before .before .before .before .before .before .before .pre .1) (c .before .before .before .before .before .before .before .before .before .before .before .before .before .before .before .before .before .before .args .at) (c .before .before .before .before .before .before .before .before .before .before .before .before .print-of .result) (c .before .before .before .before .before .before .before .before .before .before .before .before .before .before .before .before .before .before .pre .4) (c .before .before .before .before .before .before .before .before .before .before .before .before .before .before .before .before .before .before .pre .3) (c .before .before .before .before .before .before .before .before .before .before .before .before .print-of .ensures) _ _ _ (c .before .before .before .before .put-id .ensures .0) (c .before .before .before .before .put-id .ensures .1) (c .before .before .before .before .put-id .ensures .2)
+returns-2 c =
+    let at-put-id = c .before .before .before .before in
+    let at-if1 = at-put-id .before .before .before in
+    let at-is-used = at-if1 .before in
+    let at-print-of = at-is-used .before .before .before .before in
+    let start = at-print-of .before .before .before .before .before .before in
+    notes-one (start .pre .0) (at-is-used .is-used .result) (at-is-used .is-used .ensures) (at-if1 .if1 .left) (start .pre .1) (start .args .at) (at-print-of .print-of .result) (start .pre .4) (start .pre .3) (at-print-of .print-of .ensures) _ _ _ (at-put-id .put-id .ensures .0) (at-put-id .put-id .ensures .1) (at-put-id .put-id .ensures .2)
 
 pub note-key-spec : {M : Type 1} → statement M
 note-key-spec =

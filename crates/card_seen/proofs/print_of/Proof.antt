@@ -8,9 +8,6 @@ use Rattle.json_sound.specs.Kept.{printed}
 use Rattle.card_seen.proofs.Prints.{printed-on, printed-end}
 use Rattle.card_seen.proofs.print_of.Statement.{statement}
 use Rattle.card_seen.proofs.print_of.Tie as tie
-use Rattle.card_seen.proofs.print_of.Reads as reads
-use Rattle.card_seen.proofs.print_of.Lts as lts
-use Rattle.json_sound.proofs.stirred.Reads as stirred-reads
 
 abbrev Inv-loop : tie.InvT-loop
 Inv-loop i key p₀ k₀ p k = (p < 65536) × (printed p (drop k key) ≡ printed i key)
@@ -37,7 +34,11 @@ loop-less : tie.Need-loop-less Inv-loop μ-loop
 loop-less c = search needs
 
 loop-again : tie.Need-loop-again Inv-loop μ-loop
-loop-again c = (c .stirred .ensures .1, ap (λ q. printed q (drop (c .before .before .before .loop .k + 1) (now (c .before .before .before .before .before .args .key)))) (c .stirred .ensures .0) ∙ sym (printed-on (now (c .before .before .before .before .before .args .key)) (c .before .before .before .loop .p) (c .before .before .before .loop .k) (c .before .before .loop-test .taken)) ∙ (c .before .before .before .loop .inv .1))
+loop-again c =
+    let at-loop-test = c .before .before in
+    let at-loop = at-loop-test .before in
+    let start = at-loop .before .before in
+    (c .stirred .ensures .1, ap (λ q. printed q (drop (at-loop .loop .k + 1) (now (start .args .key)))) (c .stirred .ensures .0) ∙ sym (printed-on (now (start .args .key)) (at-loop .loop .p) (at-loop .loop .k) (at-loop-test .loop-test .taken)) ∙ (at-loop .loop .inv .1))
 
 cast-result : tie.Need-cast-result Inv-loop μ-loop
 cast-result c = omega (arith, c .before .loop .inv .0)

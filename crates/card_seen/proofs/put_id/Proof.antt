@@ -6,8 +6,6 @@ use Rattle.card_seen.specs.Ids.{withId}
 use borrow.Author.Needs.{needs}
 use Rattle.card_seen.proofs.put_id.Statement.{statement}
 use Rattle.card_seen.proofs.put_id.Tie as tie
-use Rattle.card_seen.proofs.put_id.Reads as reads
-use Rattle.card_seen.proofs.put_id.Lts as lts
 
 mul-at : tie.Need-mul-at
 mul-at c = search needs

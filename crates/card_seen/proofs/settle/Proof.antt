@@ -7,9 +7,6 @@ use Rattle.card_seen.proofs.Settling.{settles-same, settles-full, settl
 use borrow.Author.Needs.{needs}
 use Rattle.card_seen.proofs.settle.Statement.{statement}
 use Rattle.card_seen.proofs.settle.Tie as tie
-use Rattle.card_seen.proofs.settle.Reads as reads
-use Rattle.card_seen.proofs.settle.Lts as lts
-use Rattle.card_seen.proofs.note_key.Reads as note-key-reads
 
 enum-told : tie.Need-enum-told
 enum-told c = search needs
@@ -36,13 +33,18 @@ enum-known-class : tie.Need-enum-known-class
 enum-known-class c = search needs
 
 cast-t19 : tie.Need-cast-t19
-cast-t19 c = let w = subst (ClassIn (now (c .before .before .before .before .before .before .before .args .s))) (c .before .class .given .1) (c .before .before .before .before .before .before .before .pre .2) in omega (arith, w)
+cast-t19 c =
+    let start = c .before .before .before .before .before .before .before in
+    let w = subst (ClassIn (now (start .args .s))) (c .before .class .given .1) (start .pre .2) in omega (arith, w)
 
 enum-known-class-2 : tie.Need-enum-known-class-2
 enum-known-class-2 c = search needs
 
 note-key-requires : tie.Need-note-key-requires
-note-key-requires c κs = let w = subst (ClassIn (now (c .before .before .before .before .before .before .before .before .before .args .s))) (c .before .before .before .class2 .given .1) (c .before .before .before .before .before .before .before .before .before .pre .2) in (c .before .before .before .before .before .before .before .before .before .pre .0, c .before .before .before .before .before .before .before .before .before .pre .1, omega (arith, w .0), w .1, c .before .before .before .before .before .before .before .before .before .pre .3)
+note-key-requires c κs =
+    let at-class2 = c .before .before .before in
+    let start = at-class2 .before .before .before .before .before .before in
+    let w = subst (ClassIn (now (start .args .s))) (at-class2 .class2 .given .1) (start .pre .2) in (start .pre .0, start .pre .1, omega (arith, w .0), w .1, start .pre .3)
 
 same-length : tie.Need-same-length
 same-length c = search needs
@@ -51,16 +53,26 @@ same-length-2 : tie.Need-same-length-2
 same-length-2 c = search needs
 
 returns : tie.Need-returns
-returns c = key-used (c .before .before .before .before .before .note-key .ensures) (c .before .before .before .before .before .before .before .before .before .class2 .given .1) (subst (ClassIn (now (c .before .before .before .before .before .before .before .before .before .before .before .before .before .before .before .args .s))) (c .before .before .before .before .before .before .before .before .before .class2 .given .1) (c .before .before .before .before .before .before .before .before .before .before .before .before .before .before .before .pre .2) .0) (c .if1 .taken)
+returns c =
+    let at-note-key = c .before .before .before .before .before in
+    let at-class2 = at-note-key .before .before .before .before in
+    let start = at-class2 .before .before .before .before .before .before in
+    key-used (at-note-key .note-key .ensures) (at-class2 .class2 .given .1) (subst (ClassIn (now (start .args .s))) (at-class2 .class2 .given .1) (start .pre .2) .0) (c .if1 .taken)
 
 cast-t25 : tie.Need-cast-t25
-cast-t25 c = let w = subst (ClassIn (now (c .before .before .before .before .before .before .before .before .before .before .before .before .before .before .before .args .s))) (c .before .before .before .before .before .before .before .before .before .class2 .given .1) (c .before .before .before .before .before .before .before .before .before .before .before .before .before .before .before .pre .2) in omega (arith, w .0)
+cast-t25 c =
+    let at-class2 = c .before .before .before .before .before .before .before .before .before in
+    let start = at-class2 .before .before .before .before .before .before in
+    let w = subst (ClassIn (now (start .args .s))) (at-class2 .class2 .given .1) (start .pre .2) in omega (arith, w .0)
 
 enum-known-class-3 : tie.Need-enum-known-class-3
 enum-known-class-3 c = search needs
 
 note-key-requires-2 : tie.Need-note-key-requires-2
-note-key-requires-2 c κs = let w = subst (ClassIn (now (c .before .before .before .before .before .before .before .before .before .args .s))) (c .before .before .before .class3 .given .1) (c .before .before .before .before .before .before .before .before .before .pre .2) in (c .before .before .before .before .before .before .before .before .before .pre .0, c .before .before .before .before .before .before .before .before .before .pre .1, omega arith, w .span, c .before .before .before .before .before .before .before .before .before .pre .3)
+note-key-requires-2 c κs =
+    let at-class3 = c .before .before .before in
+    let start = at-class3 .before .before .before .before .before .before in
+    let w = subst (ClassIn (now (start .args .s))) (at-class3 .class3 .given .1) (start .pre .2) in (start .pre .0, start .pre .1, omega arith, w .span, start .pre .3)
 
 same-length-3 : tie.Need-same-length-3
 same-length-3 c = search needs
@@ -69,7 +81,11 @@ same-length-4 : tie.Need-same-length-4
 same-length-4 c = search needs
 
 returns-2 : tie.Need-returns-2
-returns-2 c = member-used (c .before .before .before .before .before .note-key2 .ensures) (subst (ClassIn (now (c .before .before .before .before .before .before .before .before .before .before .before .before .before .before .before .args .s))) (c .before .before .before .before .before .before .before .before .before .class3 .given .1) (c .before .before .before .before .before .before .before .before .before .before .before .before .before .before .before .pre .2)) (c .before .before .before .before .before .before .before .before .before .class3 .given .1) (c .if2 .taken)
+returns-2 c =
+    let at-note-key2 = c .before .before .before .before .before in
+    let at-class3 = at-note-key2 .before .before .before .before in
+    let start = at-class3 .before .before .before .before .before .before in
+    member-used (at-note-key2 .note-key2 .ensures) (subst (ClassIn (now (start .args .s))) (at-class3 .class3 .given .1) (start .pre .2)) (at-class3 .class3 .given .1) (c .if2 .taken)
 
 returns-3 : tie.Need-returns-3
 returns-3 c = settles-same (c .before .before .before .before .before .before .pre .0) Kept 16 (c .enum-told .given .1) (λ seen. (refl, refl))
@@ -93,7 +109,9 @@ returns-9 : tie.Need-returns-9
 returns-9 c = settles-parts (c .before .before .before .before .before .before .pre .0) (c .enum-told7 .given .1)
 
 returns-10 : tie.Need-returns-10
-returns-10 c = settles-same (c .before .before .before .before .before .before .before .pre .0) (Entry (c .before .class .given .0 .0)) (c .before .class .given .0 .0) (c .before .class .given .1) (λ seen. (refl, refl))
+returns-10 c =
+    let start = c .before .before .before .before .before .before .before in
+    settles-same (start .pre .0) (Entry (c .before .class .given .0 .0)) (c .before .class .given .0 .0) (c .before .class .given .1) (λ seen. (refl, refl))
 
 same-length-5 : tie.Need-same-length-5
 same-length-5 c = search needs
@@ -102,7 +120,11 @@ same-length-6 : tie.Need-same-length-6
 same-length-6 c = search needs
 
 returns-11 : tie.Need-returns-11
-returns-11 c = key-new (c .before .before .before .before .before .note-key .ensures) (c .before .before .before .before .before .before .before .before .before .class2 .given .1) (subst (ClassIn (now (c .before .before .before .before .before .before .before .before .before .before .before .before .before .before .before .args .s))) (c .before .before .before .before .before .before .before .before .before .class2 .given .1) (c .before .before .before .before .before .before .before .before .before .before .before .before .before .before .before .pre .2) .0) (c .if1 .left)
+returns-11 c =
+    let at-note-key = c .before .before .before .before .before in
+    let at-class2 = at-note-key .before .before .before .before in
+    let start = at-class2 .before .before .before .before .before .before in
+    key-new (at-note-key .note-key .ensures) (at-class2 .class2 .given .1) (subst (ClassIn (now (start .args .s))) (at-class2 .class2 .given .1) (start .pre .2) .0) (c .if1 .left)
 
 same-length-7 : tie.Need-same-length-7
 same-length-7 c = search needs
@@ -111,7 +133,11 @@ same-length-8 : tie.Need-same-length-8
 same-length-8 c = search needs
 
 returns-12 : tie.Need-returns-12
-returns-12 c = member-new (c .before .before .before .before .before .note-key2 .ensures) (subst (ClassIn (now (c .before .before .before .before .before .before .before .before .before .before .before .before .before .before .before .args .s))) (c .before .before .before .before .before .before .before .before .before .class3 .given .1) (c .before .before .before .before .before .before .before .before .before .before .before .before .before .before .before .pre .2)) (c .before .before .before .before .before .before .before .before .before .class3 .given .1) (c .if2 .left)
+returns-12 c =
+    let at-note-key2 = c .before .before .before .before .before in
+    let at-class3 = at-note-key2 .before .before .before .before in
+    let start = at-class3 .before .before .before .before .before .before in
+    member-new (at-note-key2 .note-key2 .ensures) (subst (ClassIn (now (start .args .s))) (at-class3 .class3 .given .1) (start .pre .2)) (at-class3 .class3 .given .1) (c .if2 .left)
 
 pub settle-spec : {M : Type 1} → statement M
 settle-spec =
