@@ -5,11 +5,12 @@ use mathlib.Core.List.{List, _∷_}
 use mathlib.Core.Option.{some}
 use Prim.Native.Nat.{ℕ, _<_}
 use Rattle.text.specs.Choice.{pick, with-some}
-use Rattle.text.specs.Bytes.{Bytes, any, among}
+use Rattle.text.specs.Bytes.{Bytes, any, among, lowered}
 use Rattle.convert.specs.Pointer.{pointed}
 use Rattle.convert.specs.Classify.{Seen, id, isId, see, classify}
 use Rattle.convert_entry.specs.Rows.{codeOf}
 use Rattle.line_table.specs.Table.{part, Span, lineIn}
+use Rattle.class_names.specs.Names.{nameNumber}
 use Rattle.class_line.specs.declared.Class.{Class as Answer}
 use Rattle.class_line.specs.declared.Class.the-variants.{Kept, Dropped, Version, Uid, Kind, Full, Parts, Entry, Keyed, Member}
 
@@ -80,3 +81,17 @@ pub record Classes (s : Bytes) (t : List ℕ) (full parts : Bool) (r : Answer) :
   pub within : ClassIn s r
   pub code : (seen : Seen) → seen .full ≡ full → seen .parts ≡ parts → codeOf (classify seen (lineIn s t)) ≡ numberOf seen s r
   pub sees : (seen : Seen) → seen .full ≡ full → seen .parts ≡ parts → see seen (classify seen (lineIn s t)) ≡ seenWith seen s r
+
+-- whatever the flags, or one of them
+abbrev pub AnyFlags : Bytes → List ℕ → Answer → Type 0
+AnyFlags s t r = (full parts : Bool) → Classes s t full parts r
+
+abbrev pub FullFlags : Bytes → List ℕ → Bool → Answer → Type 0
+FullFlags s t full r = (parts : Bool) → Classes s t full parts r
+
+abbrev pub PartsFlags : Bytes → List ℕ → Bool → Answer → Type 0
+PartsFlags s t parts r = (full : Bool) → Classes s t full parts r
+
+-- the number of the line's name
+abbrev pub Numbered : Bytes → List ℕ → ℕ → Type 0
+Numbered s t k = nameNumber (lowered (lineIn s t .name)) ≡ k

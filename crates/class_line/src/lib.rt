@@ -1,5 +1,19 @@
-// What a parsed line becomes, for a card's line and for an entry of vCardProps alike: as far as the line itself says, what is left open is one
-// question to what was seen before.
+// What a parsed line becomes, for a card's line and for an entry of vCardProps alike: as far as the line itself says. What is left open is one
+// question to what was seen before (a PROP-ID of the map, a member's name), which is the caller's.
+ghost use mathlib.Core.Path.{_≡_};
+ghost use Prim.Native.Nat.{_+_};
+ghost use Rattle.table_entry.specs.Key.{Rowed};
+ghost use Rattle.class_member.specs.Member.{Room};
+ghost use Rattle.class_line.specs.Class.{Numbered, Classes, AnyFlags, FullFlags, PartsFlags};
+use class_member::Member;
+use class_member::member_class;
+use class_name::full_class;
+use class_name::parts_class;
+use class_names::form_of;
+use class_names::name_code;
+use class_names::types_of;
+use table_entry::Key;
+use table_entry::entry_key;
 
 pub enum Class {
     // to vCardProps
@@ -17,4 +31,136 @@ pub enum Class {
     Keyed { map: usize, start: usize, end: usize },
     // a top-level member, unless the name that its pointer names is used: kept
     Member { start: usize, end: usize },
+}
+
+// A line of the map i.
+fn map_class(
+    counts: &[usize],
+    froms: &[usize],
+    tos: &[usize],
+    s: &[u8],
+    t: &[usize],
+    i: usize,
+) -> Class
+    requires { ⌜ Rowed (now s) (now t) (now counts) (now froms) (now tos) × Numbered (now s) (now t) (16 + i) ⌝ }
+    ensures { λ r. ⌜ AnyFlags (now (s .entry)) (now (t .entry)) r ⌝ }
+{
+    let types = types_of(i);
+    let form = form_of(i);
+    match entry_key(counts, froms, tos, s, t, types, form) {
+        Key::Bad => {
+            return Class::Kept;
+        }
+        Key::Free => {
+            return Class::Entry { map: i };
+        }
+        Key::At(a, b) => {
+            return Class::Keyed { map: i, start: a, end: b };
+        }
+    }
+}
+
+// FN.
+fn fn_class(
+    counts: &[usize],
+    froms: &[usize],
+    tos: &[usize],
+    s: &[u8],
+    t: &[usize],
+    full: bool,
+) -> Class
+    requires { ⌜ Rowed (now s) (now t) (now counts) (now froms) (now tos) × Numbered (now s) (now t) 4 ⌝ }
+    ensures { λ r. ⌜ FullFlags (now (s .entry)) (now (t .entry)) full r ⌝ }
+{
+    let k = full_class(counts, froms, tos, s, t, full);
+    if k == 21 {
+        return Class::Full;
+    }
+    if k == 17 {
+        return Class::Dropped;
+    }
+    Class::Kept
+}
+
+// N.
+fn n_class(
+    counts: &[usize],
+    froms: &[usize],
+    tos: &[usize],
+    s: &[u8],
+    t: &[usize],
+    parts: bool,
+) -> Class
+    requires { ⌜ Rowed (now s) (now t) (now counts) (now froms) (now tos) × Numbered (now s) (now t) 5 ⌝ }
+    ensures { λ r. ⌜ PartsFlags (now (s .entry)) (now (t .entry)) parts r ⌝ }
+{
+    let k = parts_class(counts, froms, tos, s, t, parts);
+    if k == 22 {
+        return Class::Parts;
+    }
+    Class::Kept
+}
+
+// JSPROP.
+fn jsprop_class(
+    counts: &[usize],
+    froms: &[usize],
+    tos: &[usize],
+    s: &[u8],
+    t: &[usize],
+    scratch: &mut [u8],
+) -> Class
+    requires { ⌜ Rowed (now s) (now t) (now counts) (now froms) (now tos) × Room (now s) (now scratch) × Numbered (now s) (now t) 6 ⌝ }
+    ensures { λ r. ⌜ AnyFlags (now (s .entry)) (now (t .entry)) r ⌝ }
+{
+    match member_class(counts, froms, tos, s, t, scratch) {
+        Member::Kept => {
+            return Class::Kept;
+        }
+        Member::At { start: a, end: b } => {
+            return Class::Member { start: a, end: b };
+        }
+    }
+}
+
+// The rows are those of the line's parameters (`table_marks::scan_rows`); the flags say whether FN and N have converted. The scratch is for the
+// value of JSPROP.
+pub fn class_line(
+    counts: &[usize],
+    froms: &[usize],
+    tos: &[usize],
+    s: &[u8],
+    t: &[usize],
+    scratch: &mut [u8],
+    full: bool,
+    parts: bool,
+) -> Class
+    requires { ⌜ Rowed (now s) (now t) (now counts) (now froms) (now tos) × Room (now s) (now scratch) ⌝ }
+    ensures { λ r. ⌜ Classes (now (s .entry)) (now (t .entry)) full parts r ⌝ }
+{
+    let a = t[2];
+    let b = t[3];
+    let k = name_code(&s[a..b]);
+    if k >= 16 {
+        return map_class(counts, froms, tos, s, t, k - 16);
+    }
+    if k == 0 {
+        return Class::Kept;
+    }
+    if k == 4 {
+        return fn_class(counts, froms, tos, s, t, full);
+    }
+    if k == 5 {
+        return n_class(counts, froms, tos, s, t, parts);
+    }
+    if k == 6 {
+        return jsprop_class(counts, froms, tos, s, t, scratch);
+    }
+    if k == 1 {
+        return Class::Version;
+    }
+    if k == 2 {
+        return Class::Uid;
+    }
+    Class::Kind
 }

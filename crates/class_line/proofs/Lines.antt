@@ -1,0 +1,47 @@
+-- What a filled table holds is classed as the line that was read.
+use mathlib.Core.Path.{_≡_, refl, sym, ap, _∙_}
+use mathlib.Core.Bool.{Bool}
+use mathlib.Core.List.{List}
+use Prim.Native.Nat.{ℕ, _<_}
+use native.Mathlib.Omega.{arith}
+use lib.ListN.{getD}
+use Rattle.text.specs.Bytes.{Bytes, lowered}
+use Rattle.convert.specs.Classify.{Seen, see, classify}
+use Rattle.line_table.specs.Table.{part, lineIn, Holds}
+use Rattle.convert_entry.specs.Rows.{codeOf}
+use Rattle.table_entry.proofs.Spread.{class-held}
+use Rattle.class_names.specs.Names.{nameNumber}
+use Rattle.class_names.proofs.Numbers.{number-small}
+use Rattle.class_line.specs.Class.{numberOf, seenWith, Classes, Numbered}
+use Rattle.class_line.specs.declared.Class.{Class as Answer}
+
+-- ---- the number of its name
+
+name-is : (s : Bytes) (t : List ℕ) → lineIn s t .name ≡ part s (getD t 2 0) (getD t 3 0)
+unfolding lineIn
+name-is s t = refl
+
+pub numbered : (s : Bytes) (t : List ℕ) (k m : ℕ) → k ≡ nameNumber (lowered (part s (getD t 2 0) (getD t 3 0))) → k ≡ m → Numbered s t m
+numbered s t k m h e = ap (λ u. nameNumber (lowered u)) (name-is s t) ∙ sym h ∙ e
+
+below-four : (k : ℕ) → k < 7 → (k ≡ 4 → ⊥) → (k ≡ 5 → ⊥) → (k ≡ 6 → ⊥) → k < 4
+below-four k l a b c = omega arith
+
+is-three : (k : ℕ) → k < 4 → (k ≡ 0 → ⊥) → (k ≡ 1 → ⊥) → (k ≡ 2 → ⊥) → k ≡ 3
+is-three k l a b c = omega arith
+
+-- none of the others
+pub third : (n : Bytes) (k : ℕ) → k ≡ nameNumber n → k < 16 → (k ≡ 0 → ⊥) → (k ≡ 4 → ⊥) → (k ≡ 5 → ⊥) → (k ≡ 6 → ⊥) → (k ≡ 1 → ⊥) → (k ≡ 2 → ⊥) → k ≡ 3
+third n k e l z a b c d f =
+    let small : nameNumber n < 16 = rw (sym e) l in
+    let less : k < 7 = rw e (number-small n small) in
+    is-three k (below-four k less a b c) z d f
+
+-- ---- the line that was read
+
+module _ {s t : List ℕ} {full parts : Bool} (r : Answer) (h : Holds s t) (c : Classes s t full parts r) (seen : Seen) (f : seen .full ≡ full) (p : seen .parts ≡ parts) where
+  pub class-of-line : codeOf (classify seen (h .line)) ≡ numberOf seen s r
+  class-of-line = sym (ap codeOf (class-held h seen)) ∙ c .code seen f p
+
+  pub seen-with-line : see seen (classify seen (h .line)) ≡ seenWith seen s r
+  seen-with-line = sym (ap (see seen) (class-held h seen)) ∙ c .sees seen f p
