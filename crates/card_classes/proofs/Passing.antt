@@ -21,6 +21,7 @@ use Rattle.convert.specs.Classify.{Seen, see, Class, Classed, classify, onward,
 use Rattle.convert.specs.Answers.{Answer, no, seek, atLine, givenAt, firstFrom, ungrammatical, linesOf, orNone, misused, emptied, isVersionLine}
 use Rattle.convert_entry.specs.Rows.{codeOf}
 use Rattle.table_entry.proofs.Spread.{classify-spread}
+use Rattle.class_member.specs.Member.{Room}
 use Rattle.class_line.specs.declared.Class.{Class as Answered}
 use Rattle.class_line.specs.Class.{Classes, numberOf, seenWith}
 use Rattle.card_lines.specs.Classified.{Turned, Classified}
@@ -36,7 +37,7 @@ use Rattle.card_refusals.proofs.Spread.{misused-spread, version-spread, emptied
 use Rattle.card_seen.specs.Ids.{idsAt, Remembers, Cut}
 use Rattle.card_seen.specs.Settled.{Follows}
 use Rattle.card_classes.specs.declared.Pass.{Pass}
-use Rattle.card_classes.specs.Pass.{linesIn, numbersIn, Ready, Sofar, Noted, NextLine, Through, Passed, Room, Lent, fresh}
+use Rattle.card_classes.specs.Pass.{linesIn, numbersIn, Ready, Sofar, Noted, NextLine, Through, Passed, Lent, fresh}
 
 -- ---- lists of classed lines
 

@@ -13,6 +13,7 @@ use Rattle.line_table.specs.Table.{lineIn}
 use Rattle.convert.specs.Classify.{Seen, Class, Classed, classedAfter, classed}
 use Rattle.convert.specs.Answers.{Answer, seek, atLine, firstFrom, ungrammatical, linesOf}
 use Rattle.convert_entry.specs.Rows.{codeOf}
+use Rattle.class_member.specs.Member.{Room}
 use Rattle.class_line.specs.declared.Class.{Class as Answered}
 use Rattle.card_lines.specs.Classified.{Turned, Classified}
 use Rattle.card_garbled.specs.Garbled.{OfLines}
@@ -76,11 +77,6 @@ pub record Through (bytes codes ids : List ℕ) (raw : List Bytes) (k : ℕ) (p 
 -- lines are laid there
 abbrev pub HasLines : Bytes → List ℕ → ℕ → Type 0
 HasLines bytes starts n = (raw : List Bytes) × Laid raw n bytes starts
-
--- a scratch for the TEXT of a line
-pub record Room (s text : Bytes) : Type 0 where
-  pub fits : length s ≤ length text
-  pub small : length s ≤ 65536
 
 -- the tables that the pass is lent
 pub record Lent (codes ids prints table text bytes : List ℕ) : Type 0 where
