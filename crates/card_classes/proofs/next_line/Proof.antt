@@ -47,7 +47,11 @@ slice-aggregate-judge-line-3 : tie.Need-slice-aggregate-judge-line-3
 slice-aggregate-judge-line-3 c = search needs
 
 judge-line-requires : tie.Need-judge-line-requires
-judge-line-requires c κs = (c .before .before .before .before .before .before .before .before .before .before .before .before .before .before .before .before .before .before .before .before .before .before .pre .0, record { wide = record { counts = search needs; froms = search needs; tos = search needs }; row = c .before .before .before .before .before .before .before .before .before .before .before .scan-rows .ensures; sound = c .before .before .before .before .before .before .before .before .before .before .before .before .before .before .before .before .before .before .before .before .before .before .pre .3 }, coded (now (c .before .before .before .before .before .before .before .before .before .before .before .before .before .before .before .before .before .before .before .before .before .before .args .s)) (now (c .before .before .before .before .before .before .before .before .before .before .before .before .before .before .before .before .before .before .before .before .before .before .args .t)) (c .before .before .before .before .name-code .result) (c .before .before .before .before .name-code .ensures))
+judge-line-requires c κs =
+    let at-name-code = c .before .before .before .before in
+    let at-scan-rows = at-name-code .before .before .before .before .before .before .before in
+    let start = at-scan-rows .before .before .before .before .before .before .before .before .before .before .before in
+    (start .pre .0, record { wide = record { counts = search needs; froms = search needs; tos = search needs }; row = at-scan-rows .scan-rows .ensures; sound = start .pre .3 }, coded (now (start .args .s)) (now (start .args .t)) (at-name-code .name-code .result) (at-name-code .name-code .ensures))
 
 slice-aggregate-class-line : tie.Need-slice-aggregate-class-line
 slice-aggregate-class-line c = search needs
@@ -59,10 +63,16 @@ slice-aggregate-class-line-3 : tie.Need-slice-aggregate-class-line-3
 slice-aggregate-class-line-3 c = search needs
 
 class-line-requires : tie.Need-class-line-requires
-class-line-requires c κs = (record { wide = record { counts = search needs; froms = search needs; tos = search needs }; row = c .before .before .before .before .before .before .before .before .before .before .before .before .before .before .before .before .scan-rows .ensures; sound = c .before .before .before .before .before .before .before .before .before .before .before .before .before .before .before .before .before .before .before .before .before .before .before .before .before .before .before .pre .3 }, c .before .before .before .before .before .before .before .before .before .before .before .before .before .before .before .before .before .before .before .before .before .before .before .before .before .before .before .pre .4)
+class-line-requires c κs =
+    let at-scan-rows = c .before .before .before .before .before .before .before .before .before .before .before .before .before .before .before .before in
+    let start = at-scan-rows .before .before .before .before .before .before .before .before .before .before .before in
+    (record { wide = record { counts = search needs; froms = search needs; tos = search needs }; row = at-scan-rows .scan-rows .ensures; sound = start .pre .3 }, start .pre .4)
 
 pass-line-requires : tie.Need-pass-line-requires
-pass-line-requires c κs = (c .before .before .before .before .before .before .before .before .before .before .before .before .before .before .before .before .before .before .before .before .before .before .before .before .before .before .before .before .before .before .before .before .before .pre .0, c .before .before .before .before .before .before .before .before .before .before .before .before .before .before .before .before .before .before .before .before .before .before .before .before .before .before .before .before .before .before .before .before .before .pre .1, c .before .before .before .before .before .before .before .before .before .before .before .before .before .before .before .before .before .before .before .before .before .before .before .before .before .before .before .before .before .before .before .before .before .pre .2, c .before .before .before .before .before .class-line .ensures .within)
+pass-line-requires c κs =
+    let at-class-line = c .before .before .before .before .before in
+    let start = at-class-line .before .before .before .before .before .before .before .before .before .before .before .before .before .before .before .before .before .before .before .before .before .before .before .before .before .before .before .before in
+    (start .pre .0, start .pre .1, start .pre .2, at-class-line .class-line .ensures .within)
 
 same-length : tie.Need-same-length
 same-length c = search needs
@@ -77,7 +87,13 @@ same-length-4 : tie.Need-same-length-4
 same-length-4 c = search needs
 
 returns : tie.Need-returns
-returns c = next-line (c .before .before .before .before .before .before .before .before .before .before .before .before .before .before .before .before .before .before .before .before .before .before .before .before .before .before .before .before .before .before .before .before .before .before .before .before .before .before .before .before .pre .0) (coded (now (c .before .before .before .before .before .before .before .before .before .before .before .before .before .before .before .before .before .before .before .before .before .before .before .before .before .before .before .before .before .before .before .before .before .before .before .before .before .before .before .before .args .s)) (now (c .before .before .before .before .before .before .before .before .before .before .before .before .before .before .before .before .before .before .before .before .before .before .before .before .before .before .before .before .before .before .before .before .before .before .before .before .before .before .before .before .args .t)) (c .before .before .before .before .before .before .before .before .before .before .before .before .before .before .before .before .before .before .before .before .before .before .name-code .result) (c .before .before .before .before .before .before .before .before .before .before .before .before .before .before .before .before .before .before .before .before .before .before .name-code .ensures)) (c .before .before .before .before .before .before .before .before .before .before .before .before .before .before .before .before .before .judge-line .ensures) (c .before .before .before .before .before .before .before .before .before .before .before .before .class-line .ensures) (c .before .before .before .before .before .before .pass-line .ensures) (omega (arith, c .before .before .before .before .before .before .before .before .before .before .before .before .before .before .before .before .before .before .before .before .before .before .before .before .before .before .before .before .before .before .before .before .before .before .before .before .before .before .before .before .pre .0, c .before .before .before .before .before .before .before .before .before .before .before .before .before .before .before .before .before .before .before .before .before .before .before .before .before .before .before .before .before .before .before .before .before .before .before .before .before .before .before .before .pre .1 .room))
+returns c =
+    let at-pass-line = c .before .before .before .before .before .before in
+    let at-class-line = at-pass-line .before .before .before .before .before .before in
+    let at-judge-line = at-class-line .before .before .before .before .before in
+    let at-name-code = at-judge-line .before .before .before .before .before in
+    let start = at-name-code .before .before .before .before .before .before .before .before .before .before .before .before .before .before .before .before .before .before in
+    next-line (start .pre .0) (coded (now (start .args .s)) (now (start .args .t)) (at-name-code .name-code .result) (at-name-code .name-code .ensures)) (at-judge-line .judge-line .ensures) (at-class-line .class-line .ensures) (at-pass-line .pass-line .ensures) (omega (arith, start .pre .0, start .pre .1 .room))
 
 pub next-line-spec : {M : Type 1} → statement M
 next-line-spec =
