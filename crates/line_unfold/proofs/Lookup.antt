@@ -3,10 +3,10 @@ use mathlib.Core.Path.{_≡_, refl, sym, ap, _∙_}
 use mathlib.Core.List.{List, [], _∷_, _++_, append-assoc}
 use Prim.Native.Nat.{ℕ, zero, suc, _+_, _-_, _≤_, _<_}
 use native.Mathlib.Omega.{arith}
-use native.Mathlib.Nat.{add-assoc}
+use native.Mathlib.Nat.{add-assoc, zero-add}
 use native.Mathlib.Numerals.{add-one}
 use lib.ListN.{length, take, drop, getD, length-append, length-take, take-append-drop}
-use lib.Seq.{getD-take, take-at, drop-at}
+use lib.Seq.{getD-take, take-all, take-at, drop-at}
 use borrow.Author.Tests.{lt-leb, le-ltb}
 use Rattle.text.specs.Bytes.{Bytes, flat}
 use Rattle.line_unfold.specs.Table.{Laid, marks, lineAt}
@@ -38,7 +38,7 @@ flat-at (l ∷ ls) (suc j) h =
     ap (λ u. l ++ u) (flat-at ls j g) ∙ sym (append-assoc l (flat (take j ls)) (getD ls j [] ++ flat (drop (suc j) ls)))
 
 module _ (ls : List Bytes) (k : ℕ) (out table : List ℕ) (is : Laid ls k out table) (j : ℕ) (h : j < k) where
-  start : getD table j 0 ≡ length (flat (take j ls))
+  pub start : getD table j 0 ≡ length (flat (take j ls))
   start =
       let a : j < k + 1 = omega arith in
       let b : j ≤ length ls = omega (arith, is .count) in
@@ -54,12 +54,12 @@ module _ (ls : List Bytes) (k : ℕ) (out table : List ℕ) (is : Laid ls k out 
       ∙ mark-at 0 ls (j + 1) b
       ∙ (let e : length (flat (take (j + 1) ls)) ≡ length (flat (take j ls)) + length (getD ls j []) = rw add-one (flat-take-suc ls j c) in omega arith)
 
-  table-long : j + 1 < length table
+  pub table-long : j + 1 < length table
   table-long =
       let a : length (take (k + 1) table) ≡ suc (length ls) = ap length (is .starts) ∙ marks-length 0 ls in
       omega (arith, is .count, simp length-take at a)
 
-  out-is : out ≡ flat (take j ls) ++ (getD ls j [] ++ (flat (drop (suc j) ls) ++ drop (length (flat ls)) out))
+  pub out-is : out ≡ flat (take j ls) ++ (getD ls j [] ++ (flat (drop (suc j) ls) ++ drop (length (flat ls)) out))
   out-is =
       let c : j < length ls = omega (arith, is .count) in
       sym (take-append-drop (length (flat ls)) out)
@@ -79,3 +79,11 @@ module _ (ls : List Bytes) (k : ℕ) (out table : List ℕ) (is : Laid ls k out 
       rw (lt-leb (length table) (j + 1) table-long, le-ltb _ _ a, le-ltb _ _ b, start, stop, n)
       (ap (λ u. take (length (getD ls j [])) u) (ap (drop (length (flat (take j ls)))) out-is ∙ drop-at (flat (take j ls)) _ _ refl)
       ∙ take-at (getD ls j []) _ _ refl)
+
+-- where the last line ends: all lines stand before it
+pub lines-end : {ls : List Bytes} {k : ℕ} {out table : List ℕ} → Laid ls k out table → getD table k 0 ≡ length (flat ls)
+lines-end {ls} {k} {out} {table} is =
+    let a : k < k + 1 = omega arith in
+    let b : k ≤ length ls = omega (arith, is .count) in
+    let c : length ls ≤ k = omega (arith, is .count) in
+    sym (getD-take (k + 1) table k 0 a) ∙ ap (λ t. getD t k 0) (is .starts) ∙ mark-at 0 ls k b ∙ zero-add _ ∙ ap (λ u. length (flat u)) (take-all k ls c)

@@ -1,0 +1,33 @@
+use mathlib.Core.Path.{refl}
+use native.Mathlib.Omega.{arith}
+use denote.Ref.{now}
+use lib.ListN.{length-set}
+use borrow.Author.Needs.{needs}
+use Rattle.card_classes.proofs.pass_line.Statement.{statement}
+use Rattle.card_classes.proofs.pass_line.Tie as tie
+
+settle-requires : tie.Need-settle-requires
+settle-requires c κs = search needs
+
+slice-write-codes : tie.Need-slice-write-codes
+slice-write-codes c = search needs
+
+same-length : tie.Need-same-length
+same-length c = search needs
+
+same-length-2 : tie.Need-same-length-2
+same-length-2 c = search needs
+
+same-length-3 : tie.Need-same-length-3
+same-length-3 c = search needs
+
+returns : tie.Need-returns
+returns c =
+    let at-settle = c .before .before .before .before in
+    let start = at-settle .before .before .before .before .before .before .before .before in
+    record { ready = record { table = at-settle .settle .ensures .table; few = omega (arith, at-settle .settle .ensures .few, start .pre .1 .few); room = simp length-set (start .pre .1 .room) }; judged = refl; settled = at-settle .settle .result; settles = at-settle .settle .ensures; stored = refl; full = refl; parts = refl; count = refl }
+
+pub pass-line-spec : {M : Type 1} → statement M
+pass-line-spec =
+    tie.close
+    (tie.spec settle-requires slice-write-codes same-length same-length-2 same-length-3 returns)

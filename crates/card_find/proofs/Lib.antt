@@ -1,0 +1,4 @@
+pub mod Finding
+pub mod Given
+pub mod Told
+pub mod Sections

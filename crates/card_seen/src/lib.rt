@@ -1,0 +1,151 @@
+// PROP-IDs and JSPROP pointers of the converted lines so far, in one table with prints, and the number of a line's class settled by it.
+ghost use mathlib.Core.Path.{_≡_};
+ghost use Prim.Native.Nat.{_+_, _≤_, _<_};
+ghost use lib.ListN.{length, set};
+ghost use Rattle.text.specs.Bytes.{any};
+ghost use Rattle.json_sound.specs.Kept.{printed};
+ghost use Rattle.convert.specs.Classify.{isId};
+ghost use Rattle.line_table.specs.Table.{part, Span};
+ghost use Rattle.class_line.specs.Class.{ClassIn};
+ghost use Rattle.card_seen.specs.Ids.{idsAt, Listed, IdTable, withId, Cut};
+ghost use Rattle.card_seen.specs.Settled.{Settles, Notes};
+use class_line::Class;
+use convert_tests::is_id;
+use json_sound::any_print;
+use json_sound::stirred;
+
+// The number of the line's class; whether FN and N have converted now; how many keys the table has now.
+pub struct Settled {
+    pub code: u8,
+    pub full: bool,
+    pub parts: bool,
+    pub count: usize,
+}
+
+// A print of a key of the map i: equal keys of one map have equal prints.
+fn print_of(i: usize, key: &[u8]) -> u16
+    requires { ⌜ i < 8 ⌝ }
+    ensures { λ r. ⌜ r ≡ printed i (now (key .entry)) ⌝ }
+{
+    let mut p = i as u32;
+    let mut k = 0;
+    while k < key.len() {
+        p = stirred(p, key[k]);
+        k += 1;
+    }
+    p as u16
+}
+
+// Whether one of the n keys is that key of the map i, by their bytes, the last first.
+fn is_listed(bytes: &[u8], ids: &[usize], n: usize, i: usize, key: &[u8]) -> bool
+    requires { ⌜ Listed (now bytes) (now ids) n ⌝ }
+    ensures { λ r. ⌜ r ≡ any (isId i (now (key .entry))) (idsAt (now (bytes .entry)) (now (ids .entry)) n) ⌝ }
+{
+    let mut k = n;
+    while k > 0 {
+        k -= 1;
+        let at = 3 * k;
+        let j = ids[at];
+        let a = ids[at + 1];
+        let b = ids[at + 2];
+        if is_id(bytes, j, a, b, i, key) {
+            return true;
+        }
+    }
+    false
+}
+
+// The same, by the prints first: bytes are compared only where a print is equal.
+fn is_used(
+    bytes: &[u8],
+    ids: &[usize],
+    prints: &[u16],
+    n: usize,
+    i: usize,
+    p: u16,
+    key: &[u8],
+) -> bool
+    requires { ⌜ IdTable (now bytes) (now ids) (now prints) n × (p ≡ printed i (now key)) ⌝ }
+    ensures { λ r. ⌜ r ≡ any (isId i (now (key .entry))) (idsAt (now (bytes .entry)) (now (ids .entry)) n) ⌝ }
+{
+    if !any_print(prints, p, 0, n) {
+        return false;
+    }
+    is_listed(bytes, ids, n, i, key)
+}
+
+// One key more, of the map i, from a to b, with the print p.
+fn put_id(ids: &mut [usize], prints: &mut [u16], n: usize, i: usize, a: usize, b: usize, p: u16) -> usize
+    requires { ⌜ (n < 512) × (1536 ≤ length (now ids)) × (512 ≤ length (now prints)) ⌝ }
+    ensures { λ r. ⌜ (r ≡ n + 1) × (now (ids .exit) ≡ withId (now (ids .entry)) n i a b) × (now (prints .exit) ≡ set (now (prints .entry)) n p) ⌝ }
+{
+    let at = 3 * n;
+    ids[at] = i;
+    ids[at + 1] = a;
+    ids[at + 2] = b;
+    prints[n] = p;
+    n + 1
+}
+
+// The key from a to b of the line, which begins at `at`, is kept where it is not used in the map i: answers how many there are then.
+fn note_key(
+    ids: &mut [usize],
+    prints: &mut [u16],
+    n: usize,
+    bytes: &[u8],
+    at: usize,
+    s: &[u8],
+    i: usize,
+    a: usize,
+    b: usize,
+) -> usize
+    requires { ⌜ IdTable (now bytes) (now ids) (now prints) n × (n < 512) × (i < 8) × Span (now s) a b × Cut (now bytes) (now s) at ⌝ }
+    ensures { λ r. ⌜ Notes (now (bytes .entry)) (now (s .entry)) (now (ids .entry)) n i a b (now (ids .exit)) (now (prints .exit)) r ⌝ }
+{
+    let p = print_of(i, &s[a..b]);
+    if is_used(bytes, ids, prints, n, i, p, &s[a..b]) {
+        return n;
+    }
+    put_id(ids, prints, n, i, at + a, at + b, p)
+}
+
+// What the line becomes, where the table of n keys, `full` and `parts` say what was seen before it.
+pub fn settle(
+    ids: &mut [usize],
+    prints: &mut [u16],
+    n: usize,
+    full: bool,
+    parts: bool,
+    bytes: &[u8],
+    at: usize,
+    s: &[u8],
+    class: Class,
+) -> Settled
+    requires { ⌜ IdTable (now bytes) (now ids) (now prints) n × (n < 512) × ClassIn (now s) class × Cut (now bytes) (now s) at ⌝ }
+    ensures { λ r. ⌜ Settles (now (bytes .entry)) (now (s .entry)) (now (ids .entry)) n full parts class (now (ids .exit)) (now (prints .exit)) r ⌝ }
+{
+    match class {
+        Class::Kept => Settled { code: 16, full: full, parts: parts, count: n },
+        Class::Dropped => Settled { code: 17, full: full, parts: parts, count: n },
+        Class::Version => Settled { code: 18, full: full, parts: parts, count: n },
+        Class::Uid => Settled { code: 19, full: full, parts: parts, count: n },
+        Class::Kind => Settled { code: 20, full: full, parts: parts, count: n },
+        Class::Full => Settled { code: 21, full: true, parts: parts, count: n },
+        Class::Parts => Settled { code: 22, full: full, parts: true, count: n },
+        Class::Entry { map } => Settled { code: map as u8, full: full, parts: parts, count: n },
+        Class::Keyed { map, start, end } => {
+            let m = note_key(ids, prints, n, bytes, at, s, map, start, end);
+            if m == n {
+                return Settled { code: 16, full: full, parts: parts, count: n };
+            }
+            Settled { code: map as u8, full: full, parts: parts, count: m }
+        }
+        Class::Member { start, end } => {
+            let m = note_key(ids, prints, n, bytes, at, s, 7, start, end);
+            if m == n {
+                return Settled { code: 16, full: full, parts: parts, count: n };
+            }
+            Settled { code: 23, full: full, parts: parts, count: m }
+        }
+    }
+}
