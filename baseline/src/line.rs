@@ -90,12 +90,12 @@ impl Line {
         }
         text.push_str(&self.name);
         for param in &self.params {
-            let values: Vec<String> = param
-                .values
-                .iter()
-                .map(|value| write_param_value(&param.name, value))
-                .collect();
-            text.push_str(&format!(";{}={}", param.name, values.join(",")));
+            text.push(';');
+            text.push_str(&param.name);
+            for (index, value) in param.values.iter().enumerate() {
+                text.push(if index == 0 { '=' } else { ',' });
+                write_param_value(&param.name, value, &mut text);
+            }
         }
         text.push(':');
         text.push_str(&self.value);
@@ -140,26 +140,28 @@ fn read_param_value(text: &str) -> Option<(&str, &str)> {
 }
 
 /// JSPTR is always quoted, as RFC 9555 demands; others where they must be.
-fn write_param_value(name: &str, value: &str) -> String {
-    if name == "JSPTR" || value.contains([';', ':', ',']) {
-        format!("\"{value}\"")
-    } else {
-        value.to_string()
-    }
+fn write_param_value(name: &str, value: &str, text: &mut String) {
+    let quoted = name == "JSPTR" || value.contains([';', ':', ',']);
+    let quote = if quoted { "\"" } else { "" };
+    text.extend([quote, value, quote]);
 }
 
 /// Folds at 75 bytes at the latest whole character, the leading space counted,
 /// and ends the line with CR LF.
 pub fn fold(line: &str, out: &mut String) {
-    let mut used = 0;
-    for character in line.chars() {
-        if used + character.len_utf8() > 75 {
-            out.push_str("\r\n ");
-            used = 1;
+    let mut rest = line;
+    let mut room = 75;
+    while rest.len() > room {
+        let mut cut = room;
+        while !rest.is_char_boundary(cut) {
+            cut -= 1;
         }
-        out.push(character);
-        used += character.len_utf8();
+        out.push_str(&rest[..cut]);
+        out.push_str("\r\n ");
+        rest = &rest[cut..];
+        room = 74;
     }
+    out.push_str(rest);
     out.push_str("\r\n");
 }
 

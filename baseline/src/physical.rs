@@ -1,6 +1,8 @@
 //! Physical lines, the BEGIN and END lines, and unfolding. All on bytes, since
 //! a fold may stand inside a character.
 
+use std::borrow::Cow;
+
 /// The contents of the physical lines. A line ends at LF, a CR just before
 /// belongs to the end, and a missing last LF is supposed.
 pub fn lines(input: &[u8]) -> Vec<&[u8]> {
@@ -38,13 +40,14 @@ pub fn between_begin_and_end(input: &[u8]) -> Option<Vec<&[u8]>> {
 }
 
 /// Joins continuation lines to the line before, without their one blank. The
-/// very first line has none before it, so its blank stays.
-pub fn unfold(physical: &[&[u8]]) -> Vec<Vec<u8>> {
-    let mut unfolded: Vec<Vec<u8>> = Vec::new();
+/// very first line has none before it, so its blank stays. A line without
+/// continuation is borrowed from the input.
+pub fn unfold<'a>(physical: &[&'a [u8]]) -> Vec<Cow<'a, [u8]>> {
+    let mut unfolded: Vec<Cow<[u8]>> = Vec::new();
     for line in physical {
         match (line.first(), unfolded.last_mut()) {
-            (Some(b' ' | b'\t'), Some(last)) => last.extend_from_slice(&line[1..]),
-            _ => unfolded.push(line.to_vec()),
+            (Some(b' ' | b'\t'), Some(last)) => last.to_mut().extend_from_slice(&line[1..]),
+            _ => unfolded.push(Cow::Borrowed(line)),
         }
     }
     unfolded
@@ -67,7 +70,7 @@ mod tests {
 
     #[test]
     fn the_first_line_keeps_its_blank() {
-        assert_eq!(unfold(&[b" a", b" b"]), [b" ab"]);
-        assert_eq!(unfold(&[b"", b" b"]), [b"b"]);
+        assert_eq!(unfold(&[b" a", b" b"]), [&b" ab"[..]]);
+        assert_eq!(unfold(&[b"", b" b"]), [&b"b"[..]]);
     }
 }

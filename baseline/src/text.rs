@@ -3,19 +3,18 @@
 /// Reads `\\` `\,` `\;` `\n` `\N`; a bare comma or semicolon stands for itself.
 /// None if an escape is bad.
 pub fn read(raw: &str) -> Option<String> {
-    let mut text = String::new();
-    let mut characters = raw.chars();
-    while let Some(character) = characters.next() {
-        if character != '\\' {
-            text.push(character);
-            continue;
-        }
-        match characters.next()? {
-            escaped @ ('\\' | ',' | ';') => text.push(escaped),
-            'n' | 'N' => text.push('\n'),
+    let mut text = String::with_capacity(raw.len());
+    let mut rest = raw;
+    while let Some((plain, escape)) = rest.split_once('\\') {
+        text.push_str(plain);
+        match escape.bytes().next()? {
+            escaped @ (b'\\' | b',' | b';') => text.push(escaped as char),
+            b'n' | b'N' => text.push('\n'),
             _ => return None,
         }
+        rest = &escape[1..];
     }
+    text.push_str(rest);
     Some(text)
 }
 

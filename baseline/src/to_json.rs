@@ -1,143 +1,198 @@
-//! Writes a contact as JSON, in the stated order.
+//! Writes a contact as JSON, in the stated order, straight to the output.
 
 use crate::contact::{Body, Contact, Entry};
-use crate::json::{self, Value};
+use crate::json::{self, write_string};
 use crate::line::Line;
 use crate::table::{Map, CONTEXTS, KINDS, MAPS, TYPES};
 
-type Members = Vec<(String, Value)>;
-
 pub fn write(contact: &Contact) -> String {
-    let mut out = String::new();
-    json::write(&card(contact), &mut out);
-    out
-}
-
-fn card(contact: &Contact) -> Value {
-    let mut members = Members::new();
-    put(&mut members, "@type", Value::string("Card"));
-    put(&mut members, "version", Value::string("1.0"));
-    put(&mut members, "uid", Value::string(&contact.uid));
+    let mut out = Out::default();
+    out.open('{');
+    out.text("@type", "Card");
+    out.text("version", "1.0");
+    out.text("uid", &contact.uid);
     if let Some(kind) = &contact.kind {
-        put(&mut members, "kind", Value::string(kind));
+        out.text("kind", kind);
     }
     if contact.full.is_some() || contact.has_components() {
-        put(&mut members, "name", name(contact));
+        out.name("name");
+        write_name(contact, &mut out);
     }
     for map in MAPS {
         let entries = &contact.maps[map as usize];
         if !entries.is_empty() {
-            let entries = entries.iter().map(|(key, e)| (key.clone(), entry(map, e)));
-            put(&mut members, map.member(), Value::Object(entries.collect()));
+            out.name(map.member());
+            out.open('{');
+            for (key, entry) in entries {
+                out.name(key);
+                write_entry(map, entry, &mut out);
+            }
+            out.close('}');
         }
     }
-    members.extend(contact.members.iter().cloned());
-    if !contact.kept.is_empty() {
-        let kept = contact.kept.iter().map(kept_entry).collect();
-        put(&mut members, "vCardProps", Value::Array(kept));
+    for (name, value) in &contact.members {
+        out.name(name);
+        json::write(value, &mut out.json);
     }
-    Value::Object(members)
+    if !contact.kept.is_empty() {
+        out.name("vCardProps");
+        out.open('[');
+        for line in &contact.kept {
+            out.separate();
+            write_kept(line, &mut out);
+        }
+        out.close(']');
+    }
+    out.close('}');
+    out.json
 }
 
-fn put(members: &mut Members, name: &str, value: Value) {
-    members.push((name.to_string(), value));
+/// The JSON so far; a comma stands before every member or item but the first
+/// behind an opening bracket.
+#[derive(Default)]
+struct Out {
+    json: String,
 }
 
-fn name(contact: &Contact) -> Value {
-    let mut members = Members::new();
+impl Out {
+    fn open(&mut self, bracket: char) {
+        self.json.push(bracket);
+    }
+
+    fn close(&mut self, bracket: char) {
+        self.json.push(bracket);
+    }
+
+    fn separate(&mut self) {
+        if !self.json.ends_with(['{', '[']) {
+            self.json.push(',');
+        }
+    }
+
+    fn name(&mut self, name: &str) {
+        self.separate();
+        write_string(name, &mut self.json);
+        self.json.push(':');
+    }
+
+    fn text(&mut self, name: &str, text: &str) {
+        self.name(name);
+        write_string(text, &mut self.json);
+    }
+
+    fn item(&mut self, text: &str) {
+        self.separate();
+        write_string(text, &mut self.json);
+    }
+}
+
+fn write_name(contact: &Contact, out: &mut Out) {
+    out.open('{');
     if let Some(full) = &contact.full {
-        put(&mut members, "full", Value::string(full));
+        out.text("full", full);
     }
     if contact.has_components() {
-        let components = KINDS
-            .iter()
-            .zip(&contact.components)
-            .flat_map(|(kind, values)| values.iter().map(|value| component(kind, value)));
-        put(
-            &mut members,
-            "components",
-            Value::Array(components.collect()),
-        );
+        out.name("components");
+        out.open('[');
+        for (kind, values) in KINDS.iter().zip(&contact.components) {
+            for value in values {
+                out.separate();
+                out.open('{');
+                out.text("kind", kind);
+                out.text("value", value);
+                out.close('}');
+            }
+        }
+        out.close(']');
     }
-    Value::Object(members)
-}
-
-fn component(kind: &str, value: &str) -> Value {
-    let mut members = Members::new();
-    put(&mut members, "kind", Value::string(kind));
-    put(&mut members, "value", Value::string(value));
-    Value::Object(members)
+    out.close('}');
 }
 
 /// Kind, the table's members, contexts, features, pref.
-fn entry(map: Map, entry: &Entry) -> Value {
-    let mut members = Members::new();
+fn write_entry(map: Map, entry: &Entry, out: &mut Out) {
+    out.open('{');
     match &entry.body {
-        Body::Text(text) => put(&mut members, map.text_member(), Value::string(text)),
-        Body::Title(name) => title(&mut members, "title", name),
-        Body::Role(name) => title(&mut members, "role", name),
-        Body::Organization { name, units } => organization(&mut members, name, units),
+        Body::Text(text) => out.text(map.text_member(), text),
+        Body::Title(name) => write_title("title", name, out),
+        Body::Role(name) => write_title("role", name, out),
+        Body::Organization { name, units } => write_organization(name, units, out),
     }
-    put_types(&mut members, "contexts", entry, 0..CONTEXTS);
-    put_types(&mut members, "features", entry, CONTEXTS..TYPES.len());
+    write_types("contexts", entry, 0..CONTEXTS, out);
+    write_types("features", entry, CONTEXTS..TYPES.len(), out);
     if let Some(pref) = entry.pref {
-        put(&mut members, "pref", Value::Number(pref.to_string()));
+        out.name("pref");
+        out.json.push_str(&pref.to_string());
     }
-    Value::Object(members)
+    out.close('}');
 }
 
-fn title(members: &mut Members, kind: &str, name: &str) {
-    put(members, "kind", Value::string(kind));
-    put(members, "name", Value::string(name));
+fn write_title(kind: &str, name: &str, out: &mut Out) {
+    out.text("kind", kind);
+    out.text("name", name);
 }
 
-fn organization(members: &mut Members, name: &str, units: &[String]) {
+fn write_organization(name: &str, units: &[String], out: &mut Out) {
     if !name.is_empty() {
-        put(members, "name", Value::string(name));
+        out.text("name", name);
     }
     if !units.is_empty() {
-        let units = units
-            .iter()
-            .map(|unit| Value::Object(vec![("name".to_string(), Value::string(unit))]));
-        put(members, "units", Value::Array(units.collect()));
+        out.name("units");
+        out.open('[');
+        for unit in units {
+            out.separate();
+            out.open('{');
+            out.text("name", unit);
+            out.close('}');
+        }
+        out.close(']');
     }
 }
 
-fn put_types(members: &mut Members, name: &str, entry: &Entry, which: std::ops::Range<usize>) {
-    let types: Members = entry
-        .types
-        .range(which)
-        .map(|&index| (TYPES[index].json.to_string(), Value::Bool(true)))
-        .collect();
-    if !types.is_empty() {
-        put(members, name, Value::Object(types));
+fn write_types(name: &str, entry: &Entry, which: std::ops::Range<usize>, out: &mut Out) {
+    if entry.types.range(which.clone()).next().is_none() {
+        return;
     }
+    out.name(name);
+    out.open('{');
+    for &index in entry.types.range(which) {
+        out.name(TYPES[index].json);
+        out.json.push_str("true");
+    }
+    out.close('}');
 }
 
 /// Name, parameters but VALUE with the group first, type, raw value.
-fn kept_entry(line: &Line) -> Value {
-    let mut params = Members::new();
+fn write_kept(line: &Line, out: &mut Out) {
     let mut value_type = "unknown";
+    out.open('[');
+    out.item(&line.name.to_ascii_lowercase());
+    out.separate();
+    out.open('{');
     if let Some(group) = &line.group {
-        put(&mut params, "group", Value::string(group));
+        out.text("group", group);
     }
     for param in &line.params {
         match (param.name.as_str(), &param.values[..]) {
             ("VALUE", [value]) => value_type = value,
-            (name, values) => put(&mut params, &name.to_ascii_lowercase(), one_or_many(values)),
+            (name, values) => {
+                out.name(&name.to_ascii_lowercase());
+                write_one_or_many(values, out);
+            }
         }
     }
-    Value::Array(vec![
-        Value::string(&line.name.to_ascii_lowercase()),
-        Value::Object(params),
-        Value::string(value_type),
-        Value::string(&line.value),
-    ])
+    out.close('}');
+    out.item(value_type);
+    out.item(&line.value);
+    out.close(']');
 }
 
-fn one_or_many(values: &[String]) -> Value {
-    match values {
-        [value] => Value::string(value),
-        several => Value::Array(several.iter().map(|value| Value::string(value)).collect()),
+fn write_one_or_many(values: &[String], out: &mut Out) {
+    if let [value] = values {
+        return write_string(value, &mut out.json);
     }
+    out.open('[');
+    for value in values {
+        out.item(value);
+    }
+    out.close(']');
 }

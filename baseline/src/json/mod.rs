@@ -5,7 +5,7 @@ mod read;
 mod write;
 
 pub use read::read;
-pub use write::write;
+pub use write::{write, write_string};
 
 /// A JSON value. Numbers keep their spelling; objects keep their order.
 #[derive(Debug, Clone, PartialEq)]

@@ -181,19 +181,38 @@ impl Reader<'_> {
         self.at += 1;
         let mut text = String::new();
         loop {
+            text.push_str(self.run()?);
             match self.peek() {
                 Some(b'"') => {
                     self.at += 1;
                     return Ok(text);
                 }
                 Some(b'\\') => text.push(self.escape()?),
-                Some(byte) if byte >= b' ' => text.push_str(self.character()?),
                 _ => return Err(self.at),
             }
         }
     }
 
-    /// One raw character, its UTF-8 judged byte by byte (RFC 3629's table).
+    /// The raw characters up to a quote, a backslash, a control or the end, copied
+    /// as one run. Only where they are no UTF-8 is the place sought byte by byte.
+    fn run(&mut self) -> Result<&str, usize> {
+        let rest = &self.input[self.at..];
+        let stop = |byte: &u8| matches!(byte, b'"' | b'\\' | 0..=0x1f);
+        let run = &rest[..rest.iter().position(stop).unwrap_or(rest.len())];
+        match std::str::from_utf8(run) {
+            Ok(text) => {
+                self.at += run.len();
+                Ok(text)
+            }
+            Err(fault) => {
+                self.at += fault.valid_up_to();
+                self.character()
+            }
+        }
+    }
+
+    /// One raw character, its UTF-8 judged byte by byte (RFC 3629's table), for 11's
+    /// place: the byte that breaks it.
     fn character(&mut self) -> Result<&str, usize> {
         let start = self.at;
         let (second, more) = match self.input[start] {

@@ -23,3 +23,6 @@ pub mod Proper
 pub mod MapsJson
 pub mod CardParts
 pub mod CardJson
+pub mod Seeking
+pub mod AlikeTexts
+pub mod AnswerLaws

@@ -10,5 +10,6 @@ pub mod FromJson
 pub mod ToCard
 pub mod Carry
 pub mod Answers
+pub mod Served
 pub mod NormalCard
 pub mod NormalJson

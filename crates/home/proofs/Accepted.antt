@@ -20,7 +20,7 @@ use Rattle.convert.specs.FromJson.{cardFromJson}
 use Rattle.convert.specs.Carry.{carried}
 use Rattle.convert.specs.ToCard.{cardLines, printCard}
 use Rattle.convert.specs.Answers.{Answer, no, yes, Test, seek, given, givenAt, atLine, cardRoom, lineRoom, jsonRoom, isStemText, isCardNumber, garbled, ungrammatical, isNamed, versionFirst, misused, secondFrom, emptied, rawLines, orNone, linesOf, lineTests, fitted, convertLines, convertCard, cardToJson, convertModel, convertTree, jsonToCard}
-use Rattle.home.proofs.Seeking.{no-yes, seek-fine, given-false, given-none, at-line-none, fitted-inv}
+use Rattle.convert.proofs.Seeking.{no-yes, seek-fine, given-false, given-none, at-line-none, fitted-inv}
 
 -- the lines of an accepted card, unfolded and read
 pub record GoodLines (raw : List Bytes) (ls : List Line) : Type 0 where

@@ -2,7 +2,6 @@
 use mathlib.Core.Path.{_≡_, refl}
 use mathlib.Core.Bool.{false}
 use mathlib.Core.List.{List, [], _∷_, _++_}
-use Prim.Native.Nat.{ℕ}
 use native.Mathlib.Omega.{arith}
 use lib.ListN.{length}
 use Rattle.text.specs.Bytes.{Bytes, ascii}
@@ -10,20 +9,14 @@ use Rattle.text.proofs.Cases.{not-both}
 use Rattle.line.specs.Grammar.{Line}
 use Rattle.line.specs.Physical.{lacksLf, sizeOf}
 use Rattle.line.specs.Write.{writeLine, fold, writeLines, writeCard}
+use Rattle.line.proofs.Ends.{lacks-after}
 use Rattle.convert.specs.Model.{Card}
 use Rattle.convert.specs.ToCard.{cardLines, printCard}
-
--- what comes before changes nothing
-last-lf : (s : Bytes) (d : ℕ) (t : Bytes) → lacksLf (s ++ d ∷ t) ≡ lacksLf (d ∷ t)
-unfolding lacksLf
-last-lf [] d t = refl
-last-lf (c ∷ []) d t = refl
-last-lf (c ∷ (e ∷ s)) d t = last-lf (e ∷ s) d t
 
 ends : (s t : Bytes) → lacksLf t ≡ false → lacksLf (s ++ t) ≡ false
 unfolding lacksLf
 ends s [] h = not-both refl h
-ends s (d ∷ t) h = rw (last-lf s d t) h
+ends s (d ∷ t) h = rw (lacks-after s d t) h
 
 lines-end : (ls : List Line) (t : Bytes) → lacksLf t ≡ false → lacksLf (writeLines ls t) ≡ false
 unfolding writeLines

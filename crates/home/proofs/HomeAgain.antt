@@ -21,7 +21,7 @@ use Rattle.convert.specs.Answers.{yes, seek, given, cardRoom, lineRoom, jsonRoo
 use Rattle.home.specs.Proper.{ProperCard}
 use Rattle.home.specs.Allowed.{AllStand, carriedLines, newLines}
 use Rattle.home.specs.Turns.{InTurn}
-use Rattle.home.proofs.Seeking.{seek-fine, given-false, fitted-inv}
+use Rattle.convert.proofs.Seeking.{seek-fine, given-false, fitted-inv}
 use Rattle.home.proofs.Accepted.{AcceptedCard, accepted-card}
 use Rattle.home.proofs.CardLines.{card-unfolded, card-read}
 use Rattle.home.proofs.CardAnswer.{card-to-json}

@@ -17,7 +17,6 @@ pub mod SoundEntries
 pub mod SoundTree
 pub mod SoundWhole
 pub mod JsonHome
-pub mod Seeking
 pub mod Accepted
 pub mod Known
 pub mod Images

@@ -4,6 +4,7 @@ pub mod Examples
 pub mod Texts
 pub mod Parameters
 pub mod Lines
+pub mod Ends
 pub mod Pieces
 pub mod Folding
 pub mod Frame

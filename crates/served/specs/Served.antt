@@ -1,7 +1,5 @@
--- What a caller sees of an answer of 01: the outcome, and the lent output afterwards. Every service promises both by these two definitions.
+-- The code's answer for an answer of 01. The lent output afterwards is `leftBy` of convert/specs/Served: every service promises both.
 use lib.ListN.{length}
-use Rattle.text.specs.Bytes.{Bytes}
-use Rattle.output.specs.Put.{put}
 use Rattle.convert.specs.Answers.{Answer, no, yes}
 use Rattle.served.specs.declared.Outcome.{Outcome}
 use Rattle.served.specs.declared.Outcome.the-variants.{Written, Refused}
@@ -10,8 +8,3 @@ use Rattle.served.specs.declared.Outcome.the-variants.{Written, Refused}
 abbrev pub outcomeOf : Answer → Outcome
 outcomeOf (no n p) = Refused n p
 outcomeOf (yes bs) = Written (length bs)
-
--- a result is put to the front of the output, the bytes beyond it are as lent; a refusal leaves every byte as lent
-abbrev pub leftBy : Bytes → Answer → Bytes
-leftBy out (no n p) = out
-leftBy out (yes bs) = put out bs

@@ -1,0 +1,121 @@
+//! The inputs that are measured: cards from small to full room, made without
+//! chance, so that every run measures the same bytes.
+
+/// A card of 12 lines, ASCII, nothing folded: what a telephone sends.
+pub fn ordinary() -> Vec<u8> {
+    card(&[
+        "FN:Ada Moss",
+        "N:Moss;Ada;Louise;Dr.;",
+        "NICKNAME:Addie",
+        "EMAIL;TYPE=work;PREF=1:ada.moss@watchworks.example",
+        "EMAIL;TYPE=home:ada@moss.example",
+        "TEL;TYPE=cell;PREF=1:+41 44 123 45 67",
+        "TEL;TYPE=work,voice:+41 44 765 43 21",
+        "ORG:Moss Watchworks;Repairs",
+        "TITLE:Master watchmaker",
+        "URL:https://watchworks.example/ada",
+        "NOTE:Calls before ten\\, never after six. Two watches in the safe.",
+    ])
+}
+
+/// Letters beyond ASCII, escapes, kept lines and folds.
+pub fn international() -> Vec<u8> {
+    let note = "Der Sekundenzeiger bleibt bei 40 stehen\\, Gehäuse zerkratzt\\; Kundin wünscht Rückruf. ".repeat(4);
+    let lines = [
+        "UID:urn:uuid:4fbe8971-0bc3-424c-9c26-36c3e1eff6b1".to_string(),
+        "FN:Žofie Müller-Šťastná".to_string(),
+        "N:Müller,Šťastná;Žofie;Élise;Ing.;PhD;Müller;".to_string(),
+        "NICKNAME:Žofka".to_string(),
+        "TEL;TYPE=\"voice,cell\";PREF=1:+420 234 567 890".to_string(),
+        "TEL;VALUE=uri;TYPE=home:tel:+43-1-234-5678;ext=12".to_string(),
+        "EMAIL;TYPE=work:zofie@hodinářství.example".to_string(),
+        "ORG:Hodinářství u Tří kohoutů;Opravy;Věžní hodiny".to_string(),
+        "TITLE:Hodinářka".to_string(),
+        "ROLE:Zástupkyně".to_string(),
+        "item1.X-ABLABEL:時計師の友人".to_string(),
+        "ADR;TYPE=work;LABEL=\"Náměstí 1, Praha\":;;Náměstí 1;Praha;;110 00;Česko".to_string(),
+        "LANG;TYPE=work;PREF=1:cs".to_string(),
+        format!("NOTE:{note}"),
+        "X-WATCH;X-MOVEMENT=automatic;X-YEAR=1968:Omega Seamaster".to_string(),
+    ];
+    let folded: Vec<String> = lines.iter().map(|line| fold(line)).collect();
+    let lines: Vec<&str> = folded.iter().map(String::as_str).collect();
+    card(&lines)
+}
+
+/// 512 lines of many kinds, filled up to 32,768 bytes.
+pub fn full() -> Vec<u8> {
+    let mut lines = vec!["FN:Full Card".to_string(), "N:Card;Full;;;".to_string()];
+    while lines.len() < 511 {
+        let k = lines.len();
+        lines.push(match k % 8 {
+            0 => format!("TEL;TYPE=cell;PREF={}:+41 44 {k:07}", k % 100 + 1),
+            1 => format!("EMAIL;TYPE=work:owner.{k}@watchworks.example"),
+            2 => format!("X-SERIAL;X-CASE=\"{k};steel\":{k:08}"),
+            3 => format!("NOTE:Watch {k}\\, strap worn\\; glass scratched"),
+            4 => format!("URL;VALUE=uri:https://watchworks.example/{k}"),
+            5 => format!("item{k}.X-LABEL:Shelf {k}"),
+            6 => format!("ORG:Dealer {k};Branch {}", k % 7),
+            _ => format!("TITLE:Keeper of watch {k}"),
+        });
+    }
+    let texts: Vec<&str> = lines.iter().map(String::as_str).collect();
+    let short = 32_768 - card(&texts).len();
+    // filler spread over the notes
+    let notes: Vec<usize> = (0..lines.len()).filter(|&k| lines[k].starts_with("NOTE:")).collect();
+    for (index, &k) in notes.iter().enumerate() {
+        let filler = short / notes.len() + usize::from(index < short % notes.len());
+        lines[k].push_str(&"x".repeat(filler));
+    }
+    let texts: Vec<&str> = lines.iter().map(String::as_str).collect();
+    card(&texts)
+}
+
+/// 509 telephone lines, each with a PROP-ID.
+pub fn prop_ids() -> Vec<u8> {
+    let mut lines = vec!["FN:Many lines".to_string()];
+    lines.extend((0..509).map(|k| format!("TEL;PROP-ID=line-{k}:+41 44 {k:07}")));
+    let texts: Vec<&str> = lines.iter().map(String::as_str).collect();
+    card(&texts)
+}
+
+/// An object of 9,000 names, as short as they can be: 65,000 bytes.
+pub fn names() -> Vec<u8> {
+    let plain: Vec<char> = (33u8..127).map(char::from).filter(|c| !"\"\\".contains(*c)).collect();
+    let ones = plain.iter().map(|c| c.to_string());
+    let twos = plain.iter().flat_map(|a| plain.iter().map(move |b| format!("{a}{b}")));
+    let threes = (0..9000).map(|k| format!("zz{k}"));
+    let members: Vec<String> = ones.chain(twos).chain(threes).take(9000).map(|name| format!("\"{name}\":1")).collect();
+    format!("{{{}}}", members.join(",")).into_bytes()
+}
+
+/// Ordinary cards one after the other, about 10 MB.
+pub fn stream() -> Vec<u8> {
+    let one = ordinary();
+    one.iter().copied().cycle().take(one.len() * (10_000_000 / one.len())).collect()
+}
+
+fn card(lines: &[&str]) -> Vec<u8> {
+    let mut text = String::from("BEGIN:VCARD\r\nVERSION:4.0\r\n");
+    for line in lines {
+        text.push_str(line);
+        text.push_str("\r\n");
+    }
+    text.push_str("END:VCARD\r\n");
+    text.into_bytes()
+}
+
+/// Folded at 75 bytes, at whole characters.
+fn fold(line: &str) -> String {
+    let mut folded = String::new();
+    let mut rest = line;
+    let mut room = 75;
+    while rest.len() > room {
+        let cut = (0..=room).rev().find(|&at| rest.is_char_boundary(at)).unwrap_or(0);
+        folded.push_str(&rest[..cut]);
+        folded.push_str("\r\n ");
+        rest = &rest[cut..];
+        room = 74;
+    }
+    folded + rest
+}

@@ -1,0 +1,1 @@
+// What a call of the stream gives: definitions alone.

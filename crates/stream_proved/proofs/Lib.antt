@@ -1,0 +1,11 @@
+pub mod Words
+pub mod Passing
+pub mod Held
+pub mod Same
+pub mod Calls
+pub mod Cut
+pub mod Kept
+pub mod Placed
+pub mod Found
+pub mod Outputs
+pub mod Demand
