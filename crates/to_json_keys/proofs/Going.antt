@@ -13,13 +13,7 @@ use Rattle.text.proofs.Cases.{byBool, split, not-both, tests}
 use Rattle.text.proofs.Same.{same-true, among-head, among-later, differ-same}
 use Rattle.convert.specs.Keys.{numbered, freshFrom, fresh}
 use Rattle.convert.proofs.Fresh.{numbered-injective, numberFrom, fresh-numbered, fresh-unused, fresh-least}
-use Rattle.to_json_keys.specs.Taken.{Next}
-
--- ids: the PROP-IDs of the map; used: these and the keys so far; m: a number above all that were made
-pub record Going (p : Bytes) (ids used : List Bytes) (m : ℕ) : Type 0 where
-  pub from : 1 ≤ m
-  pub low : (j : ℕ) → 1 ≤ j → j < m → among (numbered p j) used ≡ true
-  pub high : (j : ℕ) → m ≤ j → among (numbered p j) used ≡ among (numbered p j) ids
+use Rattle.to_json_keys.specs.Taken.{Next, Going}
 
 pub going-first : (p : Bytes) (ids : List Bytes) → Going p ids ids 1
 going-first p ids = record { from = omega arith; low = λ j a b. absurd (omega arith); high = λ j a. refl }
@@ -79,6 +73,9 @@ module _ {p : Bytes} {ids used : List Bytes} {m r : ℕ} (g : Going p ids used m
   last : f ≤ r
   unfolding f
   last = split f r (λ h. h) (λ h. not-both (fresh-least p used r (omega (arith, g .from, next .on)) h) free)
+
+  pub made-low : r < 1025
+  made-low = let a : r ≤ f = least in let b : f < 1025 = small in omega arith
 
   -- the key is that of the next free number
   pub made-key : fresh p used ≡ numbered p r

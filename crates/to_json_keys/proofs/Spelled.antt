@@ -5,10 +5,10 @@ use mathlib.Core.List.{List, [], _∷_, _++_, append-nil}
 use Prim.Native.Nat.{ℕ, zero, suc, _+_, _-_, _*_, _/_, _%_, _≤_, _<_}
 use native.Mathlib.Omega.{arith}
 use native.Mathlib.Numerals.{add-one}
-use lib.Dec.{eqb}
+use lib.Dec.{eqb, leb}
 use lib.ListN.{length, take, drop, getD, length-append, length-drop, take-append-drop}
 use lib.Seq.{take-all, take-suc, drop-cons, take-at, getD-append-add}
-use borrow.Author.Tests.{eqb-true, eqb-false, ne-eqb, eq-eqb}
+use borrow.Author.Tests.{eqb-true, eqb-false, ne-eqb, eq-eqb, leb-true}
 use Rattle.text.specs.Bytes.{Bytes, between, isDigit, all, same, flat}
 use Rattle.text.specs.Decimal.{digitsBefore, decimal, valueFrom, number}
 use Rattle.text.proofs.Cases.{byBool, inRange, below, beyond, not-both, tests}
@@ -177,3 +177,11 @@ rest-spells k a r h = rw (take-all (length k - a) (drop a k) (omega (arith, leng
 pub key-row : (p : Bytes) (n : ℕ) → flat (p ∷ (45 ∷ []) ∷ decimal n ∷ []) ≡ numbered p n
 unfolding flat numbered
 key-row p n = ap (λ (x : Bytes). p ++ 45 ∷ x) (append-nil (decimal n))
+
+four-digits : (n : ℕ) → n < 1025 → leb (length (decimal n)) 4 ≡ true
+unfolding decimal digitsBefore
+four-digits n l = inRange (λ n. leb (length (decimal n)) 4) (λ n. true) n 0 1025 refl (omega arith) l
+
+pub key-short : (p : Bytes) (n : ℕ) → n < 1025 → length (numbered p n) ≤ length p + 5
+unfolding numbered
+key-short p n l = rw length-append (omega (arith, leb-true (length (decimal n)) 4 (four-digits n l)))

@@ -46,3 +46,11 @@ pub record Next (prefix : Bytes) (ids : List Bytes) (from r : ℕ) : Type 0 wher
 
 abbrev pub Nexts : List ℕ → Bool → ℕ → ℕ → Type 0
 Nexts row taken from r = (prefix : Bytes) (ids : List Bytes) → Blocked prefix ids taken row → 1 ≤ from → Next prefix ids from r
+
+-- ---- one counter a map
+
+-- ids: the PROP-IDs of the map; used: these and the keys so far; m: a number above all that were made
+pub record Going (p : Bytes) (ids used : List Bytes) (m : ℕ) : Type 0 where
+  pub from : 1 ≤ m
+  pub low : (j : ℕ) → 1 ≤ j → j < m → among (numbered p j) used ≡ true
+  pub high : (j : ℕ) → m ≤ j → among (numbered p j) used ≡ among (numbered p j) ids

@@ -1,0 +1,1 @@
+// The maps of a card's JSON, from its classified lines.
