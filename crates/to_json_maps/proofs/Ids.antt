@@ -31,13 +31,17 @@ gathered-append cs ds =
     ap flat (map-both (λ (c : Classed). gives (c .line) (c .class) .entry) cs ds)
     ∙ flat-append (map (λ (c : Classed). gives (c .line) (c .class) .entry) cs) (map (λ (c : Classed). gives (c .line) (c .class) .entry) ds)
 
-entries-append : (i : ℕ) (cs ds : List Classed) → entriesOf i (cs ++ ds) ≡ entriesOf i cs ++ entriesOf i ds
+pub entries-append : (i : ℕ) (cs ds : List Classed) → entriesOf i (cs ++ ds) ≡ entriesOf i cs ++ entriesOf i ds
 unfolding entriesOf
 entries-append i cs ds = ap (inMap i) (gathered-append cs ds) ∙ in-append i (gathered (λ (g : Gives). g .entry) cs) (gathered (λ (g : Gives). g .entry) ds)
 
-ids-append : (es fs : List Entry) → idsOf (es ++ fs) ≡ idsOf es ++ idsOf fs
+pub ids-append : (es fs : List Entry) → idsOf (es ++ fs) ≡ idsOf es ++ idsOf fs
 unfolding idsOf
 ids-append es fs = ap (keep (λ k. not (empty k))) (map-both (λ (e : Entry). e .key) es fs) ∙ keep-append (λ k. not (empty k)) (map (λ (e : Entry). e .key) es) (map (λ (e : Entry). e .key) fs)
+
+pub entries-none : (i : ℕ) → entriesOf i [] ≡ []
+unfolding entriesOf inMap gathered flat
+entries-none i = refl
 
 pub ids-none : (i : ℕ) → idsOf (entriesOf i []) ≡ []
 unfolding idsOf entriesOf inMap gathered flat keep

@@ -1,3 +1,5 @@
 pub mod Whole
 pub mod Rows
 pub mod Ids
+pub mod Heads
+pub mod Marking

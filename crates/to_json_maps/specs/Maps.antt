@@ -19,7 +19,10 @@ use Rattle.convert.specs.Classify.{Seen, Classed, entryOf}
 use Rattle.convert.specs.Keys.{keyOr}
 use Rattle.convert.specs.FromCard.{Gives, gathered, inMap, keyedEntries}
 use Rattle.convert.specs.ToJson.{where′, entryJson}
-use Rattle.convert_line.specs.Written.{keyed}
+use Rattle.convert_line.specs.Written.{keyed, Rowed}
+use Rattle.line_table.specs.Table.{lineIn}
+use Rattle.card_lines.specs.Classified.{Classified}
+use Rattle.to_json_keys.specs.Taken.{Taken, Blocked}
 use Rattle.convert_put.specs.Pieces.{memberBytes, closing}
 
 -- ---- the table's rows by their places
@@ -73,3 +76,33 @@ pub record Enters (s : Bytes) (i : ℕ) (e : Entry) : Type 0 where
   pub named : slotOf (lowered (line .name)) ≡ some slot
   pub index : slot .index ≡ i
   pub entry : entryOf seen slot line ≡ some e
+
+-- one of some map
+abbrev pub Entering : Bytes → Type 0
+Entering s = (i : ℕ) × (e : Entry) × Enters s i e
+
+-- the number of TITLE or ROLE, or 2, is that of the line's slot
+abbrev pub KindOf : Bytes → List ℕ → ℕ → ℕ → Type 0
+KindOf s t i r = (w : Slot) → slotOf (lowered (lineIn s t .name)) ≡ some w → w .index ≡ i → Rowed w i r
+
+-- ---- PROP-IDs
+
+-- the row with the marks of one line more, and whether it has a PROP-ID
+pub record MarksLine (prefix s : Bytes) (row after : List ℕ) (r : Bool) : Type 0 where
+  pub same : length after ≡ length row
+  pub has : (i : ℕ) (e : Entry) → Enters s i e → r ≡ not (empty (e .key))
+  pub marks : (i : ℕ) (e : Entry) → Enters s i e → (ids : List Bytes) → Taken prefix ids row → Taken prefix (ids ++ idsOf (e ∷ [])) after
+
+-- a row without marks
+pub record Unmarked (row : List ℕ) : Type 0 where
+  pub wide : 1025 ≤ length row
+  pub zero : (j : ℕ) → getD row j 0 ≡ 0
+
+-- ---- all lines
+
+abbrev pub HasLines : List ℕ → List ℕ → List ℕ → ℕ → Type 0
+HasLines scratch starts codes n = (cs : List Classed) × Classified scratch starts codes n cs
+
+-- the marks of all PROP-IDs of the map i
+abbrev pub MarksIds : Bytes → List ℕ → List ℕ → List ℕ → ℕ → ℕ → List ℕ → Bool → Type 0
+MarksIds prefix scratch starts codes n i row r = (cs : List Classed) → Classified scratch starts codes n cs → Blocked prefix (idsOf (entriesOf i cs)) r row
