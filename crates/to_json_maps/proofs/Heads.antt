@@ -1,21 +1,17 @@
 -- The rows of the table by their places, as the code has them.
-use mathlib.Core.Path.{_≡_, refl, sym, ap, subst, _∙_}
+use mathlib.Core.Path.{_≡_, refl, sym, ap, _∙_}
 use mathlib.Core.Bool.{Bool, true, false}
 use mathlib.Core.List.{List, [], _∷_, _++_}
-use mathlib.Core.Option.{some}
 use Prim.Native.Nat.{ℕ, zero, suc, _≤_, _<_}
 use native.Mathlib.Omega.{arith}
-use lib.Dec.{eqb}
-use lib.ListN.{length, getD}
-use borrow.Author.Tests.{ne-eqb, eq-eqb}
-use Rattle.text.specs.Choice.{pick}
-use Rattle.text.specs.Bytes.{Bytes, ascii, same, lowered}
+use lib.Dec.{leb}
+use lib.ListN.{length, getD, replicate, length-replicate}
+use borrow.Author.Tests.{leb-true}
+use Rattle.text.proofs.Cases.{inRange}
+use Rattle.text.specs.Bytes.{Bytes, ascii}
 use Rattle.json.specs.Compact.{quoted, spelledAll, spelled}
-use Rattle.convert.specs.Table.{Map, maps, Slot, slotOf}
-use Rattle.convert_line.specs.Written.{Rowed}
-use Rattle.line_table.specs.Table.{part, lineIn}
-use Rattle.to_json_maps.specs.Maps.{noMap, mapAt, prefixOf, headPiece, KindOf}
-use Rattle.to_json_maps.proofs.Rows.{kindNumber, slot-rowed}
+use Rattle.convert.specs.Table.{Map, maps}
+use Rattle.to_json_maps.specs.Maps.{noMap, mapAt, prefixOf, headPiece, Unmarked}
 
 pub head-begun : (m : Map) (b : Bool) → b ≡ true → 44 ∷ [] ≡ headPiece m b
 unfolding headPiece
@@ -121,26 +117,22 @@ pub prefixes : (i : ℕ) → prefixOf i ≡ mapAt i .prefix
 unfolding prefixOf
 prefixes i = refl
 
--- ---- TITLE and ROLE
+short : (i : ℕ) → i < 7 → leb (length (prefixOf i)) 16 ≡ true
+unfolding prefixOf mapAt
+short i l = inRange (λ i. leb (length (prefixOf i)) 16) (λ i. true) i 0 7 refl (omega arith) l
 
-name-in : (s : Bytes) (t : List ℕ) → lineIn s t .name ≡ part s (getD t 2 0) (getD t 3 0)
-unfolding lineIn
-name-in s t = refl
+pub prefix-fits : (i : ℕ) → i < 7 → length (prefixOf i) ≤ 16
+prefix-fits i l = leb-true (length (prefixOf i)) 16 (short i l)
 
-kind-as : (s : Bytes) (t : List ℕ) (i k : ℕ) → kindNumber i (lowered (lineIn s t .name)) ≡ k → KindOf s t i k
-kind-as s t i k e w h q = subst (Rowed w i) e (slot-rowed (lowered (lineIn s t .name)) w h i q)
+pub prefix-short : (i : ℕ) (p : Bytes) → i < 7 → p ≡ prefixOf i → length p ≤ 16
+prefix-short i p l e = omega (arith, ap length e, prefix-fits i l)
 
-pub kind-none : (s : Bytes) (t : List ℕ) (i : ℕ) → (i ≡ 5 → ⊥) → KindOf s t i 2
-kind-none s t i n = kind-as s t i 2 (ap (λ b. pick b (pick (same (lowered (lineIn s t .name)) (ascii "role")) 1 0) 2) (ne-eqb i 5 n))
+-- ---- a row without marks
 
-kind-title-or : (s : Bytes) (t : List ℕ) (i : ℕ) (r : Bool) → i ≡ 5 → r ≡ same (lowered (part s (getD t 2 0) (getD t 3 0))) (ascii "role") → KindOf s t i (pick r 1 0)
-kind-title-or s t i r q e =
-    kind-as s t i (pick r 1 0)
-    (ap (λ b. pick b (pick (same (lowered (lineIn s t .name)) (ascii "role")) 1 0) 2) (eq-eqb i 5 q)
-    ∙ ap (λ x. pick (same (lowered x) (ascii "role")) 1 0) (name-in s t) ∙ ap (λ b. pick b 1 0) (sym e))
+zero-at : (n j : ℕ) → _≡_ {A = ℕ} (getD (replicate n 0) j 0) 0
+zero-at zero j = refl
+zero-at (suc n) zero = refl
+zero-at (suc n) (suc j) = zero-at n j
 
-pub kind-role : (s : Bytes) (t : List ℕ) (i : ℕ) (r : Bool) → i ≡ 5 → r ≡ same (lowered (part s (getD t 2 0) (getD t 3 0))) (ascii "role") → r ≡ true → KindOf s t i 1
-kind-role s t i r q e z = subst (KindOf s t i) (ap (λ b. pick b 1 0) z) (kind-title-or s t i r q e)
-
-pub kind-title : (s : Bytes) (t : List ℕ) (i : ℕ) (r : Bool) → i ≡ 5 → r ≡ same (lowered (part s (getD t 2 0) (getD t 3 0))) (ascii "role") → r ≡ false → KindOf s t i 0
-kind-title s t i r q e z = subst (KindOf s t i) (ap (λ b. pick b 1 0) z) (kind-title-or s t i r q e)
+pub unmarked : Unmarked (replicate 1025 0)
+unmarked = record { wide = omega (arith, length-replicate {A = ℕ} 1025 0); zero = zero-at 1025 }

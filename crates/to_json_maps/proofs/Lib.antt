@@ -3,3 +3,4 @@ pub mod Rows
 pub mod Ids
 pub mod Heads
 pub mod Marking
+pub mod Turns

@@ -13,21 +13,16 @@ use Rattle.text.specs.Bytes.{Bytes, ascii, empty, same, lowered}
 use Rattle.text.proofs.Cases.{byBool, inRange, not-both, and-left}
 use Rattle.text.proofs.Choices.{none-some, some-same, provided-inv}
 use Rattle.text.proofs.Same.{same-true, same-eq}
-use Rattle.json.specs.Tree.{member, jstr}
-use Rattle.json.specs.Compact.{spelled, spelledAll, quoted, written}
 use Rattle.line.specs.Grammar.{Param, Line, readLine}
 use Rattle.line.specs.Params.{valuesNamed, onlyNamed, besidesValue, valueType}
 use Rattle.convert.specs.Table.{Map, maps, Slot, slotOf, slotFrom, position}
 use Rattle.convert.specs.Model.{Entry}
 use Rattle.convert.specs.Value.{isKeyText, takesType, readAs, filled}
 use Rattle.convert.specs.Classify.{Seen, Class, as-entry, Classed, isId, allowed, keyFrom, prefFrom, typesFrom, entryOf, classify}
-use Rattle.convert.specs.ToJson.{where′}
 use Rattle.convert_marks.specs.Row.{valuesKind, Row}
 use Rattle.convert_entry.specs.Rows.{formNumber, Is, codeOf}
 use Rattle.convert_entry.proofs.Named.{prop-ids}
 use Rattle.convert_entry.proofs.Tests.{first-id}
-use Rattle.convert_put.specs.Pieces.{kindPiece, contentPiece, memberBytes, before}
-use Rattle.convert_line.specs.Written.{Rowed}
 use Rattle.class_names.specs.Names.{typesOf, formOf}
 use Rattle.line_table.specs.Table.{lineIn, Holds}
 use Rattle.line_unfold.specs.Table.{lineAt}
@@ -35,7 +30,7 @@ use Rattle.table_entry.proofs.Spread.{entry-held}
 use Rattle.card_lines.proofs.Lines.{LineOf}
 use Rattle.home.proofs.Classes.{Fact, class-fact}
 use Rattle.home.proofs.Slots.{at, slot-row}
-use Rattle.to_json_maps.specs.Maps.{noMap, mapAt, Enters}
+use Rattle.to_json_maps.specs.Maps.{noMap, mapAt, Enters, Converts}
 use Rattle.to_json_maps.proofs.Whole.{entry-code}
 
 -- ---- from the number of a line's class to its entry
@@ -57,10 +52,6 @@ at-below i [] m e = none-some e
 at-below zero (x ∷ ms) m e = omega arith
 at-below (suc i) (x ∷ ms) m e = omega (arith, at-below i ms m e)
 
--- TITLE or ROLE, and neither
-abbrev pub kindNumber : ℕ → Bytes → ℕ
-kindNumber i n = pick (eqb i 5) (pick (same n (ascii "role")) 1 0) 2
-
 types-row : (i : ℕ) → i < 7 → mapAt i .types ≡ typesOf i
 unfolding mapAt typesOf
 types-row i l = inRange (λ i. mapAt i .types) typesOf i 0 7 refl (omega arith) l
@@ -69,49 +60,7 @@ form-row : (i : ℕ) → i < 7 → formNumber (mapAt i .form) ≡ formOf i
 unfolding mapAt formOf
 form-row i l = inRange (λ i. formNumber (mapAt i .form)) formOf i 0 7 refl (omega arith) l
 
-content-row : (i : ℕ) → i < 7 → quoted (mapAt i .content) (58 ∷ []) ≡ contentPiece i
-unfolding mapAt quoted spelledAll spelled contentPiece
-content-row i l = inRange (λ i. quoted (mapAt i .content) (58 ∷ [])) contentPiece i 0 7 refl (omega arith) l
-
-kinds-there : (i : ℕ) → i < 7 → not (empty (mapAt i .kinds)) ≡ eqb i 5
-unfolding mapAt
-kinds-there i l = inRange (λ i. not (empty (mapAt i .kinds))) (λ i. eqb i 5) i 0 7 refl (omega arith) l
-
-abbrev kindOut : List Bytes → ℕ → Bytes
-kindOut ks k = before (where′ (not (empty ks)) (member (ascii "kind") (jstr (getD ks k []))))
-
-no-kinds : (ks : List Bytes) (k : ℕ) → not (empty ks) ≡ false → kindOut ks k ≡ kindPiece 2
-unfolding before kindPiece
-no-kinds [] k e = refl
-no-kinds (x ∷ ks) k e = not-both refl e
-
-title-kinds : kindOut (mapAt 5 .kinds) 0 ≡ kindPiece 0
-unfolding mapAt quoted spelledAll spelled kindPiece before memberBytes written
-title-kinds = refl
-
-role-kinds : kindOut (mapAt 5 .kinds) 1 ≡ kindPiece 1
-unfolding mapAt quoted spelledAll spelled kindPiece before memberBytes written
-role-kinds = refl
-
 module _ (n : Bytes) (w : Slot) (e : slotOf n ≡ some w) where
-  known : (v : Bytes) (s : Slot) → slotOf v ≡ some s → s .which ≡ pick (same v (ascii "role")) 1 0 → same n v ≡ true → w .which ≡ pick (same n (ascii "role")) 1 0
-  known v s f g h =
-      let z : n ≡ v = same-true n v h in
-      ap (λ (x : Slot). x .which) (some-same (sym e ∙ ap slotOf z ∙ f)) ∙ g ∙ ap (λ x. pick (same x (ascii "role")) 1 0) (sym z)
-
-  which-is : w .which ≡ pick (same n (ascii "role")) 1 0
-  unfolding slotOf slotFrom position same
-  which-is =
-      byBool (same n (ascii "nickname")) (λ a. known (ascii "nickname") _ refl refl a) λ a.
-      byBool (same n (ascii "email")) (λ b. known (ascii "email") _ refl refl b) λ b.
-      byBool (same n (ascii "tel")) (λ c. known (ascii "tel") _ refl refl c) λ c.
-      byBool (same n (ascii "url")) (λ d. known (ascii "url") _ refl refl d) λ d.
-      byBool (same n (ascii "note")) (λ f. known (ascii "note") _ refl refl f) λ f.
-      byBool (same n (ascii "title")) (λ g. known (ascii "title") _ refl refl g) λ g.
-      byBool (same n (ascii "role")) (λ h. known (ascii "role") _ refl refl h) λ h.
-      byBool (same n (ascii "org")) (λ i. known (ascii "org") _ refl refl i) λ i.
-      none-some (rw (a, b, c, d, f, g, h, i) at e)
-
   module _ (i : ℕ) (q : w .index ≡ i) where
     there : at i maps ≡ some (w .map)
     there = ap (λ j. at j maps) (sym q) ∙ slot-row n w e .0
@@ -130,22 +79,6 @@ module _ (n : Bytes) (w : Slot) (e : slotOf n ≡ some w) where
       form = ap (λ (m : Map). formNumber (m .form)) slot-map ∙ form-row i slot-low;
     }
 
-    kind-five : (k : ℕ) → k ≡ pick (same n (ascii "role")) 1 0 → kindOut (mapAt 5 .kinds) k ≡ kindPiece (pick (same n (ascii "role")) 1 0)
-    kind-five k z =
-        byBool (same n (ascii "role"))
-        (λ r. ap (kindOut (mapAt 5 .kinds)) (rw r at z) ∙ role-kinds ∙ sym (ap (λ b. kindPiece (pick b 1 0)) r))
-        (λ r. ap (kindOut (mapAt 5 .kinds)) (rw r at z) ∙ title-kinds ∙ sym (ap (λ b. kindPiece (pick b 1 0)) r))
-
-    pub slot-rowed : Rowed w i (kindNumber i n)
-    slot-rowed = record {
-      content = ap (λ (m : Map). quoted (m .content) (58 ∷ [])) slot-map ∙ content-row i slot-low;
-      kinds = ap (λ (m : Map). kindOut (m .kinds) (w .which)) slot-map ∙ byBool (eqb i 5)
-          (λ r.
-              let z : i ≡ 5 = eqb-true i 5 r in
-              ap (λ j. kindOut (mapAt j .kinds) (w .which)) z ∙ kind-five (w .which) which-is ∙ sym (ap (λ b. kindPiece (pick b (pick (same n (ascii "role")) 1 0) 2)) r))
-          (λ r. no-kinds (mapAt i .kinds) (w .which) (kinds-there i slot-low ∙ r) ∙ sym (ap (λ b. kindPiece (pick b (pick (same n (ascii "role")) 1 0) 2)) r));
-    }
-
 -- ---- what a filled table holds
 
 held-line : {s : Bytes} {t : List ℕ} {i : ℕ} {e : Entry} (h : Holds s t) (x : Enters s i e) → h .line ≡ x .line
@@ -156,6 +89,9 @@ held-entry h x = entry-held h (x .seen) (x .slot) ∙ ap (entryOf (x .seen) (x .
 
 pub held-named : {s : Bytes} {t : List ℕ} {i : ℕ} {e : Entry} → Holds s t → (x : Enters s i e) → slotOf (lowered (lineIn s t .name)) ≡ some (x .slot)
 held-named h x = ap (λ (l : Line). slotOf (lowered (l .name))) (h .held) ∙ ap (λ (l : Line). slotOf (lowered (l .name))) (held-line h x) ∙ x .named
+
+pub held-converts : {s : Bytes} {t : List ℕ} {i : ℕ} {e : Entry} → Holds s t → Enters s i e → Converts s t i e
+held-converts h x = record { seen = x .seen; slot = x .slot; named = held-named h x; index = x .index; entry = held-entry h x }
 
 -- ---- the key
 

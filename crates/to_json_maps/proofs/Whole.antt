@@ -21,7 +21,7 @@ use Rattle.convert_entry.specs.Rows.{codeOf}
 use Rattle.convert_put.specs.Pieces.{memberBytes, after, closing}
 use Rattle.convert_put.proofs.Card.{map-bytes}
 use Rattle.convert_put.proofs.Compact.{after-append}
-use Rattle.convert_line.specs.Written.{keyed}
+use Rattle.to_json_entry.specs.Entry.{keyed}
 use Rattle.to_json_maps.specs.Maps.{entriesOf, idsOf, mapMember, headPiece, entryPiece, mapFrom}
 
 -- ---- pieces

@@ -17,13 +17,17 @@ use Rattle.convert.specs.Table.{Map, maps, text, Slot, slotOf}
 use Rattle.convert.specs.Model.{Entry}
 use Rattle.convert.specs.Classify.{Seen, Classed, entryOf}
 use Rattle.convert.specs.Keys.{keyOr}
-use Rattle.convert.specs.FromCard.{Gives, gathered, inMap, keyedEntries}
-use Rattle.convert.specs.ToJson.{where′, entryJson}
-use Rattle.convert_line.specs.Written.{keyed, Rowed}
+use Rattle.convert.specs.FromCard.{Gives, gathered, inMap, keyedEntries, mapsFrom}
+use Rattle.convert.specs.ToJson.{where′, entryJson, mapsJson}
+use Rattle.to_json_entry.specs.Entry.{keyed}
 use Rattle.line_table.specs.Table.{lineIn}
 use Rattle.card_lines.specs.Classified.{Classified}
-use Rattle.to_json_keys.specs.Taken.{Taken, Blocked}
-use Rattle.convert_put.specs.Pieces.{memberBytes, closing}
+use Rattle.to_json_keys.specs.Taken.{Taken, Blocked, Going}
+use Rattle.convert_put.specs.Pieces.{memberBytes, after, closing}
+use Rattle.class_names.specs.Names.{formOf}
+use Rattle.table_entry.specs.Key.{Rowed}
+use Rattle.to_json_maps.specs.declared.Turn.{Turn}
+use Rattle.to_json_maps.specs.declared.Turn.the-variants.{Put, Full as Filled}
 
 -- ---- the table's rows by their places
 
@@ -81,9 +85,19 @@ pub record Enters (s : Bytes) (i : ℕ) (e : Entry) : Type 0 where
 abbrev pub Entering : Bytes → Type 0
 Entering s = (i : ℕ) × (e : Entry) × Enters s i e
 
--- the number of TITLE or ROLE, or 2, is that of the line's slot
-abbrev pub KindOf : Bytes → List ℕ → ℕ → ℕ → Type 0
-KindOf s t i r = (w : Slot) → slotOf (lowered (lineIn s t .name)) ≡ some w → w .index ≡ i → Rowed w i r
+-- the same of a line that stands in a table
+pub record Converts (s : Bytes) (t : List ℕ) (i : ℕ) (e : Entry) : Type 0 where
+  pub seen : Seen
+  pub slot : Slot
+  pub named : slotOf (lowered (lineIn s t .name)) ≡ some slot
+  pub index : slot .index ≡ i
+  pub entry : entryOf seen slot (lineIn s t) ≡ some e
+
+pub record HasEntry (s : Bytes) (t C F T : List ℕ) (i : ℕ) : Type 0 where
+  pub rowed : Rowed s t C F T
+  pub entry : Entry
+  pub converts : Converts s t i entry
+  pub plain : formOf i < 4
 
 -- ---- PROP-IDs
 
@@ -106,3 +120,59 @@ HasLines scratch starts codes n = (cs : List Classed) × Classified scratch star
 -- the marks of all PROP-IDs of the map i
 abbrev pub MarksIds : Bytes → List ℕ → List ℕ → List ℕ → ℕ → ℕ → List ℕ → Bool → Type 0
 MarksIds prefix scratch starts codes n i row r = (cs : List Classed) → Classified scratch starts codes n cs → Blocked prefix (idsOf (entriesOf i cs)) r row
+
+-- ---- writing
+
+-- the entry with that key, after what comes before it
+abbrev pub PutsKeyed : Bytes → Bytes → List ℕ → ℕ → Bool → Bytes → Wrote → Bytes → Type 0
+PutsKeyed room s t i begun key r out = (e : Entry) → Converts s t i e → Puts room (entryPiece (mapAt i) begun key e) r out
+
+-- a line of the map, where these keys are used and the next made key has a number from there on
+pub record Turning (s prefix : Bytes) (row : List ℕ) (i : ℕ) (taken : Bool) (from : ℕ) (ids used : List Bytes) (e : Entry) : Type 0 where
+  pub enters : Enters s i e
+  pub going : Going prefix ids used from
+  pub blocked : Blocked prefix ids taken row
+  pub few : length used ≤ 1023
+  pub own : empty (e .key) ≡ false → among (e .key) ids ≡ true
+
+pub record HasTurn (s prefix : Bytes) (row : List ℕ) (i : ℕ) (taken : Bool) (from : ℕ) : Type 0 where
+  pub ids : List Bytes
+  pub used : List Bytes
+  pub entry : Entry
+  pub turning : Turning s prefix row i taken from ids used entry
+  pub short : length prefix ≤ 16
+  pub plain : formOf i < 4
+
+-- how much was written
+abbrev pub wroteOf : Turn → Wrote
+wroteOf (Put n next) = Wrote-Bytes n
+wroteOf Filled = Full
+
+-- where the next made number is sought
+abbrev pub Goes : Bytes → List Bytes → List Bytes → Turn → Type 0
+Goes prefix ids used (Put n next) = Going prefix ids used next
+Goes prefix ids used Filled = Unit {0}
+
+abbrev pub PutsTurn : Bytes → Bytes → Bytes → List ℕ → ℕ → Bool → Bool → ℕ → Turn → Bytes → Type 0
+PutsTurn room s prefix row i begun taken from r out =
+    (ids used : List Bytes) (e : Entry) → Turning s prefix row i taken from ids used e
+    → Puts room (entryPiece (mapAt i) begun (keyOr prefix used (e .key)) e) (wroteOf r) out × Goes prefix ids (keyOr prefix used (e .key) ∷ used) r
+
+-- the map's member, by its classified lines
+abbrev pub mapBytes : ℕ → List Classed → Bytes
+mapBytes i cs = after (mapMember (mapAt i) (keyedEntries (mapAt i) (entriesOf i cs)))
+
+abbrev pub PutsMap : Bytes → List ℕ → List ℕ → List ℕ → ℕ → ℕ → Wrote → Bytes → Type 0
+PutsMap room scratch starts codes n i r out = (cs : List Classed) → Classified scratch starts codes n cs → Puts room (mapBytes i cs) r out
+
+-- what there is to write a map's entries from
+pub record HasMap (scratch starts codes : List ℕ) (n i : ℕ) (prefix : Bytes) (row : List ℕ) (taken : Bool) : Type 0 where
+  pub lines : HasLines scratch starts codes n
+  pub small : i < 7
+  pub is : prefix ≡ prefixOf i
+  pub ids : MarksIds prefix scratch starts codes n i row taken
+  pub plain : formOf i < 4
+
+abbrev pub PutsMaps : Bytes → List ℕ → List ℕ → List ℕ → ℕ → Wrote → Bytes → Type 0
+PutsMaps room scratch starts codes n r out =
+    (cs : List Classed) → Classified scratch starts codes n cs → Puts room (after (mapsJson maps (mapsFrom 0 maps (gathered (λ (g : Gives). g .entry) cs)))) r out

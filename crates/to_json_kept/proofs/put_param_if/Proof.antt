@@ -1,0 +1,25 @@
+use borrow.Author.Needs.{needs}
+use denote.Ref.{now}
+use Rattle.output.proofs.Laws.{puts-as, start, done}
+use Rattle.line_table.specs.Table.{part}
+use Rattle.to_json_kept.specs.Entry.{paramPiece}
+use Rattle.to_json_kept.proofs.Whole.{piece-on, piece-off}
+use Rattle.to_json_kept.proofs.put_param_if.Statement.{statement}
+use Rattle.to_json_kept.proofs.put_param_if.Tie as tie
+
+put-param-requires : tie.Need-put-param-requires
+put-param-requires c κs = c .before .before .before .before .before .pre
+
+same-length : tie.Need-same-length
+same-length c = search needs
+
+returns : tie.Need-returns
+returns c = let s = now (c .before .before .before .before .before .before .before .before .args .s) in puts-as (piece-on (c .before .before .before .before .before .before .before .before .args .on) (paramPiece (c .before .before .before .before .before .before .before .before .args .begun) s (now (c .before .before .before .before .before .before .before .before .args .t)) (part s (c .before .before .before .before .before .before .before .before .args .a) (c .before .before .before .before .before .before .before .before .args .b))) (c .before .before .before .before .if1 .taken)) (c .before .before .put-param .ensures)
+
+returns-2 : tie.Need-returns-2
+returns-2 c = let s = now (c .before .before .before .before .args .s) in puts-as (piece-off (c .before .before .before .before .args .on) (paramPiece (c .before .before .before .before .args .begun) s (now (c .before .before .before .before .args .t)) (part s (c .before .before .before .before .args .a) (c .before .before .before .before .args .b))) (c .if1 .left)) (done (start _))
+
+pub put-param-if-spec : {M : Type 1} → statement M
+put-param-if-spec =
+    tie.close
+    (tie.spec put-param-requires same-length returns returns-2)
