@@ -1,0 +1,22 @@
+use borrow.Author.Needs.{needs}
+use denote.Ref.{now}
+use Rattle.to_json_items.proofs.Texts.{own-empty, own-alone, own-sought}
+use Rattle.to_json_items.proofs.is_own.Statement.{statement}
+use Rattle.to_json_items.proofs.is_own.Tie as tie
+
+returns : tie.Need-returns
+returns c = own-empty (now (c .before .before .before .args .u)) (now (c .before .before .before .args .o)) (c .before .before .before .pre .0) (c .if1 .taken)
+
+returns-2 : tie.Need-returns-2
+returns-2 c = own-alone (now (c .before .before .before .before .args .u)) (now (c .before .before .before .before .args .o)) (c .before .before .before .before .pre .0) (c .before .if1 .left) (c .if2 .taken)
+
+is-among-requires : tie.Need-is-among-requires
+is-among-requires c κs = c .before .before .before .before .pre
+
+returns-3 : tie.Need-returns-3
+returns-3 c = own-sought (now (c .before .before .before .before .before .args .u)) (now (c .before .before .before .before .before .args .o)) (c .before .before .before .before .before .pre .0) (c .before .before .if1 .left) _ (c .is-among .ensures)
+
+pub is-own-spec : {M : Type 1} → statement M
+is-own-spec =
+    tie.close
+    (tie.spec returns returns-2 is-among-requires returns-3)

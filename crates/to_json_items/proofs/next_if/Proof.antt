@@ -1,0 +1,16 @@
+use borrow.Author.Needs.{needs}
+use denote.Ref.{now}
+use Rattle.to_json_items.proofs.Pieces.{picked-on, picked-off}
+use Rattle.to_json_items.proofs.next_if.Statement.{statement}
+use Rattle.to_json_items.proofs.next_if.Tie as tie
+
+returns : tie.Need-returns
+returns c = picked-on (c .before .args .equal) (c .before .args .e) (c .if1 .taken)
+
+returns-2 : tie.Need-returns-2
+returns-2 c = picked-off (c .before .args .equal) (c .before .args .e) (c .if1 .left)
+
+pub next-if-spec : {M : Type 1} → statement M
+next-if-spec =
+    tie.close
+    (tie.spec returns returns-2)

@@ -1,0 +1,34 @@
+use borrow.Author.Needs.{needs}
+use denote.Ref.{now}
+use Rattle.to_json_items.proofs.Texts.{next-byte, next-end, next-bad}
+use Rattle.to_json_items.proofs.next_is.Statement.{statement}
+use Rattle.to_json_items.proofs.next_is.Tie as tie
+
+next-char-requires : tie.Need-next-char-requires
+next-char-requires c κs = tt
+
+enum-known-d : tie.Need-enum-known-d
+enum-known-d c = search needs
+
+next-if-requires : tie.Need-next-if-requires
+next-if-requires c κs = tt
+
+enum-told : tie.Need-enum-told
+enum-told c = search needs
+
+enum-told-2 : tie.Need-enum-told-2
+enum-told-2 c = search needs
+
+returns : tie.Need-returns
+returns c = next-byte (now (c .before .before .before .before .before .before .args .s)) (c .before .before .before .before .before .before .args .at) (c .before .before .before .before .before .before .args .c) (c .before .before .d .given .0 .0) (c .before .before .d .given .0 .1 .0) _ _ (c .before .before .before .before .next-char .ensures) (c .before .before .before .before .before .before .pre) (c .before .before .d .given .1) (c .next-if .ensures)
+
+returns-2 : tie.Need-returns-2
+returns-2 c = next-bad (now (c .before .before .before .before .args .s)) (c .before .before .before .before .args .at) (c .before .before .before .before .args .c) _ (c .before .before .next-char .ensures) (c .before .before .before .before .pre) (c .enum-told .given .1)
+
+returns-3 : tie.Need-returns-3
+returns-3 c = next-end (now (c .before .before .before .before .args .s)) (c .before .before .before .before .args .at) (c .before .before .before .before .args .c) _ (c .before .before .next-char .ensures) (c .enum-told2 .given .1)
+
+pub next-is-spec : {M : Type 1} → statement M
+next-is-spec =
+    tie.close
+    (tie.spec next-char-requires enum-known-d next-if-requires enum-told enum-told-2 returns returns-2 returns-3)

@@ -1,0 +1,25 @@
+use borrow.Author.Needs.{needs}
+use denote.Ref.{now}
+use Rattle.output.proofs.Laws.{puts-as, start, done}
+use Rattle.line_text.specs.Read.{plainText}
+use Rattle.to_json_items.specs.Items.{itemPiece}
+use Rattle.to_json_items.proofs.Pieces.{piece-on, piece-off}
+use Rattle.to_json_items.proofs.put_item_if.Statement.{statement}
+use Rattle.to_json_items.proofs.put_item_if.Tie as tie
+
+put-item-requires : tie.Need-put-item-requires
+put-item-requires c κs = c .before .before .before .before .pre
+
+same-length : tie.Need-same-length
+same-length c = search needs
+
+returns : tie.Need-returns
+returns c = puts-as (piece-on (c .before .before .before .before .before .before .before .args .on) (itemPiece (c .before .before .before .before .before .before .before .args .begun) (c .before .before .before .before .before .before .before .args .k) (plainText (now (c .before .before .before .before .before .before .before .args .u)))) (c .before .before .before .before .if1 .taken)) (c .before .before .put-item .ensures)
+
+returns-2 : tie.Need-returns-2
+returns-2 c = puts-as (piece-off (c .before .before .before .args .on) (itemPiece (c .before .before .before .args .begun) (c .before .before .before .args .k) (plainText (now (c .before .before .before .args .u)))) (c .if1 .left)) (done (start _))
+
+pub put-item-if-spec : {M : Type 1} → statement M
+put-item-if-spec =
+    tie.close
+    (tie.spec put-item-requires same-length returns returns-2)

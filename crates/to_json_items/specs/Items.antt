@@ -1,0 +1,57 @@
+-- Lists of TEXT values as JSON: the components of a name, the units of an organization.
+use mathlib.Core.Path.{_≡_}
+use mathlib.Core.Bool.{Bool, true, false, _&&_, not}
+use mathlib.Core.List.{List, [], _∷_, _++_, map}
+use Prim.Native.Nat.{ℕ}
+use lib.Dec.{eqb, ltb}
+use lib.ListN.{drop, getD}
+use Rattle.text.specs.Choice.{pick, is-some}
+use Rattle.text.specs.Bytes.{Bytes, ascii, same, among, keep, each, flat}
+use Rattle.line.specs.Text.{readText, splitText}
+use Rattle.json.specs.Tree.{Json}
+use Rattle.json.specs.Compact.{quoted, written}
+use Rattle.line_text.specs.Read.{plainText}
+use Rattle.convert.specs.Table.{componentKinds}
+use Rattle.convert.specs.Value.{filled}
+
+-- ---- one item: of kind k the component of that kind, of kind 7 and 8 a unit (8: no name stands before the units)
+
+unfoldable pub lead : ℕ → Bytes
+lead k = pick (ltb k 7) (flat (ascii "{\"kind\":" ∷ quoted (getD componentKinds k []) [] ∷ ascii ",\"value\":" ∷ [])) (ascii "{\"name\":")
+
+-- what stands before the first
+unfoldable pub opening : ℕ → Bytes
+opening k = pick (eqb k 7) (ascii ",\"units\":[") (pick (eqb k 8) (ascii "\"units\":[") [])
+
+unfoldable pub itemHead : Bool → ℕ → Bytes
+itemHead begun k = pick begun (44 ∷ []) (opening k)
+
+abbrev pub itemPiece : Bool → ℕ → Bytes → Bytes
+itemPiece begun k t = flat (itemHead begun k ∷ lead k ∷ quoted t [] ∷ (125 ∷ []) ∷ [])
+
+unfoldable pub listed : ℕ → Bool → List Bytes → Bytes
+listed k begun [] = []
+listed k begun (t ∷ ts) = itemPiece begun k t ++ listed k true ts
+
+-- ---- which values: those that are filled and not among others
+
+unfoldable pub isOwn : List Bytes → Bytes → Bool
+isOwn others t = filled t && not (among t others)
+
+-- what the parts between bare separators stand for
+abbrev pub textsOf : ℕ → Bytes → List Bytes
+textsOf d v = map plainText (splitText d v)
+
+-- every part has good escapes
+abbrev pub Readable : ℕ → Bytes → Type 0
+Readable d v = is-some (each readText (splitText d v)) ≡ true
+
+-- the place after the character c, which stands next; or 0
+pub record NextIs (s : Bytes) (at c r : ℕ) : Type 0 where
+  pub hit : (r ≡ 0 → ⊥) → (plainText (drop at s) ≡ c ∷ plainText (drop r s)) × (is-some (readText (drop r s)) ≡ true)
+  pub miss : r ≡ 0 → (x : Bytes) → same (c ∷ x) (plainText (drop at s)) ≡ false
+
+-- ---- elements of an array with commas between them; the flag says that another came before
+unfoldable pub elems : Bool → List Json → Bytes
+elems begun [] = []
+elems begun (j ∷ js) = pick begun (44 ∷ []) [] ++ (written j [] ++ elems true js)
