@@ -104,7 +104,7 @@ fn mark_line(row: &mut [u8], t: &mut [usize], s: &[u8], prefix: &[u8]) -> bool
 }
 
 // Whether a line's number is that of the map i.
-fn is_of(code: u8, i: usize) -> bool
+pub fn is_of(code: u8, i: usize) -> bool
     ensures { λ r. ⌜ r ≡ eqb code i ⌝ }
 {
     code as usize == i
