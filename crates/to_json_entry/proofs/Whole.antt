@@ -27,9 +27,10 @@ use Rattle.convert_entry.specs.Rows.{Is, typeNumber, formNumber}
 use Rattle.convert_entry.proofs.Named.{prefs}
 use Rattle.convert_entry.proofs.Tests.{first-pref}
 use Rattle.convert_put.specs.Pieces.{contentPiece, entryPieces, memberBytes, before}
-use Rattle.convert_put.proofs.Entries.{entry-bytes, string-bytes}
-use Rattle.to_json_entry.specs.Entry.{keyed, RowPieces, stringPiece}
-use Rattle.to_json_entry.proofs.Fields.{Fields, fields, marked-types, rawOf, TextOf, text-of, content-of, pref-none, pref-first}
+use Rattle.convert_put.proofs.Entries.{entry-bytes}
+use Rattle.to_json_entry.specs.Entry.{keyed, RowPieces, stringsPiece, StringsGood}
+use Rattle.to_json_entry.proofs.Fields.{Fields, fields, marked-types, rawOf, pref-none, pref-first}
+use Rattle.to_json_entry.proofs.Strings.{RowContent, StringsOf, strings-of, good-of}
 
 no-length : (us : List Bytes) → 0 ≡ length us → us ≡ []
 no-length [] e = refl
@@ -60,10 +61,13 @@ module _ (s : Bytes) (t : List ℕ) {i types form : ℕ} (seen : Seen) (w : Slot
   abbrev of-line : Fields w (lineIn s t) e
   of-line = fields seen w (lineIn s t) e x
 
-  pub text-is : (kind : ℕ) → form < 4 → kind ≡ typeNumber (valueType ps) → TextOf (rawOf form kind) v (e .texts)
+  pub strings-are : (kind : ℕ) → RowContent (w .map .content) i → kind ≡ typeNumber (valueType ps) → StringsOf (w .map .form) (w .map .content) i form kind v (e .texts)
   unfolding lineIn
-  text-is kind l k =
-      rw (is .form) at (text-of (w .map .form) (valueType ps) v (e .texts) kind (rw (is .form) l) k (of-line .texts))
+  strings-are kind c k = rw (is .form) at (strings-of (w .map .form) (w .map .content) (valueType ps) v (e .texts) kind i c k (of-line .texts))
+
+  pub strings-good : (kind : ℕ) → kind ≡ typeNumber (valueType ps) → StringsGood form (rawOf form kind) v
+  unfolding lineIn
+  strings-good kind k = rw (is .form) at (good-of (w .map .form) (valueType ps) v (e .texts) kind k (of-line .texts))
 
   module _ {C F T : List ℕ} (r : Row s C F T ps) where
     pub no-pref : getD C 1 0 ≡ 0 → e .pref ≡ []
@@ -74,18 +78,16 @@ module _ (s : Bytes) (t : List ℕ) {i types form : ℕ} (seen : Seen) (w : Slot
         let f = first-pref r n in
         pref-first (valuesNamed (ascii "pref") (besidesValue ps)) (f .others) _ (e .pref) (sym (prefs ps) ∙ f .is) (of-line .pref)
 
-  pub line-bytes : (kind vk : ℕ) (key p : Bytes) (b : Bool) (row : List ℕ) → RowPieces w i kind → form < 4 → vk ≡ typeNumber (valueType ps)
+  pub line-bytes : (kind vk : ℕ) (key p : Bytes) (b : Bool) (row : List ℕ) → RowPieces w i kind → vk ≡ typeNumber (valueType ps)
       → told b row ≡ marks types (split (valuesNamed (ascii "type") ps)) nine → e .pref ≡ p
-      → entryPieces key kind (stringPiece i (rawOf form vk) v) row p ≡ memberBytes (entryJson (w .map) (keyed key e))
-  line-bytes kind vk key p b row rd l k m pf =
-      let y = text-is vk l k in
+      → entryPieces key kind (stringsPiece i form (rawOf form vk) v) row p ≡ memberBytes (entryJson (w .map) (keyed key e))
+  line-bytes kind vk key p b row rd k m pf =
+      let y = strings-are vk (rd .content) k in
       let q = marked-types types ps (e .types) b nine row nine-long nine-zero (ap (λ n. typesFrom n (valuesNamed (ascii "type") (besidesValue ps))) (sym (is .types)) ∙ of-line .types) m in
-      ap (entryPieces key kind (stringPiece i (rawOf form vk) v) row) (sym pf)
-      ∙ sym (entry-bytes (w .map) (keyed key e) (member (w .map .content) (jstr (y .t))) [] (q .0) kind (stringPiece i (rawOf form vk) v) row
-      (ap (contentJson (w .map .form) (w .map .content)) (y .is) ∙ content-of (w .map .form) (w .map .content) (y .t) (rw (is .form) l))
-      (string-bytes (w .map .content) (y .t)
-      ∙ ap (λ (u : Bytes). flat (u ∷ quoted (y .t) [] ∷ [])) (rd .content)
-      ∙ ap (λ (u : Bytes). flat (contentPiece i ∷ u ∷ [])) (y .value))
+      ap (entryPieces key kind (stringsPiece i form (rawOf form vk) v) row) (sym pf)
+      ∙ sym (entry-bytes (w .map) (keyed key e) (y .c) (y .cs) (q .0) kind (stringsPiece i form (rawOf form vk) v) row
+      (y .is)
+      (y .bytes)
       (ap (λ c. before (where′ (not (empty (w .map .kinds))) (member (ascii "kind") (jstr (getD (w .map .kinds) c []))))) (of-line .which) ∙ rd .kinds)
       (q .1)
       (q .2))

@@ -5,11 +5,15 @@ ghost use mathlib.Core.List.{[]};
 ghost use Prim.Native.Nat.{_≤_};
 ghost use lib.ListN.{length};
 ghost use Rattle.text.specs.Choice.{is-some, pick};
-ghost use Rattle.line.specs.Text.{readText};
+ghost use Rattle.text.specs.Bytes.{keep};
+ghost use Rattle.line.specs.Text.{readText, splitText};
+ghost use Rattle.line_text.specs.Split.{PartEnds};
+ghost use Rattle.convert.specs.Value.{filled};
+ghost use Rattle.to_json_items.specs.Items.{textsOf, Readable};
 ghost use Rattle.output.specs.Put.{Puts};
 ghost use Rattle.line_table.specs.Table.{Sound};
 ghost use Rattle.convert_put.specs.Pieces.{entryPieces};
-ghost use Rattle.to_json_entry.specs.Entry.{MapLine, PutsEntry, KindOfLine, stringPiece};
+ghost use Rattle.to_json_entry.specs.Entry.{MapLine, PutsEntry, KindOfLine, stringPiece, orgName, unitsPiece, unitsAfter, orgPiece, stringsPiece, StringsGood};
 use convert_entry::value_kind;
 use convert_put::put_content;
 use convert_put::put_flags;
@@ -18,9 +22,11 @@ use convert_put::put_pref;
 use convert_put::put_value;
 use json_write::put_name;
 use line_name::is_named;
+use line_text::part_end;
 use output::Wrote;
 use output::put_byte;
 use table_marks::mark_rows;
+use to_json_items::put_items;
 
 // The member that holds the string of the map i: raw, or TEXT.
 fn put_string_member(out: &mut [u8], i: usize, raw: bool, v: &[u8]) -> Wrote
@@ -37,19 +43,98 @@ fn put_string_member(out: &mut [u8], i: usize, raw: bool, v: &[u8]) -> Wrote
     Wrote::Bytes(ab)
 }
 
+// ORG's name, where it is filled.
+fn put_org_name(out: &mut [u8], i: usize, u: &[u8]) -> Wrote
+    requires { ⌜ is-some (readText (now u)) ≡ true ⌝ }
+    ensures { λ r. ⌜ Puts (now (out .entry)) (orgName i (now (u .entry))) r (now (out .exit)) ⌝ }
+{
+    if u.len() == 0 {
+        return Wrote::Bytes(0);
+    }
+    put_string_member(out, i, false, u)
+}
+
+// The filled parts as units, where there are any.
+fn put_units(out: &mut [u8], v: &[u8], k: usize) -> Wrote
+    requires { ⌜ Readable 59 (now v) ⌝ }
+    ensures { λ r. ⌜ Puts (now (out .entry)) (unitsPiece k (keep filled (textsOf 59 (now (v .entry))))) r (now (out .exit)) ⌝ }
+{
+    let Wrote::Bytes(n) = put_items(out, v, b';', &v[0..0], k, false) else {
+        return Wrote::Full;
+    };
+    if n == 0 {
+        return Wrote::Bytes(n);
+    }
+    let Wrote::Bytes(m) = put_byte(&mut out[n..], b']') else {
+        return Wrote::Full;
+    };
+    let nm = n + m;
+    Wrote::Bytes(nm)
+}
+
+// The same of the parts after the one that ends at e.
+fn put_units_after(out: &mut [u8], v: &[u8], e: usize, k: usize) -> Wrote
+    requires { ⌜ Readable 59 (now v) × PartEnds 59 (now v) 0 e ⌝ }
+    ensures { λ r. ⌜ Puts (now (out .entry)) (unitsPiece k (unitsAfter (now (v .entry)) e)) r (now (out .exit)) ⌝ }
+{
+    if e >= v.len() {
+        return Wrote::Bytes(0);
+    }
+    let a = e + 1;
+    put_units(out, &v[a..], k)
+}
+
+fn unit_kind(named: bool) -> usize
+    ensures { λ r. ⌜ r ≡ pick named 7 8 ⌝ }
+{
+    if named {
+        return 7;
+    }
+    8
+}
+
+// ORG's name and units, split at bare semicolons.
+fn put_org(out: &mut [u8], i: usize, v: &[u8]) -> Wrote
+    requires { ⌜ Readable 59 (now v) ⌝ }
+    ensures { λ r. ⌜ Puts (now (out .entry)) (orgPiece i (splitText 59 (now (v .entry)))) r (now (out .exit)) ⌝ }
+{
+    let e = part_end(v, 0, b';');
+    let k = unit_kind(0 < e);
+    let Wrote::Bytes(a) = put_org_name(out, i, &v[0..e]) else {
+        return Wrote::Full;
+    };
+    let Wrote::Bytes(b) = put_units_after(&mut out[a..], v, e, k) else {
+        return Wrote::Full;
+    };
+    let ab = a + b;
+    Wrote::Bytes(ab)
+}
+
+// The strings of an entry, by the row's form.
+fn put_strings(out: &mut [u8], i: usize, form: usize, raw: bool, v: &[u8]) -> Wrote
+    requires { ⌜ StringsGood form raw (now v) ⌝ }
+    ensures { λ r. ⌜ Puts (now (out .entry)) (stringsPiece i form raw (now (v .entry))) r (now (out .exit)) ⌝ }
+{
+    if form == 4 {
+        return put_org(out, i, v);
+    }
+    put_string_member(out, i, raw, v)
+}
+
 // An entry: its key, kind (0 title, 1 role, else none), strings, marks of TYPE, and PREF.
 fn put_entry(
     out: &mut [u8],
     key: &[u8],
     kind: usize,
     i: usize,
+    form: usize,
     raw: bool,
     v: &[u8],
     row: &[u8],
     p: &[u8],
 ) -> Wrote
-    requires { ⌜ (9 ≤ length (now row)) × (is-some (readText (pick raw [] (now v))) ≡ true) ⌝ }
-    ensures { λ r. ⌜ Puts (now (out .entry)) (entryPieces (now (key .entry)) kind (stringPiece i raw (now (v .entry))) (now (row .entry)) (now (p .entry))) r (now (out .exit)) ⌝ }
+    requires { ⌜ (9 ≤ length (now row)) × StringsGood form raw (now v) ⌝ }
+    ensures { λ r. ⌜ Puts (now (out .entry)) (entryPieces (now (key .entry)) kind (stringsPiece i form raw (now (v .entry))) (now (row .entry)) (now (p .entry))) r (now (out .exit)) ⌝ }
 {
     let Wrote::Bytes(a1) = put_name(out, key) else {
         return Wrote::Full;
@@ -62,7 +147,7 @@ fn put_entry(
         return Wrote::Full;
     };
     let b3 = b2 + a3;
-    let Wrote::Bytes(a4) = put_string_member(&mut out[b3..], i, raw, v) else {
+    let Wrote::Bytes(a4) = put_strings(&mut out[b3..], i, form, raw, v) else {
         return Wrote::Full;
     };
     let b4 = b3 + a4;
@@ -110,11 +195,11 @@ pub fn put_map_line(
     let b = t[5];
     let k = counts[1];
     if k == 0 {
-        return put_entry(out, key, kind, i, raw, &s[a..b], &row, &s[0..0]);
+        return put_entry(out, key, kind, i, form, raw, &s[a..b], &row, &s[0..0]);
     }
     let c = froms[1];
     let d = tos[1];
-    put_entry(out, key, kind, i, raw, &s[a..b], &row, &s[c..d])
+    put_entry(out, key, kind, i, form, raw, &s[a..b], &row, &s[c..d])
 }
 
 // The kind of the entry that a line of a map becomes, by its name: 0 title, 1 role, 2 none.

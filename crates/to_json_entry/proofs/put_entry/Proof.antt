@@ -1,7 +1,7 @@
 use native.Mathlib.Omega.{arith}
 
 use Rattle.convert_put.specs.Pieces.{flagsFrom, kindPiece, prefPiece}
-use Rattle.to_json_entry.specs.Entry.{stringPiece}
+use Rattle.to_json_entry.specs.Entry.{stringsPiece}
 use mathlib.Core.Bool.{false}
 use native.Mathlib.Nat.{le-refl}
 use mathlib.Core.List.{[], _∷_}
@@ -12,7 +12,7 @@ use Rattle.to_json_entry.proofs.put_entry.Statement.{statement}
 use Rattle.to_json_entry.proofs.put_entry.Tie as tie
 
 abbrev s₁ : tie.After-known-told → Here
-s₁ c = first! ((123 ∷ []) ∷ kindPiece (c .before .before .before .before .before .before .before .before .before .before .before .before .args .kind) ∷ stringPiece (c .before .before .before .before .before .before .before .before .before .before .before .before .args .i) (c .before .before .before .before .before .before .before .before .before .before .before .before .args .raw) (now (c .before .before .before .before .before .before .before .before .before .before .before .before .args .v)) ∷ flagsFrom 2 (now (c .before .before .before .before .before .before .before .before .before .before .before .before .args .row)) 0 false ∷ flagsFrom 7 (now (c .before .before .before .before .before .before .before .before .before .before .before .before .args .row)) 2 false ∷ prefPiece (now (c .before .before .before .before .before .before .before .before .before .before .before .before .args .p)) ∷ (125 ∷ []) ∷ []) (c .before .before .before .before .before .put-name .ensures) (c .before .a1 .given .1)
+s₁ c = first! ((123 ∷ []) ∷ kindPiece (c .before .before .before .before .before .before .before .before .before .before .before .before .args .kind) ∷ stringsPiece (c .before .before .before .before .before .before .before .before .before .before .before .before .args .i) (c .before .before .before .before .before .before .before .before .before .before .before .before .args .form) (c .before .before .before .before .before .before .before .before .before .before .before .before .args .raw) (now (c .before .before .before .before .before .before .before .before .before .before .before .before .args .v)) ∷ flagsFrom 2 (now (c .before .before .before .before .before .before .before .before .before .before .before .before .args .row)) 0 false ∷ flagsFrom 7 (now (c .before .before .before .before .before .before .before .before .before .before .before .before .args .row)) 2 false ∷ prefPiece (now (c .before .before .before .before .before .before .before .before .before .before .before .before .args .p)) ∷ (125 ∷ []) ∷ []) (c .before .before .before .before .before .put-name .ensures) (c .before .a1 .given .1)
 
 abbrev s₂ : tie.After-known-told2 → Here
 s₂ c =
@@ -27,7 +27,7 @@ s₃ c =
 abbrev s₄ : tie.After-known-told4 → Here
 s₄ c =
     let b = c .before .before .before .before .before in
-    next! (s₃ (b .before .before)) (b .put-string-member .ensures) (c .before .a4 .given .1)
+    next! (s₃ (b .before .before)) (b .put-strings .ensures) (c .before .a4 .given .1)
 
 abbrev s₅ : tie.After-known-told5 → Here
 s₅ c =
@@ -118,17 +118,17 @@ returns-3 c = stop! (s₂ (c .before .before .before .before .before .before)) (
 add-b3 : tie.Need-add-b3
 add-b3 c = fit! (s₃ c) (c .before .before .before .before .before .before .before .before .before .before .before .before .before .before .before .before .before .before .before .before .before .before .before .before .before .before .good .0 .0)
 
-sub-put-string-member : tie.Need-sub-put-string-member
-sub-put-string-member c = in! (s₃ c)
+sub-put-strings : tie.Need-sub-put-strings
+sub-put-strings c = in! (s₃ c)
 
-part-put-string-member-start : tie.Need-part-put-string-member-start
-part-put-string-member-start c = in! (s₃ c)
+part-put-strings-start : tie.Need-part-put-strings-start
+part-put-strings-start c = in! (s₃ c)
 
-part-put-string-member-end : tie.Need-part-put-string-member-end
-part-put-string-member-end c = le-refl _
+part-put-strings-end : tie.Need-part-put-strings-end
+part-put-strings-end c = le-refl _
 
-put-string-member-requires : tie.Need-put-string-member-requires
-put-string-member-requires c κs = c .before .before .before .before .before .before .before .before .before .before .before .before .before .before .before .before .before .before .before .before .before .before .before .before .before .before .before .pre .1
+put-strings-requires : tie.Need-put-strings-requires
+put-strings-requires c κs = c .before .before .before .before .before .before .before .before .before .before .before .before .before .before .before .before .before .before .before .before .before .before .before .before .before .before .before .pre .1
 
 enum-known-a4 : tie.Need-enum-known-a4
 enum-known-a4 c = c .match4 .keys1
@@ -137,10 +137,10 @@ enum-told-4 : tie.Need-enum-told-4
 enum-told-4 c = c .match4 .keys2
 
 same-length-4 : tie.Need-same-length-4
-same-length-4 c = length-puts (stop! (s₃ (c .before .before .before .before .before .before)) (c .before .before .before .before .put-string-member .ensures) (c .enum-told4 .given .1))
+same-length-4 c = length-puts (stop! (s₃ (c .before .before .before .before .before .before)) (c .before .before .before .before .put-strings .ensures) (c .enum-told4 .given .1))
 
 returns-4 : tie.Need-returns-4
-returns-4 c = stop! (s₃ (c .before .before .before .before .before .before)) (c .before .before .before .before .put-string-member .ensures) (c .enum-told4 .given .1)
+returns-4 c = stop! (s₃ (c .before .before .before .before .before .before)) (c .before .before .before .before .put-strings .ensures) (c .enum-told4 .given .1)
 
 add-b4 : tie.Need-add-b4
 add-b4 c = fit! (s₄ c) (c .before .before .before .before .before .before .before .before .before .before .before .before .before .before .before .before .before .before .before .before .before .before .before .before .before .before .before .before .before .before .before .before .before .good .0 .0)
@@ -260,4 +260,4 @@ returns-9 : tie.Need-returns-9
 returns-9 c = all (s₈ c .left)
 
 pub put-entry-spec : {M : Type 1} → statement M
-put-entry-spec = tie.close (tie.spec put-name-requires enum-known-a1 enum-told same-length returns sub-put-byte part-put-byte-start part-put-byte-end put-byte-requires enum-known-a2 enum-told-2 same-length-2 returns-2 add-b2 sub-put-kind part-put-kind-start part-put-kind-end put-kind-requires enum-known-a3 enum-told-3 same-length-3 returns-3 add-b3 sub-put-string-member part-put-string-member-start part-put-string-member-end put-string-member-requires enum-known-a4 enum-told-4 same-length-4 returns-4 add-b4 sub-put-flags part-put-flags-start part-put-flags-end put-flags-requires enum-known-a5 enum-told-5 same-length-5 returns-5 add-b5 sub-put-flags-2 part-put-flags-start-2 part-put-flags-end-2 put-flags-requires-2 enum-known-a6 enum-told-6 same-length-6 returns-6 add-b6 sub-put-pref part-put-pref-start part-put-pref-end put-pref-requires enum-known-a7 enum-told-7 same-length-7 returns-7 add-b7 sub-put-byte-2 part-put-byte-start-2 part-put-byte-end-2 put-byte-requires-2 enum-known-a8 enum-told-8 same-length-8 returns-8 add-b8 same-length-9 returns-9)
+put-entry-spec = tie.close (tie.spec put-name-requires enum-known-a1 enum-told same-length returns sub-put-byte part-put-byte-start part-put-byte-end put-byte-requires enum-known-a2 enum-told-2 same-length-2 returns-2 add-b2 sub-put-kind part-put-kind-start part-put-kind-end put-kind-requires enum-known-a3 enum-told-3 same-length-3 returns-3 add-b3 sub-put-strings part-put-strings-start part-put-strings-end put-strings-requires enum-known-a4 enum-told-4 same-length-4 returns-4 add-b4 sub-put-flags part-put-flags-start part-put-flags-end put-flags-requires enum-known-a5 enum-told-5 same-length-5 returns-5 add-b5 sub-put-flags-2 part-put-flags-start-2 part-put-flags-end-2 put-flags-requires-2 enum-known-a6 enum-told-6 same-length-6 returns-6 add-b6 sub-put-pref part-put-pref-start part-put-pref-end put-pref-requires enum-known-a7 enum-told-7 same-length-7 returns-7 add-b7 sub-put-byte-2 part-put-byte-start-2 part-put-byte-end-2 put-byte-requires-2 enum-known-a8 enum-told-8 same-length-8 returns-8 add-b8 same-length-9 returns-9)

@@ -1,13 +1,12 @@
 use borrow.Author.Needs.{needs}
 use denote.Ref.{now}
-use mathlib.Core.Path.{refl, sym, ap, _∙_}
 use mathlib.Core.List.{[]}
 use native.Mathlib.Omega.{arith}
 use lib.ListN.{getD}
 use Rattle.output.proofs.Laws.{puts-as}
 use Rattle.line_table.specs.Table.{lineIn, part}
 use Rattle.convert_entry.proofs.Tests.{first-pref}
-use Rattle.to_json_entry.proofs.Whole.{nine-long, text-is, no-pref, the-pref, line-bytes}
+use Rattle.to_json_entry.proofs.Whole.{nine-long, strings-good, no-pref, the-pref, line-bytes}
 use Rattle.to_json_entry.proofs.put_map_line.Statement.{statement}
 use Rattle.to_json_entry.proofs.put_map_line.Tie as tie
 
@@ -51,13 +50,13 @@ part-put-entry-end-2 : tie.Need-part-put-entry-end-2
 part-put-entry-end-2 c = omega arith
 
 put-entry-requires : tie.Need-put-entry-requires
-put-entry-requires c κs = let x = c .before .before .before .before .before .before .before .before .before .before .before .before .before .before .before .before .before .before .before .pre in (search needs, text-is (now (c .before .before .before .before .before .before .before .before .before .before .before .before .before .before .before .before .before .before .before .args .s)) (now (c .before .before .before .before .before .before .before .before .before .before .before .before .before .before .before .before .before .before .before .args .t)) (x .seen) (x .slot) (x .entry) (x .is) (x .converts) (c .before .before .before .before .before .before .before .before .before .before .before .value-kind .result) (x .plain) (c .before .before .before .before .before .before .before .before .before .before .before .value-kind .ensures _ (x .rowed .row)) .good)
+put-entry-requires c κs = let x = c .before .before .before .before .before .before .before .before .before .before .before .before .before .before .before .before .before .before .before .pre in (search needs, strings-good (now (c .before .before .before .before .before .before .before .before .before .before .before .before .before .before .before .before .before .before .before .args .s)) (now (c .before .before .before .before .before .before .before .before .before .before .before .before .before .before .before .before .before .before .before .args .t)) (x .seen) (x .slot) (x .entry) (x .is) (x .converts) (c .before .before .before .before .before .before .before .before .before .before .before .value-kind .result) (c .before .before .before .before .before .before .before .before .before .before .before .value-kind .ensures _ (x .rowed .row)))
 
 same-length : tie.Need-same-length
 same-length c = search needs
 
 returns : tie.Need-returns
-returns c = λ seen w e is rd q. let r = c .before .before .before .before .before .before .before .before .before .before .before .before .before .before .before .before .before .before .before .before .before .before .pre .rowed .row in puts-as (line-bytes (now (c .before .before .before .before .before .before .before .before .before .before .before .before .before .before .before .before .before .before .before .before .before .before .args .s)) (now (c .before .before .before .before .before .before .before .before .before .before .before .before .before .before .before .before .before .before .before .before .before .before .args .t)) seen w e is q (c .before .before .before .before .before .before .before .before .before .before .before .before .before .before .before .before .before .before .before .before .before .before .args .kind) (c .before .before .before .before .before .before .before .before .before .before .before .before .before .before .value-kind .result) (now (c .before .before .before .before .before .before .before .before .before .before .before .before .before .before .before .before .before .before .before .before .before .before .args .key)) [] _ _ rd (c .before .before .before .before .before .before .before .before .before .before .before .before .before .before .before .before .before .before .before .before .before .before .pre .plain) (c .before .before .before .before .before .before .before .before .before .before .before .before .before .before .value-kind .ensures _ r) (c .before .before .before .before .before .before .before .before .before .before .before .before .mark-rows .ensures) (no-pref (now (c .before .before .before .before .before .before .before .before .before .before .before .before .before .before .before .before .before .before .before .before .before .before .args .s)) (now (c .before .before .before .before .before .before .before .before .before .before .before .before .before .before .before .before .before .before .before .before .before .before .args .t)) seen w e is q r (c .before .before .before .before .before .before .before .if1 .taken))) (c .before .before .put-entry .ensures)
+returns c = λ seen w e is rd q. let r = c .before .before .before .before .before .before .before .before .before .before .before .before .before .before .before .before .before .before .before .before .before .before .pre .rowed .row in puts-as (line-bytes (now (c .before .before .before .before .before .before .before .before .before .before .before .before .before .before .before .before .before .before .before .before .before .before .args .s)) (now (c .before .before .before .before .before .before .before .before .before .before .before .before .before .before .before .before .before .before .before .before .before .before .args .t)) seen w e is q (c .before .before .before .before .before .before .before .before .before .before .before .before .before .before .before .before .before .before .before .before .before .before .args .kind) (c .before .before .before .before .before .before .before .before .before .before .before .before .before .before .value-kind .result) (now (c .before .before .before .before .before .before .before .before .before .before .before .before .before .before .before .before .before .before .before .before .before .before .args .key)) [] _ _ rd (c .before .before .before .before .before .before .before .before .before .before .before .before .before .before .value-kind .ensures _ r) (c .before .before .before .before .before .before .before .before .before .before .before .before .mark-rows .ensures) (no-pref (now (c .before .before .before .before .before .before .before .before .before .before .before .before .before .before .before .before .before .before .before .before .before .before .args .s)) (now (c .before .before .before .before .before .before .before .before .before .before .before .before .before .before .before .before .before .before .before .before .before .before .args .t)) seen w e is q r (c .before .before .before .before .before .before .before .if1 .taken))) (c .before .before .put-entry .ensures)
 
 shared-slice-read-c : tie.Need-shared-slice-read-c
 shared-slice-read-c c = omega (arith, c .before .before .before .before .before .before .before .before .before .before .before .before .before .before .before .before .pre .rowed .wide .froms)
@@ -87,13 +86,13 @@ part-put-entry-end-4 : tie.Need-part-put-entry-end-4
 part-put-entry-end-4 c = let v = first-pref (c .before .before .before .before .before .before .before .before .before .before .before .before .before .before .before .before .before .before .before .before .pre .rowed .row) (c .before .before .before .before .before .if1 .left) in omega (arith, v .ordered, v .within)
 
 put-entry-requires-2 : tie.Need-put-entry-requires-2
-put-entry-requires-2 c κs = let x = c .before .before .before .before .before .before .before .before .before .before .before .before .before .before .before .before .before .before .before .before .before .pre in (search needs, text-is (now (c .before .before .before .before .before .before .before .before .before .before .before .before .before .before .before .before .before .before .before .before .before .args .s)) (now (c .before .before .before .before .before .before .before .before .before .before .before .before .before .before .before .before .before .before .before .before .before .args .t)) (x .seen) (x .slot) (x .entry) (x .is) (x .converts) (c .before .before .before .before .before .before .before .before .before .before .before .before .before .value-kind .result) (x .plain) (c .before .before .before .before .before .before .before .before .before .before .before .before .before .value-kind .ensures _ (x .rowed .row)) .good)
+put-entry-requires-2 c κs = let x = c .before .before .before .before .before .before .before .before .before .before .before .before .before .before .before .before .before .before .before .before .before .pre in (search needs, strings-good (now (c .before .before .before .before .before .before .before .before .before .before .before .before .before .before .before .before .before .before .before .before .before .args .s)) (now (c .before .before .before .before .before .before .before .before .before .before .before .before .before .before .before .before .before .before .before .before .before .args .t)) (x .seen) (x .slot) (x .entry) (x .is) (x .converts) (c .before .before .before .before .before .before .before .before .before .before .before .before .before .value-kind .result) (c .before .before .before .before .before .before .before .before .before .before .before .before .before .value-kind .ensures _ (x .rowed .row)))
 
 same-length-2 : tie.Need-same-length-2
 same-length-2 c = search needs
 
 returns-2 : tie.Need-returns-2
-returns-2 c = λ seen w e is rd q. let r = c .before .before .before .before .before .before .before .before .before .before .before .before .before .before .before .before .before .before .before .before .before .before .before .before .pre .rowed .row in puts-as (line-bytes (now (c .before .before .before .before .before .before .before .before .before .before .before .before .before .before .before .before .before .before .before .before .before .before .before .before .args .s)) (now (c .before .before .before .before .before .before .before .before .before .before .before .before .before .before .before .before .before .before .before .before .before .before .before .before .args .t)) seen w e is q (c .before .before .before .before .before .before .before .before .before .before .before .before .before .before .before .before .before .before .before .before .before .before .before .before .args .kind) (c .before .before .before .before .before .before .before .before .before .before .before .before .before .before .before .before .value-kind .result) (now (c .before .before .before .before .before .before .before .before .before .before .before .before .before .before .before .before .before .before .before .before .before .before .before .before .args .key)) (part (now (c .before .before .before .before .before .before .before .before .before .before .before .before .before .before .before .before .before .before .before .before .before .before .before .before .args .s)) (getD (now (c .before .before .before .before .before .before .before .before .before .before .before .before .before .before .before .before .before .before .before .before .before .before .before .before .args .froms)) 1 0) (getD (now (c .before .before .before .before .before .before .before .before .before .before .before .before .before .before .before .before .before .before .before .before .before .before .before .before .args .tos)) 1 0)) _ _ rd (c .before .before .before .before .before .before .before .before .before .before .before .before .before .before .before .before .before .before .before .before .before .before .before .before .pre .plain) (c .before .before .before .before .before .before .before .before .before .before .before .before .before .before .before .before .value-kind .ensures _ r) (c .before .before .before .before .before .before .before .before .before .before .before .before .before .before .mark-rows .ensures) (the-pref (now (c .before .before .before .before .before .before .before .before .before .before .before .before .before .before .before .before .before .before .before .before .before .before .before .before .args .s)) (now (c .before .before .before .before .before .before .before .before .before .before .before .before .before .before .before .before .before .before .before .before .before .before .before .before .args .t)) seen w e is q r (c .before .before .before .before .before .before .before .before .before .if1 .left))) (c .before .before .put-entry2 .ensures)
+returns-2 c = λ seen w e is rd q. let r = c .before .before .before .before .before .before .before .before .before .before .before .before .before .before .before .before .before .before .before .before .before .before .before .before .pre .rowed .row in puts-as (line-bytes (now (c .before .before .before .before .before .before .before .before .before .before .before .before .before .before .before .before .before .before .before .before .before .before .before .before .args .s)) (now (c .before .before .before .before .before .before .before .before .before .before .before .before .before .before .before .before .before .before .before .before .before .before .before .before .args .t)) seen w e is q (c .before .before .before .before .before .before .before .before .before .before .before .before .before .before .before .before .before .before .before .before .before .before .before .before .args .kind) (c .before .before .before .before .before .before .before .before .before .before .before .before .before .before .before .before .value-kind .result) (now (c .before .before .before .before .before .before .before .before .before .before .before .before .before .before .before .before .before .before .before .before .before .before .before .before .args .key)) (part (now (c .before .before .before .before .before .before .before .before .before .before .before .before .before .before .before .before .before .before .before .before .before .before .before .before .args .s)) (getD (now (c .before .before .before .before .before .before .before .before .before .before .before .before .before .before .before .before .before .before .before .before .before .before .before .before .args .froms)) 1 0) (getD (now (c .before .before .before .before .before .before .before .before .before .before .before .before .before .before .before .before .before .before .before .before .before .before .before .before .args .tos)) 1 0)) _ _ rd (c .before .before .before .before .before .before .before .before .before .before .before .before .before .before .before .before .value-kind .ensures _ r) (c .before .before .before .before .before .before .before .before .before .before .before .before .before .before .mark-rows .ensures) (the-pref (now (c .before .before .before .before .before .before .before .before .before .before .before .before .before .before .before .before .before .before .before .before .before .before .before .before .args .s)) (now (c .before .before .before .before .before .before .before .before .before .before .before .before .before .before .before .before .before .before .before .before .before .before .before .before .args .t)) seen w e is q r (c .before .before .before .before .before .before .before .before .before .if1 .left))) (c .before .before .put-entry2 .ensures)
 
 pub put-map-line-spec : {M : Type 1} → statement M
 put-map-line-spec =
