@@ -150,8 +150,8 @@ module _ {scratch starts codes : List ℕ} {n : ℕ} {cs : List Classed} (h : Cl
         own = own-among i cs k e (entriesOf i (drop (k + 1) cs)) (left-entry h k l i r is z small);
       }
 
-      pub has-turn : length p ≤ 16 → formOf i < 4 → HasTurn s p row i taken from
-      has-turn short plain = record { ids = idsOf (entriesOf i cs); used = m .used; entry = e; turning = turning; short = short; plain = plain }
+      pub has-turn : length p ≤ 16 → HasTurn s p row i taken from
+      has-turn short = record { ids = idsOf (entriesOf i cs); used = m .used; entry = e; turning = turning; short = short }
 
       module _ (same : p ≡ mapAt i .prefix) (w : Turn) (last : Bytes) (t : PutsTurn (midOf at (length out - at) out) s p row i begun taken from w last) where
         abbrev key : Bytes

@@ -5,7 +5,9 @@ use mathlib.Core.List.{List, [], _∷_, _++_, map, append-assoc, append-nil}
 use Prim.Native.Nat.{ℕ, zero, suc, _+_, _≤_, _<_}
 use native.Mathlib.Omega.{arith}
 use lib.Dec.{eqb}
-use lib.ListN.{length, getD}
+use native.Mathlib.Numerals.{add-one}
+use lib.ListN.{length, drop, getD, drop-of-length-le}
+use lib.Seq.{drop-cons}
 use borrow.Author.Tests.{ne-eqb, eq-eqb}
 use Rattle.text.specs.Choice.{pick}
 use Rattle.text.specs.Bytes.{Bytes, empty, flat, keep}
@@ -22,7 +24,7 @@ use Rattle.convert_put.specs.Pieces.{memberBytes, after, closing}
 use Rattle.convert_put.proofs.Card.{map-bytes}
 use Rattle.convert_put.proofs.Compact.{after-append}
 use Rattle.to_json_entry.specs.Entry.{keyed}
-use Rattle.to_json_maps.specs.Maps.{entriesOf, idsOf, mapMember, headPiece, entryPiece, mapFrom}
+use Rattle.to_json_maps.specs.Maps.{noMap, mapAt, mapBytes, entriesOf, idsOf, mapMember, headPiece, entryPiece, mapFrom}
 
 -- ---- pieces
 
@@ -100,6 +102,9 @@ entry-code as-kept i h l = absurd (omega (arith, h))
 
 -- ---- all maps
 
+abbrev pub allMaps : List Classed → Bytes
+allMaps cs = after (mapsJson maps (mapsFrom 0 maps (gathered (λ (g : Gives). g .entry) cs)))
+
 -- the members of the maps from the place i on
 abbrev pub mapsAfter : ℕ → List Map → List Classed → Bytes
 mapsAfter i [] cs = []
@@ -113,3 +118,11 @@ maps-bytes i (m ∷ ms) cs =
     let es : List Entry = keyedEntries m (inMap i ps) in
     after-append (where′ (not (empty es)) (member (m .member) (object (map (entryJson m) es)))) (mapsJson ms (mapsFrom (suc i) ms ps))
     ∙ ap (λ (y : Bytes). after (where′ (not (empty es)) (member (m .member) (object (map (entryJson m) es)))) ++ y) (maps-bytes (suc i) ms cs)
+
+-- one map more, and the end
+pub maps-step : (i : ℕ) (cs : List Classed) → i < 7 → mapsAfter i (drop i maps) cs ≡ mapBytes i cs ++ mapsAfter (i + 1) (drop (i + 1) maps) cs
+unfolding mapAt
+maps-step i cs l = rw (add-one, drop-cons maps i noMap)
+
+pub maps-end : (i : ℕ) (cs : List Classed) → 7 ≤ i → mapsAfter i (drop i maps) cs ≡ []
+maps-end i cs l = let h : length maps ≤ i = l in rw (drop-of-length-le maps h)

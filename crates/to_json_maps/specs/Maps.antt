@@ -24,7 +24,6 @@ use Rattle.line_table.specs.Table.{lineIn}
 use Rattle.card_lines.specs.Classified.{Classified}
 use Rattle.to_json_keys.specs.Taken.{Taken, Blocked, Going}
 use Rattle.convert_put.specs.Pieces.{memberBytes, after, closing}
-use Rattle.class_names.specs.Names.{formOf}
 use Rattle.table_entry.specs.Key.{Rowed}
 use Rattle.to_json_maps.specs.declared.Turn.{Turn}
 use Rattle.to_json_maps.specs.declared.Turn.the-variants.{Put, Full as Filled}
@@ -97,7 +96,6 @@ pub record HasEntry (s : Bytes) (t C F T : List ℕ) (i : ℕ) : Type 0 where
   pub rowed : Rowed s t C F T
   pub entry : Entry
   pub converts : Converts s t i entry
-  pub plain : formOf i < 4
 
 -- ---- PROP-IDs
 
@@ -141,7 +139,6 @@ pub record HasTurn (s prefix : Bytes) (row : List ℕ) (i : ℕ) (taken : Bool) 
   pub entry : Entry
   pub turning : Turning s prefix row i taken from ids used entry
   pub short : length prefix ≤ 16
-  pub plain : formOf i < 4
 
 -- how much was written
 abbrev pub wroteOf : Turn → Wrote
@@ -171,7 +168,6 @@ pub record HasMap (scratch starts codes : List ℕ) (n i : ℕ) (prefix : Bytes)
   pub small : i < 7
   pub is : prefix ≡ prefixOf i
   pub ids : MarksIds prefix scratch starts codes n i row taken
-  pub plain : formOf i < 4
 
 abbrev pub PutsMaps : Bytes → List ℕ → List ℕ → List ℕ → ℕ → Wrote → Bytes → Type 0
 PutsMaps room scratch starts codes n r out =

@@ -6,7 +6,6 @@ ghost use lib.Dec.{eqb};
 ghost use lib.ListN.{length};
 ghost use Rattle.output.specs.Put.{Puts};
 ghost use Rattle.convert.specs.Keys.{numbered};
-ghost use Rattle.class_names.specs.Names.{formOf};
 ghost use Rattle.to_json_maps.specs.Maps.{mapAt, prefixOf, headPiece, Entering, MarksLine, Unmarked, HasLines, MarksIds, HasEntry, PutsKeyed, HasTurn, PutsTurn, HasMap, PutsMap, PutsMaps};
 use class_names::form_of;
 use class_names::types_of;
@@ -290,7 +289,7 @@ fn put_entries(
 }
 
 // The member of the map i.
-fn put_map(
+pub fn put_map(
     out: &mut [u8],
     t: &mut [usize],
     scratch: &[u8],
@@ -299,7 +298,7 @@ fn put_map(
     n: usize,
     i: usize,
 ) -> Wrote
-    requires { ⌜ (264 ≤ length (now t)) × HasLines (now scratch) (now starts) (now codes) n × (i < 7) × (formOf i < 4) ⌝ }
+    requires { ⌜ (264 ≤ length (now t)) × HasLines (now scratch) (now starts) (now codes) n × (i < 7) ⌝ }
     ensures { λ r. ⌜ PutsMap (now (out .entry)) (now (scratch .entry)) (now (starts .entry)) (now (codes .entry)) n i r (now (out .exit)) ⌝ }
 {
     let mut row = [0u8; 1025];
@@ -309,4 +308,28 @@ fn put_map(
     };
     let taken = mark_ids(&mut row, t, &prefix[0..p], scratch, starts, codes, n, i);
     put_entries(out, t, scratch, starts, codes, n, i, &prefix[0..p], &row, taken)
+}
+
+// The members of all maps, in the table's order.
+pub fn put_maps(
+    out: &mut [u8],
+    t: &mut [usize],
+    scratch: &[u8],
+    starts: &[usize],
+    codes: &[u8],
+    n: usize,
+) -> Wrote
+    requires { ⌜ (264 ≤ length (now t)) × HasLines (now scratch) (now starts) (now codes) n ⌝ }
+    ensures { λ r. ⌜ PutsMaps (now (out .entry)) (now (scratch .entry)) (now (starts .entry)) (now (codes .entry)) n r (now (out .exit)) ⌝ }
+{
+    let mut at = 0;
+    let mut i: usize = 0;
+    while i < 7 {
+        let Wrote::Bytes(m) = put_map(&mut out[at..], t, scratch, starts, codes, n, i) else {
+            return Wrote::Full;
+        };
+        at += m;
+        i += 1;
+    }
+    Wrote::Bytes(at)
 }

@@ -56,7 +56,7 @@ part-put-turn-end : tie.Need-part-put-turn-end Inv-loop μ-loop
 part-put-turn-end c = le-refl _
 
 put-turn-requires : tie.Need-put-turn-requires Inv-loop μ-loop
-put-turn-requires c κs = (omega (arith, c .before .before .before .before .before .before .before .loop .inv .1, c .before .before .before .before .before .before .before .before .before .before .before .before .before .before .before .pre .0), has-turn (c .before .before .before .before .before .before .before .before .before .before .before .before .before .before .before .pre .1 .lines .1) (now (c .before .before .before .before .before .before .before .before .before .before .before .before .before .before .before .args .out)) (now (c .before .before .before .before .before .before .before .before .before .before .before .before .before .before .before .args .prefix)) (c .before .before .before .before .before .before .before .before .before .before .before .before .before .before .before .args .i) (c .before .before .before .before .before .before .before .loop .k) (c .before .before .before .before .before .before .loop-test .taken) (c .before .before .before .before .is-of .result) (c .before .before .before .before .is-of .ensures) (c .before .before .before .before .before .before .before .loop .inv .2 (c .before .before .before .before .before .before .before .before .before .before .before .before .before .before .before .pre .1 .lines .0) (c .before .before .before .before .before .before .before .before .before .before .before .before .before .before .before .pre .1 .lines .1)) (not-false _ (c .before .before .before .if1 .left)) (omega (arith, c .before .before .before .before .before .before .before .before .before .before .before .before .before .before .before .pre .1 .small)) (now (c .before .before .before .before .before .before .before .before .before .before .before .before .before .before .before .args .row)) (c .before .before .before .before .before .before .before .before .before .before .before .before .before .before .before .args .taken) (c .before .before .before .before .before .before .before .before .before .before .before .before .before .before .before .pre .1 .ids (c .before .before .before .before .before .before .before .before .before .before .before .before .before .before .before .pre .1 .lines .0) (c .before .before .before .before .before .before .before .before .before .before .before .before .before .before .before .pre .1 .lines .1)) (c .before .before .line-at .ensures) (prefix-short (c .before .before .before .before .before .before .before .before .before .before .before .before .before .before .before .args .i) (now (c .before .before .before .before .before .before .before .before .before .before .before .before .before .before .before .args .prefix)) (c .before .before .before .before .before .before .before .before .before .before .before .before .before .before .before .pre .1 .small) (c .before .before .before .before .before .before .before .before .before .before .before .before .before .before .before .pre .1 .is)) (c .before .before .before .before .before .before .before .before .before .before .before .before .before .before .before .pre .1 .plain))
+put-turn-requires c κs = (omega (arith, c .before .before .before .before .before .before .before .loop .inv .1, c .before .before .before .before .before .before .before .before .before .before .before .before .before .before .before .pre .0), has-turn (c .before .before .before .before .before .before .before .before .before .before .before .before .before .before .before .pre .1 .lines .1) (now (c .before .before .before .before .before .before .before .before .before .before .before .before .before .before .before .args .out)) (now (c .before .before .before .before .before .before .before .before .before .before .before .before .before .before .before .args .prefix)) (c .before .before .before .before .before .before .before .before .before .before .before .before .before .before .before .args .i) (c .before .before .before .before .before .before .before .loop .k) (c .before .before .before .before .before .before .loop-test .taken) (c .before .before .before .before .is-of .result) (c .before .before .before .before .is-of .ensures) (c .before .before .before .before .before .before .before .loop .inv .2 (c .before .before .before .before .before .before .before .before .before .before .before .before .before .before .before .pre .1 .lines .0) (c .before .before .before .before .before .before .before .before .before .before .before .before .before .before .before .pre .1 .lines .1)) (not-false _ (c .before .before .before .if1 .left)) (omega (arith, c .before .before .before .before .before .before .before .before .before .before .before .before .before .before .before .pre .1 .small)) (now (c .before .before .before .before .before .before .before .before .before .before .before .before .before .before .before .args .row)) (c .before .before .before .before .before .before .before .before .before .before .before .before .before .before .before .args .taken) (c .before .before .before .before .before .before .before .before .before .before .before .before .before .before .before .pre .1 .ids (c .before .before .before .before .before .before .before .before .before .before .before .before .before .before .before .pre .1 .lines .0) (c .before .before .before .before .before .before .before .before .before .before .before .before .before .before .before .pre .1 .lines .1)) (c .before .before .line-at .ensures) (prefix-short (c .before .before .before .before .before .before .before .before .before .before .before .before .before .before .before .args .i) (now (c .before .before .before .before .before .before .before .before .before .before .before .before .before .before .before .args .prefix)) (c .before .before .before .before .before .before .before .before .before .before .before .before .before .before .before .pre .1 .small) (c .before .before .before .before .before .before .before .before .before .before .before .before .before .before .before .pre .1 .is)))
 
 enum-known-bytes : tie.Need-enum-known-bytes Inv-loop μ-loop
 enum-known-bytes c = c .match .keys1

@@ -53,7 +53,7 @@ part-put-map-line-end : tie.Need-part-put-map-line-end
 part-put-map-line-end c = le-refl _
 
 put-map-line-requires : tie.Need-put-map-line-requires
-put-map-line-requires c κs = record { rowed = c .before .before .before .before .before .before .before .before .before .before .before .before .before .before .before .before .before .before .pre .rowed; seen = c .before .before .before .before .before .before .before .before .before .before .before .before .before .before .before .before .before .before .pre .converts .seen; slot = c .before .before .before .before .before .before .before .before .before .before .before .before .before .before .before .before .before .before .pre .converts .slot; entry = c .before .before .before .before .before .before .before .before .before .before .before .before .before .before .before .before .before .before .pre .entry; is = row-is (c .before .before .before .before .before .before .before .before .before .before .before .before .before .before .before .before .before .before .pre .converts) (c .before .before .before .before .before .before .before .before .before .before .types-of .result) (c .before .before .before .before .before .before .before .before .before .form-of .result) (c .before .before .before .before .before .before .before .before .before .before .types-of .ensures) (c .before .before .before .before .before .before .before .before .before .form-of .ensures .0); converts = c .before .before .before .before .before .before .before .before .before .before .before .before .before .before .before .before .before .before .pre .converts .entry; plain = omega (arith, c .before .before .before .before .before .before .before .before .before .form-of .ensures .0, c .before .before .before .before .before .before .before .before .before .before .before .before .before .before .before .before .before .before .pre .plain) }
+put-map-line-requires c κs = record { rowed = c .before .before .before .before .before .before .before .before .before .before .before .before .before .before .before .before .before .before .pre .rowed; seen = c .before .before .before .before .before .before .before .before .before .before .before .before .before .before .before .before .before .before .pre .converts .seen; slot = c .before .before .before .before .before .before .before .before .before .before .before .before .before .before .before .before .before .before .pre .converts .slot; entry = c .before .before .before .before .before .before .before .before .before .before .before .before .before .before .before .before .before .before .pre .entry; is = row-is (c .before .before .before .before .before .before .before .before .before .before .before .before .before .before .before .before .before .before .pre .converts) (c .before .before .before .before .before .before .before .before .before .before .types-of .result) (c .before .before .before .before .before .before .before .before .before .form-of .result) (c .before .before .before .before .before .before .before .before .before .before .types-of .ensures) (c .before .before .before .before .before .before .before .before .before .form-of .ensures .0); converts = c .before .before .before .before .before .before .before .before .before .before .before .before .before .before .before .before .before .before .pre .converts .entry }
 
 enum-known-b : tie.Need-enum-known-b
 enum-known-b c = c .match2 .keys1
