@@ -40,7 +40,7 @@ use Rattle.to_json_sections.proofs.Props.{props-whole, from-cons, from-
 -- ---- the class of a number
 
 -- an entry's number is below 7
-entry-low : (s : Seen) (l : Line) (i : ℕ) (e : Entry) → Fact s l (as-entry i e) → i < 7
+pub entry-low : (s : Seen) (l : Line) (i : ℕ) (e : Entry) → Fact s l (as-entry i e) → i < 7
 entry-low s l i e f = slot-low (lowered (l .name)) (f .0) (f .1) i (f .2)
 
 kept-class : (s : Seen) (l : Line) (x : Class) → Fact s l x → codeOf x ≡ 16 → x ≡ as-kept
@@ -67,15 +67,15 @@ kept-not l (as-member a j) n = refl
 
 -- ---- lines one by one
 
-gathered-cons : {A : Type 0} (f : Gives → List A) (c : Classed) (cs : List Classed) → gathered f (c ∷ cs) ≡ f (gives (c .line) (c .class)) ++ gathered f cs
+pub gathered-cons : {A : Type 0} (f : Gives → List A) (c : Classed) (cs : List Classed) → gathered f (c ∷ cs) ≡ f (gives (c .line) (c .class)) ++ gathered f cs
 unfolding gathered flat
 gathered-cons f c cs = refl
 
-gathered-none : {A : Type 0} (f : Gives → List A) → gathered f [] ≡ []
+pub gathered-none : {A : Type 0} (f : Gives → List A) → gathered f [] ≡ []
 unfolding gathered flat
 gathered-none f = refl
 
-fact-of : {scratch starts codes : List ℕ} {k : ℕ} {c : Classed} (h : LineOf scratch starts codes k c) → Fact (h .seen) (c .line) (c .class)
+pub fact-of : {scratch starts codes : List ℕ} {k : ℕ} {c : Classed} (h : LineOf scratch starts codes k c) → Fact (h .seen) (c .line) (c .class)
 fact-of {c = c} h = subst (Fact (h .seen) (c .line)) (sym (h .turn)) (class-fact (h .seen) (c .line))
 
 -- ---- vCardProps

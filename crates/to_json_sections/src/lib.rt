@@ -4,12 +4,14 @@ ghost use Prim.Native.Nat.{_≤_};
 ghost use lib.ListN.{length};
 ghost use Rattle.output.specs.Put.{Puts};
 ghost use Rattle.to_json_maps.specs.Maps.{HasLines};
-ghost use Rattle.to_json_sections.specs.Sections.{propHead, HasKept, PutsProp, PutsProps, FirstOf};
+ghost use Rattle.to_json_sections.specs.Sections.{propHead, HasKept, PutsProp, PutsProps, FirstOf, PutsStart, PutsKind};
 use line_table::fill;
 use line_unfold::line_at;
 use output::Wrote;
 use output::put_byte;
 use output::put_text;
+use to_json_head::put_kind;
+use to_json_head::put_start;
 use to_json_kept::put_kept;
 use to_json_maps::is_of;
 
@@ -91,4 +93,56 @@ pub fn first_of(codes: &[u8], n: usize, q: usize) -> usize
         k += 1;
     }
     n
+}
+
+// How the JSON begins: @type, version, and the UID as it stands or a made one.
+pub fn put_start_of(
+    out: &mut [u8],
+    t: &mut [usize],
+    stem: &[u8],
+    number: usize,
+    scratch: &[u8],
+    starts: &[usize],
+    codes: &[u8],
+    n: usize,
+) -> Wrote
+    requires { ⌜ (264 ≤ length (now t)) × HasLines (now scratch) (now starts) (now codes) n ⌝ }
+    ensures { λ r. ⌜ PutsStart (now (out .entry)) (now (stem .entry)) number (now (scratch .entry)) (now (starts .entry)) (now (codes .entry)) n r (now (out .exit)) ⌝ }
+{
+    let k = first_of(codes, n, 19);
+    if k >= n {
+        return put_start(out, false, stem, stem, number);
+    }
+    let s = line_at(scratch, starts, k);
+    if !fill(t, s) {
+        return Wrote::Full;
+    }
+    let a = t[4];
+    let b = t[5];
+    put_start(out, true, &s[a..b], stem, number)
+}
+
+// The kind, where there is a KIND line.
+pub fn put_kind_of(
+    out: &mut [u8],
+    t: &mut [usize],
+    scratch: &[u8],
+    starts: &[usize],
+    codes: &[u8],
+    n: usize,
+) -> Wrote
+    requires { ⌜ (264 ≤ length (now t)) × HasLines (now scratch) (now starts) (now codes) n ⌝ }
+    ensures { λ r. ⌜ PutsKind (now (out .entry)) (now (scratch .entry)) (now (starts .entry)) (now (codes .entry)) n r (now (out .exit)) ⌝ }
+{
+    let k = first_of(codes, n, 20);
+    if k >= n {
+        return Wrote::Bytes(0);
+    }
+    let s = line_at(scratch, starts, k);
+    if !fill(t, s) {
+        return Wrote::Full;
+    }
+    let a = t[4];
+    let b = t[5];
+    put_kind(out, &s[a..b])
 }
