@@ -24,7 +24,7 @@ use Rattle.convert_put.specs.Pieces.{contentPiece, valuePiece, memberBytes, ins
 use Rattle.convert_put.proofs.Compact.{quoted-append}
 use Rattle.convert_put.proofs.Entries.{string-bytes}
 use Rattle.to_json_items.specs.Items.{lead, opening, listed, elems, isOwn, textsOf, Readable}
-use Rattle.to_json_items.proofs.Texts.{plain-empty, rest-good}
+use Rattle.to_json_items.proofs.Texts.{plain-empty, rest-good, own-none, plain-is, each-plain}
 use Rattle.convert_entry.proofs.Entry.{rest-part}
 use Rattle.to_json_items.proofs.Arrays.{array-bytes, first-items, listed-some}
 use Rattle.to_json_entry.specs.Entry.{stringPiece, orgName, unitsPiece, unitsAfter, orgPiece}
@@ -45,20 +45,6 @@ name-filled i [] n = absurd (n refl)
 name-filled i (c ∷ u) n = refl
 
 -- ---- the units
-
--- nothing is among no others
-alone-is : (t : Bytes) → isOwn (textsOf 44 []) t ≡ filled t
-unfolding isOwn among any same splitText splitFrom plainText readText textFrom
-alone-is [] = refl
-alone-is (c ∷ t) = refl
-
-keep-same : (p q : Bytes → Bool) → ((t : Bytes) → p t ≡ q t) → (ts : List Bytes) → keep p ts ≡ keep q ts
-unfolding keep
-keep-same p q h [] = refl
-keep-same p q h (t ∷ ts) = ap (λ b. pick b (t ∷ keep p ts) (keep p ts)) (h t) ∙ ap (λ (l : List Bytes). pick (q t) (t ∷ l) l) (keep-same p q h ts)
-
-pub units-kept : (ts : List Bytes) → keep (isOwn (textsOf 44 [])) ts ≡ keep filled ts
-units-kept ts = keep-same (isOwn (textsOf 44 [])) filled alone-is ts
 
 pub units-more : (k : ℕ) (us : List Bytes) → listed k false us ++ (pick (empty us) [] (93 ∷ []) ++ []) ≡ unitsPiece k us
 unfolding unitsPiece flat
@@ -105,10 +91,6 @@ kind-named named e = rw e
 
 pub kind-alone : (named : Bool) → named ≡ false → _≡_ {A = ℕ} 8 (pick named 7 8)
 kind-alone named e = rw e
-
-pub nothing-readable : Readable 44 []
-unfolding each splitText splitFrom readText textFrom
-nothing-readable = refl
 
 pub rest-readable : (v : Bytes) (e : ℕ) → PartEnds 59 v 0 e → Readable 59 v → e < length v → Readable 59 (take (length v - (e + 1)) (drop (e + 1) v))
 rest-readable v e p g l = ap (λ w. is-some (each readText (splitText 59 w))) (rest-part v (e + 1)) ∙ rest-good 59 v 0 e p g l
@@ -177,17 +159,6 @@ keep-some : (ts : List Bytes) → any filled ts ≡ true → empty (keep filled 
 unfolding any keep
 keep-some [] e = never e
 keep-some (t ∷ ts) e = byBool (filled t) (λ b. rw b) (λ b. rw b (keep-some ts (rw b at e)))
-
-plain-is : (u t : Bytes) → readText u ≡ some t → plainText u ≡ t
-unfolding plainText
-plain-is u t e = rw e
-
-each-plain : (us ts : List Bytes) → each readText us ≡ some ts → map plainText us ≡ ts
-unfolding each
-each-plain [] ts e = some-same e
-each-plain (u ∷ us) ts e =
-    let q = both-inv _∷_ (readText u) (each readText us) e in
-    ap (λ x. x ∷ map plainText us) (plain-is u (q .0) (q .2)) ∙ ap (λ l. q .0 ∷ l) (each-plain us (q .1) (q .3)) ∙ q .4
 
 pub record OrgOf (n : Bytes) (i : ℕ) (v : Bytes) (ts : List Bytes) : Type 0 where
   pub c : Member

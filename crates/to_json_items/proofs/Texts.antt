@@ -11,6 +11,7 @@ use borrow.Author.Tests.{eq-eqb, eqb-true, lt-ltb, le-ltb, ltb-true, ltb-false}
 use Rattle.text.specs.Choice.{pick, is-some, both, with-some}
 use Rattle.text.specs.Bytes.{Bytes, empty, same, among, any, keep, each}
 use Rattle.text.proofs.Cases.{byBool, tests}
+use Rattle.text.proofs.Choices.{both-inv, some-same}
 use Rattle.line.specs.Text.{push, escaped, textFrom, readText, splitFrom, splitText}
 use Rattle.line_text.specs.Read.{plainText, OneChar}
 use Rattle.line_text.specs.Split.{PartEnds}
@@ -228,3 +229,34 @@ module _ (u o : Bytes) (good : is-some (readText u) ≡ true) where
 
   pub own-sought : (length u ≡ 0 → ⊥) → (r : Bool) → r ≡ among (plainText u) (textsOf 44 o) → not r ≡ isOwn (textsOf 44 o) (plainText u)
   own-sought n r e = ap not e ∙ sym (own-filled n)
+
+-- nothing is among no others
+alone-is : (t : Bytes) → isOwn (textsOf 44 []) t ≡ filled t
+unfolding isOwn among any same splitText splitFrom plainText readText textFrom
+alone-is [] = refl
+alone-is (c ∷ t) = refl
+
+keep-same : (p q : Bytes → Bool) → ((t : Bytes) → p t ≡ q t) → (ts : List Bytes) → keep p ts ≡ keep q ts
+unfolding keep
+keep-same p q h [] = refl
+keep-same p q h (t ∷ ts) = ap (λ b. pick b (t ∷ keep p ts) (keep p ts)) (h t) ∙ ap (λ (l : List Bytes). pick (q t) (t ∷ l) l) (keep-same p q h ts)
+
+pub own-none : (ts : List Bytes) → keep (isOwn (textsOf 44 [])) ts ≡ keep filled ts
+own-none ts = keep-same (isOwn (textsOf 44 [])) filled alone-is ts
+
+-- ---- parts as they read
+
+pub plain-is : (u t : Bytes) → readText u ≡ some t → plainText u ≡ t
+unfolding plainText
+plain-is u t e = rw e
+
+pub each-plain : (us ts : List Bytes) → each readText us ≡ some ts → map plainText us ≡ ts
+unfolding each
+each-plain [] ts e = some-same e
+each-plain (u ∷ us) ts e =
+    let q = both-inv _∷_ (readText u) (each readText us) e in
+    ap (λ x. x ∷ map plainText us) (plain-is u (q .0) (q .2)) ∙ ap (λ l. q .0 ∷ l) (each-plain us (q .1) (q .3)) ∙ q .4
+
+pub nothing-readable : Readable 44 []
+unfolding each splitText splitFrom readText textFrom
+nothing-readable = refl

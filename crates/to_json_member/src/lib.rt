@@ -1,0 +1,105 @@
+// A JSPROP line that converts, written as a top-level member.
+ghost use mathlib.Core.Path.{_≡_};
+ghost use mathlib.Core.List.{_∷_, []};
+ghost use Prim.Native.Nat.{_≤_, _<_};
+ghost use lib.ListN.{length, drop};
+ghost use Rattle.text.specs.Bytes.{flat};
+ghost use Rattle.json.specs.Compact.{spelledAll};
+ghost use Rattle.output.specs.Put.{Puts};
+ghost use Rattle.json_compact.specs.Squeezed.{squeezed};
+ghost use Rattle.to_json_member.specs.Line.{nameIn, Pointing, pointerByte, pointerNext, MemberLine, PutsMember};
+use json_compact::put_compact;
+use json_write::put_byte_spelled;
+use line_text::read_text;
+use output::Wrote;
+use output::put_byte;
+use output::put_text;
+
+// `~1` is a slash, `~0` a tilde.
+fn pointer_byte(p: &[u8], i: usize) -> u8
+    requires { ⌜ Pointing (drop i (now p)) × (i < length (now p)) ⌝ }
+    ensures { λ r. ⌜ r ≡ pointerByte (now (p .entry)) i ⌝ }
+{
+    let c = p[i];
+    if c != b'~' {
+        return c;
+    }
+    if p[i + 1] == b'1' {
+        return b'/';
+    }
+    b'~'
+}
+
+fn pointer_next(p: &[u8], i: usize) -> usize
+    requires { ⌜ Pointing (drop i (now p)) × (i < length (now p)) ⌝ }
+    ensures { λ r. ⌜ r ≡ pointerNext (now (p .entry)) i ⌝ }
+{
+    if p[i] == b'~' {
+        return i + 2;
+    }
+    i + 1
+}
+
+// The name that a pointer spells, as JSON without quotes.
+fn spell_pointer(out: &mut [u8], p: &[u8]) -> Wrote
+    requires { ⌜ Pointing (now p) ⌝ }
+    ensures { λ r. ⌜ Puts (now (out .entry)) (spelledAll (nameIn (now (p .entry)))) r (now (out .exit)) ⌝ }
+{
+    let mut at = 0;
+    let mut i = 0;
+    while i < p.len() {
+        let b = pointer_byte(p, i);
+        let Wrote::Bytes(n) = put_byte_spelled(&mut out[at..], b) else {
+            return Wrote::Full;
+        };
+        at += n;
+        i = pointer_next(p, i);
+    }
+    Wrote::Bytes(at)
+}
+
+// The member: the name from its pointer, the value from its JSON text.
+fn put_pointed(out: &mut [u8], p: &[u8], text: &[u8]) -> Wrote
+    requires { ⌜ Pointing (now p) ⌝ }
+    ensures { λ r. ⌜ Puts (now (out .entry)) (flat ((34 ∷ []) ∷ spelledAll (nameIn (now (p .entry))) ∷ (34 ∷ 58 ∷ []) ∷ squeezed (now (text .entry)) ∷ [])) r (now (out .exit)) ⌝ }
+{
+    let Wrote::Bytes(a) = put_byte(out, b'"') else {
+        return Wrote::Full;
+    };
+    let Wrote::Bytes(b) = spell_pointer(&mut out[a..], p) else {
+        return Wrote::Full;
+    };
+    let ab = a + b;
+    let Wrote::Bytes(c) = put_text(&mut out[ab..], b"\":") else {
+        return Wrote::Full;
+    };
+    let ac = ab + c;
+    let Wrote::Bytes(d) = put_compact(&mut out[ac..], text) else {
+        return Wrote::Full;
+    };
+    let ad = ac + d;
+    Wrote::Bytes(ad)
+}
+
+// The line's value is read as TEXT into the scratch, which is at least as long as the line.
+pub fn put_member_line(
+    out: &mut [u8],
+    scratch: &mut [u8],
+    s: &[u8],
+    t: &[usize],
+    counts: &[usize],
+    froms: &[usize],
+    tos: &[usize],
+) -> Wrote
+    requires { ⌜ MemberLine (now s) (now t) (now counts) (now froms) (now tos) × (length (now s) ≤ length (now scratch)) ⌝ }
+    ensures { λ r. ⌜ PutsMember (now (out .entry)) (now (s .entry)) (now (t .entry)) r (now (out .exit)) ⌝ }
+{
+    let a = t[4];
+    let b = t[5];
+    let Wrote::Bytes(k) = read_text(scratch, &s[a..b]) else {
+        return Wrote::Full;
+    };
+    let c = froms[4];
+    let d = tos[4];
+    put_pointed(out, &s[c..d], &scratch[0..k])
+}

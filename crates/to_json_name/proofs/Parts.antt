@@ -1,0 +1,190 @@
+-- N's parts: where they begin, and their own values.
+use mathlib.Core.Path.{_≡_, refl, sym, ap, _∙_}
+use mathlib.Core.Bool.{Bool, true, false, _&&_, _||_, not}
+use mathlib.Core.List.{List, [], _∷_, _++_, map}
+use mathlib.Core.Option.{Option, none, some, Option·map}
+use Prim.Native.Nat.{ℕ, zero, suc, _+_, _-_, _≤_, _<_}
+use native.Mathlib.Nat.{le-refl}
+use native.Mathlib.Omega.{arith}
+use lib.Dec.{eqb, ltb, leb}
+use lib.ListN.{length, take, drop, getD, drop-of-length-le}
+use borrow.Author.Tests.{ne-eqb, lt-ltb, le-ltb}
+use Rattle.text.specs.Choice.{pick, is-some, both, chain, provided}
+use Rattle.text.specs.Bytes.{Bytes, empty, any, same, among, keep, each}
+use Rattle.text.proofs.Cases.{byBool}
+use Rattle.text.proofs.Choices.{both-inv, map-inv, chain-inv, provided-inv, some-same, none-some}
+use Rattle.line.specs.Text.{readText, textFrom, splitFrom, splitText}
+use Rattle.line_text.specs.Read.{plainText}
+use Rattle.line_text.specs.Split.{PartEnds}
+use Rattle.convert.specs.Model.{part}
+use Rattle.convert.specs.Value.{filled, headOr, partValues, without, ownParts, readName}
+use Rattle.to_json_items.specs.Items.{isOwn, textsOf, Readable}
+use Rattle.to_json_items.proofs.Texts.{own-none, each-plain, nothing-readable}
+use Rattle.to_json_name.specs.Name.{partOf, PartFrom, otherPart, othersOf, valuesOf, NameGood}
+
+-- ---- where part k begins
+
+pub record Passing (v : Bytes) (at j : ℕ) : Type 0 where
+  pub within : at ≤ length v
+  pub is : (n : ℕ) → getD (splitText 59 (drop at v)) n [] ≡ partOf v (n + j)
+
+nothing : (v : Bytes) → headOr [] (splitText 59 (drop (length v) v)) ≡ []
+unfolding splitText splitFrom
+nothing v = ap (λ x. headOr [] (splitText 59 x)) (drop-of-length-le v (le-refl _))
+
+pub passing-start : (v : Bytes) → Passing v 0 0
+passing-start v = record { within = omega arith; is = λ n. let z : n ≡ n + 0 = omega arith in ap (partOf v) z }
+
+head-is : (us : List Bytes) → headOr [] us ≡ getD us 0 []
+head-is [] = refl
+head-is (u ∷ us) = refl
+
+pub passing-here : (v : Bytes) (at j k : ℕ) → Passing v at j → j ≡ k → PartFrom v k at
+passing-here v at j k h e = record {
+  within = h .within;
+  is = head-is (splitText 59 (drop at v)) ∙ h .is 0 ∙ (let z : 0 + j ≡ k = omega arith in ap (partOf v) z);
+}
+
+module _ (v : Bytes) (at j e : ℕ) (h : Passing v at j) (p : PartEnds 59 v at e) where
+  pub passing-on : e < length v → Passing v (e + 1) (j + 1)
+  passing-on l = record {
+    within = omega arith;
+    is = λ n.
+        let z : suc n + j ≡ n + (j + 1) = omega arith in
+        sym (ap (λ us. getD us (suc n) []) (p .parts ∙ ap (λ b. take (e - at) (drop at v) ∷ pick b (splitText 59 (drop (e + 1) v)) []) (lt-ltb e (length v) l)))
+        ∙ h .is (suc n)
+        ∙ ap (partOf v) z;
+  }
+
+  pub passing-out : (k : ℕ) → j < k → length v ≤ e → PartFrom v k (length v)
+  passing-out k l o = record {
+    within = omega arith;
+    is =
+        nothing v
+        ∙ sym (later (k - (j + 1)))
+        ∙ h .is (suc (k - (j + 1)))
+        ∙ (let z : suc (k - (j + 1)) + j ≡ k = omega arith in ap (partOf v) z);
+  }
+    where
+      later : (n : ℕ) → getD (splitText 59 (drop at v)) (suc n) [] ≡ []
+      later n = ap (λ us. getD us (suc n) []) (p .parts ∙ ap (λ b. take (e - at) (drop at v) ∷ pick b (splitText 59 (drop (e + 1) v)) []) (le-ltb e (length v) o))
+
+-- the slice from there to its end
+pub slice-is : (v : Bytes) (k a b : ℕ) → PartFrom v k a → PartEnds 59 v a b → take (b - a) (drop a v) ≡ partOf v k
+slice-is v k a b f p = sym (ap (headOr []) (p .parts)) ∙ f .is
+
+pub slice-good : (v : Bytes) (k a b : ℕ) → NameGood v → PartFrom v k a → PartEnds 59 v a b → Readable 44 (take (b - a) (drop a v))
+slice-good v k a b g f p = ap (λ u. is-some (each readText (splitText 44 u))) (slice-is v k a b f p) ∙ g .readable k
+
+pub other-family : (k : ℕ) → k ≡ 0 → 5 ≡ otherPart k
+unfolding otherPart
+other-family k e = rw e
+
+pub other-suffix : (k : ℕ) → k ≡ 4 → 6 ≡ otherPart k
+unfolding otherPart
+other-suffix k e = rw e
+
+pub other-none : (k : ℕ) → (k ≡ 0 → ⊥) → (k ≡ 4 → ⊥) → 7 ≡ otherPart k
+unfolding otherPart
+other-none k a b = rw (ne-eqb k 0 a, ne-eqb k 4 b)
+
+module _ (v : Bytes) (k q : ℕ) (e : q ≡ otherPart k) where
+  pub values-alone : (u : Bytes) → u ≡ partOf v k → q ≡ 7 → keep (isOwn (textsOf 44 [])) (textsOf 44 u) ≡ valuesOf v k
+  unfolding valuesOf othersOf
+  values-alone u w z =
+      ap (λ x. keep (isOwn (textsOf 44 [])) (textsOf 44 x)) w
+      ∙ sym (ap (λ b. keep (isOwn (textsOf 44 (pick b [] (partOf v (otherPart k))))) (textsOf 44 (partOf v k))) (ap (λ x. eqb x 7) (sym e ∙ z)))
+
+  pub values-besides : (u o : Bytes) → u ≡ partOf v k → o ≡ partOf v q → (q ≡ 7 → ⊥) → keep (isOwn (textsOf 44 o)) (textsOf 44 u) ≡ valuesOf v k
+  unfolding valuesOf othersOf
+  values-besides u o w x z =
+      ap (λ y. keep (isOwn (textsOf 44 o)) (textsOf 44 y)) w
+      ∙ ap (λ y. keep (isOwn (textsOf 44 y)) (textsOf 44 (partOf v k))) (x ∙ ap (partOf v) e)
+      ∙ sym (ap (λ b. keep (isOwn (textsOf 44 (pick b [] (partOf v (otherPart k))))) (textsOf 44 (partOf v k))) (ap (λ y. eqb y 7) (sym e) ∙ ne-eqb q 7 z))
+
+-- ---- what N's value reads as
+
+never : {P : Type 0} → false ≡ true → P
+never e = absurd (let z : _≡_ {A = ℕ} 0 1 = cc in omega arith)
+
+-- the filled values of a part
+abbrev filledOf : Bytes → List Bytes
+filledOf u = keep filled (textsOf 44 u)
+
+no-values : filledOf [] ≡ []
+unfolding keep splitText splitFrom plainText readText textFrom
+no-values = refl
+
+part-reads : (u : Bytes) (q : List Bytes) → partValues u ≡ some q → (q ≡ filledOf u) × Readable 44 u
+unfolding partValues
+part-reads u q e =
+    let m = map-inv (keep filled) (each readText (splitText 44 u)) e in
+    (sym (m .2) ∙ sym (ap (keep filled) (each-plain (splitText 44 u) (m .0) (m .1))), ap is-some (m .1))
+
+parts-read : (us : List Bytes) (qs : List (List Bytes)) → each partValues us ≡ some qs → (k : ℕ) → (part qs k ≡ filledOf (getD us k [])) × Readable 44 (getD us k [])
+unfolding each
+parts-read [] qs e k = (ap (λ l. getD l k []) (sym (some-same e)) ∙ sym no-values, nothing-readable)
+parts-read (u ∷ us) qs e zero =
+    let q = both-inv _∷_ (partValues u) (each partValues us) e in
+    (ap (λ l. getD l 0 []) (sym (q .4)) ∙ part-reads u (q .0) (q .2) .0, part-reads u (q .0) (q .2) .1)
+parts-read (u ∷ us) qs e (suc k) =
+    let q = both-inv _∷_ (partValues u) (each partValues us) e in
+    let r = parts-read us (q .1) (q .3) k in
+    (ap (λ l. getD l (suc k) []) (sym (q .4)) ∙ r .0, r .1)
+
+-- ---- own values
+
+differs : (t : Bytes) → empty t ≡ false → same t [] ≡ false
+unfolding same
+differs [] e = never (sym e)
+differs (c ∷ t) e = refl
+
+among-filled : (t : Bytes) → empty t ≡ false → (os : List Bytes) → among t (keep filled os) ≡ among t os
+unfolding among any keep
+among-filled t e [] = refl
+among-filled t e ([] ∷ os) = among-filled t e os ∙ sym (ap (λ b. b || any (same t) os) (differs t e))
+among-filled t e ((c ∷ o) ∷ os) = ap (λ b. same t (c ∷ o) || b) (among-filled t e os)
+
+own-values : (os ts : List Bytes) → without (keep filled os) (keep filled ts) ≡ keep (isOwn os) ts
+unfolding without isOwn keep
+own-values os [] = refl
+own-values os (t ∷ ts) =
+    byBool (empty t)
+    (λ b. rw b (own-values os ts))
+    (λ b. rw (b, among-filled t b os, own-values os ts))
+
+-- ---- all seven
+
+pub record Seven (v : Bytes) (ps : List (List Bytes)) : Type 0 where
+  pub is : ps ≡ valuesOf v 0 ∷ valuesOf v 1 ∷ valuesOf v 2 ∷ valuesOf v 3 ∷ valuesOf v 4 ∷ valuesOf v 5 ∷ valuesOf v 6 ∷ []
+  pub good : NameGood v
+
+module _ (v : Bytes) (qs : List (List Bytes)) (r : each partValues (splitText 59 v) ≡ some qs) where
+  reads : (k : ℕ) → part qs k ≡ filledOf (partOf v k)
+  reads k = parts-read (splitText 59 v) qs r k .0
+
+  alone : (k : ℕ) → otherPart k ≡ 7 → part qs k ≡ valuesOf v k
+  alone k e = reads k ∙ sym (own-none (textsOf 44 (partOf v k))) ∙ values-alone v k 7 (sym e) (partOf v k) refl refl
+
+  besides : (k q : ℕ) → otherPart k ≡ q → (q ≡ 7 → ⊥) → without (part qs q) (part qs k) ≡ valuesOf v k
+  besides k q e n =
+      ap (λ l. without l (part qs k)) (reads q)
+      ∙ ap (without (filledOf (partOf v q))) (reads k)
+      ∙ own-values (textsOf 44 (partOf v q)) (textsOf 44 (partOf v k))
+      ∙ values-besides v k q (sym e) (partOf v k) (partOf v q) refl refl n
+
+  own-seven : ownParts qs ≡ valuesOf v 0 ∷ valuesOf v 1 ∷ valuesOf v 2 ∷ valuesOf v 3 ∷ valuesOf v 4 ∷ valuesOf v 5 ∷ valuesOf v 6 ∷ []
+  unfolding ownParts otherPart
+  own-seven =
+      rw (besides 0 5 refl (λ z. omega arith), alone 1 refl, alone 2 refl, alone 3 refl, besides 4 6 refl (λ z. omega arith), alone 5 refl, alone 6 refl)
+
+pub name-seven : (v : Bytes) (ps : List (List Bytes)) → readName v ≡ some ps → Seven v ps
+unfolding readName
+name-seven v ps e =
+    let a = provided-inv (leb (length (splitText 59 v)) 7) _ e in
+    let b = chain-inv (each partValues (splitText 59 v)) (λ qs. provided (any (λ vs. not (empty vs)) qs) (some (ownParts qs))) (a .1) in
+    let c = provided-inv (any (λ vs. not (empty vs)) (b .0)) (some (ownParts (b .0))) (b .2) in
+    record {
+      is = sym (some-same (c .1)) ∙ own-seven v (b .0) (b .1);
+      good = record { readable = λ k. parts-read (splitText 59 v) (b .0) (b .1) k .1 };
+    }

@@ -1,0 +1,23 @@
+use borrow.Author.Needs.{needs}
+use denote.Ref.{now}
+use Rattle.output.proofs.Laws.{puts-as, start, done}
+use Rattle.to_json_name.proofs.Names.{name-some, name-none}
+use Rattle.to_json_name.proofs.put_name.Statement.{statement}
+use Rattle.to_json_name.proofs.put_name.Tie as tie
+
+put-name-member-requires : tie.Need-put-name-member-requires
+put-name-member-requires c κs = c .before .before .before .before .before .pre
+
+same-length : tie.Need-same-length
+same-length c = search needs
+
+returns : tie.Need-returns
+returns c = puts-as (name-some (c .before .before .before .before .before .before .before .before .args .full) (now (c .before .before .before .before .before .before .before .before .args .fv)) (c .before .before .before .before .before .before .before .before .args .parts) (now (c .before .before .before .before .before .before .before .before .args .nv)) (c .before .before .before .before .before .before .before .before .pre) (c .before .before .before .before .if1 .taken)) (c .before .before .put-name-member .ensures)
+
+returns-2 : tie.Need-returns-2
+returns-2 c = puts-as (name-none (c .before .before .before .before .args .full) (now (c .before .before .before .before .args .fv)) (c .before .before .before .before .args .parts) (now (c .before .before .before .before .args .nv)) (c .if1 .left)) (done (start _))
+
+pub put-name-spec : {M : Type 1} → statement M
+put-name-spec =
+    tie.close
+    (tie.spec put-name-member-requires same-length returns returns-2)

@@ -1,0 +1,68 @@
+use borrow.Author.Needs.{needs}
+use denote.Ref.{now}
+use mathlib.Core.Bool.{false}
+use Prim.Native.Nat.{_-_, _≤_}
+use native.Mathlib.Nat.{le-refl}
+use native.Mathlib.Omega.{arith}
+use Rattle.output.specs.Put.{Rest}
+use Rattle.output.proofs.Rests.{rest-all, rest-done, rest-in, rest-fit, rest-same}
+use Rattle.to_json_name.specs.Name.{componentsFrom}
+use Rattle.to_json_name.proofs.Names.{no-parts, parts-full, parts-on}
+use Rattle.to_json_name.proofs.put_parts.Statement.{statement}
+use Rattle.to_json_name.proofs.put_parts.Tie as tie
+
+abbrev Inv-loop : tie.InvT-loop
+Inv-loop out₀ v at₀ k₀ begun₀ out at k begun = (k ≤ 7) × Rest out₀ (componentsFrom 7 v 0 false) (componentsFrom (7 - k) v k begun) at out
+
+abbrev μ-loop : tie.MeasureT-loop
+μ-loop out₀ v at₀ k₀ begun₀ out at k begun = 7 - k
+
+loop-holds : tie.Need-loop-holds Inv-loop μ-loop
+loop-holds c = (omega arith, rest-all _ _)
+
+sub-put-part : tie.Need-sub-put-part Inv-loop μ-loop
+sub-put-part c = rest-in (c .before .loop .inv .1)
+
+part-put-part-start : tie.Need-part-put-part-start Inv-loop μ-loop
+part-put-part-start c = rest-in (c .before .loop .inv .1)
+
+part-put-part-end : tie.Need-part-put-part-end Inv-loop μ-loop
+part-put-part-end c = le-refl _
+
+put-part-requires : tie.Need-put-part-requires Inv-loop μ-loop
+put-part-requires c κs = c .before .before .before .before .before .pre
+
+enum-known-n : tie.Need-enum-known-n Inv-loop μ-loop
+enum-known-n c = c .match .keys1
+
+enum-told : tie.Need-enum-told Inv-loop μ-loop
+enum-told c = c .match .keys2
+
+same-length : tie.Need-same-length Inv-loop μ-loop
+same-length c = search needs
+
+returns : tie.Need-returns Inv-loop μ-loop
+returns c = parts-full (now (c .before .before .before .before .before .before .before .before .before .before .args .v)) (c .before .before .before .before .before .before .before .loop .k) (c .before .before .before .before .before .before .before .loop .begun) (c .before .before .before .before .before .before .loop-test .taken) (c .before .before .before .before .before .before .before .loop .inv .1) (c .before .before .before .before .put-part .ensures) (c .enum-told .given .1)
+
+add-at : tie.Need-add-at Inv-loop μ-loop
+add-at c = rest-fit (parts-on (now (c .before .before .before .before .before .before .before .before .before .before .before .args .v)) (c .before .before .before .before .before .before .before .before .loop .k) (c .before .before .before .before .before .before .before .before .loop .begun) (c .before .before .before .before .before .before .before .loop-test .taken) (c .before .before .before .before .before .before .before .before .loop .inv .1) (c .before .before .before .before .before .put-part .ensures) _ (c .before .n .given .1)) (c .before .before .before .before .before .before .before .before .before .before .before .good .0 .0)
+
+add-k : tie.Need-add-k Inv-loop μ-loop
+add-k c = omega (arith, c .before .before .before .before .before .before .before .loop-test .taken)
+
+loop-less : tie.Need-loop-less Inv-loop μ-loop
+loop-less c = omega (arith, c .before .before .before .before .before .before .before .loop-test .taken)
+
+loop-again : tie.Need-loop-again Inv-loop μ-loop
+loop-again c = (omega (arith, c .before .before .before .before .before .before .before .loop-test .taken), parts-on (now (c .before .before .before .before .before .before .before .before .before .before .before .args .v)) (c .before .before .before .before .before .before .before .before .loop .k) (c .before .before .before .before .before .before .before .before .loop .begun) (c .before .before .before .before .before .before .before .loop-test .taken) (c .before .before .before .before .before .before .before .before .loop .inv .1) (c .before .before .before .before .before .put-part .ensures) _ (c .before .n .given .1))
+
+same-length-2 : tie.Need-same-length-2 Inv-loop μ-loop
+same-length-2 c = rest-same (c .before .loop .inv .1)
+
+returns-2 : tie.Need-returns-2 Inv-loop μ-loop
+returns-2 c = rest-done (no-parts (now (c .before .before .before .before .args .v)) (c .before .loop .k) (c .before .loop .begun) (omega (arith, c .loop-test .left))) (c .before .loop .inv .1)
+
+pub put-parts-spec : {M : Type 1} → statement M
+put-parts-spec =
+    tie.close
+    (tie.spec Inv-loop μ-loop loop-holds sub-put-part part-put-part-start part-put-part-end put-part-requires enum-known-n enum-told same-length returns add-at add-k loop-less loop-again same-length-2 returns-2)
