@@ -1,0 +1,47 @@
+use borrow.Author.Needs.{needs}
+use mathlib.Core.Path.{_≡_, refl, sym, ap, _∙_}
+use native.Mathlib.Omega.{arith}
+use denote.Ref.{now}
+use Rattle.convert.specs.Answers.{yes}
+use Rattle.card_to_json.proofs.Inner.{fit-long, serves-refused, serves-written, never-full}
+use Rattle.card_to_json.proofs.finish.Statement.{statement}
+use Rattle.card_to_json.proofs.finish.Tie as tie
+use Rattle.card_to_json.proofs.finish.Reads as reads
+use Rattle.card_to_json.proofs.finish.Lts as lts
+
+returns : tie.Need-returns
+returns c = serves-refused (now (c .before .before .before .args .out)) (yes (now (c .before .before .before .args .text))) 14 0 (fit-long _ (now (c .before .before .before .args .text)) (c .before .before .before .pre) (c .if1 .taken))
+
+put-text-requires : tie.Need-put-text-requires
+put-text-requires c κs = tt
+
+enum-known-k : tie.Need-enum-known-k
+enum-known-k c = c .match .keys1
+
+enum-told : tie.Need-enum-told
+enum-told c = c .match .keys2
+
+same-length : tie.Need-same-length
+same-length c = search needs
+
+returns-2 : tie.Need-returns-2
+returns-2 c = never-full _ _ _ _ (c .before .before .before .before .put-text .ensures) (c .enum-told .given .1) (c .before .before .before .before .before .before .if1 .left)
+
+same-length-2 : tie.Need-same-length-2
+same-length-2 c = search needs
+
+returns-3 : tie.Need-returns-3
+returns-3 c = serves-written (now (c .before .before .before .before .before .before .before .before .before .before .args .out)) (now (c .before .before .before .before .before .before .before .before .before .before .args .text)) _ _ _ (c .before .before .before .before .before .before .before .before .before .before .pre) (c .before .before .before .before .before .before .before .if1 .left) (c .before .before .before .before .before .put-text .ensures) (c .before .k .given .1)
+
+pub finish-spec : {M : Type 1} → statement M
+finish-spec =
+    tie.close
+    (tie.spec
+    returns
+    put-text-requires
+    enum-known-k
+    enum-told
+    same-length
+    returns-2
+    same-length-2
+    returns-3)

@@ -1,0 +1,101 @@
+use borrow.Author.Needs.{needs}
+use mathlib.Core.Path.{_≡_, refl, _∙_}
+use mathlib.Core.List.{List}
+use Prim.Native.Nat.{_≤_, _-_}
+use native.Mathlib.Omega.{arith}
+use denote.Ref.{now}
+use borrow.Author.Tests.{not-true, not-false}
+use lib.ListN.{length}
+use Rattle.convert.specs.Classify.{Classed}
+use Rattle.card_lines.specs.Classified.{Classified}
+use Rattle.to_json_maps.proofs.Marking.{Marking, marking-start, marking-other, line-entering, marking-line, marking-end}
+use Rattle.to_json_maps.proofs.mark_ids.Statement.{statement}
+use Rattle.to_json_maps.proofs.mark_ids.Tie as tie
+use Rattle.to_json_maps.proofs.mark_ids.Reads as reads
+use Rattle.to_json_maps.proofs.mark_ids.Lts as lts
+use Rattle.line_unfold.proofs.line_at.Reads as line-at-reads
+use Rattle.to_json_maps.proofs.is_of.Reads as is-of-reads
+use Rattle.to_json_maps.proofs.mark_line.Reads as mark-line-reads
+
+abbrev Inv-loop : tie.InvT-loop
+Inv-loop row₀ t₀ prefix scratch starts codes n i any₀ k₀ row t any k = (k ≤ n) × (length row ≡ length row₀) × (length t ≡ length t₀) × ((cs : List Classed) → Classified scratch starts codes n cs → Marking prefix i cs k any row)
+
+abbrev μ-loop : tie.MeasureT-loop
+μ-loop row₀ t₀ prefix scratch starts codes n i any₀ k₀ row t any k = n - k
+
+-- src/lib.rt:139:5
+loop-holds : tie.Need-loop-holds Inv-loop μ-loop
+loop-holds c = (omega arith, refl, refl, λ cs h. marking-start (now (c .before .before .before .before .before .before .args .prefix)) (c .before .before .before .before .before .before .args .i) cs (now (c .before .before .before .before .before .before .args .row)) (c .before .before .before .before .before .before .pre .0))
+
+-- src/lib.rt:140:19
+shared-slice-read-is-of : tie.Need-shared-slice-read-is-of Inv-loop μ-loop
+shared-slice-read-is-of c = omega (arith, c .before .before .before .before .before .before .before .before .before .pre .2 .1 .wide, c .before .loop-test .taken)
+
+-- src/lib.rt:140:13
+is-of-requires : tie.Need-is-of-requires Inv-loop μ-loop
+is-of-requires c κs = tt
+
+-- src/lib.rt:141:13
+add-k : tie.Need-add-k Inv-loop μ-loop
+add-k c = search needs
+
+-- src/lib.rt:139:5
+loop-less : tie.Need-loop-less Inv-loop μ-loop
+loop-less c = omega arith
+
+-- src/lib.rt:139:5
+loop-again : tie.Need-loop-again Inv-loop μ-loop
+loop-again c = (omega arith, c .before .before .before .before .loop .inv .1, c .before .before .before .before .loop .inv .2, λ cs h. marking-other h (c .before .before .before .before .loop .k) (c .before .before .before .loop-test .taken) (c .before .before .before .before .before .before .before .before .before .before .before .args .i) (c .before .is-of .result) (c .before .is-of .ensures) (now (c .before .before .before .before .before .before .before .before .before .before .before .args .prefix)) (c .before .before .before .before .loop .any) (c .before .before .before .before .loop .row) (not-true _ (c .if1 .taken)) (c .before .before .before .before .loop .inv .3 cs h))
+
+-- src/lib.rt:144:13
+line-at-requires : tie.Need-line-at-requires Inv-loop μ-loop
+line-at-requires c κs = tt
+
+-- src/lib.rt:145:13
+mark-line-requires : tie.Need-mark-line-requires Inv-loop μ-loop
+mark-line-requires c κs = (omega (arith, c .before .before .before .before .before .before .before .loop .inv .1, c .before .before .before .before .before .before .before .before .before .before .before .before .before .before .pre .0 .wide), omega (arith, c .before .before .before .before .before .before .before .loop .inv .2, c .before .before .before .before .before .before .before .before .before .before .before .before .before .before .pre .1), line-entering (c .before .before .before .before .before .before .before .before .before .before .before .before .before .before .pre .2 .1) (c .before .before .before .before .before .before .before .loop .k) (c .before .before .before .before .before .before .loop-test .taken) (c .before .before .before .before .before .before .before .before .before .before .before .before .before .before .args .i) (c .before .before .before .before .is-of .result) (c .before .before .before .before .is-of .ensures) (not-false _ (c .before .before .before .if1 .left)) (c .before .before .before .before .before .before .before .before .before .before .before .before .before .before .pre .3) (c .before .before .line-at .ensures))
+
+-- src/lib.rt:147:9
+add-k-2 : tie.Need-add-k-2 Inv-loop μ-loop
+add-k-2 c = search needs
+
+-- src/lib.rt:139:5
+loop-less-2 : tie.Need-loop-less-2 Inv-loop μ-loop
+loop-less-2 c = omega arith
+
+-- src/lib.rt:139:5
+loop-again-2 : tie.Need-loop-again-2 Inv-loop μ-loop
+loop-again-2 c = (omega arith, c .before .before .before .before .mark-line .ensures .same ∙ (c .before .before .before .before .before .before .before .before .before .before .before .before .loop .inv .1), search needs, λ cs h. marking-line h (c .before .before .before .before .before .before .before .before .before .before .before .before .loop .k) (c .before .before .before .before .before .before .before .before .before .before .before .loop-test .taken) (c .before .before .before .before .before .before .before .before .before .before .before .before .before .before .before .before .before .before .before .args .i) (c .before .before .before .before .before .before .before .before .before .is-of .result) (c .before .before .before .before .before .before .before .before .before .is-of .ensures) (not-false _ (c .before .before .before .before .before .before .before .before .if1 .left)) (c .before .before .before .before .before .before .before .before .before .before .before .before .before .before .before .before .before .before .before .pre .3) (now (c .before .before .before .before .before .before .before .before .before .before .before .before .before .before .before .before .before .before .before .args .prefix)) (c .before .before .before .before .before .before .before .before .before .before .before .before .loop .any) (c .before .before .before .before .mark-line .result) (c .before .before .before .before .before .before .before .before .before .before .before .before .loop .row) (c .before .before .before .before .mark-line .last .0) (c .before .before .before .before .before .before .before .line-at .ensures) (c .before .before .before .before .mark-line .ensures) (c .before .before .before .before .before .before .before .before .before .before .before .before .loop .inv .3 cs h))
+
+-- src/lib.rt:124:1
+same-length : tie.Need-same-length Inv-loop μ-loop
+same-length c = c .before .loop .inv .1
+
+-- src/lib.rt:124:1
+same-length-2 : tie.Need-same-length-2 Inv-loop μ-loop
+same-length-2 c = c .before .loop .inv .2
+
+-- src/lib.rt:124:1
+returns : tie.Need-returns Inv-loop μ-loop
+returns c = λ cs h. marking-end h (now (c .before .before .before .before .before .before .before .before .args .prefix)) (c .before .before .before .before .before .before .before .before .args .i) (c .before .loop .k) (c .before .loop .any) (c .before .loop .row) (c .loop-test .left) (c .before .loop .inv .3 cs h)
+
+pub mark-ids-spec : {M : Type 1} → statement M
+mark-ids-spec =
+    tie.close
+    (tie.spec
+    Inv-loop
+    μ-loop
+    loop-holds
+    shared-slice-read-is-of
+    is-of-requires
+    add-k
+    loop-less
+    loop-again
+    line-at-requires
+    mark-line-requires
+    add-k-2
+    loop-less-2
+    loop-again-2
+    same-length
+    same-length-2
+    returns)

@@ -1,0 +1,92 @@
+use borrow.Author.Needs.{needs}
+use mathlib.Core.Path.{_≡_, refl, sym, ap, _∙_}
+use mathlib.Core.List.{List, [], _∷_}
+use Prim.Native.Nat.{_+_, _-_, _≤_, _<_}
+use native.Mathlib.Nat.{le-refl}
+use native.Mathlib.Omega.{arith}
+use denote.Ref.{now}
+use borrow.Author.Tests.{not-true, not-false}
+use lib.ListN.{length, take, drop, getD}
+use Rattle.to_json_maps.proofs.Heads.{prefix-fits, unmarked}
+use Rattle.to_json_maps.proofs.Turns.{put-front, fits-front, never-full}
+use Rattle.to_json_maps.proofs.put_map.Statement.{statement}
+use Rattle.to_json_maps.proofs.put_map.Tie as tie
+use Rattle.to_json_maps.proofs.put_map.Reads as reads
+use Rattle.to_json_maps.proofs.put_map.Lts as lts
+
+slice-aggregate-put-prefix : tie.Need-slice-aggregate-put-prefix
+slice-aggregate-put-prefix c = search needs
+
+put-prefix-requires : tie.Need-put-prefix-requires
+put-prefix-requires c κs = tt
+
+enum-known-p : tie.Need-enum-known-p
+enum-known-p c = c .match .keys1
+
+enum-told : tie.Need-enum-told
+enum-told c = c .match .keys2
+
+returns : tie.Need-returns
+returns c = λ cs h. never-full _ _ _ _ (c .before .before .before .put-prefix .ensures) (c .enum-told .given .1) (prefix-fits (c .before .before .before .before .before .before .before .before .before .before .args .i) (c .before .before .before .before .before .before .before .before .before .before .pre .2))
+
+slice-aggregate-mark-ids : tie.Need-slice-aggregate-mark-ids
+slice-aggregate-mark-ids c = search needs
+
+sub-mark-ids : tie.Need-sub-mark-ids
+sub-mark-ids c = omega (arith, fits-front _ _ _ _ _ (c .before .before .before .before .before .before .put-prefix .ensures) (c .before .before .before .p .given .1))
+
+part-mark-ids-start : tie.Need-part-mark-ids-start
+part-mark-ids-start c = omega (arith, fits-front _ _ _ _ _ (c .before .before .before .before .before .before .before .put-prefix .ensures) (c .before .before .before .before .p .given .1))
+
+part-mark-ids-end : tie.Need-part-mark-ids-end
+part-mark-ids-end c = omega (arith, fits-front _ _ _ _ _ (c .before .before .before .before .before .before .before .put-prefix .ensures) (c .before .before .before .before .p .given .1))
+
+mark-ids-requires : tie.Need-mark-ids-requires
+mark-ids-requires c κs = (unmarked, c .before .before .before .before .before .before .before .before .before .before .before .before .before .before .before .pre .0, c .before .before .before .before .before .before .before .before .before .before .before .before .before .before .before .pre .1, omega (arith, c .before .before .before .before .before .before .before .before .before .before .before .before .before .before .before .pre .2))
+
+sub-put-entries : tie.Need-sub-put-entries
+sub-put-entries c = omega (arith, fits-front _ _ _ _ _ (c .before .before .before .before .before .before .before .before .before .before .before .before .before .before .put-prefix .ensures) (c .before .before .before .before .before .before .before .before .before .before .before .p .given .1))
+
+part-put-entries-start : tie.Need-part-put-entries-start
+part-put-entries-start c = omega (arith, fits-front _ _ _ _ _ (c .before .before .before .before .before .before .before .before .before .before .before .before .before .before .before .put-prefix .ensures) (c .before .before .before .before .before .before .before .before .before .before .before .before .p .given .1))
+
+part-put-entries-end : tie.Need-part-put-entries-end
+part-put-entries-end c = omega (arith, fits-front _ _ _ _ _ (c .before .before .before .before .before .before .before .before .before .before .before .before .before .before .before .put-prefix .ensures) (c .before .before .before .before .before .before .before .before .before .before .before .before .p .given .1))
+
+slice-aggregate-put-entries : tie.Need-slice-aggregate-put-entries
+slice-aggregate-put-entries c = search needs
+
+put-entries-requires : tie.Need-put-entries-requires
+put-entries-requires c κs = (search needs, record { lines = c .before .before .before .before .before .before .before .before .before .before .before .before .before .before .before .before .before .before .before .before .before .before .before .before .pre .1; small = c .before .before .before .before .before .before .before .before .before .before .before .before .before .before .before .before .before .before .before .before .before .before .before .before .pre .2; is = (put-front _ _ _ _ _ (c .before .before .before .before .before .before .before .before .before .before .before .before .before .before .before .before .before .put-prefix .ensures) (c .before .before .before .before .before .before .before .before .before .before .before .before .before .before .p .given .1)); ids = c .before .before .before .before .before .before .before .before .mark-ids .ensures})
+
+same-length : tie.Need-same-length
+same-length c = search needs
+
+same-length-2 : tie.Need-same-length-2
+same-length-2 c = search needs
+
+returns-2 : tie.Need-returns-2
+returns-2 c = c .before .before .before .before .put-entries .ensures
+
+pub put-map-spec : {M : Type 1} → statement M
+put-map-spec =
+    tie.close
+    (tie.spec
+    slice-aggregate-put-prefix
+    put-prefix-requires
+    enum-known-p
+    enum-told
+    returns
+    slice-aggregate-mark-ids
+    sub-mark-ids
+    part-mark-ids-start
+    part-mark-ids-end
+    mark-ids-requires
+    sub-put-entries
+    part-put-entries-start
+    part-put-entries-end
+    slice-aggregate-put-entries
+    put-entries-requires
+    same-length
+    same-length-2
+    returns-2)

@@ -1,0 +1,335 @@
+// The maps of a card's JSON, from its classified lines. A map's row is its member's name, its keys' prefix, and the rows of `class_names`.
+ghost use mathlib.Core.Path.{_≡_};
+ghost use mathlib.Core.List.{_∷_, []};
+ghost use Prim.Native.Nat.{_+_, _≤_, _<_};
+ghost use lib.Dec.{eqb};
+ghost use lib.ListN.{length};
+ghost use Rattle.output.specs.Put.{Puts};
+ghost use Rattle.convert.specs.Keys.{numbered};
+ghost use Rattle.to_json_maps.specs.Maps.{mapAt, prefixOf, headPiece, Entering, MarksLine, Unmarked, HasLines, MarksIds, HasEntry, PutsKeyed, HasTurn, PutsTurn, HasMap, PutsMap, PutsMaps};
+use class_names::form_of;
+use class_names::types_of;
+use line_table::fill;
+use line_unfold::line_at;
+use output::Wrote;
+use output::put_byte;
+use output::put_text;
+use table_marks::scan_rows;
+use to_json_entry::kind_of_line;
+use to_json_entry::put_map_line;
+use to_json_keys::mark_key;
+use to_json_keys::next_number;
+use to_json_keys::put_key;
+
+// What comes before an entry of the map i: its member's name, or a comma where there is an entry before.
+fn put_map_head(out: &mut [u8], i: usize, begun: bool) -> Wrote
+    ensures { λ r. ⌜ Puts (now (out .entry)) (headPiece (mapAt i) begun) r (now (out .exit)) ⌝ }
+{
+    if begun {
+        return put_byte(out, b',');
+    }
+    if i == 0 {
+        return put_text(out, b",\"nicknames\":{");
+    }
+    if i == 1 {
+        return put_text(out, b",\"emails\":{");
+    }
+    if i == 2 {
+        return put_text(out, b",\"phones\":{");
+    }
+    if i == 3 {
+        return put_text(out, b",\"links\":{");
+    }
+    if i == 4 {
+        return put_text(out, b",\"notes\":{");
+    }
+    if i == 5 {
+        return put_text(out, b",\"titles\":{");
+    }
+    if i == 6 {
+        return put_text(out, b",\"organizations\":{");
+    }
+    put_text(out, b",\"\":{")
+}
+
+// The prefix of the keys that are made for the map i.
+fn put_prefix(out: &mut [u8], i: usize) -> Wrote
+    ensures { λ r. ⌜ Puts (now (out .entry)) (prefixOf i) r (now (out .exit)) ⌝ }
+{
+    if i == 0 {
+        return put_text(out, b"NICK");
+    }
+    if i == 1 {
+        return put_text(out, b"EMAIL");
+    }
+    if i == 2 {
+        return put_text(out, b"PHONE");
+    }
+    if i == 3 {
+        return put_text(out, b"LINK");
+    }
+    if i == 4 {
+        return put_text(out, b"NOTE");
+    }
+    if i == 5 {
+        return put_text(out, b"TITLE");
+    }
+    if i == 6 {
+        return put_text(out, b"ORG");
+    }
+    Wrote::Bytes(0)
+}
+
+// Marks the number that the line's PROP-ID takes, and answers whether it has one.
+fn mark_line(row: &mut [u8], t: &mut [usize], s: &[u8], prefix: &[u8]) -> bool
+    requires { ⌜ (1025 ≤ length (now row)) × (264 ≤ length (now t)) × Entering (now s) ⌝ }
+    ensures { λ r. ⌜ MarksLine (now (prefix .entry)) (now (s .entry)) (now (row .entry)) (now (row .exit)) r ⌝ }
+{
+    let mut counts = [0usize; 8];
+    let mut froms = [0usize; 8];
+    let mut tos = [0usize; 8];
+    if !fill(t, s) {
+        return false;
+    }
+    scan_rows(&mut counts, &mut froms, &mut tos, s, t);
+    let k = counts[0];
+    if k == 0 {
+        return false;
+    }
+    let a = froms[0];
+    let b = tos[0];
+    mark_key(row, prefix, &s[a..b]);
+    true
+}
+
+// Whether a line's number is that of the map i.
+pub fn is_of(code: u8, i: usize) -> bool
+    ensures { λ r. ⌜ r ≡ eqb code i ⌝ }
+{
+    code as usize == i
+}
+
+// Marks the numbers that the PROP-IDs of the map i take, and answers whether there is one.
+fn mark_ids(
+    row: &mut [u8],
+    t: &mut [usize],
+    prefix: &[u8],
+    scratch: &[u8],
+    starts: &[usize],
+    codes: &[u8],
+    n: usize,
+    i: usize,
+) -> bool
+    requires { ⌜ Unmarked (now row) × (264 ≤ length (now t)) × HasLines (now scratch) (now starts) (now codes) n × (i < 16) ⌝ }
+    ensures { λ r. ⌜ MarksIds (now (prefix .entry)) (now (scratch .entry)) (now (starts .entry)) (now (codes .entry)) n i (now (row .exit)) r ⌝ }
+{
+    let mut any = false;
+    let mut k = 0;
+    while k < n {
+        if !is_of(codes[k], i) {
+            k += 1;
+            continue;
+        }
+        let s = line_at(scratch, starts, k);
+        let on = mark_line(row, t, s, prefix);
+        any = any | on;
+        k += 1;
+    }
+    any
+}
+
+// ---- writing
+
+// A line of the map i as an entry with that key, after the map's name or a comma.
+fn put_keyed(
+    out: &mut [u8],
+    s: &[u8],
+    t: &[usize],
+    counts: &[usize],
+    froms: &[usize],
+    tos: &[usize],
+    i: usize,
+    begun: bool,
+    key: &[u8],
+) -> Wrote
+    requires { ⌜ HasEntry (now s) (now t) (now counts) (now froms) (now tos) i ⌝ }
+    ensures { λ r. ⌜ PutsKeyed (now (out .entry)) (now (s .entry)) (now (t .entry)) i begun (now (key .entry)) r (now (out .exit)) ⌝ }
+{
+    let types = types_of(i);
+    let form = form_of(i);
+    let kind = kind_of_line(s, t);
+    let Wrote::Bytes(a) = put_map_head(out, i, begun) else {
+        return Wrote::Full;
+    };
+    let Wrote::Bytes(b) =
+        put_map_line(&mut out[a..], s, t, counts, froms, tos, i, types, form, kind, key)
+    else {
+        return Wrote::Full;
+    };
+    let ab = a + b;
+    Wrote::Bytes(ab)
+}
+
+// The same with the made key of that number.
+fn put_made(
+    out: &mut [u8],
+    s: &[u8],
+    t: &[usize],
+    counts: &[usize],
+    froms: &[usize],
+    tos: &[usize],
+    i: usize,
+    begun: bool,
+    prefix: &[u8],
+    number: usize,
+) -> Wrote
+    requires { ⌜ HasEntry (now s) (now t) (now counts) (now froms) (now tos) i × (length (numbered (now prefix) number) ≤ 32) ⌝ }
+    ensures { λ r. ⌜ PutsKeyed (now (out .entry)) (now (s .entry)) (now (t .entry)) i begun (numbered (now (prefix .entry)) number) r (now (out .exit)) ⌝ }
+{
+    let mut key = [0u8; 32];
+    let Wrote::Bytes(k) = put_key(&mut key, prefix, number) else {
+        return Wrote::Full;
+    };
+    put_keyed(out, s, t, counts, froms, tos, i, begun, &key[0..k])
+}
+
+// How many bytes were written, and from which number on the next made key is sought.
+pub enum Turn {
+    Put { bytes: usize, next: usize },
+    Full,
+}
+
+// A line of the map i as an entry with its PROP-ID, or else the next made key.
+fn put_turn(
+    out: &mut [u8],
+    t: &mut [usize],
+    s: &[u8],
+    i: usize,
+    begun: bool,
+    prefix: &[u8],
+    row: &[u8],
+    taken: bool,
+    from: usize,
+) -> Turn
+    requires { ⌜ (264 ≤ length (now t)) × HasTurn (now s) (now prefix) (now row) i taken from ⌝ }
+    ensures { λ r. ⌜ PutsTurn (now (out .entry)) (now (s .entry)) (now (prefix .entry)) (now (row .entry)) i begun taken from r (now (out .exit)) ⌝ }
+{
+    let mut counts = [0usize; 8];
+    let mut froms = [0usize; 8];
+    let mut tos = [0usize; 8];
+    if !fill(t, s) {
+        return Turn::Full;
+    }
+    scan_rows(&mut counts, &mut froms, &mut tos, s, t);
+    let ids = counts[0];
+    if ids == 0 {
+        let number = next_number(row, taken, from);
+        let next = number + 1;
+        let Wrote::Bytes(bytes) =
+            put_made(out, s, t, &counts, &froms, &tos, i, begun, prefix, number)
+        else {
+            return Turn::Full;
+        };
+        return Turn::Put { bytes, next };
+    }
+    let a = froms[0];
+    let b = tos[0];
+    let Wrote::Bytes(bytes) =
+        put_keyed(out, s, t, &counts, &froms, &tos, i, begun, &s[a..b])
+    else {
+        return Turn::Full;
+    };
+    Turn::Put { bytes, next: from }
+}
+
+// The entries of the map i, in the order of their lines.
+fn put_entries(
+    out: &mut [u8],
+    t: &mut [usize],
+    scratch: &[u8],
+    starts: &[usize],
+    codes: &[u8],
+    n: usize,
+    i: usize,
+    prefix: &[u8],
+    row: &[u8],
+    taken: bool,
+) -> Wrote
+    requires { ⌜ (264 ≤ length (now t)) × HasMap (now scratch) (now starts) (now codes) n i (now prefix) (now row) taken ⌝ }
+    ensures { λ r. ⌜ PutsMap (now (out .entry)) (now (scratch .entry)) (now (starts .entry)) (now (codes .entry)) n i r (now (out .exit)) ⌝ }
+{
+    let mut at = 0;
+    let mut k = 0;
+    let mut from = 1;
+    let mut begun = false;
+    while k < n {
+        if !is_of(codes[k], i) {
+            k += 1;
+            continue;
+        }
+        let s = line_at(scratch, starts, k);
+        let Turn::Put { bytes, next } =
+            put_turn(&mut out[at..], t, s, i, begun, prefix, row, taken, from)
+        else {
+            return Wrote::Full;
+        };
+        at += bytes;
+        from = next;
+        begun = true;
+        k += 1;
+    }
+    if !begun {
+        return Wrote::Bytes(at);
+    }
+    let Wrote::Bytes(m) = put_byte(&mut out[at..], b'}') else {
+        return Wrote::Full;
+    };
+    let all = at + m;
+    Wrote::Bytes(all)
+}
+
+// The member of the map i.
+pub fn put_map(
+    out: &mut [u8],
+    t: &mut [usize],
+    scratch: &[u8],
+    starts: &[usize],
+    codes: &[u8],
+    n: usize,
+    i: usize,
+) -> Wrote
+    requires { ⌜ (264 ≤ length (now t)) × HasLines (now scratch) (now starts) (now codes) n × (i < 7) ⌝ }
+    ensures { λ r. ⌜ PutsMap (now (out .entry)) (now (scratch .entry)) (now (starts .entry)) (now (codes .entry)) n i r (now (out .exit)) ⌝ }
+{
+    let mut row = [0u8; 1025];
+    let mut prefix = [0u8; 16];
+    let Wrote::Bytes(p) = put_prefix(&mut prefix, i) else {
+        return Wrote::Full;
+    };
+    let taken = mark_ids(&mut row, t, &prefix[0..p], scratch, starts, codes, n, i);
+    put_entries(out, t, scratch, starts, codes, n, i, &prefix[0..p], &row, taken)
+}
+
+// The members of all maps, in the table's order.
+pub fn put_maps(
+    out: &mut [u8],
+    t: &mut [usize],
+    scratch: &[u8],
+    starts: &[usize],
+    codes: &[u8],
+    n: usize,
+) -> Wrote
+    requires { ⌜ (264 ≤ length (now t)) × HasLines (now scratch) (now starts) (now codes) n ⌝ }
+    ensures { λ r. ⌜ PutsMaps (now (out .entry)) (now (scratch .entry)) (now (starts .entry)) (now (codes .entry)) n r (now (out .exit)) ⌝ }
+{
+    let mut at = 0;
+    let mut i: usize = 0;
+    while i < 7 {
+        let Wrote::Bytes(m) = put_map(&mut out[at..], t, scratch, starts, codes, n, i) else {
+            return Wrote::Full;
+        };
+        at += m;
+        i += 1;
+    }
+    Wrote::Bytes(at)
+}

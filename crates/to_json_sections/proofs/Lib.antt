@@ -1,0 +1,4 @@
+pub mod Props
+pub mod Lines
+pub mod Firsts
+pub mod Print

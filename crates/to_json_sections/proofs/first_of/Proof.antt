@@ -1,0 +1,59 @@
+use borrow.Author.Needs.{needs}
+use mathlib.Core.Path.{_≡_, refl, sym, ap, _∙_}
+use mathlib.Core.List.{List, [], _∷_}
+use Prim.Native.Nat.{ℕ, _+_, _-_, _≤_, _<_}
+use native.Mathlib.Nat.{le-refl, lt-of-le-of-lt}
+use native.Mathlib.Omega.{arith}
+use denote.Ref.{now}
+use borrow.Author.Tests.{not-true, not-false}
+use lib.ListN.{length, take, drop, getD}
+use Rattle.to_json_sections.proofs.Lines.{none-before, first-here, first-none}
+use Rattle.to_json_sections.proofs.first_of.Statement.{statement}
+use Rattle.to_json_sections.proofs.first_of.Tie as tie
+use Rattle.to_json_sections.proofs.first_of.Reads as reads
+use Rattle.to_json_sections.proofs.first_of.Lts as lts
+
+abbrev Inv-loop : tie.InvT-loop
+Inv-loop codes n q k₀ k = (k ≤ n) × ((j : ℕ) → j < k → getD codes j 0 ≡ q → ⊥)
+
+abbrev μ-loop : tie.MeasureT-loop
+μ-loop codes n q k₀ k = n - k
+
+loop-holds : tie.Need-loop-holds Inv-loop μ-loop
+loop-holds c = (omega arith, λ j l e. absurd (omega arith))
+
+shared-slice-read-is-of : tie.Need-shared-slice-read-is-of Inv-loop μ-loop
+shared-slice-read-is-of c = omega (arith, c .before .before .before .before .pre, c .before .loop-test .taken)
+
+is-of-requires : tie.Need-is-of-requires Inv-loop μ-loop
+is-of-requires c κs = tt
+
+returns : tie.Need-returns Inv-loop μ-loop
+returns c = first-here (now (c .before .before .before .before .before .before .args .codes)) (c .before .before .before .before .before .before .args .n) (c .before .before .before .before .before .before .args .q) (c .before .is-of .result) (c .before .before .before .before .loop .k) (c .before .before .before .loop-test .taken) (c .before .before .before .before .loop .inv .1) (c .before .is-of .ensures) (c .if1 .taken)
+
+add-k : tie.Need-add-k Inv-loop μ-loop
+add-k c = search needs
+
+loop-less : tie.Need-loop-less Inv-loop μ-loop
+loop-less c = omega arith
+
+loop-again : tie.Need-loop-again Inv-loop μ-loop
+loop-again c = (omega arith, none-before (now (c .before .before .before .before .before .before .args .codes)) (c .before .before .before .before .before .before .args .q) (c .before .is-of .result) (c .before .before .before .before .loop .k) (c .before .before .before .before .loop .inv .1) (c .before .is-of .ensures) (c .if1 .left))
+
+returns-2 : tie.Need-returns-2 Inv-loop μ-loop
+returns-2 c = first-none (now (c .before .before .before .args .codes)) (c .before .before .before .args .n) (c .before .before .before .args .q) (c .before .loop .k) (c .loop-test .left) (c .before .loop .inv .1)
+
+pub first-of-spec : {M : Type 1} → statement M
+first-of-spec =
+    tie.close
+    (tie.spec
+    Inv-loop
+    μ-loop
+    loop-holds
+    shared-slice-read-is-of
+    is-of-requires
+    returns
+    add-k
+    loop-less
+    loop-again
+    returns-2)

@@ -1,0 +1,79 @@
+use borrow.Author.Needs.{needs}
+use mathlib.Core.Path.{_≡_, refl, sym, ap, _∙_}
+use Prim.Native.Nat.{_≤_, _<_}
+use native.Mathlib.Omega.{arith}
+use denote.Ref.{now}
+use borrow.Author.Tests.{not-true, not-false}
+use lib.ListN.{length}
+use Rattle.to_json_maps.proofs.Marking.{filled-holds, filled-none}
+use Rattle.output.proofs.Laws.{puts-as, done, start}
+use Rattle.to_json_sections.proofs.Firsts.{kind-none, kind-given, found-unread}
+use Rattle.to_json_sections.proofs.put_kind_of.Statement.{statement}
+use Rattle.to_json_sections.proofs.put_kind_of.Tie as tie
+use Rattle.to_json_sections.proofs.put_kind_of.Reads as reads
+use Rattle.to_json_sections.proofs.put_kind_of.Lts as lts
+
+first-of-requires : tie.Need-first-of-requires
+first-of-requires c κs = (c .before .before .before .before .before .pre .1 .1) .wide
+
+returns : tie.Need-returns
+returns c = λ cs h. puts-as (kind-none h (c .before .first-of .ensures) (c .if1 .taken)) (done (start _))
+
+line-at-requires : tie.Need-line-at-requires
+line-at-requires c κs = tt
+
+fill-requires : tie.Need-fill-requires
+fill-requires c κs = c .before .before .before .before .before .before .before .before .before .pre .0
+
+same-length : tie.Need-same-length
+same-length c = search needs
+
+returns-2 : tie.Need-returns-2
+returns-2 c = λ cs h. found-unread h (c .before .before .before .before .before .before .before .first-of .ensures) (c .before .before .before .before .before .before .if1 .left) (c .before .before .before .before .before .line-at .ensures) (filled-none _ _ (c .before .before .before .fill .result) (c .before .before .before .fill .ensures) (not-true _ (c .if2 .taken)))
+
+slice-read-a : tie.Need-slice-read-a
+slice-read-a c = omega (arith, (filled-holds (c .before .before .before .before .fill .result) (c .before .before .before .before .fill .ensures) (not-false _ (c .before .if2 .left))) .sound .wide)
+
+slice-read-b : tie.Need-slice-read-b
+slice-read-b c = omega (arith, (filled-holds (c .before .before .before .before .before .fill .result) (c .before .before .before .before .before .fill .ensures) (not-false _ (c .before .before .if2 .left))) .sound .wide)
+
+sub-put-kind : tie.Need-sub-put-kind
+sub-put-kind c = let v = (filled-holds (c .before .before .before .before .before .before .fill .result) (c .before .before .before .before .before .before .fill .ensures) (not-false _ (c .before .before .before .if2 .left))) .sound .value in omega (arith, v .ordered, v .within)
+
+part-put-kind-start : tie.Need-part-put-kind-start
+part-put-kind-start c = let v = (filled-holds (c .before .before .before .before .before .before .fill .result) (c .before .before .before .before .before .before .fill .ensures) (not-false _ (c .before .before .before .if2 .left))) .sound .value in omega (arith, v .ordered, v .within)
+
+part-put-kind-end : tie.Need-part-put-kind-end
+part-put-kind-end c = let v = (filled-holds (c .before .before .before .before .before .before .fill .result) (c .before .before .before .before .before .before .fill .ensures) (not-false _ (c .before .before .before .if2 .left))) .sound .value in omega (arith, v .ordered, v .within)
+
+put-kind-requires : tie.Need-put-kind-requires
+put-kind-requires c κs = tt
+
+same-length-2 : tie.Need-same-length-2
+same-length-2 c = search needs
+
+same-length-3 : tie.Need-same-length-3
+same-length-3 c = search needs
+
+returns-3 : tie.Need-returns-3
+returns-3 c = λ cs h. puts-as (kind-given h (c .before .before .before .before .before .before .before .before .before .before .before .before .before .before .first-of .ensures) (c .before .before .before .before .before .before .before .before .before .before .before .before .before .if1 .left) (c .before .before .before .before .before .before .before .before .before .before .before .before .line-at .ensures) (filled-holds (c .before .before .before .before .before .before .before .before .before .before .fill .result) (c .before .before .before .before .before .before .before .before .before .before .fill .ensures) (not-false _ (c .before .before .before .before .before .before .before .if2 .left)))) (c .before .before .put-kind .ensures)
+
+pub put-kind-of-spec : {M : Type 1} → statement M
+put-kind-of-spec =
+    tie.close
+    (tie.spec
+    first-of-requires
+    returns
+    line-at-requires
+    fill-requires
+    same-length
+    returns-2
+    slice-read-a
+    slice-read-b
+    sub-put-kind
+    part-put-kind-start
+    part-put-kind-end
+    put-kind-requires
+    same-length-2
+    same-length-3
+    returns-3)
