@@ -190,7 +190,7 @@ module _ (n : Bytes) (i : ℕ) (row : quoted n (58 ∷ []) ≡ contentPiece i) w
     units (x ∷ xs) ∷ [],
     refl,
     joined (member n (jstr (b ∷ t))) (units (x ∷ xs)) ∙ ap (λ (y : Bytes). y ++ inside true (units (x ∷ xs) ∷ [])) (string-is (a ∷ u) (b ∷ t) p)
-    ∙ ap (λ (y : Bytes). stringPiece i false (a ∷ u) ++ y) (units-after x xs) ∙ two (stringPiece i false (a ∷ u)) (unitsPiece 7 (x ∷ xs)),
+        ∙ ap (λ (y : Bytes). stringPiece i false (a ∷ u) ++ y) (units-after x xs) ∙ two (stringPiece i false (a ∷ u)) (unitsPiece 7 (x ∷ xs)),
   )
 
   pub org-of : (v : Bytes) (us ts : List Bytes) → splitText 59 v ≡ us → each readText us ≡ some ts → any filled ts ≡ true → OrgOf n i v (organized ts)

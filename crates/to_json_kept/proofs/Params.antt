@@ -44,8 +44,7 @@ names-on s t k zero m e = let z : m ≡ k = omega arith in ([], ap (names s t) z
 names-on s t k (suc d) m e =
     let q = names-on s t k d (d + k) refl in
     let z : m ≡ (d + k) + 1 = omega arith in
-    let one : List Bytes = pick (member-at s t (d + k)) (lowered (nameAt s t (d + k)) ∷ []) [] in
-    (
+    let one : List Bytes = pick (member-at s t (d + k)) (lowered (nameAt s t (d + k)) ∷ []) [] in (
       q .0 ++ one,
       ap (names s t) z ∙ kept-names-more s t (d + k) ∙ ap (λ (l : List Bytes). l ++ one) (q .1) ∙ append-assoc (names s t k) (q .0) one,
     )

@@ -79,9 +79,31 @@ tied-bytes v k (κ ∷ ks) (p ∷ ps) b x =
 
 seven-tied : (v : Bytes) → Tied v 0 componentKinds (valuesOf v 0 ∷ valuesOf v 1 ∷ valuesOf v 2 ∷ valuesOf v 3 ∷ valuesOf v 4 ∷ valuesOf v 5 ∷ valuesOf v 6 ∷ [])
 unfolding lead opening
-seven-tied v =
-    (refl, ((comp-is (ascii "surname"), refl), (refl, ((comp-is (ascii "given"), refl), (refl, ((comp-is (ascii "given2"), refl), (refl, ((comp-is (ascii "title"), refl),
-    (refl, ((comp-is (ascii "credential"), refl), (refl, ((comp-is (ascii "surname2"), refl), (refl, ((comp-is (ascii "generation"), refl), tt))))))))))))))
+seven-tied v = (
+  refl,
+  (
+    (comp-is (ascii "surname"), refl),
+    (
+      refl,
+      (
+        (comp-is (ascii "given"), refl),
+        (
+          refl,
+          (
+            (comp-is (ascii "given2"), refl),
+            (
+              refl,
+              (
+                (comp-is (ascii "title"), refl),
+                (refl, ((comp-is (ascii "credential"), refl), (refl, ((comp-is (ascii "surname2"), refl), (refl, ((comp-is (ascii "generation"), refl), tt)))))),
+              ),
+            ),
+          ),
+        ),
+      ),
+    ),
+  ),
+)
 
 pub components-bytes : (v : Bytes) (ps : List (List Bytes)) → readName v ≡ some ps
     → flat ((91 ∷ []) ∷ componentsFrom 7 v 0 false ∷ (93 ∷ []) ∷ []) ≡ written (array (componentsOf componentKinds ps)) []

@@ -45,10 +45,18 @@ is-named-requires-2 : tie.Need-is-named-requires-2
 is-named-requires-2 c κs = tt
 
 returns-2 : tie.Need-returns-2
-returns-2 c = kind-role (now (c .before .before .before .before .before .before .before .before .before .before .before .before .args .s)) (now (c .before .before .before .before .before .before .before .before .before .before .before .before .args .t)) _ _ (c .before .before .before .before .before .is-named .ensures) (c .before .before .before .before .if1 .left) (c .before .is-named2 .ensures) (c .if2 .taken)
+returns-2 c =
+    let c1 = c .before .before .before .before in
+    let c2 = c1 .before in
+    let c3 = c2 .before .before .before .before .before .before .before in
+    kind-role (now (c3 .args .s)) (now (c3 .args .t)) _ _ (c2 .is-named .ensures) (c1 .if1 .left) (c .before .is-named2 .ensures) (c .if2 .taken)
 
 returns-3 : tie.Need-returns-3
-returns-3 c = kind-none (now (c .before .before .before .before .before .before .before .before .before .before .before .before .args .s)) (now (c .before .before .before .before .before .before .before .before .before .before .before .before .args .t)) _ _ (c .before .before .before .before .before .is-named .ensures) (c .before .before .before .before .if1 .left) (c .before .is-named2 .ensures) (c .if2 .left)
+returns-3 c =
+    let c1 = c .before .before .before .before in
+    let c2 = c1 .before in
+    let c3 = c2 .before .before .before .before .before .before .before in
+    kind-none (now (c3 .args .s)) (now (c3 .args .t)) _ _ (c2 .is-named .ensures) (c1 .if1 .left) (c .before .is-named2 .ensures) (c .if2 .left)
 
 pub kind-of-line-spec : {M : Type 1} → statement M
 kind-of-line-spec =

@@ -1,5 +1,4 @@
 use native.Mathlib.Omega.{arith}
-
 use Rattle.convert_put.specs.Pieces.{flagsFrom, kindPiece, prefPiece}
 use Rattle.to_json_entry.specs.Entry.{stringsPiece}
 use mathlib.Core.Bool.{false}
@@ -12,7 +11,10 @@ use Rattle.to_json_entry.proofs.put_entry.Statement.{statement}
 use Rattle.to_json_entry.proofs.put_entry.Tie as tie
 
 abbrev s₁ : tie.After-known-told → Here
-s₁ c = first! ((123 ∷ []) ∷ kindPiece (c .before .before .before .before .before .before .before .before .before .before .before .before .args .kind) ∷ stringsPiece (c .before .before .before .before .before .before .before .before .before .before .before .before .args .i) (c .before .before .before .before .before .before .before .before .before .before .before .before .args .form) (c .before .before .before .before .before .before .before .before .before .before .before .before .args .raw) (now (c .before .before .before .before .before .before .before .before .before .before .before .before .args .v)) ∷ flagsFrom 2 (now (c .before .before .before .before .before .before .before .before .before .before .before .before .args .row)) 0 false ∷ flagsFrom 7 (now (c .before .before .before .before .before .before .before .before .before .before .before .before .args .row)) 2 false ∷ prefPiece (now (c .before .before .before .before .before .before .before .before .before .before .before .before .args .p)) ∷ (125 ∷ []) ∷ []) (c .before .before .before .before .before .put-name .ensures) (c .before .a1 .given .1)
+s₁ c =
+    let c1 = c .before .before .before .before .before in
+    let c2 = c1 .before .before .before .before .before .before .before in
+    first! ((123 ∷ []) ∷ kindPiece (c2 .args .kind) ∷ stringsPiece (c2 .args .i) (c2 .args .form) (c2 .args .raw) (now (c2 .args .v)) ∷ flagsFrom 2 (now (c2 .args .row)) 0 false ∷ flagsFrom 7 (now (c2 .args .row)) 2 false ∷ prefPiece (now (c2 .args .p)) ∷ (125 ∷ []) ∷ []) (c1 .put-name .ensures) (c .before .a1 .given .1)
 
 abbrev s₂ : tie.After-known-told2 → Here
 s₂ c =
@@ -197,7 +199,9 @@ returns-6 : tie.Need-returns-6
 returns-6 c = stop! (s₅ (c .before .before .before .before .before .before)) (c .before .before .before .before .put-flags2 .ensures) (c .enum-told6 .given .1)
 
 add-b6 : tie.Need-add-b6
-add-b6 c = fit! (s₆ c) (c .before .before .before .before .before .before .before .before .before .before .before .before .before .before .before .before .before .before .before .before .before .before .before .before .before .before .before .before .before .before .before .before .before .before .before .before .before .before .before .before .before .before .before .before .before .before .before .good .0 .0)
+add-b6 c =
+    let c1 = c .before .before .before .before .before .before .before .before .before .before .before .before .before .before .before .before .before .before .before .before .before .before .before .before .before .before .before .before .before .before .before .before .before .before .before .before .before .before .before .before .before .before .before .before .before .before .before in
+    fit! (s₆ c) (c1 .good .0 .0)
 
 sub-put-pref : tie.Need-sub-put-pref
 sub-put-pref c = in! (s₆ c)
@@ -224,7 +228,9 @@ returns-7 : tie.Need-returns-7
 returns-7 c = stop! (s₆ (c .before .before .before .before .before .before)) (c .before .before .before .before .put-pref .ensures) (c .enum-told7 .given .1)
 
 add-b7 : tie.Need-add-b7
-add-b7 c = fit! (s₇ c) (c .before .before .before .before .before .before .before .before .before .before .before .before .before .before .before .before .before .before .before .before .before .before .before .before .before .before .before .before .before .before .before .before .before .before .before .before .before .before .before .before .before .before .before .before .before .before .before .before .before .before .before .before .before .before .good .0 .0)
+add-b7 c =
+    let c1 = c .before .before .before .before .before .before .before .before .before .before .before .before .before .before .before .before .before .before .before .before .before .before .before .before .before .before .before .before .before .before .before .before .before .before .before .before .before .before .before .before .before .before .before .before .before .before .before .before .before .before .before .before .before .before in
+    fit! (s₇ c) (c1 .good .0 .0)
 
 sub-put-byte-2 : tie.Need-sub-put-byte-2
 sub-put-byte-2 c = in! (s₇ c)
@@ -251,7 +257,9 @@ returns-8 : tie.Need-returns-8
 returns-8 c = stop! (s₇ (c .before .before .before .before .before .before)) (c .before .before .before .before .put-byte2 .ensures) (c .enum-told8 .given .1)
 
 add-b8 : tie.Need-add-b8
-add-b8 c = fit! (s₈ c) (c .before .before .before .before .before .before .before .before .before .before .before .before .before .before .before .before .before .before .before .before .before .before .before .before .before .before .before .before .before .before .before .before .before .before .before .before .before .before .before .before .before .before .before .before .before .before .before .before .before .before .before .before .before .before .before .before .before .before .before .before .before .good .0 .0)
+add-b8 c =
+    let c1 = c .before .before .before .before .before .before .before .before .before .before .before .before .before .before .before .before .before .before .before .before .before .before .before .before .before .before .before .before .before .before .before .before .before .before .before .before .before .before .before .before .before .before .before .before .before .before .before .before .before .before .before .before .before .before .before .before .before .before .before .before .before in
+    fit! (s₈ c) (c1 .good .0 .0)
 
 same-length-9 : tie.Need-same-length-9
 same-length-9 c = same! (s₈ c)

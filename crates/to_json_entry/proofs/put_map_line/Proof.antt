@@ -50,13 +50,24 @@ part-put-entry-end-2 : tie.Need-part-put-entry-end-2
 part-put-entry-end-2 c = omega arith
 
 put-entry-requires : tie.Need-put-entry-requires
-put-entry-requires c κs = let x = c .before .before .before .before .before .before .before .before .before .before .before .before .before .before .before .before .before .before .before .pre in (search needs, strings-good (now (c .before .before .before .before .before .before .before .before .before .before .before .before .before .before .before .before .before .before .before .args .s)) (now (c .before .before .before .before .before .before .before .before .before .before .before .before .before .before .before .before .before .before .before .args .t)) (x .seen) (x .slot) (x .entry) (x .is) (x .converts) (c .before .before .before .before .before .before .before .before .before .before .before .value-kind .result) (c .before .before .before .before .before .before .before .before .before .before .before .value-kind .ensures _ (x .rowed .row)))
+put-entry-requires c κs = (
+  search needs,
+  let c1 = c .before .before .before .before .before .before .before .before .before .before .before in
+      let c2 = c1 .before .before .before .before .before .before .before .before in
+      let x = c2 .pre in strings-good (now (c2 .args .s)) (now (c2 .args .t)) (x .seen) (x .slot) (x .entry) (x .is) (x .converts) (c1 .value-kind .result) (c1 .value-kind .ensures _ (x .rowed .row)),
+)
 
 same-length : tie.Need-same-length
 same-length c = search needs
 
 returns : tie.Need-returns
-returns c = λ seen w e is rd q. let r = c .before .before .before .before .before .before .before .before .before .before .before .before .before .before .before .before .before .before .before .before .before .before .pre .rowed .row in puts-as (line-bytes (now (c .before .before .before .before .before .before .before .before .before .before .before .before .before .before .before .before .before .before .before .before .before .before .args .s)) (now (c .before .before .before .before .before .before .before .before .before .before .before .before .before .before .before .before .before .before .before .before .before .before .args .t)) seen w e is q (c .before .before .before .before .before .before .before .before .before .before .before .before .before .before .before .before .before .before .before .before .before .before .args .kind) (c .before .before .before .before .before .before .before .before .before .before .before .before .before .before .value-kind .result) (now (c .before .before .before .before .before .before .before .before .before .before .before .before .before .before .before .before .before .before .before .before .before .before .args .key)) [] _ _ rd (c .before .before .before .before .before .before .before .before .before .before .before .before .before .before .value-kind .ensures _ r) (c .before .before .before .before .before .before .before .before .before .before .before .before .mark-rows .ensures) (no-pref (now (c .before .before .before .before .before .before .before .before .before .before .before .before .before .before .before .before .before .before .before .before .before .before .args .s)) (now (c .before .before .before .before .before .before .before .before .before .before .before .before .before .before .before .before .before .before .before .before .before .before .args .t)) seen w e is q r (c .before .before .before .before .before .before .before .if1 .taken))) (c .before .before .put-entry .ensures)
+returns c =
+    let c1 = c .before .before in
+    let c2 = c1 .before .before .before .before .before in
+    let c3 = c2 .before .before .before .before .before in
+    let c4 = c3 .before .before in
+    let c5 = c4 .before .before .before .before .before .before .before .before in
+    λ seen w e is rd q. let r = c5 .pre .rowed .row in puts-as (line-bytes (now (c5 .args .s)) (now (c5 .args .t)) seen w e is q (c5 .args .kind) (c4 .value-kind .result) (now (c5 .args .key)) [] _ _ rd (c4 .value-kind .ensures _ r) (c3 .mark-rows .ensures) (no-pref (now (c5 .args .s)) (now (c5 .args .t)) seen w e is q r (c2 .if1 .taken))) (c1 .put-entry .ensures)
 
 shared-slice-read-c : tie.Need-shared-slice-read-c
 shared-slice-read-c c = omega (arith, c .before .before .before .before .before .before .before .before .before .before .before .before .before .before .before .before .pre .rowed .wide .froms)
@@ -86,13 +97,24 @@ part-put-entry-end-4 : tie.Need-part-put-entry-end-4
 part-put-entry-end-4 c = let v = first-pref (c .before .before .before .before .before .before .before .before .before .before .before .before .before .before .before .before .before .before .before .before .pre .rowed .row) (c .before .before .before .before .before .if1 .left) in omega (arith, v .ordered, v .within)
 
 put-entry-requires-2 : tie.Need-put-entry-requires-2
-put-entry-requires-2 c κs = let x = c .before .before .before .before .before .before .before .before .before .before .before .before .before .before .before .before .before .before .before .before .before .pre in (search needs, strings-good (now (c .before .before .before .before .before .before .before .before .before .before .before .before .before .before .before .before .before .before .before .before .before .args .s)) (now (c .before .before .before .before .before .before .before .before .before .before .before .before .before .before .before .before .before .before .before .before .before .args .t)) (x .seen) (x .slot) (x .entry) (x .is) (x .converts) (c .before .before .before .before .before .before .before .before .before .before .before .before .before .value-kind .result) (c .before .before .before .before .before .before .before .before .before .before .before .before .before .value-kind .ensures _ (x .rowed .row)))
+put-entry-requires-2 c κs = (
+  search needs,
+  let c1 = c .before .before .before .before .before .before .before .before .before .before .before .before .before in
+      let c2 = c1 .before .before .before .before .before .before .before .before in
+      let x = c2 .pre in strings-good (now (c2 .args .s)) (now (c2 .args .t)) (x .seen) (x .slot) (x .entry) (x .is) (x .converts) (c1 .value-kind .result) (c1 .value-kind .ensures _ (x .rowed .row)),
+)
 
 same-length-2 : tie.Need-same-length-2
 same-length-2 c = search needs
 
 returns-2 : tie.Need-returns-2
-returns-2 c = λ seen w e is rd q. let r = c .before .before .before .before .before .before .before .before .before .before .before .before .before .before .before .before .before .before .before .before .before .before .before .before .pre .rowed .row in puts-as (line-bytes (now (c .before .before .before .before .before .before .before .before .before .before .before .before .before .before .before .before .before .before .before .before .before .before .before .before .args .s)) (now (c .before .before .before .before .before .before .before .before .before .before .before .before .before .before .before .before .before .before .before .before .before .before .before .before .args .t)) seen w e is q (c .before .before .before .before .before .before .before .before .before .before .before .before .before .before .before .before .before .before .before .before .before .before .before .before .args .kind) (c .before .before .before .before .before .before .before .before .before .before .before .before .before .before .before .before .value-kind .result) (now (c .before .before .before .before .before .before .before .before .before .before .before .before .before .before .before .before .before .before .before .before .before .before .before .before .args .key)) (part (now (c .before .before .before .before .before .before .before .before .before .before .before .before .before .before .before .before .before .before .before .before .before .before .before .before .args .s)) (getD (now (c .before .before .before .before .before .before .before .before .before .before .before .before .before .before .before .before .before .before .before .before .before .before .before .before .args .froms)) 1 0) (getD (now (c .before .before .before .before .before .before .before .before .before .before .before .before .before .before .before .before .before .before .before .before .before .before .before .before .args .tos)) 1 0)) _ _ rd (c .before .before .before .before .before .before .before .before .before .before .before .before .before .before .before .before .value-kind .ensures _ r) (c .before .before .before .before .before .before .before .before .before .before .before .before .before .before .mark-rows .ensures) (the-pref (now (c .before .before .before .before .before .before .before .before .before .before .before .before .before .before .before .before .before .before .before .before .before .before .before .before .args .s)) (now (c .before .before .before .before .before .before .before .before .before .before .before .before .before .before .before .before .before .before .before .before .before .before .before .before .args .t)) seen w e is q r (c .before .before .before .before .before .before .before .before .before .if1 .left))) (c .before .before .put-entry2 .ensures)
+returns-2 c =
+    let c1 = c .before .before in
+    let c2 = c1 .before .before .before .before .before .before .before in
+    let c3 = c2 .before .before .before .before .before in
+    let c4 = c3 .before .before in
+    let c5 = c4 .before .before .before .before .before .before .before .before in
+    λ seen w e is rd q. let r = c5 .pre .rowed .row in puts-as (line-bytes (now (c5 .args .s)) (now (c5 .args .t)) seen w e is q (c5 .args .kind) (c4 .value-kind .result) (now (c5 .args .key)) (part (now (c5 .args .s)) (getD (now (c5 .args .froms)) 1 0) (getD (now (c5 .args .tos)) 1 0)) _ _ rd (c4 .value-kind .ensures _ r) (c3 .mark-rows .ensures) (the-pref (now (c5 .args .s)) (now (c5 .args .t)) seen w e is q r (c2 .if1 .left))) (c1 .put-entry2 .ensures)
 
 pub put-map-line-spec : {M : Type 1} → statement M
 put-map-line-spec =

@@ -12,7 +12,11 @@ same-length : tie.Need-same-length
 same-length c = search needs
 
 returns : tie.Need-returns
-returns c = puts-as (org-on (c .before .before .before .before .before .before .before .args .i) (c .before .before .before .before .before .before .before .args .form) (c .before .before .before .before .before .before .before .args .raw) (now (c .before .before .before .before .before .before .before .args .v)) (c .before .before .before .before .if1 .taken)) (c .before .before .put-org .ensures)
+returns c =
+    let c1 = c .before .before in
+    let c2 = c1 .before .before in
+    let c3 = c2 .before .before .before in
+    puts-as (org-on (c3 .args .i) (c3 .args .form) (c3 .args .raw) (now (c3 .args .v)) (c2 .if1 .taken)) (c1 .put-org .ensures)
 
 put-string-member-requires : tie.Need-put-string-member-requires
 put-string-member-requires c κs = c .before .before .before .before .pre .plain (c .before .if1 .left)
@@ -21,7 +25,11 @@ same-length-2 : tie.Need-same-length-2
 same-length-2 c = search needs
 
 returns-2 : tie.Need-returns-2
-returns-2 c = puts-as (org-off (c .before .before .before .before .before .before .before .args .i) (c .before .before .before .before .before .before .before .args .form) (c .before .before .before .before .before .before .before .args .raw) (now (c .before .before .before .before .before .before .before .args .v)) (c .before .before .before .before .if1 .left)) (c .before .before .put-string-member .ensures)
+returns-2 c =
+    let c1 = c .before .before in
+    let c2 = c1 .before .before in
+    let c3 = c2 .before .before .before in
+    puts-as (org-off (c3 .args .i) (c3 .args .form) (c3 .args .raw) (now (c3 .args .v)) (c2 .if1 .left)) (c1 .put-string-member .ensures)
 
 pub put-strings-spec : {M : Type 1} → statement M
 put-strings-spec =

@@ -35,13 +35,20 @@ same-length : tie.Need-same-length
 same-length c = search needs
 
 returns : tie.Need-returns
-returns c = let us = textsOf 59 (now (c .before .before .before .before .before .before .before .before .before .args .v)) in puts-as (units-more (c .before .before .before .before .before .before .before .before .before .args .k) (keep filled us)) (more _ (puts-as (ap (listed (c .before .before .before .before .before .before .before .before .before .args .k) false) (own-none us)) (first-full (c .before .before .before .before .put-items .ensures) (c .enum-told .given .1))))
+returns c =
+    let c1 = c .before .before .before .before in
+    let c2 = c1 .before .before .before .before .before in
+    let us = textsOf 59 (now (c2 .args .v)) in puts-as (units-more (c2 .args .k) (keep filled us)) (more _ (puts-as (ap (listed (c2 .args .k) false) (own-none us)) (first-full (c1 .put-items .ensures) (c .enum-told .given .1))))
 
 same-length-2 : tie.Need-same-length-2
 same-length-2 c = let h = first (c .before .before .before .before .before .before .put-items .ensures) (c .before .before .n .given .1) in h .same
 
 returns-2 : tie.Need-returns-2
-returns-2 c = let us = textsOf 59 (now (c .before .before .before .before .before .before .before .before .before .before .before .args .v)) in let h = first (puts-as (ap (listed (c .before .before .before .before .before .before .before .before .before .before .before .args .k) false) (own-none us)) (c .before .before .before .before .before .before .put-items .ensures)) (c .before .before .n .given .1) in puts-as (units-none (c .before .before .before .before .before .before .before .before .before .before .before .args .k) (keep filled us) (sym (h .is) ∙ (c .if1 .taken))) (done h)
+returns-2 c =
+    let c1 = c .before .before in
+    let c2 = c1 .before .before .before .before in
+    let c3 = c2 .before .before .before .before .before in
+    let us = textsOf 59 (now (c3 .args .v)) in let h = first (puts-as (ap (listed (c3 .args .k) false) (own-none us)) (c2 .put-items .ensures)) (c1 .n .given .1) in puts-as (units-none (c3 .args .k) (keep filled us) (sym (h .is) ∙ (c .if1 .taken))) (done h)
 
 sub-put-byte : tie.Need-sub-put-byte
 sub-put-byte c = within (first (c .before .before .before .before .before .before .put-items .ensures) (c .before .before .n .given .1))
@@ -65,16 +72,33 @@ same-length-3 : tie.Need-same-length-3
 same-length-3 c = search needs
 
 returns-3 : tie.Need-returns-3
-returns-3 c = let us = textsOf 59 (now (c .before .before .before .before .before .before .before .before .before .before .before .before .before .before .before .before .before .args .v)) in let h = first (puts-as (ap (listed (c .before .before .before .before .before .before .before .before .before .before .before .before .before .before .before .before .before .args .k) false) (own-none us)) (c .before .before .before .before .before .before .before .before .before .before .before .before .put-items .ensures)) (c .before .before .before .before .before .before .before .before .n .given .1) in puts-as (units-some (c .before .before .before .before .before .before .before .before .before .before .before .before .before .before .before .before .before .args .k) (keep filled us) (λ z. c .before .before .before .before .before .before .if1 .left (h .is ∙ z))) (stop h (c .before .before .before .before .put-byte .ensures) (c .enum-told2 .given .1))
+returns-3 c =
+    let c1 = c .before .before .before .before in
+    let c2 = c1 .before .before in
+    let c3 = c2 .before .before in
+    let c4 = c3 .before .before .before .before in
+    let c5 = c4 .before .before .before .before .before in
+    let us = textsOf 59 (now (c5 .args .v)) in let h = first (puts-as (ap (listed (c5 .args .k) false) (own-none us)) (c4 .put-items .ensures)) (c3 .n .given .1) in puts-as (units-some (c5 .args .k) (keep filled us) (λ z. c2 .if1 .left (h .is ∙ z))) (stop h (c1 .put-byte .ensures) (c .enum-told2 .given .1))
 
 add-nm : tie.Need-add-nm
-add-nm c = let h = next (first (c .before .before .before .before .before .before .before .before .before .before .before .before .before .put-items .ensures) (c .before .before .before .before .before .before .before .before .before .n .given .1)) (c .before .before .before .before .before .put-byte .ensures) (c .before .m .given .1) in omega (arith, h .fits, c .before .before .before .before .before .before .before .before .before .before .before .before .before .before .before .before .before .before .good .0 .0)
+add-nm c =
+    let c1 = c .before .before .before .before .before in
+    let c2 = c1 .before .before .before .before in
+    let c3 = c2 .before .before .before .before in
+    let c4 = c3 .before .before .before .before .before in
+    let h = next (first (c3 .put-items .ensures) (c2 .n .given .1)) (c1 .put-byte .ensures) (c .before .m .given .1) in omega (arith, h .fits, c4 .good .0 .0)
 
 same-length-4 : tie.Need-same-length-4
 same-length-4 c = let h = next (first (c .before .before .before .before .before .before .before .before .before .before .before .before .before .put-items .ensures) (c .before .before .before .before .before .before .before .before .before .n .given .1)) (c .before .before .before .before .before .put-byte .ensures) (c .before .m .given .1) in h .same
 
 returns-4 : tie.Need-returns-4
-returns-4 c = let us = textsOf 59 (now (c .before .before .before .before .before .before .before .before .before .before .before .before .before .before .before .before .before .before .args .v)) in let h = first (puts-as (ap (listed (c .before .before .before .before .before .before .before .before .before .before .before .before .before .before .before .before .before .before .args .k) false) (own-none us)) (c .before .before .before .before .before .before .before .before .before .before .before .before .before .put-items .ensures)) (c .before .before .before .before .before .before .before .before .before .n .given .1) in puts-as (units-some (c .before .before .before .before .before .before .before .before .before .before .before .before .before .before .before .before .before .before .args .k) (keep filled us) (λ z. c .before .before .before .before .before .before .before .if1 .left (h .is ∙ z))) (done (next h (c .before .before .before .before .before .put-byte .ensures) (c .before .m .given .1)))
+returns-4 c =
+    let c1 = c .before .before .before .before .before in
+    let c2 = c1 .before .before in
+    let c3 = c2 .before .before in
+    let c4 = c3 .before .before .before .before in
+    let c5 = c4 .before .before .before .before .before in
+    let us = textsOf 59 (now (c5 .args .v)) in let h = first (puts-as (ap (listed (c5 .args .k) false) (own-none us)) (c4 .put-items .ensures)) (c3 .n .given .1) in puts-as (units-some (c5 .args .k) (keep filled us) (λ z. c2 .if1 .left (h .is ∙ z))) (done (next h (c1 .put-byte .ensures) (c .before .m .given .1)))
 
 pub put-units-spec : {M : Type 1} → statement M
 put-units-spec =

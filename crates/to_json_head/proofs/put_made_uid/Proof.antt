@@ -70,7 +70,10 @@ same-length-2 : tie.Need-same-length-2
 same-length-2 c = length-puts (stop! (s₁ (c .before .before .before .before .before .before)) (c .before .before .before .before .put-spelled .ensures) (c .enum-told2 .given .1))
 
 returns-2 : tie.Need-returns-2
-returns-2 c = puts-as (made-bytes (now (c .before .before .before .before .before .before .before .before .before .before .before .before .before .before .before .args .stem)) (c .before .before .before .before .before .before .before .before .before .before .before .before .before .before .before .args .number)) (stop! (s₁ (c .before .before .before .before .before .before)) (c .before .before .before .before .put-spelled .ensures) (c .enum-told2 .given .1))
+returns-2 c =
+    let c1 = c .before .before .before .before in
+    let c2 = c1 .before .before .before .before .before .before .before .before .before .before .before in
+    puts-as (made-bytes (now (c2 .args .stem)) (c2 .args .number)) (stop! (s₁ (c .before .before .before .before .before .before)) (c1 .put-spelled .ensures) (c .enum-told2 .given .1))
 
 add-ab : tie.Need-add-ab
 add-ab c = fit! (s₂ c) (c .before .before .before .before .before .before .before .before .before .before .before .before .before .before .before .before .good .0 .0)
@@ -97,7 +100,10 @@ same-length-3 : tie.Need-same-length-3
 same-length-3 c = length-puts (stop! (s₂ (c .before .before .before .before .before .before)) (c .before .before .before .before .put-byte2 .ensures) (c .enum-told3 .given .1))
 
 returns-3 : tie.Need-returns-3
-returns-3 c = puts-as (made-bytes (now (c .before .before .before .before .before .before .before .before .before .before .before .before .before .before .before .before .before .before .before .before .before .before .args .stem)) (c .before .before .before .before .before .before .before .before .before .before .before .before .before .before .before .before .before .before .before .before .before .before .args .number)) (stop! (s₂ (c .before .before .before .before .before .before)) (c .before .before .before .before .put-byte2 .ensures) (c .enum-told3 .given .1))
+returns-3 c =
+    let c1 = c .before .before .before .before in
+    let c2 = c1 .before .before .before .before .before .before .before .before .before .before .before .before .before .before .before .before .before .before in
+    puts-as (made-bytes (now (c2 .args .stem)) (c2 .args .number)) (stop! (s₂ (c .before .before .before .before .before .before)) (c1 .put-byte2 .ensures) (c .enum-told3 .given .1))
 
 add-ac : tie.Need-add-ac
 add-ac c = fit! (s₃ c) (c .before .before .before .before .before .before .before .before .before .before .before .before .before .before .before .before .before .before .before .before .before .before .before .good .0 .0)
@@ -124,7 +130,10 @@ same-length-4 : tie.Need-same-length-4
 same-length-4 c = length-puts (stop! (s₃ (c .before .before .before .before .before .before)) (c .before .before .before .before .put-number .ensures) (c .enum-told4 .given .1))
 
 returns-4 : tie.Need-returns-4
-returns-4 c = puts-as (made-bytes (now (c .before .before .before .before .before .before .before .before .before .before .before .before .before .before .before .before .before .before .before .before .before .before .before .before .before .before .before .before .before .args .stem)) (c .before .before .before .before .before .before .before .before .before .before .before .before .before .before .before .before .before .before .before .before .before .before .before .before .before .before .before .before .before .args .number)) (stop! (s₃ (c .before .before .before .before .before .before)) (c .before .before .before .before .put-number .ensures) (c .enum-told4 .given .1))
+returns-4 c =
+    let c1 = c .before .before .before .before in
+    let c2 = c1 .before .before .before .before .before .before .before .before .before .before .before .before .before .before .before .before .before .before .before .before .before .before .before .before .before in
+    puts-as (made-bytes (now (c2 .args .stem)) (c2 .args .number)) (stop! (s₃ (c .before .before .before .before .before .before)) (c1 .put-number .ensures) (c .enum-told4 .given .1))
 
 add-ad : tie.Need-add-ad
 add-ad c = fit! (s₄ c) (c .before .before .before .before .before .before .before .before .before .before .before .before .before .before .before .before .before .before .before .before .before .before .before .before .before .before .before .before .before .before .good .0 .0)
@@ -151,7 +160,10 @@ same-length-5 : tie.Need-same-length-5
 same-length-5 c = length-puts (stop! (s₄ (c .before .before .before .before .before .before)) (c .before .before .before .before .put-byte3 .ensures) (c .enum-told5 .given .1))
 
 returns-5 : tie.Need-returns-5
-returns-5 c = puts-as (made-bytes (now (c .before .before .before .before .before .before .before .before .before .before .before .before .before .before .before .before .before .before .before .before .before .before .before .before .before .before .before .before .before .before .before .before .before .before .before .before .args .stem)) (c .before .before .before .before .before .before .before .before .before .before .before .before .before .before .before .before .before .before .before .before .before .before .before .before .before .before .before .before .before .before .before .before .before .before .before .before .args .number)) (stop! (s₄ (c .before .before .before .before .before .before)) (c .before .before .before .before .put-byte3 .ensures) (c .enum-told5 .given .1))
+returns-5 c =
+    let c1 = c .before .before .before .before in
+    let c2 = c1 .before .before .before .before .before .before .before .before .before .before .before .before .before .before .before .before .before .before .before .before .before .before .before .before .before .before .before .before .before .before .before .before in
+    puts-as (made-bytes (now (c2 .args .stem)) (c2 .args .number)) (stop! (s₄ (c .before .before .before .before .before .before)) (c1 .put-byte3 .ensures) (c .enum-told5 .given .1))
 
 add-ae : tie.Need-add-ae
 add-ae c = fit! (s₅ c) (c .before .before .before .before .before .before .before .before .before .before .before .before .before .before .before .before .before .before .before .before .before .before .before .before .before .before .before .before .before .before .before .before .before .before .before .before .before .good .0 .0)
@@ -160,7 +172,9 @@ same-length-6 : tie.Need-same-length-6
 same-length-6 c = same! (s₅ c)
 
 returns-6 : tie.Need-returns-6
-returns-6 c = puts-as (made-bytes (now (c .before .before .before .before .before .before .before .before .before .before .before .before .before .before .before .before .before .before .before .before .before .before .before .before .before .before .before .before .before .before .before .before .before .before .before .before .before .args .stem)) (c .before .before .before .before .before .before .before .before .before .before .before .before .before .before .before .before .before .before .before .before .before .before .before .before .before .before .before .before .before .before .before .before .before .before .before .before .before .args .number)) (all (s₅ c .left))
+returns-6 c =
+    let c1 = c .before .before .before .before .before .before .before .before .before .before .before .before .before .before .before .before .before .before .before .before .before .before .before .before .before .before .before .before .before .before .before .before .before .before .before .before .before in
+    puts-as (made-bytes (now (c1 .args .stem)) (c1 .args .number)) (all (s₅ c .left))
 
 pub put-made-uid-spec : {M : Type 1} → statement M
 put-made-uid-spec = tie.close (tie.spec put-byte-requires enum-known-a enum-told same-length returns sub-put-spelled part-put-spelled-start part-put-spelled-end put-spelled-requires enum-known-b enum-told-2 same-length-2 returns-2 add-ab sub-put-byte part-put-byte-start part-put-byte-end put-byte-requires-2 enum-known-c enum-told-3 same-length-3 returns-3 add-ac sub-put-number part-put-number-start part-put-number-end put-number-requires enum-known-d enum-told-4 same-length-4 returns-4 add-ad sub-put-byte-2 part-put-byte-start-2 part-put-byte-end-2 put-byte-requires-3 enum-known-e enum-told-5 same-length-5 returns-5 add-ae same-length-6 returns-6)

@@ -11,7 +11,10 @@ use Rattle.to_json_head.proofs.put_start.Statement.{statement}
 use Rattle.to_json_head.proofs.put_start.Tie as tie
 
 abbrev s₁ : tie.After-known-told → Here
-s₁ c = first! (quoted (uidOf (c .before .before .before .before .before .before .before .before .before .before .before .args .given) (now (c .before .before .before .before .before .before .before .before .before .before .before .args .uid)) (now (c .before .before .before .before .before .before .before .before .before .before .before .args .stem)) (c .before .before .before .before .before .before .before .before .before .before .before .args .number)) [] ∷ []) (c .before .before .before .before .before .put-text .ensures) (c .before .a .given .1)
+s₁ c =
+    let c1 = c .before .before .before .before .before in
+    let c2 = c1 .before .before .before .before .before .before in
+    first! (quoted (uidOf (c2 .args .given) (now (c2 .args .uid)) (now (c2 .args .stem)) (c2 .args .number)) [] ∷ []) (c1 .put-text .ensures) (c .before .a .given .1)
 
 abbrev s₂ : tie.After-known-told2 → Here
 s₂ c =
@@ -34,7 +37,10 @@ same-length : tie.Need-same-length
 same-length c = length-puts (none [] (c .before .before .before .before .put-text .ensures) (c .enum-told .given .1))
 
 returns : tie.Need-returns
-returns c = puts-as (start-bytes (uidOf (c .before .before .before .before .before .before .before .before .before .before .args .given) (now (c .before .before .before .before .before .before .before .before .before .before .args .uid)) (now (c .before .before .before .before .before .before .before .before .before .before .args .stem)) (c .before .before .before .before .before .before .before .before .before .before .args .number))) (none _ (c .before .before .before .before .put-text .ensures) (c .enum-told .given .1))
+returns c =
+    let c1 = c .before .before .before .before in
+    let c2 = c1 .before .before .before .before .before .before in
+    puts-as (start-bytes (uidOf (c2 .args .given) (now (c2 .args .uid)) (now (c2 .args .stem)) (c2 .args .number))) (none _ (c1 .put-text .ensures) (c .enum-told .given .1))
 
 sub-put-uid : tie.Need-sub-put-uid
 sub-put-uid c = in! (s₁ c)
@@ -58,7 +64,10 @@ same-length-2 : tie.Need-same-length-2
 same-length-2 c = length-puts (stop! (s₁ (c .before .before .before .before .before .before)) (c .before .before .before .before .put-uid .ensures) (c .enum-told2 .given .1))
 
 returns-2 : tie.Need-returns-2
-returns-2 c = puts-as (start-bytes (uidOf (c .before .before .before .before .before .before .before .before .before .before .before .before .before .before .before .before .before .args .given) (now (c .before .before .before .before .before .before .before .before .before .before .before .before .before .before .before .before .before .args .uid)) (now (c .before .before .before .before .before .before .before .before .before .before .before .before .before .before .before .before .before .args .stem)) (c .before .before .before .before .before .before .before .before .before .before .before .before .before .before .before .before .before .args .number))) (stop! (s₁ (c .before .before .before .before .before .before)) (c .before .before .before .before .put-uid .ensures) (c .enum-told2 .given .1))
+returns-2 c =
+    let c1 = c .before .before .before .before in
+    let c2 = c1 .before .before .before .before .before .before .before .before .before .before .before .before .before in
+    puts-as (start-bytes (uidOf (c2 .args .given) (now (c2 .args .uid)) (now (c2 .args .stem)) (c2 .args .number))) (stop! (s₁ (c .before .before .before .before .before .before)) (c1 .put-uid .ensures) (c .enum-told2 .given .1))
 
 add-ab : tie.Need-add-ab
 add-ab c = fit! (s₂ c) (c .before .before .before .before .before .before .before .before .before .before .before .before .before .before .before .before .before .before .good .0 .0)
@@ -67,7 +76,9 @@ same-length-3 : tie.Need-same-length-3
 same-length-3 c = same! (s₂ c)
 
 returns-3 : tie.Need-returns-3
-returns-3 c = puts-as (start-bytes (uidOf (c .before .before .before .before .before .before .before .before .before .before .before .before .before .before .before .before .before .before .args .given) (now (c .before .before .before .before .before .before .before .before .before .before .before .before .before .before .before .before .before .before .args .uid)) (now (c .before .before .before .before .before .before .before .before .before .before .before .before .before .before .before .before .before .before .args .stem)) (c .before .before .before .before .before .before .before .before .before .before .before .before .before .before .before .before .before .before .args .number))) (all (s₂ c .left))
+returns-3 c =
+    let c1 = c .before .before .before .before .before .before .before .before .before .before .before .before .before .before .before .before .before .before in
+    puts-as (start-bytes (uidOf (c1 .args .given) (now (c1 .args .uid)) (now (c1 .args .stem)) (c1 .args .number))) (all (s₂ c .left))
 
 pub put-start-spec : {M : Type 1} → statement M
 put-start-spec = tie.close (tie.spec slice-aggregate-put-text put-text-requires enum-known-a enum-told same-length returns sub-put-uid part-put-uid-start part-put-uid-end put-uid-requires enum-known-b enum-told-2 same-length-2 returns-2 add-ab same-length-3 returns-3)

@@ -12,7 +12,11 @@ same-length : tie.Need-same-length
 same-length c = search needs
 
 returns : tie.Need-returns
-returns c = puts-as (uid-given (c .before .before .before .before .before .before .before .before .args .given) (now (c .before .before .before .before .before .before .before .before .args .uid)) (now (c .before .before .before .before .before .before .before .before .args .stem)) (c .before .before .before .before .before .before .before .before .args .number) (c .before .before .before .before .if1 .taken)) (c .before .before .put-string .ensures)
+returns c =
+    let c1 = c .before .before in
+    let c2 = c1 .before .before in
+    let c3 = c2 .before .before .before .before in
+    puts-as (uid-given (c3 .args .given) (now (c3 .args .uid)) (now (c3 .args .stem)) (c3 .args .number) (c2 .if1 .taken)) (c1 .put-string .ensures)
 
 put-made-uid-requires : tie.Need-put-made-uid-requires
 put-made-uid-requires c κs = tt
@@ -21,7 +25,11 @@ same-length-2 : tie.Need-same-length-2
 same-length-2 c = search needs
 
 returns-2 : tie.Need-returns-2
-returns-2 c = puts-as (uid-made (c .before .before .before .before .before .before .before .before .args .given) (now (c .before .before .before .before .before .before .before .before .args .uid)) (now (c .before .before .before .before .before .before .before .before .args .stem)) (c .before .before .before .before .before .before .before .before .args .number) (c .before .before .before .before .if1 .left)) (c .before .before .put-made-uid .ensures)
+returns-2 c =
+    let c1 = c .before .before in
+    let c2 = c1 .before .before in
+    let c3 = c2 .before .before .before .before in
+    puts-as (uid-made (c3 .args .given) (now (c3 .args .uid)) (now (c3 .args .stem)) (c3 .args .number) (c2 .if1 .left)) (c1 .put-made-uid .ensures)
 
 pub put-uid-spec : {M : Type 1} → statement M
 put-uid-spec =

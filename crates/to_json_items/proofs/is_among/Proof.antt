@@ -37,7 +37,12 @@ returns : tie.Need-returns Inv-loop μ-loop
 returns c = seek-found (plainText (now (c .before .before .before .before .before .before .before .args .u))) (now (c .before .before .before .before .before .before .before .args .o)) (c .before .before .before .before .loop .i) _ (c .before .before .before .before .loop .inv) (c .before .before .before .part-end .ensures) _ (c .before .same-text .ensures) (c .if1 .taken)
 
 returns-2 : tie.Need-returns-2 Inv-loop μ-loop
-returns-2 c = seek-none (plainText (now (c .before .before .before .before .before .before .before .before .args .u))) (now (c .before .before .before .before .before .before .before .before .args .o)) (c .before .before .before .before .before .loop .i) _ (c .before .before .before .before .before .loop .inv) (c .before .before .before .before .part-end .ensures) _ (c .before .before .same-text .ensures) (c .before .if1 .left) (omega (arith, c .if2 .taken))
+returns-2 c =
+    let c1 = c .before .before in
+    let c2 = c1 .before .before in
+    let c3 = c2 .before in
+    let c4 = c3 .before .before .before in
+    seek-none (plainText (now (c4 .args .u))) (now (c4 .args .o)) (c3 .loop .i) _ (c3 .loop .inv) (c2 .part-end .ensures) _ (c1 .same-text .ensures) (c .before .if1 .left) (omega (arith, c .if2 .taken))
 
 add-i : tie.Need-add-i Inv-loop μ-loop
 add-i c = omega (arith, c .if2 .left, c .before .before .before .before .before .before .before .before .good .1 .0)
@@ -46,7 +51,12 @@ loop-less : tie.Need-loop-less Inv-loop μ-loop
 loop-less c = omega (arith, c .if2 .left, c .before .before .before .before .part-end .ensures .from)
 
 loop-again : tie.Need-loop-again Inv-loop μ-loop
-loop-again c = seek-on (plainText (now (c .before .before .before .before .before .before .before .before .args .u))) (now (c .before .before .before .before .before .before .before .before .args .o)) (c .before .before .before .before .before .loop .i) _ (c .before .before .before .before .before .loop .inv) (c .before .before .before .before .part-end .ensures) _ (c .before .before .same-text .ensures) (c .before .if1 .left) (omega (arith, c .if2 .left))
+loop-again c =
+    let c1 = c .before .before in
+    let c2 = c1 .before .before in
+    let c3 = c2 .before in
+    let c4 = c3 .before .before .before in
+    seek-on (plainText (now (c4 .args .u))) (now (c4 .args .o)) (c3 .loop .i) _ (c3 .loop .inv) (c2 .part-end .ensures) _ (c1 .same-text .ensures) (c .before .if1 .left) (omega (arith, c .if2 .left))
 
 pub is-among-spec : {M : Type 1} → statement M
 is-among-spec =

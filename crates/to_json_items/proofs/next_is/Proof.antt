@@ -20,7 +20,11 @@ enum-told-2 : tie.Need-enum-told-2
 enum-told-2 c = search needs
 
 returns : tie.Need-returns
-returns c = next-byte (now (c .before .before .before .before .before .before .args .s)) (c .before .before .before .before .before .before .args .at) (c .before .before .before .before .before .before .args .c) (c .before .before .d .given .0 .0) (c .before .before .d .given .0 .1 .0) _ _ (c .before .before .before .before .next-char .ensures) (c .before .before .before .before .before .before .pre) (c .before .before .d .given .1) (c .next-if .ensures)
+returns c =
+    let c1 = c .before .before in
+    let c2 = c1 .before .before in
+    let c3 = c2 .before .before in
+    next-byte (now (c3 .args .s)) (c3 .args .at) (c3 .args .c) (c1 .d .given .0 .0) (c1 .d .given .0 .1 .0) _ _ (c2 .next-char .ensures) (c3 .pre) (c1 .d .given .1) (c .next-if .ensures)
 
 returns-2 : tie.Need-returns-2
 returns-2 c = next-bad (now (c .before .before .before .before .args .s)) (c .before .before .before .before .args .at) (c .before .before .before .before .args .c) _ (c .before .before .next-char .ensures) (c .before .before .before .before .pre) (c .enum-told .given .1)

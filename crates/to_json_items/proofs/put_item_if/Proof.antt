@@ -14,7 +14,11 @@ same-length : tie.Need-same-length
 same-length c = search needs
 
 returns : tie.Need-returns
-returns c = puts-as (piece-on (c .before .before .before .before .before .before .before .args .on) (itemPiece (c .before .before .before .before .before .before .before .args .begun) (c .before .before .before .before .before .before .before .args .k) (plainText (now (c .before .before .before .before .before .before .before .args .u)))) (c .before .before .before .before .if1 .taken)) (c .before .before .put-item .ensures)
+returns c =
+    let c1 = c .before .before in
+    let c2 = c1 .before .before in
+    let c3 = c2 .before .before .before in
+    puts-as (piece-on (c3 .args .on) (itemPiece (c3 .args .begun) (c3 .args .k) (plainText (now (c3 .args .u)))) (c2 .if1 .taken)) (c1 .put-item .ensures)
 
 returns-2 : tie.Need-returns-2
 returns-2 c = puts-as (piece-off (c .before .before .before .args .on) (itemPiece (c .before .before .before .args .begun) (c .before .before .before .args .k) (plainText (now (c .before .before .before .args .u)))) (c .if1 .left)) (done (start _))

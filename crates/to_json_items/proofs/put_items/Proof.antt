@@ -68,16 +68,42 @@ same-length : tie.Need-same-length Inv-loop μ-loop
 same-length c = search needs
 
 returns : tie.Need-returns Inv-loop μ-loop
-returns c = putting-full (c .before .before .before .before .before .before .before .before .before .before .before .before .before .before .args .k) (c .before .before .before .before .before .before .before .before .before .before .before .before .before .before .args .d) (textsOf 44 (now (c .before .before .before .before .before .before .before .before .before .before .before .before .before .before .args .o))) (now (c .before .before .before .before .before .before .before .before .before .before .before .before .before .before .args .v)) (c .before .before .before .before .before .before .before .before .before .before .loop .inv) _ (c .before .before .before .before .before .before .before .before .before .part-end .ensures) _ (c .before .before .before .before .before .before .before .is-own .ensures) (c .before .before .before .before .put-item-if .ensures) (c .enum-told .given .1)
+returns c =
+    let c1 = c .before .before .before .before in
+    let c2 = c1 .before .before .before in
+    let c3 = c2 .before .before in
+    let c4 = c3 .before in
+    let c5 = c4 .before .before .before .before in
+    putting-full (c5 .args .k) (c5 .args .d) (textsOf 44 (now (c5 .args .o))) (now (c5 .args .v)) (c4 .loop .inv) _ (c3 .part-end .ensures) _ (c2 .is-own .ensures) (c1 .put-item-if .ensures) (c .enum-told .given .1)
 
 add-at : tie.Need-add-at Inv-loop μ-loop
-add-at c = rest-fit (wrote (c .before .before .before .before .before .before .before .before .before .before .before .before .before .before .before .args .k) (c .before .before .before .before .before .before .before .before .before .before .before .before .before .before .before .args .d) (textsOf 44 (now (c .before .before .before .before .before .before .before .before .before .before .before .before .before .before .before .args .o))) (now (c .before .before .before .before .before .before .before .before .before .before .before .before .before .before .before .args .v)) (c .before .before .before .before .before .before .before .before .before .before .before .loop .inv) _ (c .before .before .before .before .before .before .before .before .before .before .part-end .ensures) _ (c .before .before .before .before .before .before .before .before .is-own .ensures) (c .before .before .before .before .before .put-item-if .ensures) _ (c .before .n .given .1)) (c .before .before .before .before .before .before .before .before .before .before .before .before .before .before .before .good .0 .0)
+add-at c =
+    let c1 = c .before .before .before .before .before in
+    let c2 = c1 .before .before .before in
+    let c3 = c2 .before .before in
+    let c4 = c3 .before in
+    let c5 = c4 .before .before .before .before in
+    rest-fit (wrote (c5 .args .k) (c5 .args .d) (textsOf 44 (now (c5 .args .o))) (now (c5 .args .v)) (c4 .loop .inv) _ (c3 .part-end .ensures) _ (c2 .is-own .ensures) (c1 .put-item-if .ensures) _ (c .before .n .given .1)) (c5 .good .0 .0)
 
 same-length-2 : tie.Need-same-length-2 Inv-loop μ-loop
-same-length-2 c = rest-same (wrote (c .before .before .before .before .before .before .before .before .before .before .before .before .before .before .before .before .args .k) (c .before .before .before .before .before .before .before .before .before .before .before .before .before .before .before .before .args .d) (textsOf 44 (now (c .before .before .before .before .before .before .before .before .before .before .before .before .before .before .before .before .args .o))) (now (c .before .before .before .before .before .before .before .before .before .before .before .before .before .before .before .before .args .v)) (c .before .before .before .before .before .before .before .before .before .before .before .before .loop .inv) _ (c .before .before .before .before .before .before .before .before .before .before .before .part-end .ensures) _ (c .before .before .before .before .before .before .before .before .before .is-own .ensures) (c .before .before .before .before .before .before .put-item-if .ensures) _ (c .before .before .n .given .1))
+same-length-2 c =
+    let c1 = c .before .before in
+    let c2 = c1 .before .before .before .before in
+    let c3 = c2 .before .before .before in
+    let c4 = c3 .before .before in
+    let c5 = c4 .before in
+    let c6 = c5 .before .before .before .before in
+    rest-same (wrote (c6 .args .k) (c6 .args .d) (textsOf 44 (now (c6 .args .o))) (now (c6 .args .v)) (c5 .loop .inv) _ (c4 .part-end .ensures) _ (c3 .is-own .ensures) (c2 .put-item-if .ensures) _ (c1 .n .given .1))
 
 returns-2 : tie.Need-returns-2 Inv-loop μ-loop
-returns-2 c = putting-last (c .before .before .before .before .before .before .before .before .before .before .before .before .before .before .before .before .args .k) (c .before .before .before .before .before .before .before .before .before .before .before .before .before .before .before .before .args .d) (textsOf 44 (now (c .before .before .before .before .before .before .before .before .before .before .before .before .before .before .before .before .args .o))) (now (c .before .before .before .before .before .before .before .before .before .before .before .before .before .before .before .before .args .v)) (c .before .before .before .before .before .before .before .before .before .before .before .before .loop .inv) _ (c .before .before .before .before .before .before .before .before .before .before .before .part-end .ensures) _ (c .before .before .before .before .before .before .before .before .before .is-own .ensures) (c .before .before .before .before .before .before .put-item-if .ensures) _ (c .before .before .n .given .1) (omega (arith, c .if1 .taken))
+returns-2 c =
+    let c1 = c .before .before in
+    let c2 = c1 .before .before .before .before in
+    let c3 = c2 .before .before .before in
+    let c4 = c3 .before .before in
+    let c5 = c4 .before in
+    let c6 = c5 .before .before .before .before in
+    putting-last (c6 .args .k) (c6 .args .d) (textsOf 44 (now (c6 .args .o))) (now (c6 .args .v)) (c5 .loop .inv) _ (c4 .part-end .ensures) _ (c3 .is-own .ensures) (c2 .put-item-if .ensures) _ (c1 .n .given .1) (omega (arith, c .if1 .taken))
 
 add-i : tie.Need-add-i Inv-loop μ-loop
 add-i c = omega (arith, c .if1 .left, c .before .before .before .before .before .before .before .before .before .before .before .before .before .before .before .before .good .1 .0)
@@ -86,7 +112,14 @@ loop-less : tie.Need-loop-less Inv-loop μ-loop
 loop-less c = omega (arith, c .if1 .left, c .before .before .before .before .before .before .before .before .before .before .before .part-end .ensures .from)
 
 loop-again : tie.Need-loop-again Inv-loop μ-loop
-loop-again c = putting-on (c .before .before .before .before .before .before .before .before .before .before .before .before .before .before .before .before .args .k) (c .before .before .before .before .before .before .before .before .before .before .before .before .before .before .before .before .args .d) (textsOf 44 (now (c .before .before .before .before .before .before .before .before .before .before .before .before .before .before .before .before .args .o))) (now (c .before .before .before .before .before .before .before .before .before .before .before .before .before .before .before .before .args .v)) (c .before .before .before .before .before .before .before .before .before .before .before .before .loop .inv) _ (c .before .before .before .before .before .before .before .before .before .before .before .part-end .ensures) _ (c .before .before .before .before .before .before .before .before .before .is-own .ensures) (c .before .before .before .before .before .before .put-item-if .ensures) _ (c .before .before .n .given .1) (omega (arith, c .if1 .left))
+loop-again c =
+    let c1 = c .before .before in
+    let c2 = c1 .before .before .before .before in
+    let c3 = c2 .before .before .before in
+    let c4 = c3 .before .before in
+    let c5 = c4 .before in
+    let c6 = c5 .before .before .before .before in
+    putting-on (c6 .args .k) (c6 .args .d) (textsOf 44 (now (c6 .args .o))) (now (c6 .args .v)) (c5 .loop .inv) _ (c4 .part-end .ensures) _ (c3 .is-own .ensures) (c2 .put-item-if .ensures) _ (c1 .n .given .1) (omega (arith, c .if1 .left))
 
 pub put-items-spec : {M : Type 1} → statement M
 put-items-spec =

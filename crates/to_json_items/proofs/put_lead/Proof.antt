@@ -110,7 +110,17 @@ same-length-8 : tie.Need-same-length-8
 same-length-8 c = search needs
 
 returns-8 : tie.Need-returns-8
-returns-8 c = puts-as (no-lead (c .before .before .before .before .before .before .before .before .before .before .before .before .before .args .k) (c .before .before .before .before .before .before .before .before .before .before .before .if1 .left) (c .before .before .before .before .before .before .before .before .before .before .if2 .left) (c .before .before .before .before .before .before .before .before .before .if3 .left) (c .before .before .before .before .before .before .before .before .if4 .left) (c .before .before .before .before .before .before .before .if5 .left) (c .before .before .before .before .before .before .if6 .left) (c .before .before .before .before .before .if7 .left)) (c .before .before .put-text8 .ensures)
+returns-8 c =
+    let c1 = c .before .before in
+    let c2 = c1 .before .before .before in
+    let c3 = c2 .before in
+    let c4 = c3 .before in
+    let c5 = c4 .before in
+    let c6 = c5 .before in
+    let c7 = c6 .before in
+    let c8 = c7 .before in
+    let c9 = c8 .before .before in
+    puts-as (no-lead (c9 .args .k) (c8 .if1 .left) (c7 .if2 .left) (c6 .if3 .left) (c5 .if4 .left) (c4 .if5 .left) (c3 .if6 .left) (c2 .if7 .left)) (c1 .put-text8 .ensures)
 
 pub put-lead-spec : {M : Type 1} → statement M
 put-lead-spec =

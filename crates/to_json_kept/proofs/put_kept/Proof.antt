@@ -6,9 +6,7 @@ use lib.Dec.{ltb}
 use lib.ListN.{getD}
 use mathlib.Core.List.{map}
 use Rattle.convert.specs.FromCard.{keptLine}
-
 use Rattle.convert.specs.ToJson.{paramJson}
-
 use Rattle.to_json_kept.specs.Entry.{tailPiece}
 use Rattle.convert_put.specs.Pieces.{inside}
 use native.Mathlib.Nat.{le-refl}
@@ -20,7 +18,10 @@ use Rattle.to_json_kept.proofs.put_kept.Statement.{statement}
 use Rattle.to_json_kept.proofs.put_kept.Tie as tie
 
 abbrev s₁ : tie.After-known-told → Here
-s₁ c = first! (inside (ltb (getD (now (c .before .before .before .before .before .before .before .before .before .before .before .before .before .before .before .before .args .t)) 0 0) (getD (now (c .before .before .before .before .before .before .before .before .before .before .before .before .before .before .before .before .args .t)) 1 0)) (map paramJson (keptLine (lineIn (now (c .before .before .before .before .before .before .before .before .before .before .before .before .before .before .before .before .args .s)) (now (c .before .before .before .before .before .before .before .before .before .before .before .before .before .before .before .before .args .t))) .params)) ∷ tailPiece (now (c .before .before .before .before .before .before .before .before .before .before .before .before .before .before .before .before .args .s)) (now (c .before .before .before .before .before .before .before .before .before .before .before .before .before .before .before .before .args .t)) (part (now (c .before .before .before .before .before .before .before .before .before .before .before .before .before .before .before .before .args .s)) (getD (now (c .before .before .before .before .before .before .before .before .before .before .before .before .before .before .before .before .args .t)) 4 0) (getD (now (c .before .before .before .before .before .before .before .before .before .before .before .before .before .before .before .before .args .t)) 5 0)) ∷ []) (c .before .before .before .before .before .put-head .ensures) (c .before .x .given .1)
+s₁ c =
+    let c1 = c .before .before .before .before .before in
+    let c2 = c1 .before .before .before .before .before .before .before .before .before .before .before in
+    first! (inside (ltb (getD (now (c2 .args .t)) 0 0) (getD (now (c2 .args .t)) 1 0)) (map paramJson (keptLine (lineIn (now (c2 .args .s)) (now (c2 .args .t))) .params)) ∷ tailPiece (now (c2 .args .s)) (now (c2 .args .t)) (part (now (c2 .args .s)) (getD (now (c2 .args .t)) 4 0) (getD (now (c2 .args .t)) 5 0)) ∷ []) (c1 .put-head .ensures) (c .before .x .given .1)
 
 abbrev s₂ : tie.After-known-told2 → Here
 s₂ c =
@@ -75,7 +76,10 @@ same-length : tie.Need-same-length
 same-length c = length-puts (none [] (c .before .before .before .before .put-head .ensures) (c .enum-told .given .1))
 
 returns : tie.Need-returns
-returns c = puts-as (kept-bytes (now (c .before .before .before .before .before .before .before .before .before .before .before .before .before .before .before .args .s)) (now (c .before .before .before .before .before .before .before .before .before .before .before .before .before .before .before .args .t)) (c .before .before .before .before .before .before .before .before .before .before .before .before .before .before .before .pre .group)) (none _ (c .before .before .before .before .put-head .ensures) (c .enum-told .given .1))
+returns c =
+    let c1 = c .before .before .before .before in
+    let c2 = c1 .before .before .before .before .before .before .before .before .before .before .before in
+    puts-as (kept-bytes (now (c2 .args .s)) (now (c2 .args .t)) (c2 .pre .group)) (none _ (c1 .put-head .ensures) (c .enum-told .given .1))
 
 sub-put-params : tie.Need-sub-put-params
 sub-put-params c = in! (s₁ c)
@@ -99,7 +103,10 @@ same-length-2 : tie.Need-same-length-2
 same-length-2 c = length-puts (stop! (s₁ (c .before .before .before .before .before .before)) (c .before .before .before .before .put-params .ensures) (c .enum-told2 .given .1))
 
 returns-2 : tie.Need-returns-2
-returns-2 c = puts-as (kept-bytes (now (c .before .before .before .before .before .before .before .before .before .before .before .before .before .before .before .before .before .before .before .before .before .before .args .s)) (now (c .before .before .before .before .before .before .before .before .before .before .before .before .before .before .before .before .before .before .before .before .before .before .args .t)) (c .before .before .before .before .before .before .before .before .before .before .before .before .before .before .before .before .before .before .before .before .before .before .pre .group)) (stop! (s₁ (c .before .before .before .before .before .before)) (c .before .before .before .before .put-params .ensures) (c .enum-told2 .given .1))
+returns-2 c =
+    let c1 = c .before .before .before .before in
+    let c2 = c1 .before .before .before .before .before .before .before .before .before .before .before .before .before .before .before .before .before .before in
+    puts-as (kept-bytes (now (c2 .args .s)) (now (c2 .args .t)) (c2 .pre .group)) (stop! (s₁ (c .before .before .before .before .before .before)) (c1 .put-params .ensures) (c .enum-told2 .given .1))
 
 add-xy : tie.Need-add-xy
 add-xy c = fit! (s₂ c) (c .before .before .before .before .before .before .before .before .before .before .before .before .before .before .before .before .before .before .before .before .before .before .before .good .0 .0)
@@ -141,7 +148,10 @@ same-length-3 : tie.Need-same-length-3
 same-length-3 c = length-puts (stop! (s₂ (c .before .before .before .before .before .before .before .before .before)) (c .before .before .before .before .put-tail .ensures) (c .enum-told3 .given .1))
 
 returns-3 : tie.Need-returns-3
-returns-3 c = puts-as (kept-bytes (now (c .before .before .before .before .before .before .before .before .before .before .before .before .before .before .before .before .before .before .before .before .before .before .before .before .before .before .before .before .before .before .before .before .args .s)) (now (c .before .before .before .before .before .before .before .before .before .before .before .before .before .before .before .before .before .before .before .before .before .before .before .before .before .before .before .before .before .before .before .before .args .t)) (c .before .before .before .before .before .before .before .before .before .before .before .before .before .before .before .before .before .before .before .before .before .before .before .before .before .before .before .before .before .before .before .before .pre .group)) (stop! (s₂ (c .before .before .before .before .before .before .before .before .before)) (c .before .before .before .before .put-tail .ensures) (c .enum-told3 .given .1))
+returns-3 c =
+    let c1 = c .before .before .before .before in
+    let c2 = c1 .before .before .before .before .before .before .before .before .before .before .before .before .before .before .before .before .before .before .before .before .before .before .before .before .before .before .before .before in
+    puts-as (kept-bytes (now (c2 .args .s)) (now (c2 .args .t)) (c2 .pre .group)) (stop! (s₂ (c .before .before .before .before .before .before .before .before .before)) (c1 .put-tail .ensures) (c .enum-told3 .given .1))
 
 add-xyz : tie.Need-add-xyz
 add-xyz c = fit! (s₃ c) (c .before .before .before .before .before .before .before .before .before .before .before .before .before .before .before .before .before .before .before .before .before .before .before .before .before .before .before .before .before .before .before .before .before .good .0 .0)
@@ -150,7 +160,9 @@ same-length-4 : tie.Need-same-length-4
 same-length-4 c = same! (s₃ c)
 
 returns-4 : tie.Need-returns-4
-returns-4 c = puts-as (kept-bytes (now (c .before .before .before .before .before .before .before .before .before .before .before .before .before .before .before .before .before .before .before .before .before .before .before .before .before .before .before .before .before .before .before .before .before .args .s)) (now (c .before .before .before .before .before .before .before .before .before .before .before .before .before .before .before .before .before .before .before .before .before .before .before .before .before .before .before .before .before .before .before .before .before .args .t)) (c .before .before .before .before .before .before .before .before .before .before .before .before .before .before .before .before .before .before .before .before .before .before .before .before .before .before .before .before .before .before .before .before .before .pre .group)) (all (s₃ c .left))
+returns-4 c =
+    let c1 = c .before .before .before .before .before .before .before .before .before .before .before .before .before .before .before .before .before .before .before .before .before .before .before .before .before .before .before .before .before .before .before .before .before in
+    puts-as (kept-bytes (now (c1 .args .s)) (now (c1 .args .t)) (c1 .pre .group)) (all (s₃ c .left))
 
 pub put-kept-spec : {M : Type 1} → statement M
 put-kept-spec = tie.close (tie.spec shared-slice-read-a shared-slice-read-b shared-slice-read-c shared-slice-read-d sub-put-head part-put-head-start part-put-head-end sub-put-head-2 part-put-head-start-2 part-put-head-end-2 put-head-requires enum-known-x enum-told same-length returns sub-put-params part-put-params-start part-put-params-end put-params-requires enum-known-y enum-told-2 same-length-2 returns-2 add-xy shared-slice-read-e shared-slice-read-f sub-put-tail part-put-tail-start part-put-tail-end sub-put-tail-2 part-put-tail-start-2 part-put-tail-end-2 put-tail-requires enum-known-z enum-told-3 same-length-3 returns-3 add-xyz same-length-4 returns-4)

@@ -1,11 +1,9 @@
 use Rattle.json.specs.Compact.{written}
 use Rattle.line_table.specs.Table.{part, lineIn}
 use native.Mathlib.Omega.{arith}
-
 use Rattle.convert.specs.ToJson.{valuesJson}
 use Rattle.json.specs.Compact.{quoted}
 use Rattle.line.specs.Params.{valuesNamed}
-
 use Rattle.text.specs.Bytes.{lowered}
 use native.Mathlib.Nat.{le-refl}
 use mathlib.Core.List.{[], _∷_}
@@ -16,7 +14,10 @@ use Rattle.to_json_kept.proofs.put_param.Statement.{statement}
 use Rattle.to_json_kept.proofs.put_param.Tie as tie
 
 abbrev s₁ : tie.After-known-told → Here
-s₁ c = first! (quoted (lowered (part (now (c .before .before .before .before .before .before .before .before .before .before .args .s)) (c .before .before .before .before .before .before .before .before .before .before .args .a) (c .before .before .before .before .before .before .before .before .before .before .args .b))) [] ∷ (58 ∷ []) ∷ written (valuesJson (valuesNamed (lowered (part (now (c .before .before .before .before .before .before .before .before .before .before .args .s)) (c .before .before .before .before .before .before .before .before .before .before .args .a) (c .before .before .before .before .before .before .before .before .before .before .args .b))) (lineIn (now (c .before .before .before .before .before .before .before .before .before .before .args .s)) (now (c .before .before .before .before .before .before .before .before .before .before .args .t)) .params))) [] ∷ []) (c .before .before .before .before .before .put-comma .ensures) (c .before .c .given .1)
+s₁ c =
+    let c1 = c .before .before .before .before .before in
+    let c2 = c1 .before .before .before .before .before in
+    first! (quoted (lowered (part (now (c2 .args .s)) (c2 .args .a) (c2 .args .b))) [] ∷ (58 ∷ []) ∷ written (valuesJson (valuesNamed (lowered (part (now (c2 .args .s)) (c2 .args .a) (c2 .args .b))) (lineIn (now (c2 .args .s)) (now (c2 .args .t)) .params))) [] ∷ []) (c1 .put-comma .ensures) (c .before .c .given .1)
 
 abbrev s₂ : tie.After-known-told2 → Here
 s₂ c =

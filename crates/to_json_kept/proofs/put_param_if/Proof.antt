@@ -14,7 +14,11 @@ same-length : tie.Need-same-length
 same-length c = search needs
 
 returns : tie.Need-returns
-returns c = let s = now (c .before .before .before .before .before .before .before .before .args .s) in puts-as (piece-on (c .before .before .before .before .before .before .before .before .args .on) (paramPiece (c .before .before .before .before .before .before .before .before .args .begun) s (now (c .before .before .before .before .before .before .before .before .args .t)) (part s (c .before .before .before .before .before .before .before .before .args .a) (c .before .before .before .before .before .before .before .before .args .b))) (c .before .before .before .before .if1 .taken)) (c .before .before .put-param .ensures)
+returns c =
+    let c1 = c .before .before in
+    let c2 = c1 .before .before in
+    let c3 = c2 .before .before .before .before in
+    let s = now (c3 .args .s) in puts-as (piece-on (c3 .args .on) (paramPiece (c3 .args .begun) s (now (c3 .args .t)) (part s (c3 .args .a) (c3 .args .b))) (c2 .if1 .taken)) (c1 .put-param .ensures)
 
 returns-2 : tie.Need-returns-2
 returns-2 c = let s = now (c .before .before .before .before .args .s) in puts-as (piece-off (c .before .before .before .before .args .on) (paramPiece (c .before .before .before .before .args .begun) s (now (c .before .before .before .before .args .t)) (part s (c .before .before .before .before .args .a) (c .before .before .before .before .args .b))) (c .if1 .left)) (done (start _))

@@ -67,19 +67,34 @@ same-length : tie.Need-same-length Inv-loop μ-loop
 same-length c = search needs
 
 returns : tie.Need-returns Inv-loop μ-loop
-returns c = going-full (now (c .before .before .before .before .before .before .before .before .before .before .before .before .before .before .before .args .s)) (now (c .before .before .before .before .before .before .before .before .before .before .before .before .before .before .before .args .t)) (c .before .before .before .before .before .before .before .before .before .before .loop .inv) (c .before .before .before .before .before .before .before .before .before .loop-test .taken) _ (c .before .before .before .before .before .before .before .before .is-param .ensures) (stop (c .before .before .before .before .before .before .before .before .before .before .loop .inv .so) (c .before .before .before .before .put-param-if .ensures) (c .enum-told .given .1)) refl
+returns c =
+    let c1 = c .before .before .before .before in
+    let c2 = c1 .before .before .before .before in
+    let c3 = c2 .before in
+    let c4 = c3 .before in
+    let c5 = c4 .before .before .before .before .before in
+    going-full (now (c5 .args .s)) (now (c5 .args .t)) (c4 .loop .inv) (c3 .loop-test .taken) _ (c2 .is-param .ensures) (stop (c4 .loop .inv .so) (c1 .put-param-if .ensures) (c .enum-told .given .1)) refl
 
 add-at : tie.Need-add-at Inv-loop μ-loop
 add-at c = let h = next (c .before .before .before .before .before .before .before .before .before .before .before .loop .inv .so) (c .before .before .before .before .before .put-param-if .ensures) (c .before .m .given .1) in omega (arith, h .fits, c .before .before .before .before .before .before .before .before .before .before .before .before .before .before .before .before .good .0 .0)
 
 add-k : tie.Need-add-k Inv-loop μ-loop
-add-k c = omega (arith, c .before .before .before .before .before .before .before .before .before .before .before .before .before .before .before .before .pre .wide, c .before .before .before .before .before .before .before .before .before .before .before .before .before .before .before .before .pre .few, c .before .before .before .before .before .before .before .before .before .before .loop-test .taken)
+add-k c =
+    let c1 = c .before .before .before .before .before .before .before .before .before .before in
+    let c2 = c1 .before .before .before .before .before .before in
+    omega (arith, c2 .pre .wide, c2 .pre .few, c1 .loop-test .taken)
 
 loop-less : tie.Need-loop-less Inv-loop μ-loop
 loop-less c = omega (arith, c .before .before .before .before .before .before .before .before .before .before .loop-test .taken)
 
 loop-again : tie.Need-loop-again Inv-loop μ-loop
-loop-again c = going-on (now (c .before .before .before .before .before .before .before .before .before .before .before .before .before .before .before .before .args .s)) (now (c .before .before .before .before .before .before .before .before .before .before .before .before .before .before .before .before .args .t)) (c .before .before .before .before .before .before .before .before .before .before .before .loop .inv) (c .before .before .before .before .before .before .before .before .before .before .loop-test .taken) _ (c .before .before .before .before .before .before .before .before .before .is-param .ensures) (next (c .before .before .before .before .before .before .before .before .before .before .before .loop .inv .so) (c .before .before .before .before .before .put-param-if .ensures) (c .before .m .given .1))
+loop-again c =
+    let c1 = c .before .before .before .before .before in
+    let c2 = c1 .before .before .before .before in
+    let c3 = c2 .before in
+    let c4 = c3 .before in
+    let c5 = c4 .before .before .before .before .before in
+    going-on (now (c5 .args .s)) (now (c5 .args .t)) (c4 .loop .inv) (c3 .loop-test .taken) _ (c2 .is-param .ensures) (next (c4 .loop .inv .so) (c1 .put-param-if .ensures) (c .before .m .given .1))
 
 same-length-2 : tie.Need-same-length-2 Inv-loop μ-loop
 same-length-2 c = c .before .loop .inv .so .same

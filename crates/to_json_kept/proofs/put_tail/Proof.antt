@@ -10,7 +10,10 @@ use Rattle.to_json_kept.proofs.put_tail.Statement.{statement}
 use Rattle.to_json_kept.proofs.put_tail.Tie as tie
 
 abbrev s₁ : tie.After-known-told → Here
-s₁ c = first! (quoted (valueType (lineIn (now (c .before .before .before .before .before .before .before .before .before .before .before .before .args .s)) (now (c .before .before .before .before .before .before .before .before .before .before .before .before .args .t)) .params)) [] ∷ (44 ∷ []) ∷ quoted (now (c .before .before .before .before .before .before .before .before .before .before .before .before .args .value)) [] ∷ (93 ∷ []) ∷ []) (c .before .before .before .before .before .put-text .ensures) (c .before .a .given .1)
+s₁ c =
+    let c1 = c .before .before .before .before .before in
+    let c2 = c1 .before .before .before .before .before .before .before in
+    first! (quoted (valueType (lineIn (now (c2 .args .s)) (now (c2 .args .t)) .params)) [] ∷ (44 ∷ []) ∷ quoted (now (c2 .args .value)) [] ∷ (93 ∷ []) ∷ []) (c1 .put-text .ensures) (c .before .a .given .1)
 
 abbrev s₂ : tie.After-known-told2 → Here
 s₂ c =

@@ -22,7 +22,12 @@ same-length : tie.Need-same-length
 same-length c = search needs
 
 returns : tie.Need-returns
-returns c = puts-as (type-none (now (c .before .before .before .before .before .before .before .before .before .before .before .args .s)) (now (c .before .before .before .before .before .before .before .before .before .before .before .args .t)) (c .before .before .before .before .before .before .before .value-row .result) (c .before .before .before .before .before .before .before .value-row .ensures) (omega (arith, c .before .before .before .before .before .if1 .taken))) (c .before .before .put-text .ensures)
+returns c =
+    let c1 = c .before .before in
+    let c2 = c1 .before .before .before in
+    let c3 = c2 .before .before in
+    let c4 = c3 .before .before .before .before in
+    puts-as (type-none (now (c4 .args .s)) (now (c4 .args .t)) (c3 .value-row .result) (c3 .value-row .ensures) (omega (arith, c2 .if1 .taken))) (c1 .put-text .ensures)
 
 mul-i : tie.Need-mul-i
 mul-i c = omega (arith, c .before .before .before .before .before .before .pre .wide, c .before .before .before .before .before .before .pre .few, c .if1 .left)
@@ -64,7 +69,12 @@ same-length-2 : tie.Need-same-length-2
 same-length-2 c = search needs
 
 returns-2 : tie.Need-returns-2
-returns-2 c = puts-as (type-some (now (c .before .before .before .before .before .before .before .before .before .before .before .before .before .args .s)) (now (c .before .before .before .before .before .before .before .before .before .before .before .before .before .args .t)) (c .before .before .before .before .before .before .before .before .before .value-row .result) (c .before .before .before .before .before .before .before .before .before .value-row .ensures) (omega (arith, c .before .before .before .before .before .before .before .if1 .left))) (c .before .before .put-lower .ensures)
+returns-2 c =
+    let c1 = c .before .before in
+    let c2 = c1 .before .before .before .before .before in
+    let c3 = c2 .before .before in
+    let c4 = c3 .before .before .before .before in
+    puts-as (type-some (now (c4 .args .s)) (now (c4 .args .t)) (c3 .value-row .result) (c3 .value-row .ensures) (omega (arith, c2 .if1 .left))) (c1 .put-lower .ensures)
 
 pub put-type-spec : {M : Type 1} → statement M
 put-type-spec =

@@ -37,7 +37,10 @@ same-length : tie.Need-same-length
 same-length c = search needs
 
 returns : tie.Need-returns
-returns c = λ seen n j x. never-full (now (c .before .before .before .before .before .before .before .before .before .before .before .before .before .before .before .before .args .scratch)) (part (now (c .before .before .before .before .before .before .before .before .before .before .before .before .before .before .before .before .args .s)) (getD (now (c .before .before .before .before .before .before .before .before .before .before .before .before .before .before .before .before .args .t)) 4 0) (getD (now (c .before .before .before .before .before .before .before .before .before .before .before .before .before .before .before .before .args .t)) 5 0)) (c .before .before .before .before .read-text .ensures) (value-fits (now (c .before .before .before .before .before .before .before .before .before .before .before .before .before .before .before .before .args .s)) (getD (now (c .before .before .before .before .before .before .before .before .before .before .before .before .before .before .before .before .args .t)) 4 0) (getD (now (c .before .before .before .before .before .before .before .before .before .before .before .before .before .before .before .before .args .t)) 5 0) (c .before .before .before .before .before .before .before .before .before .before .before .before .before .before .before .before .pre .1)) (c .enum-told .given .1)
+returns c =
+    let c1 = c .before .before .before .before in
+    let c2 = c1 .before .before .before .before .before .before .before .before .before .before .before .before in
+    λ seen n j x. never-full (now (c2 .args .scratch)) (part (now (c2 .args .s)) (getD (now (c2 .args .t)) 4 0) (getD (now (c2 .args .t)) 5 0)) (c1 .read-text .ensures) (value-fits (now (c2 .args .s)) (getD (now (c2 .args .t)) 4 0) (getD (now (c2 .args .t)) 5 0) (c2 .pre .1)) (c .enum-told .given .1)
 
 shared-slice-read-c : tie.Need-shared-slice-read-c
 shared-slice-read-c c = omega (arith, c .before .before .before .before .before .before .before .before .before .before .before .before .before .before .before .before .before .before .pre .0 .rowed .wide .froms)
@@ -46,25 +49,45 @@ shared-slice-read-d : tie.Need-shared-slice-read-d
 shared-slice-read-d c = omega (arith, c .before .before .before .before .before .before .before .before .before .before .before .before .before .before .before .before .before .before .before .pre .0 .rowed .wide .tos)
 
 sub-put-pointed : tie.Need-sub-put-pointed
-sub-put-pointed c = let m = c .before .before .before .before .before .before .before .before .before .before .before .before .before .before .before .before .before .before .before .before .pre .0 in let f = first-pointer (now (c .before .before .before .before .before .before .before .before .before .before .before .before .before .before .before .before .before .before .before .before .args .s)) (now (c .before .before .before .before .before .before .before .before .before .before .before .before .before .before .before .before .before .before .before .before .args .t)) (m .rowed .row) (pointed-of (m .seen) (lineIn (now (c .before .before .before .before .before .before .before .before .before .before .before .before .before .before .before .before .before .before .before .before .args .s)) (now (c .before .before .before .before .before .before .before .before .before .before .before .before .before .before .before .before .before .before .before .before .args .t))) (m .name) (m .value) (m .is)) in omega (arith, f .ordered, f .within)
+sub-put-pointed c =
+    let c1 = c .before .before .before .before .before .before .before .before .before .before .before .before .before .before .before .before .before .before .before .before in
+    let m = c1 .pre .0 in let f = first-pointer (now (c1 .args .s)) (now (c1 .args .t)) (m .rowed .row) (pointed-of (m .seen) (lineIn (now (c1 .args .s)) (now (c1 .args .t))) (m .name) (m .value) (m .is)) in omega (arith, f .ordered, f .within)
 
 part-put-pointed-start : tie.Need-part-put-pointed-start
-part-put-pointed-start c = let m = c .before .before .before .before .before .before .before .before .before .before .before .before .before .before .before .before .before .before .before .before .pre .0 in let f = first-pointer (now (c .before .before .before .before .before .before .before .before .before .before .before .before .before .before .before .before .before .before .before .before .args .s)) (now (c .before .before .before .before .before .before .before .before .before .before .before .before .before .before .before .before .before .before .before .before .args .t)) (m .rowed .row) (pointed-of (m .seen) (lineIn (now (c .before .before .before .before .before .before .before .before .before .before .before .before .before .before .before .before .before .before .before .before .args .s)) (now (c .before .before .before .before .before .before .before .before .before .before .before .before .before .before .before .before .before .before .before .before .args .t))) (m .name) (m .value) (m .is)) in omega (arith, f .ordered, f .within)
+part-put-pointed-start c =
+    let c1 = c .before .before .before .before .before .before .before .before .before .before .before .before .before .before .before .before .before .before .before .before in
+    let m = c1 .pre .0 in let f = first-pointer (now (c1 .args .s)) (now (c1 .args .t)) (m .rowed .row) (pointed-of (m .seen) (lineIn (now (c1 .args .s)) (now (c1 .args .t))) (m .name) (m .value) (m .is)) in omega (arith, f .ordered, f .within)
 
 part-put-pointed-end : tie.Need-part-put-pointed-end
-part-put-pointed-end c = let m = c .before .before .before .before .before .before .before .before .before .before .before .before .before .before .before .before .before .before .before .before .pre .0 in let f = first-pointer (now (c .before .before .before .before .before .before .before .before .before .before .before .before .before .before .before .before .before .before .before .before .args .s)) (now (c .before .before .before .before .before .before .before .before .before .before .before .before .before .before .before .before .before .before .before .before .args .t)) (m .rowed .row) (pointed-of (m .seen) (lineIn (now (c .before .before .before .before .before .before .before .before .before .before .before .before .before .before .before .before .before .before .before .before .args .s)) (now (c .before .before .before .before .before .before .before .before .before .before .before .before .before .before .before .before .before .before .before .before .args .t))) (m .name) (m .value) (m .is)) in omega (arith, f .ordered, f .within)
+part-put-pointed-end c =
+    let c1 = c .before .before .before .before .before .before .before .before .before .before .before .before .before .before .before .before .before .before .before .before in
+    let m = c1 .pre .0 in let f = first-pointer (now (c1 .args .s)) (now (c1 .args .t)) (m .rowed .row) (pointed-of (m .seen) (lineIn (now (c1 .args .s)) (now (c1 .args .t))) (m .name) (m .value) (m .is)) in omega (arith, f .ordered, f .within)
 
 sub-put-pointed-2 : tie.Need-sub-put-pointed-2
-sub-put-pointed-2 c = let h = scratch-holds (now (c .before .before .before .before .before .before .before .before .before .before .before .before .before .before .before .before .before .before .before .before .before .args .scratch)) (part (now (c .before .before .before .before .before .before .before .before .before .before .before .before .before .before .before .before .before .before .before .before .before .args .s)) (getD (now (c .before .before .before .before .before .before .before .before .before .before .before .before .before .before .before .before .before .before .before .before .before .args .t)) 4 0) (getD (now (c .before .before .before .before .before .before .before .before .before .before .before .before .before .before .before .before .before .before .before .before .before .args .t)) 5 0)) _ (c .before .before .before .before .before .before .before .before .before .read-text .ensures) (c .before .before .before .before .before .k .given .1) in omega (arith, h .1)
+sub-put-pointed-2 c =
+    let c1 = c .before .before .before .before .before in
+    let c2 = c1 .before .before .before .before in
+    let c3 = c2 .before .before .before .before .before .before .before .before .before .before .before .before in
+    let h = scratch-holds (now (c3 .args .scratch)) (part (now (c3 .args .s)) (getD (now (c3 .args .t)) 4 0) (getD (now (c3 .args .t)) 5 0)) _ (c2 .read-text .ensures) (c1 .k .given .1) in omega (arith, h .1)
 
 part-put-pointed-start-2 : tie.Need-part-put-pointed-start-2
-part-put-pointed-start-2 c = let h = scratch-holds (now (c .before .before .before .before .before .before .before .before .before .before .before .before .before .before .before .before .before .before .before .before .before .before .args .scratch)) (part (now (c .before .before .before .before .before .before .before .before .before .before .before .before .before .before .before .before .before .before .before .before .before .before .args .s)) (getD (now (c .before .before .before .before .before .before .before .before .before .before .before .before .before .before .before .before .before .before .before .before .before .before .args .t)) 4 0) (getD (now (c .before .before .before .before .before .before .before .before .before .before .before .before .before .before .before .before .before .before .before .before .before .before .args .t)) 5 0)) _ (c .before .before .before .before .before .before .before .before .before .before .read-text .ensures) (c .before .before .before .before .before .before .k .given .1) in omega (arith, h .1)
+part-put-pointed-start-2 c =
+    let c1 = c .before .before .before .before .before .before in
+    let c2 = c1 .before .before .before .before in
+    let c3 = c2 .before .before .before .before .before .before .before .before .before .before .before .before in
+    let h = scratch-holds (now (c3 .args .scratch)) (part (now (c3 .args .s)) (getD (now (c3 .args .t)) 4 0) (getD (now (c3 .args .t)) 5 0)) _ (c2 .read-text .ensures) (c1 .k .given .1) in omega (arith, h .1)
 
 part-put-pointed-end-2 : tie.Need-part-put-pointed-end-2
-part-put-pointed-end-2 c = let h = scratch-holds (now (c .before .before .before .before .before .before .before .before .before .before .before .before .before .before .before .before .before .before .before .before .before .before .args .scratch)) (part (now (c .before .before .before .before .before .before .before .before .before .before .before .before .before .before .before .before .before .before .before .before .before .before .args .s)) (getD (now (c .before .before .before .before .before .before .before .before .before .before .before .before .before .before .before .before .before .before .before .before .before .before .args .t)) 4 0) (getD (now (c .before .before .before .before .before .before .before .before .before .before .before .before .before .before .before .before .before .before .before .before .before .before .args .t)) 5 0)) _ (c .before .before .before .before .before .before .before .before .before .before .read-text .ensures) (c .before .before .before .before .before .before .k .given .1) in omega (arith, h .1)
+part-put-pointed-end-2 c =
+    let c1 = c .before .before .before .before .before .before in
+    let c2 = c1 .before .before .before .before in
+    let c3 = c2 .before .before .before .before .before .before .before .before .before .before .before .before in
+    let h = scratch-holds (now (c3 .args .scratch)) (part (now (c3 .args .s)) (getD (now (c3 .args .t)) 4 0) (getD (now (c3 .args .t)) 5 0)) _ (c2 .read-text .ensures) (c1 .k .given .1) in omega (arith, h .1)
 
 put-pointed-requires : tie.Need-put-pointed-requires
-put-pointed-requires c κs = let m = c .before .before .before .before .before .before .before .before .before .before .before .before .before .before .before .before .before .before .before .before .before .before .before .pre .0 in pointing-here (now (c .before .before .before .before .before .before .before .before .before .before .before .before .before .before .before .before .before .before .before .before .before .before .before .args .s)) (now (c .before .before .before .before .before .before .before .before .before .before .before .before .before .before .before .before .before .before .before .before .before .before .before .args .t)) (m .rowed .row) (pointed-of (m .seen) (lineIn (now (c .before .before .before .before .before .before .before .before .before .before .before .before .before .before .before .before .before .before .before .before .before .before .before .args .s)) (now (c .before .before .before .before .before .before .before .before .before .before .before .before .before .before .before .before .before .before .before .before .before .before .before .args .t))) (m .name) (m .value) (m .is))
+put-pointed-requires c κs =
+    let c1 = c .before .before .before .before .before .before .before .before .before .before .before .before .before .before .before .before .before .before .before .before .before .before .before in
+    let m = c1 .pre .0 in pointing-here (now (c1 .args .s)) (now (c1 .args .t)) (m .rowed .row) (pointed-of (m .seen) (lineIn (now (c1 .args .s)) (now (c1 .args .t))) (m .name) (m .value) (m .is))
 
 same-length-2 : tie.Need-same-length-2
 same-length-2 c = search needs
@@ -73,7 +96,12 @@ same-length-3 : tie.Need-same-length-3
 same-length-3 c = search needs
 
 returns-2 : tie.Need-returns-2
-returns-2 c = λ seen n j x. let h = scratch-holds (now (c .before .before .before .before .before .before .before .before .before .before .before .before .before .before .before .before .before .before .before .before .before .before .before .before .before .before .args .scratch)) (part (now (c .before .before .before .before .before .before .before .before .before .before .before .before .before .before .before .before .before .before .before .before .before .before .before .before .before .before .args .s)) (getD (now (c .before .before .before .before .before .before .before .before .before .before .before .before .before .before .before .before .before .before .before .before .before .before .before .before .before .before .args .t)) 4 0) (getD (now (c .before .before .before .before .before .before .before .before .before .before .before .before .before .before .before .before .before .before .before .before .before .before .before .before .before .before .args .t)) 5 0)) _ (c .before .before .before .before .before .before .before .before .before .before .before .before .before .before .read-text .ensures) (c .before .before .before .before .before .before .before .before .before .before .k .given .1) in puts-as (member-bytes (now (c .before .before .before .before .before .before .before .before .before .before .before .before .before .before .before .before .before .before .before .before .before .before .before .before .before .before .args .s)) (now (c .before .before .before .before .before .before .before .before .before .before .before .before .before .before .before .before .before .before .before .before .before .before .before .before .before .before .args .t)) (c .before .before .before .before .before .before .before .before .before .before .before .before .before .before .before .before .before .before .before .before .before .before .before .before .before .before .pre .0 .rowed .row) (pointed-of seen (lineIn (now (c .before .before .before .before .before .before .before .before .before .before .before .before .before .before .before .before .before .before .before .before .before .before .before .before .before .before .args .s)) (now (c .before .before .before .before .before .before .before .before .before .before .before .before .before .before .before .before .before .before .before .before .before .before .before .before .before .before .args .t))) n j x) _ (h .0)) (c .before .before .put-pointed .ensures)
+returns-2 c =
+    let c1 = c .before .before in
+    let c2 = c1 .before .before .before .before .before .before .before .before in
+    let c3 = c2 .before .before .before .before in
+    let c4 = c3 .before .before .before .before .before .before .before .before .before .before .before .before in
+    λ seen n j x. let h = scratch-holds (now (c4 .args .scratch)) (part (now (c4 .args .s)) (getD (now (c4 .args .t)) 4 0) (getD (now (c4 .args .t)) 5 0)) _ (c3 .read-text .ensures) (c2 .k .given .1) in puts-as (member-bytes (now (c4 .args .s)) (now (c4 .args .t)) (c4 .pre .0 .rowed .row) (pointed-of seen (lineIn (now (c4 .args .s)) (now (c4 .args .t))) n j x) _ (h .0)) (c1 .put-pointed .ensures)
 
 pub put-member-line-spec : {M : Type 1} → statement M
 put-member-line-spec =

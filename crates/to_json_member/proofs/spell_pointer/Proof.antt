@@ -47,19 +47,42 @@ same-length : tie.Need-same-length Inv-loop μ-loop
 same-length c = search needs
 
 returns : tie.Need-returns Inv-loop μ-loop
-returns c = rest-stop _ (rest-as (spelled-to (now (c .before .before .before .before .before .before .before .before .before .before .before .args .p)) (c .before .before .before .before .before .before .before .before .loop .i) (c .before .before .before .before .before .before .before .before .loop .inv .1) (c .before .before .before .before .before .before .before .loop-test .taken) (c .before .before .before .before .before .before .pointer-byte .result) (c .before .before .before .before .before .before .pointer-byte .ensures)) (c .before .before .before .before .before .before .before .before .loop .inv .2)) (c .before .before .before .before .put-byte-spelled .ensures) (c .enum-told .given .1)
+returns c =
+    let c1 = c .before .before .before .before in
+    let c2 = c1 .before .before in
+    let c3 = c2 .before in
+    let c4 = c3 .before in
+    let c5 = c4 .before .before .before in
+    rest-stop _ (rest-as (spelled-to (now (c5 .args .p)) (c4 .loop .i) (c4 .loop .inv .1) (c3 .loop-test .taken) (c2 .pointer-byte .result) (c2 .pointer-byte .ensures)) (c4 .loop .inv .2)) (c1 .put-byte-spelled .ensures) (c .enum-told .given .1)
 
 add-at : tie.Need-add-at Inv-loop μ-loop
-add-at c = rest-fit (rest-next _ (rest-as (spelled-to (now (c .before .before .before .before .before .before .before .before .before .before .before .before .args .p)) (c .before .before .before .before .before .before .before .before .before .loop .i) (c .before .before .before .before .before .before .before .before .before .loop .inv .1) (c .before .before .before .before .before .before .before .before .loop-test .taken) (c .before .before .before .before .before .before .before .pointer-byte .result) (c .before .before .before .before .before .before .before .pointer-byte .ensures)) (c .before .before .before .before .before .before .before .before .before .loop .inv .2)) (c .before .before .before .before .before .put-byte-spelled .ensures) (c .before .n .given .1)) (c .before .before .before .before .before .before .before .before .before .before .before .before .good .0 .0)
+add-at c =
+    let c1 = c .before .before .before .before .before in
+    let c2 = c1 .before .before in
+    let c3 = c2 .before in
+    let c4 = c3 .before in
+    let c5 = c4 .before .before .before in
+    rest-fit (rest-next _ (rest-as (spelled-to (now (c5 .args .p)) (c4 .loop .i) (c4 .loop .inv .1) (c3 .loop-test .taken) (c2 .pointer-byte .result) (c2 .pointer-byte .ensures)) (c4 .loop .inv .2)) (c1 .put-byte-spelled .ensures) (c .before .n .given .1)) (c5 .good .0 .0)
 
 pointer-next-requires : tie.Need-pointer-next-requires Inv-loop μ-loop
 pointer-next-requires c κs = (c .before .before .before .before .before .before .before .before .before .loop .inv .1, c .before .before .before .before .before .before .before .before .loop-test .taken)
 
 loop-less : tie.Need-loop-less Inv-loop μ-loop
-loop-less c = let h = moved (now (c .before .before .before .before .before .before .before .before .before .before .before .before .before .args .p)) (c .before .before .before .before .before .before .before .before .before .before .loop .i) (c .before .before .before .before .before .before .before .before .before .before .loop .inv .1) (c .before .before .before .before .before .before .before .before .before .loop-test .taken) (c .pointer-next .result) (c .pointer-next .ensures) in omega (arith, h .0, h .1)
+loop-less c =
+    let c1 = c .before .before .before .before .before .before .before .before .before in
+    let c2 = c1 .before in
+    let c3 = c2 .before .before .before in
+    let h = moved (now (c3 .args .p)) (c2 .loop .i) (c2 .loop .inv .1) (c1 .loop-test .taken) (c .pointer-next .result) (c .pointer-next .ensures) in omega (arith, h .0, h .1)
 
 loop-again : tie.Need-loop-again Inv-loop μ-loop
-loop-again c = let h = moved (now (c .before .before .before .before .before .before .before .before .before .before .before .before .before .args .p)) (c .before .before .before .before .before .before .before .before .before .before .loop .i) (c .before .before .before .before .before .before .before .before .before .before .loop .inv .1) (c .before .before .before .before .before .before .before .before .before .loop-test .taken) (c .pointer-next .result) (c .pointer-next .ensures) in (h .1, h .2, rest-as (h .3) (rest-next _ (rest-as (spelled-to (now (c .before .before .before .before .before .before .before .before .before .before .before .before .before .args .p)) (c .before .before .before .before .before .before .before .before .before .before .loop .i) (c .before .before .before .before .before .before .before .before .before .before .loop .inv .1) (c .before .before .before .before .before .before .before .before .before .loop-test .taken) (c .before .before .before .before .before .before .before .before .pointer-byte .result) (c .before .before .before .before .before .before .before .before .pointer-byte .ensures)) (c .before .before .before .before .before .before .before .before .before .before .loop .inv .2)) (c .before .before .before .before .before .before .put-byte-spelled .ensures) (c .before .before .n .given .1)))
+loop-again c =
+    let c1 = c .before .before in
+    let c2 = c1 .before .before .before .before in
+    let c3 = c2 .before .before in
+    let c4 = c3 .before in
+    let c5 = c4 .before in
+    let c6 = c5 .before .before .before in
+    let h = moved (now (c6 .args .p)) (c5 .loop .i) (c5 .loop .inv .1) (c4 .loop-test .taken) (c .pointer-next .result) (c .pointer-next .ensures) in (h .1, h .2, rest-as (h .3) (rest-next _ (rest-as (spelled-to (now (c6 .args .p)) (c5 .loop .i) (c5 .loop .inv .1) (c4 .loop-test .taken) (c3 .pointer-byte .result) (c3 .pointer-byte .ensures)) (c5 .loop .inv .2)) (c2 .put-byte-spelled .ensures) (c1 .n .given .1)))
 
 same-length-2 : tie.Need-same-length-2 Inv-loop μ-loop
 same-length-2 c = rest-same (c .before .loop .inv .2)

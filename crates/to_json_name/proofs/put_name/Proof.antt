@@ -12,7 +12,11 @@ same-length : tie.Need-same-length
 same-length c = search needs
 
 returns : tie.Need-returns
-returns c = puts-as (name-some (c .before .before .before .before .before .before .before .before .args .full) (now (c .before .before .before .before .before .before .before .before .args .fv)) (c .before .before .before .before .before .before .before .before .args .parts) (now (c .before .before .before .before .before .before .before .before .args .nv)) (c .before .before .before .before .before .before .before .before .pre) (c .before .before .before .before .if1 .taken)) (c .before .before .put-name-member .ensures)
+returns c =
+    let c1 = c .before .before in
+    let c2 = c1 .before .before in
+    let c3 = c2 .before .before .before .before in
+    puts-as (name-some (c3 .args .full) (now (c3 .args .fv)) (c3 .args .parts) (now (c3 .args .nv)) (c3 .pre) (c2 .if1 .taken)) (c1 .put-name-member .ensures)
 
 returns-2 : tie.Need-returns-2
 returns-2 c = puts-as (name-none (c .before .before .before .before .args .full) (now (c .before .before .before .before .args .fv)) (c .before .before .before .before .args .parts) (now (c .before .before .before .before .args .nv)) (c .if1 .left)) (done (start _))

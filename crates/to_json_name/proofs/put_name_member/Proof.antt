@@ -9,7 +9,10 @@ use Rattle.to_json_name.proofs.put_name_member.Statement.{statement}
 use Rattle.to_json_name.proofs.put_name_member.Tie as tie
 
 abbrev s₁ : tie.After-known-told → Here
-s₁ c = first! (fullPiece (c .before .before .before .before .before .before .before .before .before .before .before .args .full) (now (c .before .before .before .before .before .before .before .before .before .before .before .args .fv)) ∷ partsPiece (c .before .before .before .before .before .before .before .before .before .before .before .args .full) (c .before .before .before .before .before .before .before .before .before .before .before .args .parts) (now (c .before .before .before .before .before .before .before .before .before .before .before .args .nv)) ∷ (125 ∷ []) ∷ []) (c .before .before .before .before .before .put-text .ensures) (c .before .a .given .1)
+s₁ c =
+    let c1 = c .before .before .before .before .before in
+    let c2 = c1 .before .before .before .before .before .before in
+    first! (fullPiece (c2 .args .full) (now (c2 .args .fv)) ∷ partsPiece (c2 .args .full) (c2 .args .parts) (now (c2 .args .nv)) ∷ (125 ∷ []) ∷ []) (c1 .put-text .ensures) (c .before .a .given .1)
 
 abbrev s₂ : tie.After-known-told2 → Here
 s₂ c =

@@ -37,13 +37,24 @@ part-put-items-end-2 : tie.Need-part-put-items-end-2
 part-put-items-end-2 c = omega arith
 
 put-items-requires : tie.Need-put-items-requires
-put-items-requires c κs = (slice-good (now (c .before .before .before .before .before .before .before .before .before .args .v)) (c .before .before .before .before .before .before .before .before .before .args .k) _ _ (c .before .before .before .before .before .before .before .before .before .pre) (c .before .before .before .before .before .before .part-from .ensures) (c .before .before .before .before .before .part-end .ensures), nothing-readable)
+put-items-requires c κs =
+    let c1 = c .before .before .before .before .before in
+    let c2 = c1 .before in
+    let c3 = c2 .before .before .before in
+    (slice-good (now (c3 .args .v)) (c3 .args .k) _ _ (c3 .pre) (c2 .part-from .ensures) (c1 .part-end .ensures), nothing-readable)
 
 same-length : tie.Need-same-length
 same-length c = search needs
 
 returns : tie.Need-returns
-returns c = let v = now (c .before .before .before .before .before .before .before .before .before .before .before .before .args .v) in puts-as (ap (listed (c .before .before .before .before .before .before .before .before .before .before .before .before .args .k) (c .before .before .before .before .before .before .before .before .before .before .before .before .args .begun)) (values-alone v (c .before .before .before .before .before .before .before .before .before .before .before .before .args .k) _ (c .before .before .before .before .before .before .before .other-part .ensures) _ (slice-is v (c .before .before .before .before .before .before .before .before .before .before .before .before .args .k) _ _ (c .before .before .before .before .before .before .before .before .before .part-from .ensures) (c .before .before .before .before .before .before .before .before .part-end .ensures)) (c .before .before .before .before .before .before .if1 .taken))) (c .before .before .put-items .ensures)
+returns c =
+    let c1 = c .before .before in
+    let c2 = c1 .before .before .before .before in
+    let c3 = c2 .before in
+    let c4 = c3 .before in
+    let c5 = c4 .before in
+    let c6 = c5 .before .before .before in
+    let v = now (c6 .args .v) in puts-as (ap (listed (c6 .args .k) (c6 .args .begun)) (values-alone v (c6 .args .k) _ (c3 .other-part .ensures) _ (slice-is v (c6 .args .k) _ _ (c5 .part-from .ensures) (c4 .part-end .ensures)) (c2 .if1 .taken))) (c1 .put-items .ensures)
 
 part-from-requires-2 : tie.Need-part-from-requires-2
 part-from-requires-2 c κs = tt
@@ -70,13 +81,28 @@ part-put-items-end-4 : tie.Need-part-put-items-end-4
 part-put-items-end-4 c = omega (arith, c .before .before .part-end2 .ensures .from, c .before .before .part-end2 .ensures .within (c .before .before .before .part-from2 .ensures .within))
 
 put-items-requires-2 : tie.Need-put-items-requires-2
-put-items-requires-2 c κs = (slice-good (now (c .before .before .before .before .before .before .before .before .before .before .before .args .v)) (c .before .before .before .before .before .before .before .before .before .before .before .args .k) _ _ (c .before .before .before .before .before .before .before .before .before .before .before .pre) (c .before .before .before .before .before .before .before .before .part-from .ensures) (c .before .before .before .before .before .before .before .part-end .ensures), slice-good (now (c .before .before .before .before .before .before .before .before .before .before .before .args .v)) _ _ _ (c .before .before .before .before .before .before .before .before .before .before .before .pre) (c .before .before .before .before .part-from2 .ensures) (c .before .before .before .part-end2 .ensures))
+put-items-requires-2 c κs =
+    let c1 = c .before .before .before in
+    let c2 = c1 .before in
+    let c3 = c2 .before .before .before in
+    let c4 = c3 .before in
+    let c5 = c4 .before .before .before in
+    (slice-good (now (c5 .args .v)) (c5 .args .k) _ _ (c5 .pre) (c4 .part-from .ensures) (c3 .part-end .ensures), slice-good (now (c5 .args .v)) _ _ _ (c5 .pre) (c2 .part-from2 .ensures) (c1 .part-end2 .ensures))
 
 same-length-2 : tie.Need-same-length-2
 same-length-2 c = search needs
 
 returns-2 : tie.Need-returns-2
-returns-2 c = let v = now (c .before .before .before .before .before .before .before .before .before .before .before .before .before .before .args .v) in puts-as (ap (listed (c .before .before .before .before .before .before .before .before .before .before .before .before .before .before .args .k) (c .before .before .before .before .before .before .before .before .before .before .before .before .before .before .args .begun)) (values-besides v (c .before .before .before .before .before .before .before .before .before .before .before .before .before .before .args .k) _ (c .before .before .before .before .before .before .before .before .before .other-part .ensures) _ _ (slice-is v (c .before .before .before .before .before .before .before .before .before .before .before .before .before .before .args .k) _ _ (c .before .before .before .before .before .before .before .before .before .before .before .part-from .ensures) (c .before .before .before .before .before .before .before .before .before .before .part-end .ensures)) (slice-is v _ _ _ (c .before .before .before .before .before .before .before .part-from2 .ensures) (c .before .before .before .before .before .before .part-end2 .ensures)) (c .before .before .before .before .before .before .before .before .if1 .left))) (c .before .before .put-items2 .ensures)
+returns-2 c =
+    let c1 = c .before .before in
+    let c2 = c1 .before .before .before .before in
+    let c3 = c2 .before in
+    let c4 = c3 .before in
+    let c5 = c4 .before in
+    let c6 = c5 .before in
+    let c7 = c6 .before in
+    let c8 = c7 .before .before .before in
+    let v = now (c8 .args .v) in puts-as (ap (listed (c8 .args .k) (c8 .args .begun)) (values-besides v (c8 .args .k) _ (c5 .other-part .ensures) _ _ (slice-is v (c8 .args .k) _ _ (c7 .part-from .ensures) (c6 .part-end .ensures)) (slice-is v _ _ _ (c3 .part-from2 .ensures) (c2 .part-end2 .ensures)) (c4 .if1 .left))) (c1 .put-items2 .ensures)
 
 pub put-part-spec : {M : Type 1} → statement M
 put-part-spec =

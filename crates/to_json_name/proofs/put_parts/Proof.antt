@@ -42,10 +42,20 @@ same-length : tie.Need-same-length Inv-loop μ-loop
 same-length c = search needs
 
 returns : tie.Need-returns Inv-loop μ-loop
-returns c = parts-full (now (c .before .before .before .before .before .before .before .before .before .before .args .v)) (c .before .before .before .before .before .before .before .loop .k) (c .before .before .before .before .before .before .before .loop .begun) (c .before .before .before .before .before .before .loop-test .taken) (c .before .before .before .before .before .before .before .loop .inv .1) (c .before .before .before .before .put-part .ensures) (c .enum-told .given .1)
+returns c =
+    let c1 = c .before .before .before .before in
+    let c2 = c1 .before .before in
+    let c3 = c2 .before in
+    let c4 = c3 .before .before .before in
+    parts-full (now (c4 .args .v)) (c3 .loop .k) (c3 .loop .begun) (c2 .loop-test .taken) (c3 .loop .inv .1) (c1 .put-part .ensures) (c .enum-told .given .1)
 
 add-at : tie.Need-add-at Inv-loop μ-loop
-add-at c = rest-fit (parts-on (now (c .before .before .before .before .before .before .before .before .before .before .before .args .v)) (c .before .before .before .before .before .before .before .before .loop .k) (c .before .before .before .before .before .before .before .before .loop .begun) (c .before .before .before .before .before .before .before .loop-test .taken) (c .before .before .before .before .before .before .before .before .loop .inv .1) (c .before .before .before .before .before .put-part .ensures) _ (c .before .n .given .1)) (c .before .before .before .before .before .before .before .before .before .before .before .good .0 .0)
+add-at c =
+    let c1 = c .before .before .before .before .before in
+    let c2 = c1 .before .before in
+    let c3 = c2 .before in
+    let c4 = c3 .before .before .before in
+    rest-fit (parts-on (now (c4 .args .v)) (c3 .loop .k) (c3 .loop .begun) (c2 .loop-test .taken) (c3 .loop .inv .1) (c1 .put-part .ensures) _ (c .before .n .given .1)) (c4 .good .0 .0)
 
 add-k : tie.Need-add-k Inv-loop μ-loop
 add-k c = omega (arith, c .before .before .before .before .before .before .before .loop-test .taken)
@@ -54,7 +64,12 @@ loop-less : tie.Need-loop-less Inv-loop μ-loop
 loop-less c = omega (arith, c .before .before .before .before .before .before .before .loop-test .taken)
 
 loop-again : tie.Need-loop-again Inv-loop μ-loop
-loop-again c = (omega (arith, c .before .before .before .before .before .before .before .loop-test .taken), parts-on (now (c .before .before .before .before .before .before .before .before .before .before .before .args .v)) (c .before .before .before .before .before .before .before .before .loop .k) (c .before .before .before .before .before .before .before .before .loop .begun) (c .before .before .before .before .before .before .before .loop-test .taken) (c .before .before .before .before .before .before .before .before .loop .inv .1) (c .before .before .before .before .before .put-part .ensures) _ (c .before .n .given .1))
+loop-again c =
+    let c1 = c .before .before .before .before .before in
+    let c2 = c1 .before .before in
+    let c3 = c2 .before in
+    let c4 = c3 .before .before .before in
+    (omega (arith, c2 .loop-test .taken), parts-on (now (c4 .args .v)) (c3 .loop .k) (c3 .loop .begun) (c2 .loop-test .taken) (c3 .loop .inv .1) (c1 .put-part .ensures) _ (c .before .n .given .1))
 
 same-length-2 : tie.Need-same-length-2 Inv-loop μ-loop
 same-length-2 c = rest-same (c .before .loop .inv .1)
