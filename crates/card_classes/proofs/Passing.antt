@@ -201,7 +201,7 @@ module _ {bytes codes ids : List ℕ} {raw : List Bytes} {k : ℕ} {p : Pass} (t
     unfolding seek
     through-bad starts n e =
         let found : firstFrom 1 ungrammatical raw ≡ some (k + 1) =
-              through .sought ∙ first-here ungrammatical [] raw k h (ap ungrammatical (sym at) ∙ off-grammar s e) in
+        through .sought ∙ first-here ungrammatical [] raw k h (ap ungrammatical (sym at) ∙ off-grammar s e) in
         record { refusals = λ a. rw found; classes = λ z. not-none z }
 
     pub through-next : {t codes′ ids′ prints′ : List ℕ} {r : Pass} → Holds s t → NextLine bytes s t codes ids k p codes′ ids′ prints′ r

@@ -145,14 +145,14 @@ module _ (s : Bytes) (t : List ℕ) where
     unfolding onlyUri
     only-others d =
         let e : empty (besidesValue (lineIn s t .params)) ≡ false =
-              empty-length (besidesValue (lineIn s t .params)) ∙ ne-eqb (length (besidesValue (lineIn s t .params))) 0 (λ z. d (omega (arith, z, besides, value-count r))) in
+        empty-length (besidesValue (lineIn s t .params)) ∙ ne-eqb (length (besidesValue (lineIn s t .params))) 0 (λ z. d (omega (arith, z, besides, value-count r))) in
         rw (params-empty ∙ ne-eqb (getD t 6 0) 0 n, e)
 
     pub only-value : getD C 3 0 ≡ getD t 6 0 → (k : ℕ) → k ≡ typeNumber (valueType (lineIn s t .params)) → onlyUri (lineIn s t .params) ≡ eqb k 1
     unfolding onlyUri
     only-value h k is =
         let e : empty (besidesValue (lineIn s t .params)) ≡ true =
-              empty-length (besidesValue (lineIn s t .params)) ∙ eq-eqb (length (besidesValue (lineIn s t .params))) 0 (omega (arith, h, besides, value-count r)) in
+        empty-length (besidesValue (lineIn s t .params)) ∙ eq-eqb (length (besidesValue (lineIn s t .params))) 0 (omega (arith, h, besides, value-count r)) in
         rw (params-empty ∙ ne-eqb (getD t 6 0) 0 n, e) (sym (number-uri (valueType (lineIn s t .params))) ∙ ap (λ m. eqb m 1) (sym is))
 
 -- ---- 7

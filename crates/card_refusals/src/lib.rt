@@ -198,19 +198,34 @@ pub fn refusal_of(j: Judged) -> Refusal
     ensures { λ r. ⌜ r ≡ refusalOf j ⌝ }
 {
     if !j.opened {
-        return Refusal::At { number: 6, place: 0 };
+        return Refusal::At {
+            number: 6,
+            place: 0,
+        };
     }
     if j.misused != 0 {
-        return Refusal::At { number: 7, place: j.misused };
+        return Refusal::At {
+            number: 7,
+            place: j.misused,
+        };
     }
     if j.second != 0 {
-        return Refusal::At { number: 8, place: j.second };
+        return Refusal::At {
+            number: 8,
+            place: j.second,
+        };
     }
     if j.emptied != 0 {
-        return Refusal::At { number: 9, place: j.emptied };
+        return Refusal::At {
+            number: 9,
+            place: j.emptied,
+        };
     }
     if !j.full {
-        return Refusal::At { number: 10, place: 0 };
+        return Refusal::At {
+            number: 10,
+            place: 0,
+        };
     }
     Refusal::None
 }

@@ -113,10 +113,10 @@ module _ {bytes s : Bytes} {at a b : ℕ} (cut : Cut bytes s at) (w : Span s a b
   cut-part =
       let m : at + b - (at + a) ≡ b - a = omega arith in
       let d : drop (at + a) bytes ≡ drop a s ++ cut .after =
-            ap (drop (at + a)) (cut .is)
-            ∙ ap (λ k. drop (k + a) (cut .before ++ (s ++ cut .after))) (sym (cut .begins))
-            ∙ drop-append-add (cut .before) (s ++ cut .after) a
-            ∙ drop-append-le a s (cut .after) (omega (arith, w .ordered, w .within)) in
+      ap (drop (at + a)) (cut .is)
+      ∙ ap (λ k. drop (k + a) (cut .before ++ (s ++ cut .after))) (sym (cut .begins))
+      ∙ drop-append-add (cut .before) (s ++ cut .after) a
+      ∙ drop-append-le a s (cut .after) (omega (arith, w .ordered, w .within)) in
       rw (m, d) (take-append-le (b - a) (drop a s) (cut .after) (omega (arith, w .within, length-drop a s)))
 
   pub cut-span : Span bytes (at + a) (at + b)

@@ -75,7 +75,15 @@ fn is_used(
 }
 
 // One key more, of the map i, from a to b, with the print p.
-fn put_id(ids: &mut [usize], prints: &mut [u16], n: usize, i: usize, a: usize, b: usize, p: u16) -> usize
+fn put_id(
+    ids: &mut [usize],
+    prints: &mut [u16],
+    n: usize,
+    i: usize,
+    a: usize,
+    b: usize,
+    p: u16,
+) -> usize
     requires { ⌜ (n < 512) × (1536 ≤ length (now ids)) × (512 ≤ length (now prints)) ⌝ }
     ensures { λ r. ⌜ (r ≡ n + 1) × (now (ids .exit) ≡ withId (now (ids .entry)) n i a b) × (now (prints .exit) ≡ set (now (prints .entry)) n p) ⌝ }
 {
@@ -125,27 +133,87 @@ pub fn settle(
     ensures { λ r. ⌜ Settles (now (bytes .entry)) (now (s .entry)) (now (ids .entry)) n full parts class (now (ids .exit)) (now (prints .exit)) r ⌝ }
 {
     match class {
-        Class::Kept => Settled { code: 16, full: full, parts: parts, count: n },
-        Class::Dropped => Settled { code: 17, full: full, parts: parts, count: n },
-        Class::Version => Settled { code: 18, full: full, parts: parts, count: n },
-        Class::Uid => Settled { code: 19, full: full, parts: parts, count: n },
-        Class::Kind => Settled { code: 20, full: full, parts: parts, count: n },
-        Class::Full => Settled { code: 21, full: true, parts: parts, count: n },
-        Class::Parts => Settled { code: 22, full: full, parts: true, count: n },
-        Class::Entry { map } => Settled { code: map as u8, full: full, parts: parts, count: n },
+        Class::Kept => Settled {
+            code: 16,
+            full: full,
+            parts: parts,
+            count: n,
+        },
+        Class::Dropped => Settled {
+            code: 17,
+            full: full,
+            parts: parts,
+            count: n,
+        },
+        Class::Version => Settled {
+            code: 18,
+            full: full,
+            parts: parts,
+            count: n,
+        },
+        Class::Uid => Settled {
+            code: 19,
+            full: full,
+            parts: parts,
+            count: n,
+        },
+        Class::Kind => Settled {
+            code: 20,
+            full: full,
+            parts: parts,
+            count: n,
+        },
+        Class::Full => Settled {
+            code: 21,
+            full: true,
+            parts: parts,
+            count: n,
+        },
+        Class::Parts => Settled {
+            code: 22,
+            full: full,
+            parts: true,
+            count: n,
+        },
+        Class::Entry { map } => Settled {
+            code: map as u8,
+            full: full,
+            parts: parts,
+            count: n,
+        },
         Class::Keyed { map, start, end } => {
             let m = note_key(ids, prints, n, bytes, at, s, map, start, end);
             if m == n {
-                return Settled { code: 16, full: full, parts: parts, count: n };
+                return Settled {
+                    code: 16,
+                    full: full,
+                    parts: parts,
+                    count: n,
+                };
             }
-            Settled { code: map as u8, full: full, parts: parts, count: m }
+            Settled {
+                code: map as u8,
+                full: full,
+                parts: parts,
+                count: m,
+            }
         }
         Class::Member { start, end } => {
             let m = note_key(ids, prints, n, bytes, at, s, 7, start, end);
             if m == n {
-                return Settled { code: 16, full: full, parts: parts, count: n };
+                return Settled {
+                    code: 16,
+                    full: full,
+                    parts: parts,
+                    count: n,
+                };
             }
-            Settled { code: 23, full: full, parts: parts, count: m }
+            Settled {
+                code: 23,
+                full: full,
+                parts: parts,
+                count: m,
+            }
         }
     }
 }

@@ -73,7 +73,8 @@ returns c =
     let at-loop-test = at-line-at .before .before in
     let at-loop = at-loop-test .before in
     let start = at-loop .before .before .before .before .before .before .before .before .before in
-    λ raw laid. through-bad (at-loop .loop .inv .4 raw laid) (omega (arith, laid .count, at-loop-test .loop-test .taken)) (line-here laid (at-loop-test .loop-test .taken) (at-line-at .line-at .ensures)) (now (start .args .starts)) (start .args .n) (unfilled (now (at-line-at .line-at .result)) (at-fill .fill .last .0) (at-fill .fill .result) (not-true (at-fill .fill .result) (c .if1 .taken)) (at-fill .fill .ensures))
+    λ raw laid. through-bad (at-loop .loop .inv .4 raw laid) (omega (arith, laid .count, at-loop-test .loop-test .taken)) (line-here laid (at-loop-test .loop-test .taken) (at-line-at .line-at .ensures)) (now (start .args .starts)) (start .args .n)
+    (unfilled (now (at-line-at .line-at .result)) (at-fill .fill .last .0) (at-fill .fill .result) (not-true (at-fill .fill .result) (c .if1 .taken)) (at-fill .fill .ensures))
 
 next-line-requires : tie.Need-next-line-requires Inv-loop μ-loop
 next-line-requires c κs =
@@ -82,8 +83,13 @@ next-line-requires c κs =
     let at-line-at = at-fill .before .before in
     let at-loop-test = at-line-at .before .before in
     let at-loop = at-loop-test .before in
-    let start = at-loop .before .before .before .before .before .before .before .before .before in
-    (omega (arith, start .pre .0 .1 .few, at-loop-test .loop-test .taken), at-loop .loop .inv .1, line-cut (start .pre .0 .1) (at-loop-test .loop-test .taken) (at-line-at .line-at .ensures), (filled (now (at-line-at .line-at .result)) (at-fill .fill .last .0) (at-fill .fill .result) (not-false (at-fill .fill .result) (at-if1 .if1 .left)) (at-fill .fill .ensures)) .sound, line-room (start .pre .0 .1) (at-loop-test .loop-test .taken) (at-line-at .line-at .ensures) (at-loop .loop .inv .3))
+    let start = at-loop .before .before .before .before .before .before .before .before .before in (
+      omega (arith, start .pre .0 .1 .few, at-loop-test .loop-test .taken),
+      at-loop .loop .inv .1,
+      line-cut (start .pre .0 .1) (at-loop-test .loop-test .taken) (at-line-at .line-at .ensures),
+      (filled (now (at-line-at .line-at .result)) (at-fill .fill .last .0) (at-fill .fill .result) (not-false (at-fill .fill .result) (at-if1 .if1 .left)) (at-fill .fill .ensures)) .sound,
+      line-room (start .pre .0 .1) (at-loop-test .loop-test .taken) (at-line-at .line-at .ensures) (at-loop .loop .inv .3),
+    )
 
 add-k : tie.Need-add-k Inv-loop μ-loop
 add-k c =
@@ -101,8 +107,19 @@ loop-again c =
     let at-fill = at-if1 .before .before .before in
     let at-line-at = at-fill .before .before in
     let at-loop-test = at-line-at .before .before in
-    let at-loop = at-loop-test .before in
-    (search needs, at-next-line .next-line .ensures .ready, omega (arith, at-fill .fill .kept .0, at-loop .loop .inv .2), record { fits = omega (arith, at-next-line .next-line .kept .1 .1 .1 .0, at-loop .loop .inv .3 .fits); small = at-loop .loop .inv .3 .small }, λ raw laid. through-next (at-loop .loop .inv .4 raw laid) (omega (arith, laid .count, at-loop-test .loop-test .taken)) (line-here laid (at-loop-test .loop-test .taken) (at-line-at .line-at .ensures)) (filled (now (at-line-at .line-at .result)) (at-fill .fill .last .0) (at-fill .fill .result) (not-false (at-fill .fill .result) (at-if1 .if1 .left)) (at-fill .fill .ensures)) (at-next-line .next-line .ensures), at-next-line .next-line .kept .0 ∙ (at-loop .loop .inv .5), at-next-line .next-line .kept .1 .0 ∙ (at-loop .loop .inv .6), at-next-line .next-line .kept .1 .1 .0 ∙ (at-loop .loop .inv .7), at-fill .fill .kept .0 ∙ (at-loop .loop .inv .8), at-next-line .next-line .kept .1 .1 .1 .0 ∙ (at-loop .loop .inv .9))
+    let at-loop = at-loop-test .before in (
+      search needs,
+      at-next-line .next-line .ensures .ready,
+      omega (arith, at-fill .fill .kept .0, at-loop .loop .inv .2),
+      record { fits = omega (arith, at-next-line .next-line .kept .1 .1 .1 .0, at-loop .loop .inv .3 .fits); small = at-loop .loop .inv .3 .small },
+      λ raw laid. through-next (at-loop .loop .inv .4 raw laid) (omega (arith, laid .count, at-loop-test .loop-test .taken)) (line-here laid (at-loop-test .loop-test .taken) (at-line-at .line-at .ensures))
+          (filled (now (at-line-at .line-at .result)) (at-fill .fill .last .0) (at-fill .fill .result) (not-false (at-fill .fill .result) (at-if1 .if1 .left)) (at-fill .fill .ensures)) (at-next-line .next-line .ensures),
+      at-next-line .next-line .kept .0 ∙ (at-loop .loop .inv .5),
+      at-next-line .next-line .kept .1 .0 ∙ (at-loop .loop .inv .6),
+      at-next-line .next-line .kept .1 .1 .0 ∙ (at-loop .loop .inv .7),
+      at-fill .fill .kept .0 ∙ (at-loop .loop .inv .8),
+      at-next-line .next-line .kept .1 .1 .1 .0 ∙ (at-loop .loop .inv .9),
+    )
 
 refusal-of-requires : tie.Need-refusal-of-requires Inv-loop μ-loop
 refusal-of-requires c κs = search needs

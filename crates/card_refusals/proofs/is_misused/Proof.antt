@@ -35,7 +35,9 @@ returns-3 c =
     let at-value-fits = at-if2 .before in
     let at-if1 = at-value-fits .before in
     let start = at-if1 .before .before .before .before .before .before .before in
-    sym (uid-grouped (lineIn (now (start .args .s)) (now (start .args .t))) (start .args .code) (start .pre .1) (group-told (start .pre .0 .row) ∙ ap not (eq-eqb _ 0 (at-if1 .if1 .left))) (sym (at-value-fits .value-fits .ensures _ (start .pre .0 .row)) ∙ not-false (at-value-fits .value-fits .result) (at-if2 .if2 .left)) (at-if3 .if3 .taken) (c .before .has-group .ensures ∙ ap not (c .if4 .taken)))
+    sym (uid-grouped (lineIn (now (start .args .s)) (now (start .args .t))) (start .args .code) (start .pre .1)
+    (group-told (start .pre .0 .row) ∙ ap not (eq-eqb _ 0 (at-if1 .if1 .left))) (sym (at-value-fits .value-fits .ensures _ (start .pre .0 .row)) ∙ not-false (at-value-fits .value-fits .result) (at-if2 .if2 .left))
+    (at-if3 .if3 .taken) (c .before .has-group .ensures ∙ ap not (c .if4 .taken)))
 
 only-uri-requires : tie.Need-only-uri-requires
 only-uri-requires c κs = search needs
@@ -48,7 +50,9 @@ returns-4 c =
     let at-value-fits = at-if2 .before in
     let at-if1 = at-value-fits .before in
     let start = at-if1 .before .before .before .before .before .before .before in
-    ap not (c .only-uri .ensures) ∙ sym (uid-params (lineIn (now (start .args .s)) (now (start .args .t))) (start .args .code) (start .pre .1) (group-told (start .pre .0 .row) ∙ ap not (eq-eqb _ 0 (at-if1 .if1 .left))) (sym (at-value-fits .value-fits .ensures _ (start .pre .0 .row)) ∙ not-false (at-value-fits .value-fits .result) (at-if2 .if2 .left)) (at-if3 .if3 .taken) (at-has-group .has-group .ensures ∙ ap not (c .before .if4 .left)))
+    ap not (c .only-uri .ensures) ∙ sym (uid-params (lineIn (now (start .args .s)) (now (start .args .t))) (start .args .code) (start .pre .1)
+    (group-told (start .pre .0 .row) ∙ ap not (eq-eqb _ 0 (at-if1 .if1 .left))) (sym (at-value-fits .value-fits .ensures _ (start .pre .0 .row)) ∙ not-false (at-value-fits .value-fits .result) (at-if2 .if2 .left))
+    (at-if3 .if3 .taken) (at-has-group .has-group .ensures ∙ ap not (c .before .if4 .left)))
 
 has-group-requires-2 : tie.Need-has-group-requires-2
 has-group-requires-2 c κs = search needs
@@ -60,7 +64,8 @@ returns-5 c =
     let at-value-fits = at-if2 .before in
     let at-if1 = at-value-fits .before in
     let start = at-if1 .before .before .before .before .before .before .before in
-    sym (kind-grouped (lineIn (now (start .args .s)) (now (start .args .t))) (start .args .code) (start .pre .1) (group-told (start .pre .0 .row) ∙ ap not (eq-eqb _ 0 (at-if1 .if1 .left))) (sym (at-value-fits .value-fits .ensures _ (start .pre .0 .row)) ∙ not-false (at-value-fits .value-fits .result) (at-if2 .if2 .left)) (at-if5 .if5 .taken) (c .before .has-group2 .ensures ∙ ap not (c .if6 .taken)))
+    sym (kind-grouped (lineIn (now (start .args .s)) (now (start .args .t))) (start .args .code) (start .pre .1)
+    (group-told (start .pre .0 .row) ∙ ap not (eq-eqb _ 0 (at-if1 .if1 .left))) (sym (at-value-fits .value-fits .ensures _ (start .pre .0 .row)) ∙ not-false (at-value-fits .value-fits .result) (at-if2 .if2 .left)) (at-if5 .if5 .taken) (c .before .has-group2 .ensures ∙ ap not (c .if6 .taken)))
 
 shared-slice-read-result : tie.Need-shared-slice-read-result
 shared-slice-read-result c = search needs
@@ -73,7 +78,8 @@ returns-6 c =
     let at-value-fits = at-if2 .before in
     let at-if1 = at-value-fits .before in
     let start = at-if1 .before .before .before .before .before .before .before in
-    sym (kind-params (lineIn (now (start .args .s)) (now (start .args .t))) (start .args .code) (start .pre .1) (group-told (start .pre .0 .row) ∙ ap not (eq-eqb _ 0 (at-if1 .if1 .left))) (sym (at-value-fits .value-fits .ensures _ (start .pre .0 .row)) ∙ not-false (at-value-fits .value-fits .result) (at-if2 .if2 .left)) (at-if5 .if5 .taken) (at-has-group2 .has-group2 .ensures ∙ ap not (c .before .if6 .left)) ∙ ap not (params-empty (now (start .args .s)) (now (start .args .t))))
+    sym (kind-params (lineIn (now (start .args .s)) (now (start .args .t))) (start .args .code) (start .pre .1)
+    (group-told (start .pre .0 .row) ∙ ap not (eq-eqb _ 0 (at-if1 .if1 .left))) (sym (at-value-fits .value-fits .ensures _ (start .pre .0 .row)) ∙ not-false (at-value-fits .value-fits .result) (at-if2 .if2 .left)) (at-if5 .if5 .taken) (at-has-group2 .has-group2 .ensures ∙ ap not (c .before .if6 .left)) ∙ ap not (params-empty (now (start .args .s)) (now (start .args .t))))
 
 returns-7 : tie.Need-returns-7
 returns-7 c =

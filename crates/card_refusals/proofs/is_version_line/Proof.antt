@@ -62,7 +62,9 @@ returns-4 c =
     let at-has-group = at-if2 .before in
     let at-if1 = at-has-group .before in
     let start = at-if1 .before .before .before in
-    c .same-bytes .ensures ∙ sym (version-value (lineIn (now (start .args .s)) (now (start .args .t))) (start .args .code) (start .pre .1) (at-if1 .if1 .left) (at-has-group .has-group .ensures ∙ ap not (at-if2 .if2 .left)) (params-empty (now (start .args .s)) (now (start .args .t)) ∙ eq-eqb _ 0 (at-if3 .if3 .left)) ∙ ap (λ v. same v (ascii "4.0")) (value-is (now (start .args .s)) (now (start .args .t))))
+    c .same-bytes .ensures ∙ sym (version-value (lineIn (now (start .args .s)) (now (start .args .t))) (start .args .code) (start .pre .1) (at-if1 .if1 .left) (at-has-group .has-group .ensures ∙ ap not (at-if2 .if2 .left))
+    (params-empty (now (start .args .s)) (now (start .args .t)) ∙ eq-eqb _ 0 (at-if3 .if3 .left))
+    ∙ ap (λ v. same v (ascii "4.0")) (value-is (now (start .args .s)) (now (start .args .t))))
 
 pub is-version-line-spec : {M : Type 1} → statement M
 is-version-line-spec =
