@@ -37,7 +37,7 @@ same-length : tie.Need-same-length
 same-length c = search needs
 
 returns : tie.Need-returns
-returns c = λ seen n j x. never-full (now (c .before .before .before .before .before .before .before .before .before .before .before .before .before .before .before .before .args .scratch)) (part (now (c .before .before .before .before .before .before .before .before .before .before .before .before .before .before .before .before .args .s)) (getD (now (c .before .before .before .before .before .before .before .before .before .before .before .before .before .before .before .before .args .t)) 4 0) (getD (now (c .before .before .before .before .before .before .before .before .before .before .before .before .before .before .before .before .args .t)) 5 0)) (c .before .before .before .before .read-text .ensures) (value-fits (now (c .before .before .before .before .before .before .before .before .before .before .before .before .before .before .before .before .args .s)) _ _ (c .before .before .before .before .before .before .before .before .before .before .before .before .before .before .before .before .pre .1)) (c .enum-told .given .1)
+returns c = λ seen n j x. never-full (now (c .before .before .before .before .before .before .before .before .before .before .before .before .before .before .before .before .args .scratch)) (part (now (c .before .before .before .before .before .before .before .before .before .before .before .before .before .before .before .before .args .s)) (getD (now (c .before .before .before .before .before .before .before .before .before .before .before .before .before .before .before .before .args .t)) 4 0) (getD (now (c .before .before .before .before .before .before .before .before .before .before .before .before .before .before .before .before .args .t)) 5 0)) (c .before .before .before .before .read-text .ensures) (value-fits (now (c .before .before .before .before .before .before .before .before .before .before .before .before .before .before .before .before .args .s)) (getD (now (c .before .before .before .before .before .before .before .before .before .before .before .before .before .before .before .before .args .t)) 4 0) (getD (now (c .before .before .before .before .before .before .before .before .before .before .before .before .before .before .before .before .args .t)) 5 0) (c .before .before .before .before .before .before .before .before .before .before .before .before .before .before .before .before .pre .1)) (c .enum-told .given .1)
 
 shared-slice-read-c : tie.Need-shared-slice-read-c
 shared-slice-read-c c = omega (arith, c .before .before .before .before .before .before .before .before .before .before .before .before .before .before .before .before .before .before .pre .0 .rowed .wide .froms)
