@@ -1,0 +1,35 @@
+use borrow.Author.Needs.{needs}
+use Rattle.card_value.proofs.string_in.Statement.{statement}
+use Rattle.card_value.proofs.string_in.Tie as tie
+use Rattle.card_value.proofs.string_in.Reads as reads
+use Rattle.card_value.proofs.string_in.Lts as lts
+use Rattle.json_marks.proofs.skip_space.Reads as skip-space-reads
+use Rattle.text.proofs.look.Reads as look-reads
+
+-- src/lib.rt:48:9
+returns : tie.Need-returns
+returns c = ?
+
+-- src/lib.rt:50:9
+skip-space-requires : tie.Need-skip-space-requires
+skip-space-requires c κs = search needs
+
+-- src/lib.rt:51:8
+look-requires : tie.Need-look-requires
+look-requires c κs = search needs
+
+-- src/lib.rt:52:16
+add-result : tie.Need-add-result
+add-result c = search needs
+
+-- src/lib.rt:52:9
+returns-2 : tie.Need-returns-2
+returns-2 c = ?
+
+-- src/lib.rt:44:1
+returns-3 : tie.Need-returns-3
+returns-3 c = ?
+
+pub string-in-spec : {M : Type 1} → statement M
+string-in-spec =
+    tie.close (tie.spec returns skip-space-requires look-requires add-result returns-2 returns-3)
