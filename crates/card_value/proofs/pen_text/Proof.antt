@@ -1,3 +1,4 @@
+use Rattle.line_pen.proofs.Laws.{pens-then}
 use borrow.Author.Needs.{needs}
 use Rattle.card_value.proofs.pen_text.Statement.{statement}
 use Rattle.card_value.proofs.pen_text.Tie as tie
@@ -36,7 +37,7 @@ same-length c = search needs
 
 -- src/lib.rt:159:1
 returns : tie.Need-returns
-returns c = ?
+returns c = record { text = c .before .before .before .pen-string .ensures .text; is = c .before .before .before .pen-string .ensures .is; pens = pens-then (c .before .before .before .before .before .before .before .pen-bytes .ensures) (c .before .before .before .pen-string .ensures .pens); carried = c .before .before .before .pen-string .ensures .carried }
 
 pub pen-text-spec : {M : Type 1} → statement M
 pen-text-spec =

@@ -1,3 +1,5 @@
+use Rattle.card_value.proofs.Pieces.{unit-blank, unit-filled}
+use denote.Ref.{now}
 use borrow.Author.Needs.{needs}
 use Rattle.card_value.proofs.pen_unit.Statement.{statement}
 use Rattle.card_value.proofs.pen_unit.Tie as tie
@@ -12,7 +14,7 @@ is-blank-requires c κs = search needs
 
 -- src/lib.rt:187:9
 returns : tie.Need-returns
-returns c = ?
+returns c = unit-blank (now (c .before .before .before .before .args .s)) (c .before .before .before .before .args .at) (c .before .is-blank .ensures) (c .if1 .taken)
 
 -- src/lib.rt:194:35
 slice-aggregate-pen-text : tie.Need-slice-aggregate-pen-text
@@ -28,7 +30,7 @@ same-length c = search needs
 
 -- src/lib.rt:183:1
 returns-2 : tie.Need-returns-2
-returns-2 c = ?
+returns-2 c = unit-filled (now (c .before .before .before .before .before .before .before .before .before .args .s)) (c .before .before .before .before .before .before .before .before .before .args .at) (c .before .before .before .before .before .before .is-blank .ensures) (c .before .before .before .before .before .if1 .left) (c .before .before .pen-text .ensures)
 
 pub pen-unit-spec : {M : Type 1} → statement M
 pen-unit-spec =

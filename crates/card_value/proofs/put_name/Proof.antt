@@ -1,3 +1,7 @@
+use Rattle.card_value.proofs.Whole.{name-absent, name-wrong, name-there}
+use Rattle.line_pen.proofs.Laws.{pens-in, pens-length}
+use mathlib.Core.Path.{refl}
+use denote.Ref.{now}
 use borrow.Author.Needs.{needs}
 use Rattle.card_value.proofs.put_name.Statement.{statement}
 use Rattle.card_value.proofs.put_name.Tie as tie
@@ -22,7 +26,7 @@ same-length c = search needs
 
 -- src/lib.rt:290:9
 returns : tie.Need-returns
-returns c = ?
+returns c = (pens-in (c .before .before .pen-bytes .ensures), (pens-length (c .before .before .pen-bytes .ensures), name-absent (now (c .before .before .before .before .before .before .before .before .args .s)) (c .before .before .before .before .before .before .before .before .args .slot) _ _ _ (c .before .before .before .before .before .if1 .taken) (c .before .before .pen-bytes .ensures)))
 
 -- src/lib.rt:297:9
 string-in-requires : tie.Need-string-in-requires
@@ -30,7 +34,7 @@ string-in-requires c κs = search needs
 
 -- src/lib.rt:299:9
 returns-2 : tie.Need-returns-2
-returns-2 c = ?
+returns-2 c = (tt, (refl, name-wrong (now (c .before .before .before .before .before .args .s)) (c .before .before .before .before .before .args .slot) _ _ _ (c .before .before .if1 .left) (c .before .string-in .result) (c .before .string-in .ensures) (c .if2 .taken)))
 
 -- src/lib.rt:301:35
 slice-aggregate-pen-text : tie.Need-slice-aggregate-pen-text
@@ -50,7 +54,7 @@ same-length-2 c = search needs
 
 -- src/lib.rt:281:1
 returns-3 : tie.Need-returns-3
-returns-3 c = ?
+returns-3 c = (pens-in (c .before .before .before .pen-text .ensures .pens), (pens-length (c .before .before .before .pen-text .ensures .pens), name-there (now (c .before .before .before .before .before .before .before .before .before .before .before .args .s)) (c .before .before .before .before .before .before .before .before .before .before .before .args .slot) _ _ _ (c .before .before .before .before .before .before .before .before .if1 .left) (c .before .before .before .before .before .before .before .string-in .result) (c .before .before .before .before .before .before .before .string-in .ensures) (c .before .before .before .before .before .before .if2 .left) (c .before .before .before .pen-text .ensures) (c .is-blank .ensures)))
 
 pub put-name-spec : {M : Type 1} → statement M
 put-name-spec =

@@ -1,3 +1,5 @@
+use Rattle.card_value.proofs.Strings.{string-past, string-here, no-string-here}
+use denote.Ref.{now}
 use borrow.Author.Needs.{needs}
 use Rattle.card_value.proofs.string_in.Statement.{statement}
 use Rattle.card_value.proofs.string_in.Tie as tie
@@ -8,7 +10,7 @@ use Rattle.text.proofs.look.Reads as look-reads
 
 -- src/lib.rt:48:9
 returns : tie.Need-returns
-returns c = ?
+returns c = string-past (now (c .before .before .args .s)) (c .before .before .args .at) (c .if1 .taken)
 
 -- src/lib.rt:50:9
 skip-space-requires : tie.Need-skip-space-requires
@@ -24,11 +26,11 @@ add-result c = search needs
 
 -- src/lib.rt:52:9
 returns-2 : tie.Need-returns-2
-returns-2 c = ?
+returns-2 c = string-here (now (c .before .before .before .before .before .args .s)) (c .before .before .before .before .before .args .at) _ _ (c .before .before .skip-space .ensures) (c .before .look .ensures .0) (c .if2 .taken)
 
 -- src/lib.rt:44:1
 returns-3 : tie.Need-returns-3
-returns-3 c = ?
+returns-3 c = no-string-here (now (c .before .before .before .before .before .args .s)) (c .before .before .before .before .before .args .at) _ _ (c .before .before .skip-space .ensures) (c .before .look .ensures .0) (c .if2 .left)
 
 pub string-in-spec : {M : Type 1} → statement M
 string-in-spec =

@@ -1,3 +1,5 @@
+use Rattle.card_value.proofs.Units.{clear-two, one-name, unit-flat, unit-more, unit-is}
+use denote.Ref.{now}
 use borrow.Author.Needs.{needs}
 use Rattle.card_value.proofs.unit_in.Statement.{statement}
 use Rattle.card_value.proofs.unit_in.Tie as tie
@@ -16,11 +18,11 @@ slice-aggregate-index-object-2 c = search needs
 
 -- src/lib.rt:73:9
 index-object-requires : tie.Need-index-object-requires
-index-object-requires c κs = ?
+index-object-requires c κs = (c .before .before .before .pre, (one-name, clear-two))
 
 -- src/lib.rt:74:9
 returns : tie.Need-returns
-returns c = ?
+returns c = unit-flat (now (c .before .before .before .before .before .before .args .s)) (c .before .before .before .before .before .before .args .at) _ (c .before .before .index-object .result) (c .before .before .index-object .ensures) (c .if1 .taken)
 
 -- src/lib.rt:76:8
 array-read-if2 : tie.Need-array-read-if2
@@ -28,7 +30,7 @@ array-read-if2 c = search needs
 
 -- src/lib.rt:77:9
 returns-2 : tie.Need-returns-2
-returns-2 c = ?
+returns-2 c = unit-more (now (c .before .before .before .before .before .before .before .args .s)) (c .before .before .before .before .before .before .before .args .at) _ (c .before .before .before .index-object .result) (c .before .before .before .index-object .ensures) (c .before .if1 .left) (c .if2 .taken)
 
 -- src/lib.rt:79:13
 array-read-a : tie.Need-array-read-a
@@ -40,7 +42,7 @@ text-in-requires c κs = search needs
 
 -- src/lib.rt:68:1
 returns-3 : tie.Need-returns-3
-returns-3 c = ?
+returns-3 c = unit-is (now (c .before .before .before .before .before .before .before .before .args .s)) (c .before .before .before .before .before .before .before .before .args .at) _ (c .before .before .before .before .index-object .result) (c .before .before .before .before .index-object .ensures) (c .before .before .if1 .left) (c .before .if2 .left) (c .text-in .result) (c .text-in .ensures)
 
 pub unit-in-spec : {M : Type 1} → statement M
 unit-in-spec =
