@@ -1,0 +1,123 @@
+use borrow.Rule.Slice.PartMut.{midOf}
+use Rattle.card_maps.proofs.Laws.{Going, going-first, maps-wrong, maps-on, maps-all, in-part}
+use Rattle.card_map.proofs.Laws.{lines-in}
+use lib.ListN.{length}
+use Prim.Native.Nat.{_≤_, _*_, _-_}
+use mathlib.Core.Path.{_≡_, refl, _∙_}
+use denote.Ref.{now}
+use native.Mathlib.Nat.{le-refl}
+use native.Mathlib.Omega.{arith}
+use borrow.Author.Needs.{needs}
+use Rattle.card_maps.proofs.put_maps.Statement.{statement}
+use Rattle.card_maps.proofs.put_maps.Tie as tie
+use Rattle.card_maps.proofs.put_maps.Reads as reads
+use Rattle.card_maps.proofs.put_maps.Lts as lts
+use Rattle.card_maps.proofs.put_nth.Reads as put-nth-reads
+
+abbrev Inv-loop : tie.InvT-loop
+Inv-loop out₀ s slots k₀ n₀ lines₀ ok₀ out k n lines ok = (k ≤ 7) × (n ≤ length out) × (length out ≡ length out₀) × (lines ≤ 65537 * k) × Going s slots out₀ k n lines ok out
+
+abbrev μ-loop : tie.MeasureT-loop
+μ-loop out₀ s slots k₀ n₀ lines₀ ok₀ out k n lines ok = 7 - k
+
+-- src/lib.rt:49:5
+loop-holds : tie.Need-loop-holds Inv-loop μ-loop
+loop-holds c = (omega arith, omega arith, refl, omega arith, going-first (now (c .before .before .before .args .s)) (now (c .before .before .before .args .slots)) (now (c .before .before .before .args .out)))
+
+-- src/lib.rt:50:17
+add-i : tie.Need-add-i Inv-loop μ-loop
+add-i c = omega (arith, c .loop-test .taken)
+
+-- src/lib.rt:51:43
+sub-put-nth : tie.Need-sub-put-nth Inv-loop μ-loop
+sub-put-nth c = c .before .loop .inv .1
+
+-- src/lib.rt:51:43
+part-put-nth-start : tie.Need-part-put-nth-start Inv-loop μ-loop
+part-put-nth-start c = c .before .loop .inv .1
+
+-- src/lib.rt:51:43
+part-put-nth-end : tie.Need-part-put-nth-end Inv-loop μ-loop
+part-put-nth-end c = le-refl _
+
+-- src/lib.rt:51:64
+mul-put-nth : tie.Need-mul-put-nth Inv-loop μ-loop
+mul-put-nth c = record { fits = omega (arith, c .before .loop-test .taken) }
+
+-- src/lib.rt:51:64
+shared-slice-read-put-nth : tie.Need-shared-slice-read-put-nth Inv-loop μ-loop
+shared-slice-read-put-nth c = omega (arith, c .before .before .before .before .before .before .before .pre .1, c .before .before .loop-test .taken)
+
+-- src/lib.rt:51:35
+put-nth-requires : tie.Need-put-nth-requires Inv-loop μ-loop
+put-nth-requires c κs = tt
+
+-- src/lib.rt:51:24
+enum-known-m : tie.Need-enum-known-m Inv-loop μ-loop
+enum-known-m c = search needs
+
+-- src/lib.rt:52:13
+enum-told : tie.Need-enum-told Inv-loop μ-loop
+enum-told c = search needs
+
+-- src/lib.rt:52:13
+same-length : tie.Need-same-length Inv-loop μ-loop
+same-length c = in-part (c .before .before .before .before .before .before .before .before .loop .n) (now (c .before .before .before .before .before .before .before .before .before .before .before .before .args .out)) (c .before .before .before .before .before .before .before .before .loop .out) (c .before .before .before .before .put-nth .last .0) {m = 0} (c .before .before .before .before .before .before .before .before .loop .inv .1) (c .before .before .before .before .before .before .before .before .loop .inv .2) (omega arith) (c .before .before .before .before .put-nth .ensures .1 .0) .1
+
+-- src/lib.rt:52:13
+returns : tie.Need-returns Inv-loop μ-loop
+returns c = (tt, (in-part (c .before .before .before .before .before .before .before .before .loop .n) (now (c .before .before .before .before .before .before .before .before .before .before .before .before .args .out)) (c .before .before .before .before .before .before .before .before .loop .out) (c .before .before .before .before .put-nth .last .0) {m = 0} (c .before .before .before .before .before .before .before .before .loop .inv .1) (c .before .before .before .before .before .before .before .before .loop .inv .2) (omega arith) (c .before .before .before .before .put-nth .ensures .1 .0) .1, maps-wrong (now (c .before .before .before .before .before .before .before .before .before .before .before .before .args .s)) (now (c .before .before .before .before .before .before .before .before .before .before .before .before .args .slots)) (now (c .before .before .before .before .before .before .before .before .before .before .before .before .args .out)) (c .before .before .before .before .before .before .before .before .loop .k) (c .before .before .before .before .before .before .before .before .loop .n) (c .before .before .before .before .before .before .before .before .loop .lines) (c .before .before .before .before .before .before .before .before .loop .ok) (c .before .before .before .before .before .before .before .before .loop .out) (c .before .before .before .before .before .before .before .before .loop .inv .4) (c .before .before .before .before .before .before .before .loop-test .taken) (c .before .before .before .before .put-nth .result) _ (c .before .before .before .before .put-nth .ensures .1 .1) _ (c .enum-told .given .1)))
+
+-- src/lib.rt:54:9
+add-n : tie.Need-add-n Inv-loop μ-loop
+add-n c = let l = lines-in (length (midOf (c .before .before .before .before .before .before .before .before .before .loop .n) (length (c .before .before .before .before .before .before .before .before .before .loop .out) - (c .before .before .before .before .before .before .before .before .before .loop .n)) (c .before .before .before .before .before .before .before .before .before .loop .out))) (length (now (c .before .before .before .before .before .before .before .before .before .before .before .before .before .args .s))) (c .before .before .before .before .before .put-nth .ensures .0) (c .before .m .given .1) in let p = in-part (c .before .before .before .before .before .before .before .before .before .loop .n) (now (c .before .before .before .before .before .before .before .before .before .before .before .before .before .args .out)) (c .before .before .before .before .before .before .before .before .before .loop .out) (c .before .before .before .before .before .put-nth .last .0) (c .before .before .before .before .before .before .before .before .before .loop .inv .1) (c .before .before .before .before .before .before .before .before .before .loop .inv .2) (l .0) (c .before .before .before .before .before .put-nth .ensures .1 .0) in record { fits = omega (arith, p .0, p .1, c .before .before .before .before .before .before .before .before .before .before .before .before .before .good .0 .0) }
+
+-- src/lib.rt:55:9
+add-lines : tie.Need-add-lines Inv-loop μ-loop
+add-lines c = let l = lines-in (length (midOf (c .before .before .before .before .before .before .before .before .before .loop .n) (length (c .before .before .before .before .before .before .before .before .before .loop .out) - (c .before .before .before .before .before .before .before .before .before .loop .n)) (c .before .before .before .before .before .before .before .before .before .loop .out))) (length (now (c .before .before .before .before .before .before .before .before .before .before .before .before .before .args .s))) (c .before .before .before .before .before .put-nth .ensures .0) (c .before .m .given .1) in record { fits = omega (arith, l .1, c .before .before .before .before .before .before .before .before .before .before .before .before .before .pre .0, c .before .before .before .before .before .before .before .before .before .loop .inv .3, c .before .before .before .before .before .before .before .before .loop-test .taken) }
+
+-- src/lib.rt:57:9
+add-k : tie.Need-add-k Inv-loop μ-loop
+add-k c = omega (arith, c .before .before .before .before .before .before .before .before .loop-test .taken)
+
+-- src/lib.rt:49:5
+loop-less : tie.Need-loop-less Inv-loop μ-loop
+loop-less c = omega (arith, c .before .before .before .before .before .before .before .before .loop-test .taken)
+
+-- src/lib.rt:49:5
+loop-again : tie.Need-loop-again Inv-loop μ-loop
+loop-again c = let l = lines-in (length (midOf (c .before .before .before .before .before .before .before .before .before .loop .n) (length (c .before .before .before .before .before .before .before .before .before .loop .out) - (c .before .before .before .before .before .before .before .before .before .loop .n)) (c .before .before .before .before .before .before .before .before .before .loop .out))) (length (now (c .before .before .before .before .before .before .before .before .before .before .before .before .before .args .s))) (c .before .before .before .before .before .put-nth .ensures .0) (c .before .m .given .1) in let p = in-part (c .before .before .before .before .before .before .before .before .before .loop .n) (now (c .before .before .before .before .before .before .before .before .before .before .before .before .before .args .out)) (c .before .before .before .before .before .before .before .before .before .loop .out) (c .before .before .before .before .before .put-nth .last .0) (c .before .before .before .before .before .before .before .before .before .loop .inv .1) (c .before .before .before .before .before .before .before .before .before .loop .inv .2) (l .0) (c .before .before .before .before .before .put-nth .ensures .1 .0) in (omega (arith, c .before .before .before .before .before .before .before .before .loop-test .taken), p .0, p .1, omega (arith, l .1, c .before .before .before .before .before .before .before .before .before .before .before .before .before .pre .0, c .before .before .before .before .before .before .before .before .before .loop .inv .3), maps-on (now (c .before .before .before .before .before .before .before .before .before .before .before .before .before .args .s)) (now (c .before .before .before .before .before .before .before .before .before .before .before .before .before .args .slots)) (now (c .before .before .before .before .before .before .before .before .before .before .before .before .before .args .out)) (c .before .before .before .before .before .before .before .before .before .loop .k) (c .before .before .before .before .before .before .before .before .before .loop .n) (c .before .before .before .before .before .before .before .before .before .loop .lines) (c .before .before .before .before .before .before .before .before .before .loop .ok) (c .before .before .before .before .before .before .before .before .before .loop .out) (c .before .before .before .before .before .before .before .before .before .loop .inv .4) (c .before .before .before .before .before .before .before .before .loop-test .taken) (c .before .before .before .before .before .put-nth .result) _ (c .before .before .before .before .before .put-nth .ensures .1 .1) _ _ _ (c .before .m .given .1))
+
+-- src/lib.rt:38:1
+same-length-2 : tie.Need-same-length-2 Inv-loop μ-loop
+same-length-2 c = c .before .loop .inv .2
+
+-- src/lib.rt:38:1
+returns-2 : tie.Need-returns-2 Inv-loop μ-loop
+returns-2 c = ((omega (arith, c .before .loop .inv .1, c .before .loop .inv .2), omega (arith, c .before .loop .inv .3, c .before .loop .inv .0)), (c .before .loop .inv .2, maps-all (now (c .before .before .before .before .before .args .s)) (now (c .before .before .before .before .before .args .slots)) (now (c .before .before .before .before .before .args .out)) (c .before .loop .k) (c .before .loop .n) (c .before .loop .lines) (c .before .loop .ok) (c .before .loop .out) (c .before .loop .inv .4) (c .loop-test .left) (c .before .loop .inv .0)))
+
+pub put-maps-spec : {M : Type 1} → statement M
+put-maps-spec =
+    tie.close
+    (tie.spec
+    Inv-loop
+    μ-loop
+    loop-holds
+    add-i
+    sub-put-nth
+    part-put-nth-start
+    part-put-nth-end
+    mul-put-nth
+    shared-slice-read-put-nth
+    put-nth-requires
+    enum-known-m
+    enum-told
+    same-length
+    returns
+    add-n
+    add-lines
+    add-k
+    loop-less
+    loop-again
+    same-length-2
+    returns-2)

@@ -1,0 +1,4 @@
+pub mod Walk
+pub mod Flags
+pub mod Prefs
+pub mod Types

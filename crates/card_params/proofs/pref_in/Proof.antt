@@ -1,0 +1,73 @@
+use Rattle.card_params.proofs.Prefs.{pref-absent, pref-other, pref-bad, pref-good}
+use Rattle.text.proofs.Cases.{not-true, not-false}
+use mathlib.Core.Path.{sym, _∙_}
+use denote.Ref.{now}
+use borrow.Author.Needs.{needs}
+use Rattle.card_params.proofs.pref_in.Statement.{statement}
+use Rattle.card_params.proofs.pref_in.Tie as tie
+use Rattle.card_params.proofs.pref_in.Reads as reads
+use Rattle.card_params.proofs.pref_in.Lts as lts
+use Rattle.card_params.proofs.kind_code.Reads as kind-code-reads
+use Rattle.convert_tests.proofs.is_pref.Reads as is-pref-reads
+use Rattle.json_access.proofs.element_at.Reads as element-at-reads
+use Rattle.json_access.proofs.kind_at.Reads as kind-at-reads
+
+-- src/lib.rt:123:9
+returns : tie.Need-returns
+returns c = pref-absent (now (c .before .before .args .s)) (c .before .before .args .slot) (c .if1 .taken)
+
+-- src/lib.rt:125:23
+kind-at-requires : tie.Need-kind-at-requires
+kind-at-requires c κs = search needs
+
+-- src/lib.rt:125:9
+kind-code-requires : tie.Need-kind-code-requires
+kind-code-requires c κs = search needs
+
+-- src/lib.rt:127:9
+returns-2 : tie.Need-returns-2
+returns-2 c = pref-other (now (c .before .before .before .before .before .args .s)) (c .before .before .before .before .before .args .slot) (c .before .before .before .if1 .left) (c .before .before .kind-at .result) (c .before .before .kind-at .ensures) (c .before .kind-code .result) (c .before .kind-code .ensures) (c .if2 .taken)
+
+-- src/lib.rt:129:9
+element-at-requires : tie.Need-element-at-requires
+element-at-requires c κs = search needs
+
+-- src/lib.rt:132:17
+sub-is-pref : tie.Need-sub-is-pref
+sub-is-pref c = search needs
+
+-- src/lib.rt:132:17
+part-is-pref-start : tie.Need-part-is-pref-start
+part-is-pref-start c = search needs
+
+-- src/lib.rt:132:17
+part-is-pref-end : tie.Need-part-is-pref-end
+part-is-pref-end c = search needs
+
+-- src/lib.rt:132:9
+is-pref-requires : tie.Need-is-pref-requires
+is-pref-requires c κs = search needs
+
+-- src/lib.rt:133:9
+returns-3 : tie.Need-returns-3
+returns-3 c = pref-bad (now (c .before .before .before .before .before .before .before .before .before .args .s)) (c .before .before .before .before .before .before .before .before .before .args .slot) (c .before .before .before .before .before .before .before .if1 .left) (c .before .before .before .before .before .before .kind-at .result) (c .before .before .before .before .before .before .kind-at .ensures) (c .before .before .before .before .before .kind-code .result) (c .before .before .before .before .before .kind-code .ensures) (c .before .before .before .before .if2 .left) (c .before .before .before .element-at .result) (c .before .before .before .element-at .ensures .1) (c .before .before .before .element-at .ensures .0) (sym (c .before .is-pref .ensures) ∙ not-true _ (c .if3 .taken))
+
+-- src/lib.rt:119:1
+returns-4 : tie.Need-returns-4
+returns-4 c = pref-good (now (c .before .before .before .before .before .before .before .before .before .args .s)) (c .before .before .before .before .before .before .before .before .before .args .slot) (c .before .before .before .before .before .before .before .if1 .left) (c .before .before .before .before .before .before .kind-at .result) (c .before .before .before .before .before .before .kind-at .ensures) (c .before .before .before .before .before .kind-code .result) (c .before .before .before .before .before .kind-code .ensures) (c .before .before .before .before .if2 .left) (c .before .before .before .element-at .result) (c .before .before .before .element-at .ensures .1) (c .before .before .before .element-at .ensures .0) (sym (c .before .is-pref .ensures) ∙ not-false _ (c .if3 .left))
+
+pub pref-in-spec : {M : Type 1} → statement M
+pref-in-spec =
+    tie.close
+    (tie.spec
+    returns
+    kind-at-requires
+    kind-code-requires
+    returns-2
+    element-at-requires
+    sub-is-pref
+    part-is-pref-start
+    part-is-pref-end
+    is-pref-requires
+    returns-3
+    returns-4)

@@ -1,0 +1,5 @@
+pub mod Elements
+pub mod Strings
+pub mod Pieces
+pub mod Units
+pub mod Whole

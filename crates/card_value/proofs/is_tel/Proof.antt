@@ -1,0 +1,102 @@
+use Rattle.card_value.proofs.Pieces.{telSeen, tel-first, tel-end, tel-bad, tel-more, no-form, the-form}
+use Rattle.card_value.specs.Values.{telOf}
+use Rattle.json_strings.proofs.NextByte.{byte-in, is-alone, is-end, is-one}
+use Rattle.json_strings.proofs.Laws.{left-none, spelled-past}
+use Rattle.json_strings.specs.Spelled.{spelled, left, weight}
+use Rattle.text.proofs.Cases.{not-true, not-false}
+use borrow.Author.Tests.{eq-eqb, ne-eqb}
+use lib.ListN.{length}
+use Prim.Native.Nat.{_≤_}
+use mathlib.Core.Path.{_≡_, sym, ap, _∙_}
+use denote.Ref.{now}
+use borrow.Author.Needs.{needs}
+use Rattle.card_value.proofs.is_tel.Statement.{statement}
+use Rattle.card_value.proofs.is_tel.Tie as tie
+use Rattle.card_value.proofs.is_tel.Reads as reads
+use Rattle.card_value.proofs.is_tel.Lts as lts
+use Rattle.card_value.proofs.fits_tel.Reads as fits-tel-reads
+use Rattle.card_value.proofs.onward.Reads as onward-reads
+use Rattle.json_strings.proofs.next_byte.Reads as next-byte-reads
+
+abbrev Inv-loop : tie.InvT-loop
+Inv-loop form s at i₀ h₀ k₀ i h k = (i ≤ length s) × (telOf (spelled s at) ≡ telSeen k (left s i h))
+
+abbrev μ-loop : tie.MeasureT-loop
+μ-loop form s at i₀ h₀ k₀ i h k = weight s i h
+
+-- src/lib.rt:130:9
+returns : tie.Need-returns Inv-loop μ-loop
+returns c = no-form _ (ne-eqb _ _ (c .if1 .taken))
+
+-- src/lib.rt:133:9
+returns-2 : tie.Need-returns-2 Inv-loop μ-loop
+returns-2 c = the-form (eq-eqb _ _ (c .before .if1 .left)) (sym (ap telOf (spelled-past (now (c .before .before .before .args .s)) (c .before .before .before .args .at) (c .if2 .taken))))
+
+-- src/lib.rt:138:5
+loop-holds : tie.Need-loop-holds Inv-loop μ-loop
+loop-holds c = (c .if2 .left, tel-first _ _ (left-none (now (c .before .before .before .args .s)) (c .before .before .before .args .at)))
+
+-- src/lib.rt:139:15
+next-byte-requires : tie.Need-next-byte-requires Inv-loop μ-loop
+next-byte-requires c κs = c .loop .inv .0
+
+-- src/lib.rt:141:17
+enum-told : tie.Need-enum-told Inv-loop μ-loop
+enum-told c = search needs
+
+-- src/lib.rt:141:17
+returns-3 : tie.Need-returns-3 Inv-loop μ-loop
+returns-3 c = the-form (eq-eqb _ _ (c .before .before .before .before .before .if1 .left)) (sym (c .before .before .before .loop .inv .1 ∙ ap (telSeen (c .before .before .before .loop .k)) (is-alone (now (c .before .before .before .before .before .before .before .args .s)) (c .before .before .next-byte .ensures .0) (c .enum-told .given .1))))
+
+-- src/lib.rt:144:17
+enum-told-2 : tie.Need-enum-told-2 Inv-loop μ-loop
+enum-told-2 c = search needs
+
+-- src/lib.rt:144:17
+returns-4 : tie.Need-returns-4 Inv-loop μ-loop
+returns-4 c = the-form (eq-eqb _ _ (c .before .before .before .before .before .if1 .left)) (tel-end (c .before .before .before .loop .k) ∙ sym (c .before .before .before .loop .inv .1 ∙ ap (telSeen (c .before .before .before .loop .k)) (is-end (now (c .before .before .before .before .before .before .before .args .s)) (c .before .before .next-byte .ensures .0) (c .enum-told2 .given .1))))
+
+-- src/lib.rt:146:23
+enum-known-b : tie.Need-enum-known-b Inv-loop μ-loop
+enum-known-b c = search needs
+
+-- src/lib.rt:147:21
+fits-tel-requires : tie.Need-fits-tel-requires Inv-loop μ-loop
+fits-tel-requires c κs = tt
+
+-- src/lib.rt:148:21
+returns-5 : tie.Need-returns-5 Inv-loop μ-loop
+returns-5 c = the-form (eq-eqb _ _ (c .before .before .before .before .before .before .before .before .if1 .left)) (tel-bad (c .before .before .before .before .before .before .loop .k) (c .before .before .before .b .given .0 .0) (left (now (c .before .before .before .before .before .before .before .before .before .before .args .s)) (c .before .before .before .b .given .0 .1 .0) (c .before .before .before .b .given .0 .1 .1 .0)) (sym (c .before .fits-tel .ensures) ∙ not-true _ (c .if3 .taken)) ∙ sym (c .before .before .before .before .before .before .loop .inv .1 ∙ ap (telSeen (c .before .before .before .before .before .before .loop .k)) (is-one (now (c .before .before .before .before .before .before .before .before .before .before .args .s)) (c .before .before .before .before .before .next-byte .ensures .0) (c .before .before .before .b .given .1))))
+
+-- src/lib.rt:150:17
+onward-requires : tie.Need-onward-requires Inv-loop μ-loop
+onward-requires c κs = tt
+
+-- src/lib.rt:138:5
+loop-less : tie.Need-loop-less Inv-loop μ-loop
+loop-less c = byte-in (now (c .before .before .before .before .before .before .before .before .before .before .before .args .s)) (c .before .before .before .before .before .before .before .loop .i) (c .before .before .before .before .before .before .before .loop .h) (c .before .before .before .before .before .before .next-byte .ensures .1) (c .before .before .before .before .b .given .1) .1
+
+-- src/lib.rt:138:5
+loop-again : tie.Need-loop-again Inv-loop μ-loop
+loop-again c = (byte-in (now (c .before .before .before .before .before .before .before .before .before .before .before .args .s)) (c .before .before .before .before .before .before .before .loop .i) (c .before .before .before .before .before .before .before .loop .h) (c .before .before .before .before .before .before .next-byte .ensures .1) (c .before .before .before .before .b .given .1) .0, c .before .before .before .before .before .before .before .loop .inv .1 ∙ ap (telSeen (c .before .before .before .before .before .before .before .loop .k)) (is-one (now (c .before .before .before .before .before .before .before .before .before .before .before .args .s)) (c .before .before .before .before .before .before .next-byte .ensures .0) (c .before .before .before .before .b .given .1)) ∙ tel-more (c .before .before .before .before .before .before .before .loop .k) (c .before .before .before .before .b .given .0 .0) (left (now (c .before .before .before .before .before .before .before .before .before .before .before .args .s)) (c .before .before .before .before .b .given .0 .1 .0) (c .before .before .before .before .b .given .0 .1 .1 .0)) (sym (c .before .before .fits-tel .ensures) ∙ not-false _ (c .before .if3 .left)) (c .onward .ensures))
+
+pub is-tel-spec : {M : Type 1} → statement M
+is-tel-spec =
+    tie.close
+    (tie.spec
+    Inv-loop
+    μ-loop
+    returns
+    returns-2
+    loop-holds
+    next-byte-requires
+    enum-told
+    returns-3
+    enum-told-2
+    returns-4
+    enum-known-b
+    fits-tel-requires
+    returns-5
+    onward-requires
+    loop-less
+    loop-again)

@@ -1,0 +1,77 @@
+use Rattle.card_value.proofs.Units.{units-absent, units-past, units-none, units-empty, units-full}
+use mathlib.Core.Path.{refl}
+use denote.Ref.{now}
+use native.Mathlib.Omega.{arith}
+use borrow.Author.Needs.{needs}
+use Rattle.card_value.proofs.put_units.Statement.{statement}
+use Rattle.card_value.proofs.put_units.Tie as tie
+use Rattle.card_value.proofs.put_units.Reads as reads
+use Rattle.card_value.proofs.put_units.Lts as lts
+use Rattle.card_value.proofs.put_units_from.Reads as put-units-from-reads
+use Rattle.json_marks.proofs.skip_space.Reads as skip-space-reads
+use Rattle.text.proofs.look.Reads as look-reads
+
+-- src/lib.rt:254:9
+returns : tie.Need-returns
+returns c = (omega arith, (refl, units-absent (now (c .before .before .before .args .s)) (c .before .before .before .args .slot) _ _ (c .if1 .taken)))
+
+-- src/lib.rt:262:9
+returns-2 : tie.Need-returns-2
+returns-2 c = (tt, (refl, units-past (now (c .before .before .before .before .args .s)) (c .before .before .before .before .args .slot) _ _ (c .before .if1 .left) _ (c .if2 .taken)))
+
+-- src/lib.rt:264:9
+skip-space-requires : tie.Need-skip-space-requires
+skip-space-requires c κs = search needs
+
+-- src/lib.rt:265:8
+look-requires : tie.Need-look-requires
+look-requires c κs = search needs
+
+-- src/lib.rt:266:9
+returns-3 : tie.Need-returns-3
+returns-3 c = (tt, (refl, units-none (now (c .before .before .before .before .before .before .before .args .s)) (c .before .before .before .before .before .before .before .args .slot) _ _ (c .before .before .before .before .if1 .left) _ _ (c .before .before .skip-space .ensures) (c .before .look .ensures .0) _ (c .if3 .taken)))
+
+-- src/lib.rt:268:27
+add-skip-space : tie.Need-add-skip-space
+add-skip-space c = search needs
+
+-- src/lib.rt:268:9
+skip-space-requires-2 : tie.Need-skip-space-requires-2
+skip-space-requires-2 c κs = search needs
+
+-- src/lib.rt:269:8
+look-requires-2 : tie.Need-look-requires-2
+look-requires-2 c κs = search needs
+
+-- src/lib.rt:270:9
+returns-4 : tie.Need-returns-4
+returns-4 c = (omega arith, (refl, units-empty (now (c .before .before .before .before .before .before .before .before .before .before .args .s)) (c .before .before .before .before .before .before .before .before .before .before .args .slot) _ _ (c .before .before .before .before .before .before .before .if1 .left) _ _ (c .before .before .before .before .before .skip-space .ensures) (c .before .before .before .before .look .ensures .0) (c .before .before .before .if3 .left) _ _ (c .before .before .skip-space2 .ensures) (c .before .look2 .ensures .0) (c .if4 .taken)))
+
+-- src/lib.rt:277:5
+put-units-from-requires : tie.Need-put-units-from-requires
+put-units-from-requires c κs = search needs
+
+-- src/lib.rt:248:1
+same-length : tie.Need-same-length
+same-length c = search needs
+
+-- src/lib.rt:248:1
+returns-5 : tie.Need-returns-5
+returns-5 c = (c .before .before .put-units-from .ensures .0, (c .before .before .put-units-from .ensures .1 .0, units-full (now (c .before .before .before .before .before .before .before .before .before .before .before .before .before .before .args .s)) (c .before .before .before .before .before .before .before .before .before .before .before .before .before .before .args .slot) _ _ (c .before .before .before .before .before .before .before .before .before .before .before .if1 .left) _ _ (c .before .before .before .before .before .before .before .before .before .skip-space .ensures) (c .before .before .before .before .before .before .before .before .look .ensures .0) (c .before .before .before .before .before .before .before .if3 .left) _ _ (c .before .before .before .before .before .before .skip-space2 .ensures) (c .before .before .before .before .before .look2 .ensures .0) (c .before .before .before .before .if4 .left) _ _ (c .before .before .put-units-from .ensures .1 .1)))
+
+pub put-units-spec : {M : Type 1} → statement M
+put-units-spec =
+    tie.close
+    (tie.spec
+    returns
+    returns-2
+    skip-space-requires
+    look-requires
+    returns-3
+    add-skip-space
+    skip-space-requires-2
+    look-requires-2
+    returns-4
+    put-units-from-requires
+    same-length
+    returns-5)

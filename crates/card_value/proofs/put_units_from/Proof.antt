@@ -1,0 +1,115 @@
+use Rattle.card_value.proofs.Units.{Going, going-first, units-wrong, units-on, units-all}
+use Rattle.line_pen.proofs.Laws.{pens-in, pens-length, pens-then}
+use Rattle.text.proofs.Places.{turn-as}
+use lib.ListN.{length}
+use Prim.Native.Nat.{_≤_, _-_}
+use denote.Ref.{now}
+use native.Mathlib.Nat.{le-refl}
+use native.Mathlib.Omega.{arith}
+use borrow.Author.Needs.{needs}
+use Rattle.card_value.proofs.put_units_from.Statement.{statement}
+use Rattle.card_value.proofs.put_units_from.Tie as tie
+use Rattle.card_value.proofs.put_units_from.Reads as reads
+use Rattle.card_value.proofs.put_units_from.Lts as lts
+use Rattle.card_value.proofs.pen_unit.Reads as pen-unit-reads
+use Rattle.card_value.proofs.unit_in.Reads as unit-in-reads
+use Rattle.json_access.proofs.element_at.Reads as element-at-reads
+use Rattle.json_marks.proofs.separator.Reads as separator-reads
+
+abbrev Inv-loop : tie.InvT-loop
+Inv-loop out₀ column s at i₀ n₀ k₀ ok₀ filled₀ out i n k ok filled = (i ≤ length s) × Going s at out₀ column i n k ok filled out
+
+abbrev μ-loop : tie.MeasureT-loop
+μ-loop out₀ column s at i₀ n₀ k₀ ok₀ filled₀ out i n k ok filled = length s - i
+
+-- src/lib.rt:218:5
+loop-holds : tie.Need-loop-holds Inv-loop μ-loop
+loop-holds c = (c .before .before .pre, going-first (now (c .before .before .args .s)) (c .before .before .args .at) (now (c .before .before .args .out)) (c .before .before .args .column))
+
+-- src/lib.rt:219:13
+element-at-requires : tie.Need-element-at-requires Inv-loop μ-loop
+element-at-requires c κs = tt
+
+-- src/lib.rt:222:13
+unit-in-requires : tie.Need-unit-in-requires Inv-loop μ-loop
+unit-in-requires c κs = omega (arith, c .element-at .ensures .0 .ordered, c .element-at .ensures .0 .end-in)
+
+-- src/lib.rt:224:13
+same-length : tie.Need-same-length Inv-loop μ-loop
+same-length c = pens-length (c .before .before .before .loop .inv .1 .pens)
+
+-- src/lib.rt:224:13
+returns : tie.Need-returns Inv-loop μ-loop
+returns c = (tt, (pens-length (c .before .before .before .loop .inv .1 .pens), units-wrong (now (c .before .before .before .before .before .before .args .s)) (c .before .before .before .before .before .before .args .at) (now (c .before .before .before .before .before .before .args .out)) (c .before .before .before .before .before .before .args .column) (c .before .before .before .loop .i) (c .before .before .before .loop .n) (c .before .before .before .loop .k) (c .before .before .before .loop .ok) (c .before .before .before .loop .filled) (c .before .before .before .loop .out) (c .before .before .before .loop .inv .1) (c .before .before .element-at .result) (c .before .before .element-at .ensures .1) (c .before .unit-in .result) (c .before .unit-in .ensures) _ (c .if1 .taken)))
+
+-- src/lib.rt:226:26
+sub-pen-unit : tie.Need-sub-pen-unit Inv-loop μ-loop
+sub-pen-unit c = omega (arith, pens-in (c .before .before .before .loop .inv .1 .pens), pens-length (c .before .before .before .loop .inv .1 .pens))
+
+-- src/lib.rt:226:26
+part-pen-unit-start : tie.Need-part-pen-unit-start Inv-loop μ-loop
+part-pen-unit-start c = omega (arith, pens-in (c .before .before .before .loop .inv .1 .pens), pens-length (c .before .before .before .loop .inv .1 .pens))
+
+-- src/lib.rt:226:26
+part-pen-unit-end : tie.Need-part-pen-unit-end Inv-loop μ-loop
+part-pen-unit-end c = le-refl _
+
+-- src/lib.rt:226:13
+pen-unit-requires : tie.Need-pen-unit-requires Inv-loop μ-loop
+pen-unit-requires c κs = tt
+
+-- src/lib.rt:227:9
+add-n : tie.Need-add-n Inv-loop μ-loop
+add-n c = record { fits = omega (arith, pens-in (pens-then (c .before .before .before .before .before .before .before .before .loop .inv .1 .pens) (c .before .before .before .pen-unit .ensures .pens)), c .before .before .before .before .before .before .before .before .before .before .before .good .0 .0) }
+
+-- src/lib.rt:231:15
+separator-requires : tie.Need-separator-requires Inv-loop μ-loop
+separator-requires c κs = (c .before .before .before .before .before .before .before .before .before .element-at .ensures .0 .end-in, omega arith)
+
+-- src/lib.rt:232:22
+enum-known-j : tie.Need-enum-known-j Inv-loop μ-loop
+enum-known-j c = search needs
+
+-- src/lib.rt:218:5
+loop-less : tie.Need-loop-less Inv-loop μ-loop
+loop-less c = let h = turn-as (c .before .before .before .separator .ensures) (c .before .j .given .1) in omega (arith, h .within .0, h .within .1, c .before .before .before .before .before .before .before .before .before .before .before .before .before .element-at .ensures .0 .from (c .before .before .before .before .before .before .before .before .before .before .before .before .before .before .loop .inv .0), c .before .before .before .before .before .before .before .before .before .before .before .before .before .element-at .ensures .0 .ordered)
+
+-- src/lib.rt:218:5
+loop-again : tie.Need-loop-again Inv-loop μ-loop
+loop-again c = let h = turn-as (c .before .before .before .separator .ensures) (c .before .j .given .1) in (h .within .1, units-on (now (c .before .before .before .before .before .before .before .before .before .before .before .before .before .before .before .before .before .args .s)) (c .before .before .before .before .before .before .before .before .before .before .before .before .before .before .before .before .before .args .at) (now (c .before .before .before .before .before .before .before .before .before .before .before .before .before .before .before .before .before .args .out)) (c .before .before .before .before .before .before .before .before .before .before .before .before .before .before .before .before .before .args .column) (c .before .before .before .before .before .before .before .before .before .before .before .before .before .before .loop .i) (c .before .before .before .before .before .before .before .before .before .before .before .before .before .before .loop .n) (c .before .before .before .before .before .before .before .before .before .before .before .before .before .before .loop .k) (c .before .before .before .before .before .before .before .before .before .before .before .before .before .before .loop .ok) (c .before .before .before .before .before .before .before .before .before .before .before .before .before .before .loop .filled) (c .before .before .before .before .before .before .before .before .before .before .before .before .before .before .loop .out) (c .before .before .before .before .before .before .before .before .before .before .before .before .before .before .loop .inv .1) (c .before .before .before .before .before .before .before .before .before .before .before .before .before .element-at .result) (c .before .before .before .before .before .before .before .before .before .before .before .before .before .element-at .ensures .1) (c .before .before .before .before .before .before .before .before .before .before .before .before .unit-in .result) (c .before .before .before .before .before .before .before .before .before .before .before .before .unit-in .ensures) (c .before .before .before .before .before .before .before .before .before .before .before .if1 .left) (c .before .before .before .before .before .before .before .before .before .pen-unit .result) _ (c .before .before .before .before .before .before .before .before .before .pen-unit .ensures) _ h)
+
+-- src/lib.rt:235:24
+enum-known-r : tie.Need-enum-known-r Inv-loop μ-loop
+enum-known-r c = search needs
+
+-- src/lib.rt:236:17
+same-length-2 : tie.Need-same-length-2 Inv-loop μ-loop
+same-length-2 c = pens-length (pens-then (c .before .before .before .before .before .before .before .before .before .before .before .before .before .before .loop .inv .1 .pens) (c .before .before .before .before .before .before .before .before .before .pen-unit .ensures .pens))
+
+-- src/lib.rt:236:17
+returns-2 : tie.Need-returns-2 Inv-loop μ-loop
+returns-2 c = (pens-in (pens-then (c .before .before .before .before .before .before .before .before .before .before .before .before .before .before .loop .inv .1 .pens) (c .before .before .before .before .before .before .before .before .before .pen-unit .ensures .pens)), (pens-length (pens-then (c .before .before .before .before .before .before .before .before .before .before .before .before .before .before .loop .inv .1 .pens) (c .before .before .before .before .before .before .before .before .before .pen-unit .ensures .pens)), units-all (now (c .before .before .before .before .before .before .before .before .before .before .before .before .before .before .before .before .before .args .s)) (c .before .before .before .before .before .before .before .before .before .before .before .before .before .before .before .before .before .args .at) (now (c .before .before .before .before .before .before .before .before .before .before .before .before .before .before .before .before .before .args .out)) (c .before .before .before .before .before .before .before .before .before .before .before .before .before .before .before .before .before .args .column) (c .before .before .before .before .before .before .before .before .before .before .before .before .before .before .loop .i) (c .before .before .before .before .before .before .before .before .before .before .before .before .before .before .loop .n) (c .before .before .before .before .before .before .before .before .before .before .before .before .before .before .loop .k) (c .before .before .before .before .before .before .before .before .before .before .before .before .before .before .loop .ok) (c .before .before .before .before .before .before .before .before .before .before .before .before .before .before .loop .filled) (c .before .before .before .before .before .before .before .before .before .before .before .before .before .before .loop .out) (c .before .before .before .before .before .before .before .before .before .before .before .before .before .before .loop .inv .1) (c .before .before .before .before .before .before .before .before .before .before .before .before .before .element-at .result) (c .before .before .before .before .before .before .before .before .before .before .before .before .before .element-at .ensures .1) (c .before .before .before .before .before .before .before .before .before .before .before .before .unit-in .result) (c .before .before .before .before .before .before .before .before .before .before .before .before .unit-in .ensures) (c .before .before .before .before .before .before .before .before .before .before .before .if1 .left) (c .before .before .before .before .before .before .before .before .before .pen-unit .result) _ (c .before .before .before .before .before .before .before .before .before .pen-unit .ensures) _ (turn-as (c .before .before .before .separator .ensures) (c .before .r .given .1))))
+
+pub put-units-from-spec : {M : Type 1} → statement M
+put-units-from-spec =
+    tie.close
+    (tie.spec
+    Inv-loop
+    μ-loop
+    loop-holds
+    element-at-requires
+    unit-in-requires
+    same-length
+    returns
+    sub-pen-unit
+    part-pen-unit-start
+    part-pen-unit-end
+    pen-unit-requires
+    add-n
+    separator-requires
+    enum-known-j
+    loop-less
+    loop-again
+    enum-known-r
+    same-length-2
+    returns-2)
