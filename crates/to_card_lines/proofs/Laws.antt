@@ -104,3 +104,6 @@ pub part-in : (n : ℕ) (out : Bytes) {k : ℕ} → n ≤ length out → k ≤ l
 part-in n out {k} h e =
     let m : length (take (length out - n) (drop n out)) ≡ length out - n = simp (length-take, length-drop) (omega arith) in
     omega arith
+
+pub mid-length : (n : ℕ) (out : Bytes) → length (midOf n (length out - n) out) ≤ length out
+mid-length n out = simp (length-take, length-drop) (omega arith)
