@@ -1,0 +1,34 @@
+use denote.Ref.{now}
+use Rattle.text.proofs.Cases.{not-true, not-false}
+use Rattle.convert.specs.Value.{filled}
+use Rattle.to_card_head.proofs.Slots.{filled-absent, filled-there, test-none, test-fails, test-holds}
+use borrow.Author.Needs.{needs}
+use Rattle.to_card_head.proofs.filled_in.Statement.{statement}
+use Rattle.to_card_head.proofs.filled_in.Tie as tie
+use Rattle.to_card_head.proofs.filled_in.Reads as reads
+use Rattle.to_card_head.proofs.filled_in.Lts as lts
+use Rattle.card_entry.proofs.string_in.Reads as string-in-reads
+use Rattle.to_card_head.proofs.is_filled.Reads as is-filled-reads
+
+returns : tie.Need-returns
+returns c = filled-absent (now (c .before .before .args .s)) (c .before .before .args .slot) (c .if1 .taken)
+
+string-in-requires : tie.Need-string-in-requires
+string-in-requires c κs = search needs
+
+returns-2 : tie.Need-returns-2
+returns-2 c = filled-there (now (c .before .before .before .before .args .s)) (c .before .before .before .before .args .slot) (c .before .before .if1 .left) 0 (λ v w. test-none filled (now (c .before .before .before .before .args .s)) (c .before .before .before .before .args .slot) (c .before .string-in .result) (c .before .string-in .ensures) 15 v w (c .if2 .taken))
+
+is-filled-requires : tie.Need-is-filled-requires
+is-filled-requires c κs = search needs
+
+returns-3 : tie.Need-returns-3
+returns-3 c = filled-there (now (c .before .before .before .before .before .before .args .s)) (c .before .before .before .before .before .before .args .slot) (c .before .before .before .before .if1 .left) 0 (λ v w. test-fails filled (now (c .before .before .before .before .before .before .args .s)) (c .before .before .before .before .before .before .args .slot) (c .before .before .before .string-in .result) (c .before .before .before .string-in .ensures) 15 v w (c .before .before .if2 .left) (c .before .is-filled .result) (c .before .is-filled .ensures) (not-true _ (c .if3 .taken)))
+
+returns-4 : tie.Need-returns-4
+returns-4 c = filled-there (now (c .before .before .before .before .before .before .args .s)) (c .before .before .before .before .before .before .args .slot) (c .before .before .before .before .if1 .left) (c .before .before .before .string-in .result) (λ v w. test-holds filled (now (c .before .before .before .before .before .before .args .s)) (c .before .before .before .before .before .before .args .slot) (c .before .before .before .string-in .result) (c .before .before .before .string-in .ensures) 15 v w (c .before .before .if2 .left) (c .before .is-filled .result) (c .before .is-filled .ensures) (not-false _ (c .if3 .left)))
+
+pub filled-in-spec : {M : Type 1} → statement M
+filled-in-spec =
+    tie.close
+    (tie.spec returns string-in-requires returns-2 is-filled-requires returns-3 returns-4)

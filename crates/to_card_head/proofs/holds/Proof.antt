@@ -1,0 +1,27 @@
+use denote.Ref.{now}
+use Rattle.to_card_head.proofs.Slots.{same-absent, same-no, same-is}
+use borrow.Author.Needs.{needs}
+use Rattle.to_card_head.proofs.holds.Statement.{statement}
+use Rattle.to_card_head.proofs.holds.Tie as tie
+use Rattle.to_card_head.proofs.holds.Reads as reads
+use Rattle.to_card_head.proofs.holds.Lts as lts
+use Rattle.card_entry.proofs.string_in.Reads as string-in-reads
+use Rattle.json_equal.proofs.equals.Reads as equals-reads
+
+returns : tie.Need-returns
+returns c = same-absent (now (c .before .before .before .args .s)) (c .before .before .before .args .slot) (now (c .before .before .before .args .bytes)) (c .if1 .taken)
+
+string-in-requires : tie.Need-string-in-requires
+string-in-requires c κs = search needs
+
+returns-2 : tie.Need-returns-2
+returns-2 c = same-no (now (c .before .before .before .before .before .args .s)) (c .before .before .before .before .before .args .slot) (now (c .before .before .before .before .before .args .bytes)) (c .before .before .if1 .left) (c .before .string-in .result) (c .before .string-in .ensures) (c .if2 .taken)
+
+equals-requires : tie.Need-equals-requires
+equals-requires c κs = search needs
+
+returns-3 : tie.Need-returns-3
+returns-3 c = same-is (now (c .before .before .before .before .before .before .args .s)) (c .before .before .before .before .before .before .args .slot) (now (c .before .before .before .before .before .before .args .bytes)) (c .before .before .before .if1 .left) (c .before .before .string-in .result) (c .before .before .string-in .ensures) (c .before .if2 .left) (c .equals .result) (c .equals .ensures)
+
+pub holds-spec : {M : Type 1} → statement M
+holds-spec = tie.close (tie.spec returns string-in-requires returns-2 equals-requires returns-3)

@@ -1,0 +1,45 @@
+use denote.Ref.{now}
+use Rattle.to_card_head.proofs.Words.{filled-past, filled-alone, filled-end, filled-one}
+use borrow.Author.Needs.{needs}
+use Rattle.to_card_head.proofs.is_filled.Statement.{statement}
+use Rattle.to_card_head.proofs.is_filled.Tie as tie
+use Rattle.to_card_head.proofs.is_filled.Reads as reads
+use Rattle.to_card_head.proofs.is_filled.Lts as lts
+use Rattle.json_strings.proofs.next_byte.Reads as next-byte-reads
+
+returns : tie.Need-returns
+returns c = filled-past (now (c .before .before .args .s)) (c .before .before .args .at) (c .if1 .taken)
+
+next-byte-requires : tie.Need-next-byte-requires
+next-byte-requires c κs = search needs
+
+enum-told : tie.Need-enum-told
+enum-told c = search needs
+
+enum-told-2 : tie.Need-enum-told-2
+enum-told-2 c = search needs
+
+enum-known-b : tie.Need-enum-known-b
+enum-known-b c = search needs
+
+returns-2 : tie.Need-returns-2
+returns-2 c = filled-alone (now (c .before .before .before .before .before .args .s)) (c .before .before .before .before .before .args .at) (c .before .before .next-byte .result) (c .before .before .next-byte .ensures .0) (c .enum-told .given .1)
+
+returns-3 : tie.Need-returns-3
+returns-3 c = filled-end (now (c .before .before .before .before .before .args .s)) (c .before .before .before .before .before .args .at) (c .before .before .next-byte .result) (c .before .before .next-byte .ensures .0) (c .enum-told2 .given .1)
+
+returns-4 : tie.Need-returns-4
+returns-4 c = filled-one (now (c .before .before .before .before .before .before .args .s)) (c .before .before .before .before .before .before .args .at) (c .before .before .before .next-byte .result) (c .before .before .before .next-byte .ensures .0) (c .before .b .given .1)
+
+pub is-filled-spec : {M : Type 1} → statement M
+is-filled-spec =
+    tie.close
+    (tie.spec
+    returns
+    next-byte-requires
+    enum-told
+    enum-told-2
+    enum-known-b
+    returns-2
+    returns-3
+    returns-4)

@@ -1,0 +1,81 @@
+use native.Mathlib.Omega.{arith}
+use borrow.Author.Needs.{needs}
+use denote.Ref.{now}
+use mathlib.Core.Path.{_≡_, sym, ap, _∙_}
+use Prim.Native.Nat.{_≤_}
+use lib.ListN.{length}
+use Rattle.text.proofs.Cases.{not-true, not-false}
+use Rattle.json_strings.specs.Spelled.{spelled, left, weight}
+use Rattle.json_strings.proofs.Laws.{left-none, spelled-past}
+use Rattle.json_strings.proofs.NextByte.{byte-in, is-alone, is-end, is-one}
+use Rattle.to_card_head.specs.Head.{wordOf, wordFrom}
+use Rattle.to_card_head.proofs.Words.{word-first, word-end, word-bad, word-on}
+use Rattle.to_card_head.proofs.is_word.Statement.{statement}
+use Rattle.to_card_head.proofs.is_word.Tie as tie
+use Rattle.to_card_head.proofs.is_word.Reads as reads
+use Rattle.to_card_head.proofs.is_word.Lts as lts
+use Rattle.json_strings.proofs.next_byte.Reads as next-byte-reads
+use Rattle.to_card_head.proofs.is_lower_name.Reads as is-lower-name-reads
+
+abbrev Inv-loop : tie.InvT-loop
+Inv-loop s at i₀ h₀ begun₀ i h begun = (i ≤ length s) × (wordOf (spelled s at) ≡ wordFrom begun (left s i h))
+
+abbrev μ-loop : tie.MeasureT-loop
+μ-loop s at i₀ h₀ begun₀ i h begun = weight s i h
+
+returns : tie.Need-returns Inv-loop μ-loop
+returns c = sym (ap wordOf (spelled-past (now (c .before .before .args .s)) (c .before .before .args .at) (c .if1 .taken)))
+
+loop-holds : tie.Need-loop-holds Inv-loop μ-loop
+loop-holds c = (c .if1 .left, word-first _ _ (left-none (now (c .before .before .args .s)) (c .before .before .args .at)))
+
+next-byte-requires : tie.Need-next-byte-requires Inv-loop μ-loop
+next-byte-requires c κs = c .loop .inv .0
+
+enum-told : tie.Need-enum-told Inv-loop μ-loop
+enum-told c = search needs
+
+returns-2 : tie.Need-returns-2 Inv-loop μ-loop
+returns-2 c = sym (c .before .before .before .loop .inv .1 ∙ ap (wordFrom (c .before .before .before .loop .begun)) (is-alone (now (c .before .before .before .before .before .before .args .s)) (c .before .before .next-byte .ensures .0) (c .enum-told .given .1)))
+
+enum-told-2 : tie.Need-enum-told-2 Inv-loop μ-loop
+enum-told-2 c = search needs
+
+returns-3 : tie.Need-returns-3 Inv-loop μ-loop
+returns-3 c = word-end (c .before .before .before .loop .begun) ∙ sym (c .before .before .before .loop .inv .1 ∙ ap (wordFrom (c .before .before .before .loop .begun)) (is-end (now (c .before .before .before .before .before .before .args .s)) (c .before .before .next-byte .ensures .0) (c .enum-told2 .given .1)))
+
+enum-known-b : tie.Need-enum-known-b Inv-loop μ-loop
+enum-known-b c = search needs
+
+is-lower-name-requires : tie.Need-is-lower-name-requires Inv-loop μ-loop
+is-lower-name-requires c κs = tt
+
+returns-4 : tie.Need-returns-4 Inv-loop μ-loop
+returns-4 c = word-bad (c .before .before .before .before .before .before .loop .begun) (c .before .before .before .b .given .0 .0) (left (now (c .before .before .before .before .before .before .before .before .before .args .s)) (c .before .before .before .b .given .0 .1 .0) (c .before .before .before .b .given .0 .1 .1 .0)) (sym (c .before .is-lower-name .ensures) ∙ not-true _ (c .if2 .taken)) ∙ sym (c .before .before .before .before .before .before .loop .inv .1 ∙ ap (wordFrom (c .before .before .before .before .before .before .loop .begun)) (is-one (now (c .before .before .before .before .before .before .before .before .before .args .s)) (c .before .before .before .before .before .next-byte .ensures .0) (c .before .before .before .b .given .1)))
+
+loop-less : tie.Need-loop-less Inv-loop μ-loop
+loop-less c = byte-in (now (c .before .before .before .before .before .before .before .before .before .args .s)) (c .before .before .before .before .before .before .loop .i) (c .before .before .before .before .before .before .loop .h) (c .before .before .before .before .before .next-byte .ensures .1) (c .before .before .before .b .given .1) .1
+
+loop-again : tie.Need-loop-again Inv-loop μ-loop
+loop-again c = (byte-in (now (c .before .before .before .before .before .before .before .before .before .args .s)) (c .before .before .before .before .before .before .loop .i) (c .before .before .before .before .before .before .loop .h) (c .before .before .before .before .before .next-byte .ensures .1) (c .before .before .before .b .given .1) .0,
+    c .before .before .before .before .before .before .loop .inv .1 ∙ ap (wordFrom (c .before .before .before .before .before .before .loop .begun)) (is-one (now (c .before .before .before .before .before .before .before .before .before .args .s)) (c .before .before .before .before .before .next-byte .ensures .0) (c .before .before .before .b .given .1))
+    ∙ word-on (c .before .before .before .before .before .before .loop .begun) (c .before .before .before .b .given .0 .0) (left (now (c .before .before .before .before .before .before .before .before .before .args .s)) (c .before .before .before .b .given .0 .1 .0) (c .before .before .before .b .given .0 .1 .1 .0)) (sym (c .before .is-lower-name .ensures) ∙ not-false _ (c .if2 .left)))
+
+pub is-word-spec : {M : Type 1} → statement M
+is-word-spec =
+    tie.close
+    (tie.spec
+    Inv-loop
+    μ-loop
+    returns
+    loop-holds
+    next-byte-requires
+    enum-told
+    returns-2
+    enum-told-2
+    returns-3
+    enum-known-b
+    is-lower-name-requires
+    returns-4
+    loop-less
+    loop-again)

@@ -1,0 +1,31 @@
+use denote.Ref.{now}
+use Rattle.text.proofs.Cases.{not-true, not-false}
+use mathlib.Core.Path.{ap, _∙_}
+use Rattle.convert.specs.FromJson.{isLowerWord}
+use Rattle.to_card_head.specs.Head.{wordOf}
+use Rattle.to_card_head.proofs.Slots.{test-none, test-fails, test-holds}
+use borrow.Author.Needs.{needs}
+use Rattle.to_card_head.proofs.word_in.Statement.{statement}
+use Rattle.to_card_head.proofs.word_in.Tie as tie
+use Rattle.to_card_head.proofs.word_in.Reads as reads
+use Rattle.to_card_head.proofs.word_in.Lts as lts
+use Rattle.card_entry.proofs.string_in.Reads as string-in-reads
+use Rattle.to_card_head.proofs.is_word.Reads as is-word-reads
+
+string-in-requires : tie.Need-string-in-requires
+string-in-requires c κs = search needs
+
+returns : tie.Need-returns
+returns c = λ v w. test-none isLowerWord (now (c .before .before .before .args .s)) (c .before .before .before .args .slot) (c .before .string-in .result) (c .before .string-in .ensures) 15 v w (c .if1 .taken)
+
+is-word-requires : tie.Need-is-word-requires
+is-word-requires c κs = search needs
+
+returns-2 : tie.Need-returns-2
+returns-2 c = λ v w. test-fails isLowerWord (now (c .before .before .before .before .before .args .s)) (c .before .before .before .before .before .args .slot) (c .before .before .before .string-in .result) (c .before .before .before .string-in .ensures) 15 v w (c .before .before .if1 .left) (c .before .is-word .result) (λ x e. c .before .is-word .ensures ∙ ap wordOf e) (not-true _ (c .if2 .taken))
+
+returns-3 : tie.Need-returns-3
+returns-3 c = λ v w. test-holds isLowerWord (now (c .before .before .before .before .before .args .s)) (c .before .before .before .before .before .args .slot) (c .before .before .before .string-in .result) (c .before .before .before .string-in .ensures) 15 v w (c .before .before .if1 .left) (c .before .is-word .result) (λ x e. c .before .is-word .ensures ∙ ap wordOf e) (not-false _ (c .if2 .left))
+
+pub word-in-spec : {M : Type 1} → statement M
+word-in-spec = tie.close (tie.spec string-in-requires returns is-word-requires returns-2 returns-3)

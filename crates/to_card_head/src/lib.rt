@@ -1,0 +1,178 @@
+// The first lines of a card from the members of the JSON: BEGIN, VERSION, UID and KIND. A slot is the place of a member's value, 0 where it is absent.
+use card_entry::string_in;
+use json_equal::equals;
+use json_strings::Byte;
+use json_strings::next_byte;
+use line_pen::fill;
+use to_card_lines::Lines;
+use to_card_lines::Penned;
+use to_card_lines::put_string_line;
+ghost use mathlib.Core.Path.{_≡_};
+ghost use lib.ListN.{length};
+ghost use Rattle.json_strings.specs.Spelled.{spelled};
+ghost use Rattle.line.specs.Class.{isLowerName};
+ghost use Rattle.to_card_lines.specs.Lines.{LinesIn};
+ghost use Rattle.to_card_head.specs.Head.{wordOf, TellsFilled, TellsSame, FilledIn, WordIn, Starts, PutsHead};
+
+// A byte of a name with no upper-case letter.
+fn is_lower_name(c: u8) -> bool
+    ensures { λ r. ⌜ r ≡ isLowerName c ⌝ }
+{
+    if c > 122 {
+        return false;
+    }
+    if c >= 97 {
+        return true;
+    }
+    if c > 57 {
+        return false;
+    }
+    if c >= 48 {
+        return true;
+    }
+    c == b'-'
+}
+
+// Whether a string is a lower-case word: one or more of these bytes.
+pub fn is_word(s: &[u8], at: usize) -> bool
+    ensures { λ r. ⌜ r ≡ wordOf (spelled (now (s .entry)) at) ⌝ }
+{
+    if at > s.len() {
+        return false;
+    }
+    let mut i = at;
+    let mut h = 0;
+    let mut begun = false;
+    loop {
+        match next_byte(s, i, h) {
+            Byte::Alone => {
+                return false;
+            }
+            Byte::End => {
+                return begun;
+            }
+            Byte::One(b, j, g) => {
+                if !is_lower_name(b) {
+                    return false;
+                }
+                begun = true;
+                i = j;
+                h = g;
+            }
+        }
+    }
+}
+
+// Whether a string has any byte.
+pub fn is_filled(s: &[u8], at: usize) -> bool
+    ensures { λ r. ⌜ TellsFilled (now (s .entry)) at r ⌝ }
+{
+    if at > s.len() {
+        return false;
+    }
+    match next_byte(s, at, 0) {
+        Byte::Alone => false,
+        Byte::End => false,
+        Byte::One(b, j, g) => true,
+    }
+}
+
+// Whether a slot holds the string of these bytes.
+fn holds<'a, 'b>(s: &'a [u8], slot: usize, bytes: &'b [u8]) -> bool
+    ensures { λ r. ⌜ TellsSame (now (s .entry)) slot (now (bytes .entry)) r ⌝ }
+{
+    if slot == 0 {
+        return false;
+    }
+    let q = string_in(s, slot);
+    if q == 0 {
+        return false;
+    }
+    equals(s, q, bytes)
+}
+
+// The place of a string that is not empty; 0 where a slot holds none.
+fn filled_in(s: &[u8], slot: usize) -> usize
+    ensures { λ r. ⌜ FilledIn (now (s .entry)) slot r ⌝ }
+{
+    if slot == 0 {
+        return 0;
+    }
+    let q = string_in(s, slot);
+    if q == 0 {
+        return 0;
+    }
+    if !is_filled(s, q) {
+        return 0;
+    }
+    q
+}
+
+// The place of a lower-case word; 0 where the value at a place is none.
+fn word_in(s: &[u8], slot: usize) -> usize
+    ensures { λ r. ⌜ WordIn (now (s .entry)) slot r ⌝ }
+{
+    let q = string_in(s, slot);
+    if q == 0 {
+        return 0;
+    }
+    if !is_word(s, q) {
+        return 0;
+    }
+    q
+}
+
+// BEGIN, VERSION and the UID at a place.
+fn put_start<'a, 'b>(out: &'a mut [u8], s: &'b [u8], uid: usize) -> Penned
+    ensures { λ r. ⌜ Starts (now (s .entry)) uid (now (out .entry)) r (now (out .exit)) ⌝ }
+{
+    let n = fill(out, b"BEGIN:VCARD\r\nVERSION:4.0\r\n");
+    let p = put_string_line(&mut out[n..], b"UID:", 0, s, uid);
+    let m = n + p.bytes;
+    let ok = p.carried;
+    Penned {
+        bytes: m,
+        carried: ok,
+    }
+}
+
+// The lines up to KIND, by the slots of @type, version, uid and kind.
+pub fn put_head<'a, 'b>(
+    out: &'a mut [u8],
+    s: &'b [u8],
+    card: usize,
+    version: usize,
+    uid: usize,
+    kind: usize,
+) -> Lines
+    ensures { λ r. ⌜ LinesIn (length (now (out .entry))) r ⌝ }
+    ensures { λ r. ⌜ length (now (out .exit)) ≡ length (now (out .entry)) ⌝ }
+    ensures { λ r. ⌜ PutsHead (now (s .entry)) card version uid kind (now (out .entry)) r (now (out .exit)) ⌝ }
+{
+    if !holds(s, card, b"Card") {
+        return Lines::Wrong;
+    }
+    if !holds(s, version, b"1.0") {
+        return Lines::Wrong;
+    }
+    let u = filled_in(s, uid);
+    if u == 0 {
+        return Lines::Wrong;
+    }
+    if kind == 0 {
+        let p = put_start(out, s, u);
+        let n = p.bytes;
+        let ok = p.carried;
+        return Lines::All(n, 2, ok);
+    }
+    let k = word_in(s, kind);
+    if k == 0 {
+        return Lines::Wrong;
+    }
+    let p = put_start(out, s, u);
+    let n = p.bytes;
+    let ok = p.carried;
+    let q = put_string_line(&mut out[n..], b"KIND:", 0, s, k);
+    let m = n + q.bytes;
+    Lines::All(m, 3, ok)
+}

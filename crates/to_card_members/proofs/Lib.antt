@@ -1,0 +1,4 @@
+pub mod Pointers
+pub mod Values
+pub mod Others
+pub mod Loop

@@ -1,0 +1,118 @@
+use borrow.Author.Needs.{needs}
+use native.Mathlib.Omega.{arith}
+use native.Mathlib.Nat.{le-refl}
+use denote.Ref.{now}
+use mathlib.Core.Path.{_≡_, refl, _∙_}
+use Prim.Native.Nat.{_≤_, _-_}
+use lib.ListN.{length}
+use Rattle.text.proofs.Places.{turn-as}
+use Rattle.to_card_lines.proofs.Laws.{part-length, part-in, mid-length}
+use Rattle.to_card_members.proofs.Loop.{Going, going-first, puts-wrong, going-on, puts-all, one-in}
+use Rattle.to_card_members.proofs.put_from.Statement.{statement}
+use Rattle.to_card_members.proofs.put_from.Tie as tie
+use Rattle.to_card_members.proofs.put_from.Reads as reads
+use Rattle.to_card_members.proofs.put_from.Lts as lts
+use Rattle.json_access.proofs.member_at.Reads as member-at-reads
+use Rattle.json_marks.proofs.separator.Reads as separator-reads
+use Rattle.to_card_members.proofs.put_other.Reads as put-other-reads
+
+abbrev Inv-loop : tie.InvT-loop
+Inv-loop out₀ buffer₀ s at i₀ n₀ lines₀ ok₀ out buffer i n lines ok = (i ≤ length s) × (n ≤ length out) × (length out ≡ length out₀) × (lines ≤ i) × (length buffer ≡ length buffer₀) × Going s at out₀ i n lines ok out
+
+abbrev μ-loop : tie.MeasureT-loop
+μ-loop out₀ buffer₀ s at i₀ n₀ lines₀ ok₀ out buffer i n lines ok = length s - i
+
+loop-holds : tie.Need-loop-holds Inv-loop μ-loop
+loop-holds c = (c .before .before .before .pre .0, omega arith, refl, omega arith, refl, going-first (now (c .before .before .before .args .s)) (c .before .before .before .args .at) (now (c .before .before .before .args .out)))
+
+member-at-requires : tie.Need-member-at-requires Inv-loop μ-loop
+member-at-requires c κs = tt
+
+sub-put-other : tie.Need-sub-put-other Inv-loop μ-loop
+sub-put-other c = c .before .loop .inv .1
+
+part-put-other-start : tie.Need-part-put-other-start Inv-loop μ-loop
+part-put-other-start c = c .before .loop .inv .1
+
+part-put-other-end : tie.Need-part-put-other-end Inv-loop μ-loop
+part-put-other-end c = le-refl _
+
+put-other-requires : tie.Need-put-other-requires Inv-loop μ-loop
+put-other-requires c κs = (c .before .before .member-at .ensures .1 .0 .ordered, (c .before .before .member-at .ensures .1 .0 .end-in, omega (arith, c .before .before .before .loop .inv .2, c .before .before .before .loop .inv .4, c .before .before .before .before .before .before .before .pre .1, mid-length (c .before .before .before .loop .n) (c .before .before .before .loop .out))))
+
+enum-known-k : tie.Need-enum-known-k Inv-loop μ-loop
+enum-known-k c = search needs
+
+enum-told : tie.Need-enum-told Inv-loop μ-loop
+enum-told c = search needs
+
+same-length : tie.Need-same-length Inv-loop μ-loop
+same-length c = part-length (c .before .before .before .before .before .before .before .before .before .before .loop .n) (c .before .before .before .before .before .before .before .before .before .before .loop .out) (c .before .before .before .before .before .before .put-other .last .0) (c .before .before .before .before .before .before .before .before .before .before .loop .inv .1) (c .before .before .before .before .before .before .put-other .ensures .1 .0) ∙ (c .before .before .before .before .before .before .before .before .before .before .loop .inv .2)
+
+same-length-2 : tie.Need-same-length-2 Inv-loop μ-loop
+same-length-2 c = c .before .before .before .before .before .before .put-other .ensures .1 .1 .0 ∙ (c .before .before .before .before .before .before .before .before .before .before .loop .inv .4)
+
+returns : tie.Need-returns Inv-loop μ-loop
+returns c = (tt, (part-length (c .before .before .before .before .before .before .before .before .before .before .loop .n) (c .before .before .before .before .before .before .before .before .before .before .loop .out) (c .before .before .before .before .before .before .put-other .last .0) (c .before .before .before .before .before .before .before .before .before .before .loop .inv .1) (c .before .before .before .before .before .before .put-other .ensures .1 .0) ∙ (c .before .before .before .before .before .before .before .before .before .before .loop .inv .2), puts-wrong (now (c .before .before .before .before .before .before .before .before .before .before .before .before .before .before .args .s)) (c .before .before .before .before .before .before .before .before .before .before .before .before .before .before .args .at) (now (c .before .before .before .before .before .before .before .before .before .before .before .before .before .before .args .out)) (c .before .before .before .before .before .before .before .before .before .before .loop .i) (c .before .before .before .before .before .before .before .before .before .before .loop .n) (c .before .before .before .before .before .before .before .before .before .before .loop .lines) (c .before .before .before .before .before .before .before .before .before .before .loop .ok) (c .before .before .before .before .before .before .before .before .before .before .loop .out) (c .before .before .before .before .before .before .before .before .before .before .loop .inv .5) (c .before .before .before .before .before .before .before .before .before .member-at .result) (c .before .before .before .before .before .before .before .before .before .member-at .ensures .1 .0) (c .before .before .before .before .before .before .before .before .before .member-at .ensures .1 .1) (c .before .before .before .before .before .before .put-other .result) _ (c .before .before .before .before .before .before .put-other .ensures .1 .1 .1) _ (c .enum-told .given .1)))
+
+add-n : tie.Need-add-n Inv-loop μ-loop
+add-n c = record { fits = omega (arith, part-in (c .before .before .before .before .before .before .before .before .before .before .before .loop .n) (c .before .before .before .before .before .before .before .before .before .before .before .loop .out) (c .before .before .before .before .before .before .before .before .before .before .before .loop .inv .1) (one-in (c .before .before .before .before .before .before .before .put-other .ensures .0) (c .before .k .given .1) .0), c .before .before .before .before .before .before .before .before .before .before .before .loop .inv .2, c .before .before .before .before .before .before .before .before .before .before .before .before .before .before .before .good .0 .0) }
+
+add-lines : tie.Need-add-lines Inv-loop μ-loop
+add-lines c = omega (arith, c .before .before .before .before .before .before .before .before .before .before .before .loop .inv .3, c .before .before .before .before .before .before .before .before .before .before .before .loop .inv .0, one-in (c .before .before .before .before .before .before .before .put-other .ensures .0) (c .before .k .given .1) .1)
+
+separator-requires : tie.Need-separator-requires Inv-loop μ-loop
+separator-requires c κs = (c .before .before .before .before .before .before .before .before .before .before .member-at .ensures .1 .0 .end-in, omega arith)
+
+enum-known-j : tie.Need-enum-known-j Inv-loop μ-loop
+enum-known-j c = search needs
+
+loop-less : tie.Need-loop-less Inv-loop μ-loop
+loop-less c = let h = turn-as (c .before .before .before .separator .ensures) (c .before .j .given .1) in omega (arith, h .within .0, h .within .1, c .before .before .before .before .before .before .before .before .before .before .before .before .before .before .member-at .ensures .1 .0 .from (c .before .before .before .before .before .before .before .before .before .before .before .before .before .before .before .loop .inv .0), c .before .before .before .before .before .before .before .before .before .before .before .before .before .before .member-at .ensures .1 .0 .ordered)
+
+loop-again : tie.Need-loop-again Inv-loop μ-loop
+loop-again c = let h = turn-as (c .before .before .before .separator .ensures) (c .before .j .given .1) in
+    let l = part-length (c .before .before .before .before .before .before .before .before .before .before .before .before .before .before .before .loop .n) (c .before .before .before .before .before .before .before .before .before .before .before .before .before .before .before .loop .out) (c .before .before .before .before .before .before .before .before .before .before .before .put-other .last .0) (c .before .before .before .before .before .before .before .before .before .before .before .before .before .before .before .loop .inv .1) (c .before .before .before .before .before .before .before .before .before .before .before .put-other .ensures .1 .0) in
+    (h .within .1, omega (arith, l, part-in (c .before .before .before .before .before .before .before .before .before .before .before .before .before .before .before .loop .n) (c .before .before .before .before .before .before .before .before .before .before .before .before .before .before .before .loop .out) (c .before .before .before .before .before .before .before .before .before .before .before .before .before .before .before .loop .inv .1) (one-in (c .before .before .before .before .before .before .before .before .before .before .before .put-other .ensures .0) (c .before .before .before .before .before .k .given .1) .0)), l ∙ (c .before .before .before .before .before .before .before .before .before .before .before .before .before .before .before .loop .inv .2),
+    omega (arith, c .before .before .before .before .before .before .before .before .before .before .before .before .before .before .before .loop .inv .3, h .within .0, c .before .before .before .before .before .before .before .before .before .before .before .before .before .before .member-at .ensures .1 .0 .from (c .before .before .before .before .before .before .before .before .before .before .before .before .before .before .before .loop .inv .0), c .before .before .before .before .before .before .before .before .before .before .before .before .before .before .member-at .ensures .1 .0 .ordered, one-in (c .before .before .before .before .before .before .before .before .before .before .before .put-other .ensures .0) (c .before .before .before .before .before .k .given .1) .1),
+    c .before .before .before .before .before .before .before .before .before .before .before .put-other .ensures .1 .1 .0 ∙ (c .before .before .before .before .before .before .before .before .before .before .before .before .before .before .before .loop .inv .4), going-on (now (c .before .before .before .before .before .before .before .before .before .before .before .before .before .before .before .before .before .before .before .args .s)) (c .before .before .before .before .before .before .before .before .before .before .before .before .before .before .before .before .before .before .before .args .at) (now (c .before .before .before .before .before .before .before .before .before .before .before .before .before .before .before .before .before .before .before .args .out)) (c .before .before .before .before .before .before .before .before .before .before .before .before .before .before .before .loop .i) (c .before .before .before .before .before .before .before .before .before .before .before .before .before .before .before .loop .n) (c .before .before .before .before .before .before .before .before .before .before .before .before .before .before .before .loop .lines) (c .before .before .before .before .before .before .before .before .before .before .before .before .before .before .before .loop .ok) (c .before .before .before .before .before .before .before .before .before .before .before .before .before .before .before .loop .out) (c .before .before .before .before .before .before .before .before .before .before .before .before .before .before .before .loop .inv .5) (c .before .before .before .before .before .before .before .before .before .before .before .before .before .before .member-at .result) (c .before .before .before .before .before .before .before .before .before .before .before .before .before .before .member-at .ensures .1 .0) (c .before .before .before .before .before .before .before .before .before .before .before .before .before .before .member-at .ensures .1 .1) (c .before .before .before .before .before .before .before .before .before .before .before .put-other .result) _ (c .before .before .before .before .before .before .before .before .before .before .before .put-other .ensures .1 .1 .1) _ _ _ (c .before .before .before .before .before .k .given .1) _ h)
+
+enum-known-r : tie.Need-enum-known-r Inv-loop μ-loop
+enum-known-r c = search needs
+
+same-length-3 : tie.Need-same-length-3 Inv-loop μ-loop
+same-length-3 c = part-length (c .before .before .before .before .before .before .before .before .before .before .before .before .before .before .before .loop .n) (c .before .before .before .before .before .before .before .before .before .before .before .before .before .before .before .loop .out) (c .before .before .before .before .before .before .before .before .before .before .before .put-other .last .0) (c .before .before .before .before .before .before .before .before .before .before .before .before .before .before .before .loop .inv .1) (c .before .before .before .before .before .before .before .before .before .before .before .put-other .ensures .1 .0) ∙ (c .before .before .before .before .before .before .before .before .before .before .before .before .before .before .before .loop .inv .2)
+
+same-length-4 : tie.Need-same-length-4 Inv-loop μ-loop
+same-length-4 c = c .before .before .before .before .before .before .before .before .before .before .before .put-other .ensures .1 .1 .0 ∙ (c .before .before .before .before .before .before .before .before .before .before .before .before .before .before .before .loop .inv .4)
+
+returns-2 : tie.Need-returns-2 Inv-loop μ-loop
+returns-2 c = (omega (arith, part-in (c .before .before .before .before .before .before .before .before .before .before .before .before .before .before .before .loop .n) (c .before .before .before .before .before .before .before .before .before .before .before .before .before .before .before .loop .out) (c .before .before .before .before .before .before .before .before .before .before .before .before .before .before .before .loop .inv .1) (one-in (c .before .before .before .before .before .before .before .before .before .before .before .put-other .ensures .0) (c .before .before .before .before .before .k .given .1) .0), c .before .before .before .before .before .before .before .before .before .before .before .before .before .before .before .loop .inv .2), (part-length (c .before .before .before .before .before .before .before .before .before .before .before .before .before .before .before .loop .n) (c .before .before .before .before .before .before .before .before .before .before .before .before .before .before .before .loop .out) (c .before .before .before .before .before .before .before .before .before .before .before .put-other .last .0) (c .before .before .before .before .before .before .before .before .before .before .before .before .before .before .before .loop .inv .1) (c .before .before .before .before .before .before .before .before .before .before .before .put-other .ensures .1 .0) ∙ (c .before .before .before .before .before .before .before .before .before .before .before .before .before .before .before .loop .inv .2), puts-all (now (c .before .before .before .before .before .before .before .before .before .before .before .before .before .before .before .before .before .before .before .args .s)) (c .before .before .before .before .before .before .before .before .before .before .before .before .before .before .before .before .before .before .before .args .at) (now (c .before .before .before .before .before .before .before .before .before .before .before .before .before .before .before .before .before .before .before .args .out)) (c .before .before .before .before .before .before .before .before .before .before .before .before .before .before .before .loop .i) (c .before .before .before .before .before .before .before .before .before .before .before .before .before .before .before .loop .n) (c .before .before .before .before .before .before .before .before .before .before .before .before .before .before .before .loop .lines) (c .before .before .before .before .before .before .before .before .before .before .before .before .before .before .before .loop .ok) (c .before .before .before .before .before .before .before .before .before .before .before .before .before .before .before .loop .out) (c .before .before .before .before .before .before .before .before .before .before .before .before .before .before .before .loop .inv .5) (c .before .before .before .before .before .before .before .before .before .before .before .before .before .before .member-at .result) (c .before .before .before .before .before .before .before .before .before .before .before .before .before .before .member-at .ensures .1 .0) (c .before .before .before .before .before .before .before .before .before .before .before .before .before .before .member-at .ensures .1 .1) (c .before .before .before .before .before .before .before .before .before .before .before .put-other .result) _ (c .before .before .before .before .before .before .before .before .before .before .before .put-other .ensures .1 .1 .1) _ _ _ (c .before .before .before .before .before .k .given .1) _ (turn-as (c .before .before .before .separator .ensures) (c .before .r .given .1))))
+
+pub put-from-spec : {M : Type 1} → statement M
+put-from-spec =
+    tie.close
+    (tie.spec
+    Inv-loop
+    μ-loop
+    loop-holds
+    member-at-requires
+    sub-put-other
+    part-put-other-start
+    part-put-other-end
+    put-other-requires
+    enum-known-k
+    enum-told
+    same-length
+    same-length-2
+    returns
+    add-n
+    add-lines
+    separator-requires
+    enum-known-j
+    loop-less
+    loop-again
+    enum-known-r
+    same-length-3
+    same-length-4
+    returns-2)

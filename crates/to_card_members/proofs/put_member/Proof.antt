@@ -1,0 +1,146 @@
+use native.Mathlib.Omega.{arith}
+use native.Mathlib.Nat.{le-refl}
+use denote.Ref.{now}
+use Rattle.line_pen.proofs.Filling.{then}
+use Rattle.line_pen.proofs.Laws.{filled, first!, next!, in!, fit!, same!}
+use Rattle.to_card_lines.proofs.Laws.{fills-in, fills-length, begun, onto, row-fits, row-in}
+use Rattle.to_card_members.proofs.Values.{member-line}
+use borrow.Author.Needs.{needs}
+use Rattle.to_card_members.proofs.put_member.Statement.{statement}
+use Rattle.to_card_members.proofs.put_member.Tie as tie
+use Rattle.to_card_members.proofs.put_member.Reads as reads
+use Rattle.to_card_members.proofs.put_member.Lts as lts
+use Rattle.line_pen.proofs.fill.Reads as fill-reads
+use Rattle.line_pen.proofs.pen_bytes.Reads as pen-bytes-reads
+use Rattle.to_card_members.proofs.pen_pointer.Reads as pen-pointer-reads
+use Rattle.to_card_members.proofs.pen_text.Reads as pen-text-reads
+use Rattle.to_card_members.proofs.put_value.Reads as put-value-reads
+
+slice-aggregate-pen-bytes : tie.Need-slice-aggregate-pen-bytes
+slice-aggregate-pen-bytes c = search needs
+
+pen-bytes-requires : tie.Need-pen-bytes-requires
+pen-bytes-requires c κs = tt
+
+sub-pen-pointer : tie.Need-sub-pen-pointer
+sub-pen-pointer c = in! (first! (c .before .before .pen-bytes .ensures))
+
+part-pen-pointer-start : tie.Need-part-pen-pointer-start
+part-pen-pointer-start c = in! (first! (c .before .before .pen-bytes .ensures))
+
+part-pen-pointer-end : tie.Need-part-pen-pointer-end
+part-pen-pointer-end c = le-refl _
+
+pen-pointer-requires : tie.Need-pen-pointer-requires
+pen-pointer-requires c κs = tt
+
+add-n2 : tie.Need-add-n2
+add-n2 c = fit! (next! (first! (c .before .before .before .before .before .before .before .pen-bytes .ensures)) (c .before .before .before .pen-pointer .ensures .pens)) (c .before .before .before .before .before .before .before .before .before .before .before .before .before .good .0 .0)
+
+sub-pen-bytes : tie.Need-sub-pen-bytes
+sub-pen-bytes c = in! (next! (first! (c .before .before .before .before .before .before .before .pen-bytes .ensures)) (c .before .before .before .pen-pointer .ensures .pens))
+
+part-pen-bytes-start : tie.Need-part-pen-bytes-start
+part-pen-bytes-start c = in! (next! (first! (c .before .before .before .before .before .before .before .pen-bytes .ensures)) (c .before .before .before .pen-pointer .ensures .pens))
+
+part-pen-bytes-end : tie.Need-part-pen-bytes-end
+part-pen-bytes-end c = le-refl _
+
+slice-aggregate-pen-bytes-2 : tie.Need-slice-aggregate-pen-bytes-2
+slice-aggregate-pen-bytes-2 c = search needs
+
+pen-bytes-requires-2 : tie.Need-pen-bytes-requires-2
+pen-bytes-requires-2 c κs = tt
+
+add-n3 : tie.Need-add-n3
+add-n3 c = fit! (next! (next! (first! (c .before .before .before .before .before .before .before .before .before .before .before .before .before .pen-bytes .ensures)) (c .before .before .before .before .before .before .before .before .before .pen-pointer .ensures .pens)) (c .before .before .before .pen-bytes2 .ensures)) (c .before .before .before .before .before .before .before .before .before .before .before .before .before .before .before .before .before .before .before .good .0 .0)
+
+put-value-requires : tie.Need-put-value-requires
+put-value-requires c κs = (c .before .before .before .before .before .before .before .before .before .before .before .before .before .before .before .before .before .before .before .before .pre .0, c .before .before .before .before .before .before .before .before .before .before .before .before .before .before .before .before .before .before .before .before .pre .1 .0)
+
+sub-pen-text : tie.Need-sub-pen-text
+sub-pen-text c = search needs
+
+part-pen-text-start : tie.Need-part-pen-text-start
+part-pen-text-start c = search needs
+
+part-pen-text-end : tie.Need-part-pen-text-end
+part-pen-text-end c = search needs
+
+sub-pen-text-2 : tie.Need-sub-pen-text-2
+sub-pen-text-2 c = search needs
+
+part-pen-text-start-2 : tie.Need-part-pen-text-start-2
+part-pen-text-start-2 c = search needs
+
+part-pen-text-end-2 : tie.Need-part-pen-text-end-2
+part-pen-text-end-2 c = search needs
+
+pen-text-requires : tie.Need-pen-text-requires
+pen-text-requires c κs = tt
+
+add-n4 : tie.Need-add-n4
+add-n4 c = fit! (next! (next! (next! (first! (c .before .before .before .before .before .before .before .before .before .before .before .before .before .before .before .before .before .before .before .before .before .before .before .before .pen-bytes .ensures)) (c .before .before .before .before .before .before .before .before .before .before .before .before .before .before .before .before .before .before .before .before .pen-pointer .ensures .pens)) (c .before .before .before .before .before .before .before .before .before .before .before .before .before .before .pen-bytes2 .ensures)) (c .before .before .before .pen-text .ensures)) (c .before .before .before .before .before .before .before .before .before .before .before .before .before .before .before .before .before .before .before .before .before .before .before .before .before .before .before .before .before .before .good .0 .0)
+
+sub-fill : tie.Need-sub-fill
+sub-fill c = in! (next! (next! (next! (first! (c .before .before .before .before .before .before .before .before .before .before .before .before .before .before .before .before .before .before .before .before .before .before .before .before .pen-bytes .ensures)) (c .before .before .before .before .before .before .before .before .before .before .before .before .before .before .before .before .before .before .before .before .pen-pointer .ensures .pens)) (c .before .before .before .before .before .before .before .before .before .before .before .before .before .before .pen-bytes2 .ensures)) (c .before .before .before .pen-text .ensures))
+
+part-fill-start : tie.Need-part-fill-start
+part-fill-start c = in! (next! (next! (next! (first! (c .before .before .before .before .before .before .before .before .before .before .before .before .before .before .before .before .before .before .before .before .before .before .before .before .pen-bytes .ensures)) (c .before .before .before .before .before .before .before .before .before .before .before .before .before .before .before .before .before .before .before .before .pen-pointer .ensures .pens)) (c .before .before .before .before .before .before .before .before .before .before .before .before .before .before .pen-bytes2 .ensures)) (c .before .before .before .pen-text .ensures))
+
+part-fill-end : tie.Need-part-fill-end
+part-fill-end c = le-refl _
+
+slice-aggregate-fill : tie.Need-slice-aggregate-fill
+slice-aggregate-fill c = search needs
+
+fill-requires : tie.Need-fill-requires
+fill-requires c κs = tt
+
+add-n5 : tie.Need-add-n5
+add-n5 c = row-fits (begun (then (filled ((next! (next! (next! (first! (c .before .before .before .before .before .before .before .before .before .before .before .before .before .before .before .before .before .before .before .before .before .before .before .before .before .before .before .before .before .pen-bytes .ensures)) (c .before .before .before .before .before .before .before .before .before .before .before .before .before .before .before .before .before .before .before .before .before .before .before .before .before .pen-pointer .ensures .pens)) (c .before .before .before .before .before .before .before .before .before .before .before .before .before .before .before .before .before .before .before .pen-bytes2 .ensures)) (c .before .before .before .before .before .before .before .before .pen-text .ensures)) .so)) (c .before .before .fill .ensures))) (c .before .before .before .before .before .before .before .before .before .before .before .before .before .before .before .before .before .before .before .before .before .before .before .before .before .before .before .before .before .before .before .before .before .before .before .good .0 .0)
+
+same-length : tie.Need-same-length
+same-length c = fills-length (then (filled ((next! (next! (next! (first! (c .before .before .before .before .before .before .before .before .before .before .before .before .before .before .before .before .before .before .before .before .before .before .before .before .before .before .before .before .before .pen-bytes .ensures)) (c .before .before .before .before .before .before .before .before .before .before .before .before .before .before .before .before .before .before .before .before .before .before .before .before .before .pen-pointer .ensures .pens)) (c .before .before .before .before .before .before .before .before .before .before .before .before .before .before .before .before .before .before .before .pen-bytes2 .ensures)) (c .before .before .before .before .before .before .before .before .pen-text .ensures)) .so)) (c .before .before .fill .ensures))
+
+same-length-2 : tie.Need-same-length-2
+same-length-2 c = search needs
+
+returns : tie.Need-returns
+returns c = (member-line (now (c .before .before .before .before .before .before .before .before .before .before .before .before .before .before .before .before .before .before .before .before .before .before .before .before .before .before .before .before .before .before .before .before .before .before .before .args .s)) (c .before .before .before .before .before .before .before .before .before .before .before .before .before .before .before .before .before .before .before .before .before .before .before .before .before .before .before .before .before .before .before .before .before .before .before .args .name) (c .before .before .before .before .before .before .before .before .before .before .before .before .before .before .before .before .before .before .before .before .before .before .before .before .before .before .before .before .before .before .before .before .before .before .before .args .a) (c .before .before .before .before .before .before .before .before .before .before .before .before .before .before .before .before .before .before .before .before .before .before .before .before .before .before .before .before .before .before .before .before .before .before .before .args .e) (now (c .before .before .before .before .before .before .before .before .before .before .before .before .before .before .before .before .before .before .before .before .before .before .before .before .before .before .before .before .before .before .before .before .before .before .before .args .out)) (c .before .before .before .before .before .before .before .before .before .before .before .before .before .before .before .before .before .before .before .before .before .before .before .before .before .pen-pointer .ensures .text) (c .before .before .before .before .before .before .before .before .before .before .before .before .before .before .before .before .before .before .before .before .before .before .before .before .before .pen-pointer .ensures .is) _ (c .before .before .before .before .before .before .before .before .before .before .before .before .before .before .before .before .before .before .before .before .before .before .before .before .before .pen-pointer .ensures .carried) _ _ _ (c .before .before .before .before .before .before .before .before .before .before .before .before .before .before .before .before .before .before .before .before .before .before .before .before .before .before .before .before .before .before .before .before .before .before .before .pre .1 .1) (c .before .before .before .before .before .before .before .before .before .before .before .before .before .before .put-value .ensures) _ _ (then (filled ((next! (next! (next! (first! (c .before .before .before .before .before .before .before .before .before .before .before .before .before .before .before .before .before .before .before .before .before .before .before .before .before .before .before .before .before .pen-bytes .ensures)) (c .before .before .before .before .before .before .before .before .before .before .before .before .before .before .before .before .before .before .before .before .before .before .before .before .before .pen-pointer .ensures .pens)) (c .before .before .before .before .before .before .before .before .before .before .before .before .before .before .before .before .before .before .before .pen-bytes2 .ensures)) (c .before .before .before .before .before .before .before .before .pen-text .ensures)) .so)) (c .before .before .fill .ensures)), fills-length (c .before .before .before .before .before .before .before .before .before .before .before .before .before .before .put-value .ensures))
+
+pub put-member-spec : {M : Type 1} → statement M
+put-member-spec =
+    tie.close
+    (tie.spec
+    slice-aggregate-pen-bytes
+    pen-bytes-requires
+    sub-pen-pointer
+    part-pen-pointer-start
+    part-pen-pointer-end
+    pen-pointer-requires
+    add-n2
+    sub-pen-bytes
+    part-pen-bytes-start
+    part-pen-bytes-end
+    slice-aggregate-pen-bytes-2
+    pen-bytes-requires-2
+    add-n3
+    put-value-requires
+    sub-pen-text
+    part-pen-text-start
+    part-pen-text-end
+    sub-pen-text-2
+    part-pen-text-start-2
+    part-pen-text-end-2
+    pen-text-requires
+    add-n4
+    sub-fill
+    part-fill-start
+    part-fill-end
+    slice-aggregate-fill
+    fill-requires
+    add-n5
+    same-length
+    same-length-2
+    returns)

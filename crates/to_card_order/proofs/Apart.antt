@@ -1,0 +1,159 @@
+-- Whether two kinds have a value in common.
+use mathlib.Core.Path.{_≡_, refl, sym, ap, subst, _∙_}
+use mathlib.Core.Bool.{Bool, true, false, _&&_, _||_, not}
+use mathlib.Core.List.{List, [], _∷_, _++_}
+use mathlib.Core.Option.{Option, none, some}
+use Prim.Native.Nat.{ℕ, zero, suc, _≤_}
+use native.Mathlib.Omega.{arith}
+use lib.Dec.{eqb}
+use lib.ListN.{length, drop}
+use Rattle.text.specs.declared.Read.{Read}
+use Rattle.text.specs.declared.Turn.the-variants.{Go, Stop}
+use Rattle.text.specs.Choice.{pick}
+use Rattle.text.specs.Bytes.{Bytes, all, any, among, same}
+use Rattle.text.specs.Places.{GivesT}
+use Rattle.text.proofs.Choices.{none-some, some-same}
+use Rattle.text.proofs.Same.{among-none, among-append}
+use Rattle.json.specs.Tree.{elemsOf}
+use Rattle.json.specs.Syntax.{sep}
+use Rattle.json_strings.specs.Spelled.{spelled, agree}
+use Rattle.json_access.specs.declared.Part.{Part}
+use Rattle.json_access.specs.Access.{TellsElement}
+use Rattle.convert.specs.Value.{filled}
+use Rattle.convert.specs.Carry.{apart}
+use Rattle.convert.specs.FromJson.{Component, component, componentOf, ofKind}
+use Rattle.to_card_head.specs.Head.{TellsFilled}
+use Rattle.to_card_parts.specs.declared.Found.{Found}
+use Rattle.to_card_parts.specs.declared.Found.the-variants.{Of, Wrong}
+use Rattle.to_card_parts.specs.Parts.{TellsComponent, Lists, valuesOf, valueIf}
+use Rattle.to_card_parts.proofs.Elements.{Far, far-first, Now, now-of}
+use Rattle.to_card_parts.proofs.Values.{values-none, values-more, all-append}
+use Rattle.to_card_parts.proofs.Passes.{found-none, found-some}
+use Rattle.to_card_order.specs.Order.{FindsAmong, Clashes, TellsApart}
+
+-- ---- one value
+
+or-false : (b : Bool) → b || false ≡ b
+or-false true = refl
+or-false false = refl
+
+one-among : (x y : Bytes) (w : Bool) → filled x ≡ true → among x (valueIf w y) ≡ w && same x y
+unfolding among any same
+one-among x y false h = refl
+one-among [] y true h = let z : _≡_ {A = ℕ} 0 1 = cc in absurd (omega arith)
+one-among (a ∷ x) [] true h = refl
+one-among (a ∷ x) (b ∷ y) true h = or-false (eqb a b && same x y)
+
+-- ---- among the values of a kind
+
+abbrev pub Finding : Bytes → ℕ → ℕ → ℕ → ℕ → Bool → Type 0
+Finding s at kind value i b = (cs : List Component) (l : Lists s at cs) (x : Bytes) → spelled s value ≡ some x → filled x ≡ true
+    → (past : List Component) × Far componentOf 13 s (elemsOf (l .elems)) (l .rest) i past × (b ≡ among x (valuesOf kind past))
+
+pub finding-first : (s : Bytes) (at kind value : ℕ) → Finding s at kind value at false
+finding-first s at kind value cs l x q h = ([], far-first componentOf 13 s (l .units) (l .elems) (l .rest) at (l .read) (l .are), sym (ap (among x) (values-none kind) ∙ among-none x))
+
+module _ (s : Bytes) (at kind value i : ℕ) (b : Bool) (going : Finding s at kind value i b) (r : Part) (told : TellsElement 13 s i r) (f : Found) (tells : TellsComponent s (r .start) f) where
+  pub finds-wrong : f ≡ Wrong → FindsAmong s at kind value b
+  finds-wrong e cs l x q h =
+      let g = going cs l x q h in
+      let n = now-of (g .1) r told in
+      none-some (sym (n .fails (found-none s f (componentOf (n .val)) (tells (n .val) (n .is-val)) e)) ∙ l .is)
+
+  module _ (k v : ℕ) (e : f ≡ Of k v) (c : Bool) (agrees : c ≡ eqb kind k && agree (spelled s value) (spelled s v)) where
+    more : (past : List Component) (x y : Bytes) → spelled s value ≡ some x → spelled s v ≡ some y → filled x ≡ true → b ≡ among x (valuesOf kind past) → (b || c) ≡ among x (valuesOf kind (past ++ (component k y ∷ [])))
+    more past x y q w h z =
+        let a : c ≡ among x (ofKind kind (component k y)) =
+            agrees ∙ ap (λ (o : Option Bytes). eqb kind k && agree o (spelled s v)) q ∙ ap (λ (o : Option Bytes). eqb kind k && agree (some x) o) w ∙ sym (one-among x y (eqb kind k) h) in
+        ap (λ (t : Bool). t || c) z ∙ ap (λ (t : Bool). among x (valuesOf kind past) || t) a ∙ sym (among-append x (valuesOf kind past) (ofKind kind (component k y))) ∙ ap (among x) (sym (values-more kind past (component k y)))
+
+    pub finding-on : (j : ℕ) → GivesT s (r .end) (sep 93 zero suc (drop (r .end) s)) (Go j) → Finding s at kind value j (b || c)
+    finding-on j w cs l x q h =
+        let g = going cs l x q h in
+        let n = now-of (g .1) r told in
+        let d = found-some s f (componentOf (n .val)) (tells (n .val) (n .is-val)) k v e in
+        (g .0 ++ (component k (d .0) ∷ []), n .goes (component k (d .0)) (d .1) j w, more (g .0) x (d .0) q (d .2) h (g .2))
+
+    pub finds-all : (u : Read) → GivesT s (r .end) (sep 93 zero suc (drop (r .end) s)) (Stop u) → FindsAmong s at kind value (b || c)
+    finds-all u w cs l x q h =
+        let g = going cs l x q h in
+        let n = now-of (g .1) r told in
+        let d = found-some s f (componentOf (n .val)) (tells (n .val) (n .is-val)) k v e in
+        let y : g .0 ++ (component k (d .0) ∷ []) ≡ cs = some-same (sym (n .ends (component k (d .0)) (d .1) u w) ∙ l .is) in
+        more (g .0) x (d .0) q (d .2) h (g .2) ∙ ap (λ (t : List Component). among x (valuesOf kind t)) y
+
+-- ---- a value that clashes
+
+apart-none : (ws : List Bytes) → apart [] ws ≡ true
+unfolding apart all
+apart-none ws = refl
+
+and-end : (b : Bool) → b ≡ (b && true)
+and-end true = refl
+and-end false = refl
+
+apart-one : (x : Bytes) (ws : List Bytes) → not (among x ws) ≡ apart (x ∷ []) ws
+unfolding apart all
+apart-one x ws = and-end (not (among x ws))
+
+and-false : (a : Bool) → a && false ≡ false
+and-false true = refl
+and-false false = refl
+
+module _ (s : Bytes) (at : ℕ) (wanted : Bool) (value kind : ℕ) where
+  pub clash-unwanted : wanted ≡ false → Clashes s at wanted value kind false
+  clash-unwanted e cs l x q = sym (ap (λ (b : Bool). apart (valueIf b x) (valuesOf kind cs)) e ∙ apart-none (valuesOf kind cs))
+
+  module _ (b : Bool) (told : TellsFilled s value b) where
+    pub clash-empty : b ≡ false → Clashes s at wanted value kind false
+    clash-empty e cs l x q =
+        sym (ap (λ (f : Bool). apart (pick (wanted && f) (x ∷ []) []) (valuesOf kind cs)) (sym (told x q) ∙ e)
+        ∙ ap (λ (f : Bool). apart (pick f (x ∷ []) []) (valuesOf kind cs)) (and-false wanted) ∙ apart-none (valuesOf kind cs))
+
+    pub clash-is : wanted ≡ true → b ≡ true → (r : Bool) → FindsAmong s at kind value r → Clashes s at wanted value kind r
+    clash-is w e r h cs l x q =
+        let f : filled x ≡ true = sym (told x q) ∙ e in
+        ap not (h cs l x q f) ∙ apart-one x (valuesOf kind cs)
+        ∙ sym (ap (λ (t : Bool). apart (pick (t && filled x) (x ∷ []) []) (valuesOf kind cs)) w ∙ ap (λ (t : Bool). apart (pick t (x ∷ []) []) (valuesOf kind cs)) f)
+
+-- ---- two kinds
+
+abbrev pub Parting : Bytes → ℕ → ℕ → ℕ → ℕ → Bool → Type 0
+Parting s at one other i ok = (cs : List Component) (l : Lists s at cs)
+    → (past : List Component) × Far componentOf 13 s (elemsOf (l .elems)) (l .rest) i past × (ok ≡ apart (valuesOf one past) (valuesOf other cs))
+
+pub parting-first : (s : Bytes) (at one other : ℕ) → Parting s at one other at true
+parting-first s at one other cs l = ([], far-first componentOf 13 s (l .units) (l .elems) (l .rest) at (l .read) (l .are), sym (ap (λ (vs : List Bytes). apart vs (valuesOf other cs)) (values-none one) ∙ apart-none (valuesOf other cs)))
+
+apart-append : (vs ws us : List Bytes) → apart (vs ++ ws) us ≡ apart vs us && apart ws us
+unfolding apart
+apart-append vs ws us = all-append (λ v. not (among v us)) vs ws
+
+module _ (s : Bytes) (at one other i : ℕ) (ok : Bool) (going : Parting s at one other i ok) (r : Part) (told : TellsElement 13 s i r) (f : Found) (tells : TellsComponent s (r .start) f) where
+  pub parts-wrong : f ≡ Wrong → TellsApart s at one other ok
+  parts-wrong e cs l =
+      let g = going cs l in
+      let n = now-of (g .1) r told in
+      none-some (sym (n .fails (found-none s f (componentOf (n .val)) (tells (n .val) (n .is-val)) e)) ∙ l .is)
+
+  module _ (k v : ℕ) (e : f ≡ Of k v) (c : Bool) (clash : Clashes s at (eqb one k) v other c) where
+    parted : (cs : List Component) → Lists s at cs → (past : List Component) (y : Bytes) → spelled s v ≡ some y → ok ≡ apart (valuesOf one past) (valuesOf other cs)
+        → (ok && not c) ≡ apart (valuesOf one (past ++ (component k y ∷ []))) (valuesOf other cs)
+    parted cs l past y w z =
+        ap (λ (t : Bool). t && not c) z ∙ ap (λ (t : Bool). apart (valuesOf one past) (valuesOf other cs) && t) (clash cs l y w)
+        ∙ sym (apart-append (valuesOf one past) (ofKind one (component k y)) (valuesOf other cs)) ∙ ap (λ (t : List Bytes). apart t (valuesOf other cs)) (sym (values-more one past (component k y)))
+
+    pub parting-on : (j : ℕ) → GivesT s (r .end) (sep 93 zero suc (drop (r .end) s)) (Go j) → Parting s at one other j (ok && not c)
+    parting-on j w cs l =
+        let g = going cs l in
+        let n = now-of (g .1) r told in
+        let d = found-some s f (componentOf (n .val)) (tells (n .val) (n .is-val)) k v e in
+        (g .0 ++ (component k (d .0) ∷ []), n .goes (component k (d .0)) (d .1) j w, parted cs l (g .0) (d .0) (d .2) (g .2))
+
+    pub parts-all : (u : Read) → GivesT s (r .end) (sep 93 zero suc (drop (r .end) s)) (Stop u) → TellsApart s at one other (ok && not c)
+    parts-all u w cs l =
+        let g = going cs l in
+        let n = now-of (g .1) r told in
+        let d = found-some s f (componentOf (n .val)) (tells (n .val) (n .is-val)) k v e in
+        let y : g .0 ++ (component k (d .0) ∷ []) ≡ cs = some-same (sym (n .ends (component k (d .0)) (d .1) u w) ∙ l .is) in
+        parted cs l (g .0) (d .0) (d .2) (g .2) ∙ ap (λ (t : List Component). apart (valuesOf one t) (valuesOf other cs)) y

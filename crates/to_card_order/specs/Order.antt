@@ -1,0 +1,71 @@
+-- The parts of a name in an order that is given as data, and whether two kinds are apart.
+use mathlib.Core.Path.{_≡_}
+use mathlib.Core.Bool.{Bool, true, false, _&&_, _||_, not}
+use mathlib.Core.List.{List, [], _∷_, _++_, map}
+use mathlib.Core.Option.{some}
+use Prim.Native.Nat.{ℕ, _-_}
+use lib.Dec.{eqb, ltb}
+use Rattle.text.specs.Choice.{pick}
+use Rattle.text.specs.Bytes.{Bytes, all, among, empty}
+use Rattle.json_strings.specs.Spelled.{spelled}
+use Rattle.line_pen.specs.Pen.{Pens}
+use Rattle.card_pen.specs.declared.Told.{Told}
+use Rattle.card_pen.specs.Styles.{writtenIn, allStandIn}
+use Rattle.convert.specs.Model.{part}
+use Rattle.convert.specs.Value.{filled}
+use Rattle.convert.specs.Carry.{apart}
+use Rattle.convert.specs.FromJson.{Component, byKind}
+use Rattle.to_card_parts.specs.declared.Inked.{Inked}
+use Rattle.to_card_parts.specs.Parts.{Lists, valuesOf, Marked, listFrom, valueIf}
+
+-- ---- an order of kinds: digits, and semicolons between parts
+
+-- the values that a digit names
+unfoldable pub valuesAt : List (List Bytes) → ℕ → List Bytes
+valuesAt ps c = pick (ltb c 48) [] (part ps (c - 48))
+
+abbrev pub placeText : ℕ → ℕ → List (List Bytes) → Bool → ℕ → Bytes
+placeText style mark ps b c = pick (eqb c 59) (c ∷ []) (listFrom mark b (map (writtenIn style) (valuesAt ps c)))
+
+abbrev pub placeBegun : List (List Bytes) → Bool → ℕ → Bool
+placeBegun ps b c = pick (eqb c 59) false (b || not (empty (valuesAt ps c)))
+
+abbrev pub placeCarried : ℕ → List (List Bytes) → ℕ → Bool
+placeCarried style ps c = pick (eqb c 59) true (all (allStandIn style) (valuesAt ps c))
+
+-- the flag says that a value of the part has been written
+unfoldable pub orderFrom : ℕ → ℕ → List (List Bytes) → Bool → Bytes → Bytes
+orderFrom style mark ps b [] = []
+orderFrom style mark ps b (c ∷ o) = placeText style mark ps b c ++ orderFrom style mark ps (placeBegun ps b c) o
+
+unfoldable pub carriedOrder : ℕ → List (List Bytes) → Bytes → Bool
+carriedOrder style ps [] = true
+carriedOrder style ps (c ∷ o) = placeCarried style ps c && carriedOrder style ps o
+
+pub record SaysPlace (style mark : ℕ) (ps : List (List Bytes)) (begun : Bool) (c : ℕ) (text : Bytes) (b ok : Bool) : Type 0 where
+  pub is-text : text ≡ placeText style mark ps begun c
+  pub is-begun : b ≡ placeBegun ps begun c
+  pub is-carried : ok ≡ placeCarried style ps c
+
+-- some bytes are written; where components stand there and their kinds are marked, these
+pub record InksPlace (s : Bytes) (at : ℕ) (marks : List ℕ) (style mark place : ℕ) (begun : Bool) (room : Bytes) (column : ℕ) (r : Inked) (after : Bytes) : Type 0 where
+  pub text : Bytes
+  pub pens : Pens room column text (record { bytes = r .bytes; column = r .column }) after
+  pub says : (cs : List Component) → Lists s at cs → Marked marks cs → SaysPlace style mark (byKind cs) begun place text (r .begun) (r .carried)
+
+pub record InksOrder (s : Bytes) (at : ℕ) (marks : List ℕ) (style mark : ℕ) (order room : Bytes) (column : ℕ) (r : Told) (after : Bytes) : Type 0 where
+  pub text : Bytes
+  pub pens : Pens room column text (record { bytes = r .bytes; column = r .column }) after
+  pub says : (cs : List Component) → Lists s at cs → Marked marks cs
+      → (text ≡ orderFrom style mark (byKind cs) false order) × (r .carried ≡ carriedOrder style (byKind cs) order)
+
+-- ---- values that two kinds share (13)
+
+abbrev pub FindsAmong : Bytes → ℕ → ℕ → ℕ → Bool → Type 0
+FindsAmong s at kind value r = (cs : List Component) → Lists s at cs → (x : Bytes) → spelled s value ≡ some x → filled x ≡ true → r ≡ among x (valuesOf kind cs)
+
+abbrev pub Clashes : Bytes → ℕ → Bool → ℕ → ℕ → Bool → Type 0
+Clashes s at wanted value kind r = (cs : List Component) → Lists s at cs → (x : Bytes) → spelled s value ≡ some x → not r ≡ apart (valueIf wanted x) (valuesOf kind cs)
+
+abbrev pub TellsApart : Bytes → ℕ → ℕ → ℕ → Bool → Type 0
+TellsApart s at one other r = (cs : List Component) → Lists s at cs → r ≡ apart (valuesOf one cs) (valuesOf other cs)

@@ -1,0 +1,4 @@
+pub mod Elements
+pub mod Components
+pub mod Values
+pub mod Passes

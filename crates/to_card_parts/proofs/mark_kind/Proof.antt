@@ -1,0 +1,35 @@
+use denote.Ref.{now}
+use mathlib.Core.Path.{subst}
+use mathlib.Core.Bool.{Bool}
+use Rattle.text.proofs.Cases.{not-true, not-false}
+use Rattle.to_card_head.specs.Head.{TellsFilled}
+use Rattle.to_card_parts.proofs.Passes.{marks-none, marks-one}
+use borrow.Author.Needs.{needs}
+use Rattle.to_card_parts.proofs.mark_kind.Statement.{statement}
+use Rattle.to_card_parts.proofs.mark_kind.Tie as tie
+use Rattle.to_card_parts.proofs.mark_kind.Reads as reads
+use Rattle.to_card_parts.proofs.mark_kind.Lts as lts
+use Rattle.to_card_head.proofs.is_filled.Reads as is-filled-reads
+
+is-filled-requires : tie.Need-is-filled-requires
+is-filled-requires c κs = tt
+
+returns : tie.Need-returns
+returns c = marks-none (now (c .before .before .before .before .args .s)) (c .before .before .before .before .args .value) (c .before .before .before .before .args .kind) (now (c .before .before .before .before .args .marks)) (subst (λ (b : Bool). TellsFilled (now (c .before .before .before .before .args .s)) (c .before .before .before .before .args .value) b) (not-true _ (c .if1 .taken)) (c .before .is-filled .ensures))
+
+mul-marks : tie.Need-mul-marks
+mul-marks c = search needs
+
+slice-write-marks : tie.Need-slice-write-marks
+slice-write-marks c = search needs
+
+same-length : tie.Need-same-length
+same-length c = search needs
+
+returns-2 : tie.Need-returns-2
+returns-2 c = marks-one (now (c .before .before .before .before .args .s)) (c .before .before .before .before .args .value) (c .before .before .before .before .args .kind) (now (c .before .before .before .before .args .marks)) (subst (λ (b : Bool). TellsFilled (now (c .before .before .before .before .args .s)) (c .before .before .before .before .args .value) b) (not-false _ (c .if1 .left)) (c .before .is-filled .ensures))
+
+pub mark-kind-spec : {M : Type 1} → statement M
+mark-kind-spec =
+    tie.close
+    (tie.spec is-filled-requires returns mul-marks slice-write-marks same-length returns-2)

@@ -1,0 +1,246 @@
+// The components of a name: judged in one pass, and written kind by kind, in an order that is given as data.
+use card_entry::string_in;
+use card_pen::pen_string;
+use json_access::element_at;
+use json_index::index_object;
+use json_index::which_name;
+use json_marks::separator;
+use json_marks::skip_space;
+use line_pen::pen_byte;
+use text::Turn;
+use text::look;
+use to_card_head::is_filled;
+ghost use mathlib.Core.Path.{_≡_};
+ghost use Prim.Native.Nat.{_≤_, _<_};
+ghost use lib.ListN.{length};
+ghost use Rattle.json_index.specs.Index.{Clear};
+ghost use Rattle.to_card_parts.specs.Parts.{KindIn, TellsSlots, TellsComponent, ArrayIn, OpensAs, Marks, ChecksFrom, InksOne, InksKind};
+
+// A component: the place of its kind among the kinds, and the place of its value; or 12.
+pub enum Found {
+    Of(usize, usize),
+    Wrong,
+}
+
+// An array: where its first element stands; or it has none; or it is no array.
+pub enum Array {
+    At(usize),
+    Empty,
+    Wrong,
+}
+
+// How many bytes were written, the column after them, whether a value has been written, and whether a line can carry what was.
+pub struct Inked {
+    pub bytes: usize,
+    pub column: usize,
+    pub begun: bool,
+    pub carried: bool,
+}
+
+// A component, by the slots of its kind and its value.
+fn component_of(s: &[u8], kind: usize, value: usize) -> Found
+    ensures { λ r. ⌜ KindIn r ⌝ }
+    ensures { λ r. ⌜ TellsSlots (now (s .entry)) kind value r ⌝ }
+{
+    if kind == 0 {
+        return Found::Wrong;
+    }
+    if value == 0 {
+        return Found::Wrong;
+    }
+    let q = string_in(s, kind);
+    if q == 0 {
+        return Found::Wrong;
+    }
+    let k = which_name(s, q, b"surname,given,given2,title,credential,surname2,generation");
+    if k >= 7 {
+        return Found::Wrong;
+    }
+    let v = string_in(s, value);
+    if v == 0 {
+        return Found::Wrong;
+    }
+    Found::Of(k, v)
+}
+
+// The component at a place.
+pub fn component_at(s: &[u8], at: usize) -> Found
+    requires { ⌜ at ≤ length (now s) ⌝ }
+    ensures { λ r. ⌜ KindIn r ⌝ }
+    ensures { λ r. ⌜ TellsComponent (now (s .entry)) at r ⌝ }
+{
+    let mut slots = [0usize; 3];
+    if !index_object(&mut slots, s, at, 12, b"kind,value") {
+        return Found::Wrong;
+    }
+    let a = slots[0];
+    let b = slots[1];
+    let other = slots[2];
+    if other != 0 {
+        return Found::Wrong;
+    }
+    component_of(s, a, b)
+}
+
+// The array at a place.
+pub fn open_array(s: &[u8], at: usize) -> Array
+    requires { ⌜ at ≤ length (now s) ⌝ }
+    ensures { λ r. ⌜ ArrayIn (length (now (s .entry))) r ⌝ }
+    ensures { λ r. ⌜ OpensAs (now (s .entry)) at r ⌝ }
+{
+    let i = skip_space(s, at);
+    if look(s, i) != 91 {
+        return Array::Wrong;
+    }
+    let j = skip_space(s, i + 1);
+    if look(s, j) == 93 {
+        return Array::Empty;
+    }
+    Array::At(j)
+}
+
+// Marks the kind of a value that is not empty.
+fn mark_kind<'a, 'b>(marks: &'a mut [usize], s: &'b [u8], kind: usize, value: usize) -> bool
+    requires { ⌜ kind < length (now marks) ⌝ }
+    ensures { λ r. ⌜ Marks (now (s .entry)) value kind (now (marks .entry)) (now (marks .exit)) ⌝ }
+{
+    if !is_filled(s, value) {
+        return false;
+    }
+    marks[kind] = 1;
+    true
+}
+
+// Whether all elements from a place on are components; and marks of the kinds that have a value that is not empty.
+pub fn check_components<'a, 'b>(marks: &'a mut [usize], s: &'b [u8], at: usize) -> bool
+    requires { ⌜ at ≤ length (now s) ⌝ }
+    requires { ⌜ 7 ≤ length (now marks) ⌝ }
+    requires { ⌜ Clear (now marks) ⌝ }
+    ensures { λ r. ⌜ ChecksFrom (now (s .entry)) at (now (marks .exit)) r ⌝ }
+{
+    let mut i = at;
+    loop {
+        let p = element_at(s, i, 13);
+        let a = p.start;
+        let e = p.end;
+        let Found::Of(k, v) = component_at(s, a) else {
+            return false;
+        };
+        mark_kind(marks, s, k, v);
+        match separator(s, e, 93) {
+            Turn::Go(j) => {
+                i = j;
+            }
+            Turn::Stop(r) => {
+                return true;
+            }
+        }
+    }
+}
+
+// One value, after the mark between values where one has been written before; nothing where it is empty or not wanted.
+fn pen_value<'a, 'b>(
+    out: &'a mut [u8],
+    column: usize,
+    style: u8,
+    mark: u8,
+    s: &'b [u8],
+    at: usize,
+    wanted: bool,
+    begun: bool,
+) -> Inked
+    ensures { λ r. ⌜ InksOne (now (s .entry)) at style mark wanted begun (now (out .entry)) column r (now (out .exit)) ⌝ }
+{
+    if !wanted {
+        return Inked {
+            bytes: 0,
+            column: column,
+            begun: begun,
+            carried: true,
+        };
+    }
+    if !is_filled(s, at) {
+        return Inked {
+            bytes: 0,
+            column: column,
+            begun: begun,
+            carried: true,
+        };
+    }
+    if !begun {
+        let t = pen_string(out, column, style, s, at);
+        let n = t.bytes;
+        let k = t.column;
+        let ok = t.carried;
+        return Inked {
+            bytes: n,
+            column: k,
+            begun: true,
+            carried: ok,
+        };
+    }
+    let p = pen_byte(out, column, mark);
+    let n = p.bytes;
+    let t = pen_string(&mut out[n..], p.column, style, s, at);
+    let m = n + t.bytes;
+    let k = t.column;
+    let ok = t.carried;
+    Inked {
+        bytes: m,
+        column: k,
+        begun: true,
+        carried: ok,
+    }
+}
+
+// The values of one kind, of the components from a place on.
+pub fn pen_kind<'a, 'b>(
+    out: &'a mut [u8],
+    column: usize,
+    style: u8,
+    mark: u8,
+    s: &'b [u8],
+    at: usize,
+    kind: usize,
+    begun: bool,
+) -> Inked
+    requires { ⌜ at ≤ length (now s) ⌝ }
+    ensures { λ r. ⌜ InksKind (now (s .entry)) at style mark kind begun (now (out .entry)) column r (now (out .exit)) ⌝ }
+{
+    let mut i = at;
+    let mut n = 0;
+    let mut c = column;
+    let mut b = begun;
+    let mut ok = true;
+    loop {
+        let p = element_at(s, i, 13);
+        let a = p.start;
+        let e = p.end;
+        let Found::Of(k, v) = component_at(s, a) else {
+            return Inked {
+                bytes: n,
+                column: c,
+                begun: b,
+                carried: ok,
+            };
+        };
+        let t = pen_value(&mut out[n..], c, style, mark, s, v, kind == k, b);
+        n += t.bytes;
+        c = t.column;
+        b = t.begun;
+        ok = ok & t.carried;
+        match separator(s, e, 93) {
+            Turn::Go(j) => {
+                i = j;
+            }
+            Turn::Stop(r) => {
+                return Inked {
+                    bytes: n,
+                    column: c,
+                    begun: b,
+                    carried: ok,
+                };
+            }
+        }
+    }
+}
