@@ -38,13 +38,13 @@ not-end e = let z : _≡_ {A = ℕ} 0 1 = cc in omega arith
 pub end-is : {k j : ℕ} → End k ≡ End j → k ≡ j
 end-is e = cc
 
-not-more : {k m : ℕ} → Wrong ≡ More k m → ⊥
+pub not-more : {k m : ℕ} → Wrong ≡ More k m → ⊥
 not-more e = let z : _≡_ {A = ℕ} 0 1 = cc in omega arith
 
-more-end : {k m j l : ℕ} → More k m ≡ More j l → k ≡ j
+pub more-end : {k m j l : ℕ} → More k m ≡ More j l → k ≡ j
 more-end e = cc
 
-more-count : {k m j l : ℕ} → More k m ≡ More j l → m ≡ l
+pub more-count : {k m j l : ℕ} → More k m ≡ More j l → m ≡ l
 more-count e = cc
 
 -- ---- one value
@@ -117,7 +117,7 @@ stored-long t m a e c d = simp length-set
 
 -- ---- one after the other
 
-grew-then : {b : Bytes} {n : ℕ} {c : Bytes} {k : ℕ} {x : Bytes} {d : Bytes} {j : ℕ} {y : Bytes} → Grew b n c k x → Grew c k d j y → Grew b n d j (x ++ y)
+pub grew-then : {b : Bytes} {n : ℕ} {c : Bytes} {k : ℕ} {x : Bytes} {d : Bytes} {j : ℕ} {y : Bytes} → Grew b n c k x → Grew c k d j y → Grew b n d j (x ++ y)
 grew-then {b} {n} {c} {k} {x} {d} {j} {y} g h = record {
   long = h .long ∙ g .long;
   is = h .is ∙ ap (λ (z : Bytes). z ++ y) (g .is) ∙ append-assoc (take n b) x y;
