@@ -1,0 +1,5 @@
+pub mod Putting
+pub mod Tables
+pub mod Elements
+pub mod Values
+pub mod Whole

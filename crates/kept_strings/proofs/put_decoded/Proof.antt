@@ -1,0 +1,70 @@
+use denote.Ref.{now}
+use native.Mathlib.Omega.{arith}
+use Rattle.json_strings.specs.Spelled.{textAt}
+use Rattle.kept_strings.proofs.Putting.{part-same, grew, no-room, puts-long, puts-within, no-string, a-string, word-none, word-some}
+use borrow.Author.Needs.{needs}
+use Rattle.kept_strings.proofs.put_decoded.Statement.{statement}
+use Rattle.kept_strings.proofs.put_decoded.Tie as tie
+use Rattle.kept_strings.proofs.put_decoded.Reads as reads
+use Rattle.kept_strings.proofs.put_decoded.Lts as lts
+use Rattle.json_decode.proofs.decode_into.Reads as decode-into-reads
+
+-- src/lib.rt:47:39
+sub-decode-into : tie.Need-sub-decode-into
+sub-decode-into c = search needs
+
+-- src/lib.rt:47:39
+part-decode-into-start : tie.Need-part-decode-into-start
+part-decode-into-start c = search needs
+
+-- src/lib.rt:47:39
+part-decode-into-end : tie.Need-part-decode-into-end
+part-decode-into-end c = search needs
+
+-- src/lib.rt:47:27
+decode-into-requires : tie.Need-decode-into-requires
+decode-into-requires c κs = search needs
+
+-- src/lib.rt:47:22
+enum-known-k : tie.Need-enum-known-k
+enum-known-k c = search needs
+
+-- src/lib.rt:48:9
+enum-told : tie.Need-enum-told
+enum-told c = search needs
+
+-- src/lib.rt:48:9
+same-length : tie.Need-same-length
+same-length c = search needs
+
+-- src/lib.rt:48:9
+returns : tie.Need-returns
+returns c = no-room (now (c .before .before .before .before .before .before .before .before .args .b)) (c .before .before .before .before .before .before .before .before .args .n) (c .before .before .before .before .before .before .before .before .pre) (textAt (now (c .before .before .before .before .before .before .before .before .args .s)) (c .before .before .before .before .before .before .before .before .args .at)) _ (c .before .before .before .before .decode-into .result) (c .before .before .before .before .decode-into .ensures) (c .enum-told .given .1)
+
+-- src/lib.rt:50:13
+add-t8 : tie.Need-add-t8
+add-t8 c = record { fits = let g = grew (now (c .before .before .before .before .before .before .before .before .before .args .b)) (c .before .before .before .before .before .before .before .before .before .args .n) (c .before .before .before .before .before .before .before .before .before .pre) (textAt (now (c .before .before .before .before .before .before .before .before .before .args .s)) (c .before .before .before .before .before .before .before .before .before .args .at)) _ (c .before .before .before .before .before .decode-into .result) (c .before .before .before .before .before .decode-into .ensures) (c .before .k .given .1) in omega (arith, g .within, c .before .before .before .before .before .before .before .before .before .good .0 .0) }
+
+-- src/lib.rt:43:1
+same-length-2 : tie.Need-same-length-2
+same-length-2 c = search needs
+
+-- src/lib.rt:43:1
+returns-2 : tie.Need-returns-2
+returns-2 c = grew (now (c .before .before .before .before .before .before .before .before .before .args .b)) (c .before .before .before .before .before .before .before .before .before .args .n) (c .before .before .before .before .before .before .before .before .before .pre) (textAt (now (c .before .before .before .before .before .before .before .before .before .args .s)) (c .before .before .before .before .before .before .before .before .before .args .at)) _ (c .before .before .before .before .before .decode-into .result) (c .before .before .before .before .before .decode-into .ensures) (c .before .k .given .1)
+
+pub put-decoded-spec : {M : Type 1} → statement M
+put-decoded-spec =
+    tie.close
+    (tie.spec
+    sub-decode-into
+    part-decode-into-start
+    part-decode-into-end
+    decode-into-requires
+    enum-known-k
+    enum-told
+    same-length
+    returns
+    add-t8
+    same-length-2
+    returns-2)

@@ -1,0 +1,36 @@
+use mathlib.Core.Path.{_≡_, refl}
+use denote.Ref.{now}
+use native.Mathlib.Omega.{arith}
+use Rattle.json_strings.specs.Spelled.{textAt}
+use Rattle.kept_strings.proofs.Putting.{part-same, grew, no-room, puts-long, puts-within, no-string, a-string, word-none, word-some}
+use borrow.Author.Needs.{needs}
+use Rattle.kept_strings.proofs.put_string.Statement.{statement}
+use Rattle.kept_strings.proofs.put_string.Tie as tie
+use Rattle.kept_strings.proofs.put_string.Reads as reads
+use Rattle.kept_strings.proofs.put_string.Lts as lts
+use Rattle.card_entry.proofs.string_in.Reads as string-in-reads
+use Rattle.kept_strings.proofs.put_decoded.Reads as put-decoded-reads
+
+-- src/lib.rt:60:9
+string-in-requires : tie.Need-string-in-requires
+string-in-requires c κs = search needs
+
+-- src/lib.rt:62:9
+returns : tie.Need-returns
+returns c = (refl, (tt, no-string (now (c .before .before .before .before .args .b)) (c .before .before .before .before .args .n) (now (c .before .before .before .before .args .s)) (c .before .before .before .before .args .at) (c .before .string-in .result) (c .before .string-in .ensures) (c .if1 .taken) _))
+
+-- src/lib.rt:64:5
+put-decoded-requires : tie.Need-put-decoded-requires
+put-decoded-requires c κs = search needs
+
+-- src/lib.rt:54:1
+same-length : tie.Need-same-length
+same-length c = search needs
+
+-- src/lib.rt:54:1
+returns-2 : tie.Need-returns-2
+returns-2 c = (puts-long (now (c .before .before .before .before .before .before .before .before .args .b)) (c .before .before .before .before .before .before .before .before .args .n) _ (c .before .before .put-decoded .result) _ (c .before .before .put-decoded .ensures), (puts-within (now (c .before .before .before .before .before .before .before .before .args .b)) (c .before .before .before .before .before .before .before .before .args .n) _ (c .before .before .put-decoded .result) _ (c .before .before .put-decoded .ensures), a-string (now (c .before .before .before .before .before .before .before .before .args .b)) (c .before .before .before .before .before .before .before .before .args .n) (now (c .before .before .before .before .before .before .before .before .args .s)) (c .before .before .before .before .before .before .before .before .args .at) (c .before .before .before .before .before .string-in .result) (c .before .before .before .before .before .string-in .ensures) (c .before .before .before .before .if1 .left) (c .before .before .put-decoded .result) _ (c .before .before .put-decoded .ensures)))
+
+pub put-string-spec : {M : Type 1} → statement M
+put-string-spec =
+    tie.close (tie.spec string-in-requires returns put-decoded-requires same-length returns-2)

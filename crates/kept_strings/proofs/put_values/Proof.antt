@@ -1,0 +1,95 @@
+use denote.Ref.{now}
+use native.Mathlib.Omega.{arith}
+use mathlib.Core.Path.{_≡_, refl, sym, ap, _∙_}
+use Prim.Native.Nat.{_≤_, _-_}
+use lib.ListN.{length}
+use borrow.Author.Tests.{not-true, not-false}
+use Rattle.text.proofs.Places.{turn-as}
+use Rattle.json_strings.specs.Spelled.{textAt}
+use Rattle.kept_strings.proofs.Putting.{puts-long, puts-within}
+use Rattle.kept_strings.proofs.Values.{value-over, value-none, value-one, value-rows, rows-in, stored-long, Going, going-first, from-wrong, from-on, from-all}
+use Rattle.kept_strings.proofs.Whole.{values-one, values-none, values-many, sole-one, sole-none, sole-many, sole-elem, no-group, group-full, group-in, group-other, group-is}
+use borrow.Author.Needs.{needs}
+use Rattle.kept_strings.proofs.put_values.Statement.{statement}
+use Rattle.kept_strings.proofs.put_values.Tie as tie
+use Rattle.kept_strings.proofs.put_values.Reads as reads
+use Rattle.kept_strings.proofs.put_values.Lts as lts
+use Rattle.json_marks.proofs.skip_space.Reads as skip-space-reads
+use Rattle.kept_strings.proofs.put_elements.Reads as put-elements-reads
+use Rattle.kept_strings.proofs.put_value.Reads as put-value-reads
+use Rattle.text.proofs.look.Reads as look-reads
+
+-- src/lib.rt:159:9
+skip-space-requires : tie.Need-skip-space-requires
+skip-space-requires c κs = search needs
+
+-- src/lib.rt:160:8
+look-requires : tie.Need-look-requires
+look-requires c κs = search needs
+
+-- src/lib.rt:161:9
+put-value-requires : tie.Need-put-value-requires
+put-value-requires c κs = search needs
+
+-- src/lib.rt:161:9
+same-length : tie.Need-same-length
+same-length c = search needs
+
+-- src/lib.rt:161:9
+same-length-2 : tie.Need-same-length-2
+same-length-2 c = search needs
+
+-- src/lib.rt:161:9
+returns : tie.Need-returns
+returns c = (c .before .before .before .before .put-value .ensures .0, (c .before .before .before .before .put-value .ensures .1 .0, values-one (now (c .before .before .before .before .before .before .before .before .before .before .before .before .before .args .b)) (c .before .before .before .before .before .before .before .before .before .before .before .before .before .args .n) (now (c .before .before .before .before .before .before .before .before .before .before .before .before .before .args .t)) (c .before .before .before .before .before .before .before .before .before .before .before .before .before .args .m) (c .before .before .before .before .before .before .before .before .before .before .before .before .before .args .a) (c .before .before .before .before .before .before .before .before .before .before .before .before .before .args .e) (now (c .before .before .before .before .before .before .before .before .before .before .before .before .before .args .s)) (c .before .before .before .before .before .before .before .before .before .before .before .before .before .args .at) (c .before .before .before .before .before .before .before .before .before .skip-space .result) (c .before .before .before .before .before .before .before .before .look .result) (c .before .before .before .before .before .before .before .before .before .skip-space .ensures) (c .before .before .before .before .before .before .before .before .look .ensures .0) (c .before .before .before .before .before .before .before .if1 .taken) (c .before .before .before .before .put-value .result) _ _ (c .before .before .before .before .put-value .ensures .1 .1)))
+
+-- src/lib.rt:163:27
+add-skip-space : tie.Need-add-skip-space
+add-skip-space c = search needs
+
+-- src/lib.rt:163:9
+skip-space-requires-2 : tie.Need-skip-space-requires-2
+skip-space-requires-2 c κs = search needs
+
+-- src/lib.rt:164:8
+look-requires-2 : tie.Need-look-requires-2
+look-requires-2 c κs = search needs
+
+-- src/lib.rt:165:9
+returns-2 : tie.Need-returns-2
+returns-2 c = (record { long = refl; wide = refl }, (tt, values-none (now (c .before .before .before .before .before .before .before .before .before .args .b)) (c .before .before .before .before .before .before .before .before .before .args .n) (now (c .before .before .before .before .before .before .before .before .before .args .t)) (c .before .before .before .before .before .before .before .before .before .args .m) (c .before .before .before .before .before .before .before .before .before .args .a) (c .before .before .before .before .before .before .before .before .before .args .e) (now (c .before .before .before .before .before .before .before .before .before .args .s)) (c .before .before .before .before .before .before .before .before .before .args .at) (c .before .before .before .before .before .skip-space .result) (c .before .before .before .before .look .result) (c .before .before .before .before .before .skip-space .ensures) (c .before .before .before .before .look .ensures .0) (c .before .before .before .if1 .left) (c .before .before .skip-space2 .result) (c .before .look2 .result) (c .before .before .skip-space2 .ensures) (c .before .look2 .ensures .0) (c .if2 .taken)))
+
+-- src/lib.rt:167:5
+put-elements-requires : tie.Need-put-elements-requires
+put-elements-requires c κs = search needs
+
+-- src/lib.rt:142:1
+same-length-3 : tie.Need-same-length-3
+same-length-3 c = search needs
+
+-- src/lib.rt:142:1
+same-length-4 : tie.Need-same-length-4
+same-length-4 c = search needs
+
+-- src/lib.rt:142:1
+returns-3 : tie.Need-returns-3
+returns-3 c = (c .before .before .before .before .put-elements .ensures .0, (c .before .before .before .before .put-elements .ensures .1 .0, values-many (now (c .before .before .before .before .before .before .before .before .before .before .before .before .before .before .before .before .args .b)) (c .before .before .before .before .before .before .before .before .before .before .before .before .before .before .before .before .args .n) (now (c .before .before .before .before .before .before .before .before .before .before .before .before .before .before .before .before .args .t)) (c .before .before .before .before .before .before .before .before .before .before .before .before .before .before .before .before .args .m) (c .before .before .before .before .before .before .before .before .before .before .before .before .before .before .before .before .args .a) (c .before .before .before .before .before .before .before .before .before .before .before .before .before .before .before .before .args .e) (now (c .before .before .before .before .before .before .before .before .before .before .before .before .before .before .before .before .args .s)) (c .before .before .before .before .before .before .before .before .before .before .before .before .before .before .before .before .args .at) (c .before .before .before .before .before .before .before .before .before .before .before .before .skip-space .result) (c .before .before .before .before .before .before .before .before .before .before .before .look .result) (c .before .before .before .before .before .before .before .before .before .before .before .before .skip-space .ensures) (c .before .before .before .before .before .before .before .before .before .before .before .look .ensures .0) (c .before .before .before .before .before .before .before .before .before .before .if1 .left) (c .before .before .before .before .before .before .before .before .before .skip-space2 .result) (c .before .before .before .before .before .before .before .before .look2 .result) (c .before .before .before .before .before .before .before .before .before .skip-space2 .ensures) (c .before .before .before .before .before .before .before .before .look2 .ensures .0) (c .before .before .before .before .before .before .before .if2 .left) (c .before .before .before .before .put-elements .result) _ _ (c .before .before .before .before .put-elements .ensures .1 .1)))
+
+pub put-values-spec : {M : Type 1} → statement M
+put-values-spec =
+    tie.close
+    (tie.spec
+    skip-space-requires
+    look-requires
+    put-value-requires
+    same-length
+    same-length-2
+    returns
+    add-skip-space
+    skip-space-requires-2
+    look-requires-2
+    returns-2
+    put-elements-requires
+    same-length-3
+    same-length-4
+    returns-3)

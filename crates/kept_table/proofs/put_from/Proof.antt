@@ -1,0 +1,113 @@
+use denote.Ref.{now}
+use native.Mathlib.Omega.{arith}
+use mathlib.Core.Path.{_≡_, refl, sym, ap, _∙_}
+use Prim.Native.Nat.{_≤_, _-_}
+use lib.ListN.{length}
+use borrow.Author.Needs.{needs}
+use borrow.Author.Tests.{not-true, not-false}
+use Rattle.text.proofs.Places.{turn-as}
+use Rattle.json_strings.specs.Spelled.{textAt}
+use Rattle.kept_strings.proofs.Putting.{puts-long}
+use Rattle.kept_strings.proofs.Values.{rows-in}
+use Rattle.kept_table.proofs.Params.{param-full, name-in, param-other, param-value, param-all, rows-lower, to-in}
+use Rattle.kept_table.proofs.Members.{step-in, member-again, member-nogroup, member-group, member-wrong, member-param, Going, going-first, from-bad, from-on, from-all, object-none, object-empty, object-all}
+use Rattle.kept_table.proofs.put_from.Statement.{statement}
+use Rattle.kept_table.proofs.put_from.Tie as tie
+use Rattle.kept_table.proofs.put_from.Reads as reads
+use Rattle.kept_table.proofs.put_from.Lts as lts
+use Rattle.json_access.proofs.member_at.Reads as member-at-reads
+use Rattle.json_marks.proofs.separator.Reads as separator-reads
+use Rattle.kept_table.proofs.put_member.Reads as put-member-reads
+
+abbrev Inv-loop : tie.InvT-loop
+Inv-loop b₀ n t₀ s at i₀ f₀ b t i f = (i ≤ length s) × (f .end ≤ length b) × (length b ≡ length b₀) × (length t ≡ length t₀) × (n ≤ f .end) × (f .rows ≤ 64) × (f .count ≤ i) × Going b₀ n s at i f b t
+
+abbrev μ-loop : tie.MeasureT-loop
+μ-loop b₀ n t₀ s at i₀ f₀ b t i f = length s - i
+
+-- src/lib.rt:130:5
+loop-holds : tie.Need-loop-holds Inv-loop μ-loop
+loop-holds c = (c .before .before .before .pre .1 .1, c .before .before .before .pre .0, refl, refl, omega arith, omega arith, omega arith, going-first (now (c .before .before .before .args .b)) (c .before .before .before .args .n) (now (c .before .before .before .args .t)) (now (c .before .before .before .args .s)) (c .before .before .before .args .at) (c .before .before .before .pre .0))
+
+-- src/lib.rt:131:13
+member-at-requires : tie.Need-member-at-requires Inv-loop μ-loop
+member-at-requires c κs = tt
+
+-- src/lib.rt:135:27
+put-member-requires : tie.Need-put-member-requires Inv-loop μ-loop
+put-member-requires c κs = (c .before .before .before .loop .inv .1, (omega (arith, c .before .before .before .loop .inv .3, c .before .before .before .before .before .before .before .pre .1 .0), (omega (arith, c .before .before .member-at .ensures .1 .0 .ordered, c .before .before .member-at .ensures .1 .0 .end-in), (omega (arith, c .before .before .before .loop .inv .6, c .before .before .before .loop .inv .0), c .before .before .before .loop .inv .5))))
+
+-- src/lib.rt:135:22
+enum-known-g : tie.Need-enum-known-g Inv-loop μ-loop
+enum-known-g c = search needs
+
+-- src/lib.rt:136:13
+enum-told : tie.Need-enum-told Inv-loop μ-loop
+enum-told c = search needs
+
+-- src/lib.rt:136:13
+same-length : tie.Need-same-length Inv-loop μ-loop
+same-length c = c .before .before .before .before .before .before .put-member .ensures .0 .long ∙ (c .before .before .before .before .before .before .before .before .before .before .loop .inv .2)
+
+-- src/lib.rt:136:13
+same-length-2 : tie.Need-same-length-2 Inv-loop μ-loop
+same-length-2 c = c .before .before .before .before .before .before .put-member .ensures .0 .wide ∙ (c .before .before .before .before .before .before .before .before .before .before .loop .inv .3)
+
+-- src/lib.rt:136:13
+returns : tie.Need-returns Inv-loop μ-loop
+returns c = (record { long = c .before .before .before .before .before .before .put-member .ensures .0 .long ∙ (c .before .before .before .before .before .before .before .before .before .before .loop .inv .2); wide = c .before .before .before .before .before .before .put-member .ensures .0 .wide ∙ (c .before .before .before .before .before .before .before .before .before .before .loop .inv .3) }, (tt, from-bad (now (c .before .before .before .before .before .before .before .before .before .before .before .before .before .before .args .b)) (c .before .before .before .before .before .before .before .before .before .before .before .before .before .before .args .n) (now (c .before .before .before .before .before .before .before .before .before .before .before .before .before .before .args .s)) (c .before .before .before .before .before .before .before .before .before .before .before .before .before .before .args .at) (c .before .before .before .before .before .before .before .before .before .before .loop .i) (c .before .before .before .before .before .before .before .before .before .before .loop .f) (c .before .before .before .before .before .before .before .before .before .before .loop .b) (c .before .before .before .before .before .before .before .before .before .before .loop .t) (c .before .before .before .before .before .before .before .before .before .before .loop .inv .7) (c .before .before .before .before .before .before .before .before .before .member-at .result) (c .before .before .before .before .before .before .before .before .before .member-at .ensures .1 .1) (c .before .before .before .before .before .before .put-member .result) _ _ (c .before .before .before .before .before .before .put-member .ensures .1 .1) (c .enum-told .given .1) _ _))
+
+-- src/lib.rt:139:15
+separator-requires : tie.Need-separator-requires Inv-loop μ-loop
+separator-requires c κs = (c .before .before .before .before .before .before .before .before .before .before .member-at .ensures .1 .0 .end-in, omega arith)
+
+-- src/lib.rt:140:22
+enum-known-j : tie.Need-enum-known-j Inv-loop μ-loop
+enum-known-j c = search needs
+
+-- src/lib.rt:130:5
+loop-less : tie.Need-loop-less Inv-loop μ-loop
+loop-less c = let h = turn-as (c .before .before .before .separator .ensures) (c .before .j .given .1) in omega (arith, h .within .0, h .within .1, c .before .before .before .before .before .before .before .before .before .before .before .before .before .before .member-at .ensures .1 .0 .from (c .before .before .before .before .before .before .before .before .before .before .before .before .before .before .before .loop .inv .0), c .before .before .before .before .before .before .before .before .before .before .before .before .before .before .member-at .ensures .1 .0 .ordered)
+
+-- src/lib.rt:130:5
+loop-again : tie.Need-loop-again Inv-loop μ-loop
+loop-again c = let h = turn-as (c .before .before .before .separator .ensures) (c .before .j .given .1) in let k = step-in (c .before .before .before .before .before .before .before .before .before .before .before .put-member .ensures .1 .0) (c .before .before .before .before .before .g .given .1) in (h .within .1, omega (arith, k .1, c .before .before .before .before .before .before .before .before .before .before .before .put-member .ensures .0 .long), c .before .before .before .before .before .before .before .before .before .before .before .put-member .ensures .0 .long ∙ (c .before .before .before .before .before .before .before .before .before .before .before .before .before .before .before .loop .inv .2), c .before .before .before .before .before .before .before .before .before .before .before .put-member .ensures .0 .wide ∙ (c .before .before .before .before .before .before .before .before .before .before .before .before .before .before .before .loop .inv .3), omega (arith, k .0, c .before .before .before .before .before .before .before .before .before .before .before .before .before .before .before .loop .inv .4), k .2, omega (arith, k .3, c .before .before .before .before .before .before .before .before .before .before .before .before .before .before .before .loop .inv .6, h .within .0, c .before .before .before .before .before .before .before .before .before .before .before .before .before .before .member-at .ensures .1 .0 .from (c .before .before .before .before .before .before .before .before .before .before .before .before .before .before .before .loop .inv .0), c .before .before .before .before .before .before .before .before .before .before .before .before .before .before .member-at .ensures .1 .0 .ordered), from-on (now (c .before .before .before .before .before .before .before .before .before .before .before .before .before .before .before .before .before .before .before .args .b)) (c .before .before .before .before .before .before .before .before .before .before .before .before .before .before .before .before .before .before .before .args .n) (now (c .before .before .before .before .before .before .before .before .before .before .before .before .before .before .before .before .before .before .before .args .s)) (c .before .before .before .before .before .before .before .before .before .before .before .before .before .before .before .before .before .before .before .args .at) (c .before .before .before .before .before .before .before .before .before .before .before .before .before .before .before .loop .i) (c .before .before .before .before .before .before .before .before .before .before .before .before .before .before .before .loop .f) (c .before .before .before .before .before .before .before .before .before .before .before .before .before .before .before .loop .b) (c .before .before .before .before .before .before .before .before .before .before .before .before .before .before .before .loop .t) (c .before .before .before .before .before .before .before .before .before .before .before .before .before .before .before .loop .inv .7) (c .before .before .before .before .before .before .before .before .before .before .before .before .before .before .member-at .result) (c .before .before .before .before .before .before .before .before .before .before .before .before .before .before .member-at .ensures .1 .1) (c .before .before .before .before .before .before .before .before .before .before .before .put-member .result) _ _ (c .before .before .before .before .before .before .before .before .before .before .before .put-member .ensures .1 .1) _ (c .before .before .before .before .before .g .given .1) _ h)
+
+-- src/lib.rt:143:24
+enum-known-r : tie.Need-enum-known-r Inv-loop μ-loop
+enum-known-r c = search needs
+
+-- src/lib.rt:144:17
+same-length-3 : tie.Need-same-length-3 Inv-loop μ-loop
+same-length-3 c = c .before .before .before .before .before .before .before .before .before .before .before .put-member .ensures .0 .long ∙ (c .before .before .before .before .before .before .before .before .before .before .before .before .before .before .before .loop .inv .2)
+
+-- src/lib.rt:144:17
+same-length-4 : tie.Need-same-length-4 Inv-loop μ-loop
+same-length-4 c = c .before .before .before .before .before .before .before .before .before .before .before .put-member .ensures .0 .wide ∙ (c .before .before .before .before .before .before .before .before .before .before .before .before .before .before .before .loop .inv .3)
+
+-- src/lib.rt:144:17
+returns-2 : tie.Need-returns-2 Inv-loop μ-loop
+returns-2 c = let k = step-in (c .before .before .before .before .before .before .before .before .before .before .before .put-member .ensures .1 .0) (c .before .before .before .before .before .g .given .1) in (record { long = c .before .before .before .before .before .before .before .before .before .before .before .put-member .ensures .0 .long ∙ (c .before .before .before .before .before .before .before .before .before .before .before .before .before .before .before .loop .inv .2); wide = c .before .before .before .before .before .before .before .before .before .before .before .put-member .ensures .0 .wide ∙ (c .before .before .before .before .before .before .before .before .before .before .before .before .before .before .before .loop .inv .3) }, ((omega (arith, k .0, c .before .before .before .before .before .before .before .before .before .before .before .before .before .before .before .loop .inv .4), omega (arith, k .1, c .before .before .before .before .before .before .before .before .before .before .before .before .before .before .before .loop .inv .2), k .2, omega (arith, k .3, c .before .before .before .before .before .before .before .before .before .before .before .before .before .before .before .loop .inv .6, c .before .before .before .before .before .before .before .before .before .before .before .before .before .before .before .loop .inv .0)), from-all (now (c .before .before .before .before .before .before .before .before .before .before .before .before .before .before .before .before .before .before .before .args .b)) (c .before .before .before .before .before .before .before .before .before .before .before .before .before .before .before .before .before .before .before .args .n) (now (c .before .before .before .before .before .before .before .before .before .before .before .before .before .before .before .before .before .before .before .args .s)) (c .before .before .before .before .before .before .before .before .before .before .before .before .before .before .before .before .before .before .before .args .at) (c .before .before .before .before .before .before .before .before .before .before .before .before .before .before .before .loop .i) (c .before .before .before .before .before .before .before .before .before .before .before .before .before .before .before .loop .f) (c .before .before .before .before .before .before .before .before .before .before .before .before .before .before .before .loop .b) (c .before .before .before .before .before .before .before .before .before .before .before .before .before .before .before .loop .t) (c .before .before .before .before .before .before .before .before .before .before .before .before .before .before .before .loop .inv .7) (c .before .before .before .before .before .before .before .before .before .before .before .before .before .before .member-at .result) (c .before .before .before .before .before .before .before .before .before .before .before .before .before .before .member-at .ensures .1 .1) (c .before .before .before .before .before .before .before .before .before .before .before .put-member .result) _ _ (c .before .before .before .before .before .before .before .before .before .before .before .put-member .ensures .1 .1) _ (c .before .before .before .before .before .g .given .1) _ (turn-as (c .before .before .before .separator .ensures) (c .before .r .given .1))))
+
+pub put-from-spec : {M : Type 1} → statement M
+put-from-spec =
+    tie.close
+    (tie.spec
+    Inv-loop
+    μ-loop
+    loop-holds
+    member-at-requires
+    put-member-requires
+    enum-known-g
+    enum-told
+    same-length
+    same-length-2
+    returns
+    separator-requires
+    enum-known-j
+    loop-less
+    loop-again
+    enum-known-r
+    same-length-3
+    same-length-4
+    returns-2)
