@@ -20,7 +20,7 @@ use Rattle.text.proofs.Choices.{none-some, some-same}
 use Rattle.json_strings.specs.Spelled.{spelled, textAt}
 use Rattle.json_strings.proofs.NextByte.{text-some}
 use Rattle.json_index.specs.Index.{jsonAt}
-use Rattle.card_entry.specs.Rows.{StringIs, TellsString}
+use Rattle.card_value.specs.Values.{StringIs, TellsString}
 use Rattle.kept_strings.specs.declared.To.{To}
 use Rattle.kept_strings.specs.declared.To.the-variants.{End, Bad}
 use Rattle.kept_strings.specs.Strings.{size, Grew, Puts as PutsTo, Within, PutAs, PutsAt}

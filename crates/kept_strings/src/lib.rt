@@ -1,5 +1,5 @@
 // Strings of a JSON text one after the other in a lent buffer, and the values of a parameter of vCardProps as rows of a line's table.
-use card_entry::string_in;
+use card_value::string_in;
 use json_access::element_at;
 use json_decode::decode_into;
 use json_marks::separator;

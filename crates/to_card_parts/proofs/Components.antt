@@ -16,17 +16,24 @@ use Rattle.text.proofs.Same.{same-swap}
 use Rattle.json.specs.Grammar.{isSpace}
 use Rattle.json.specs.Tree.{Json, Member, field, asString, asObject}
 use Rattle.json_strings.specs.Spelled.{spelled}
-use Rattle.json_index.specs.Index.{jsonAt, placed, firstAt, Slot, Indexed, IndexOf, Indexes}
+use Rattle.json_index.specs.Index.{jsonAt, placed, firstAt, Slot, Clear, Indexed, IndexOf, Indexes}
 use Rattle.json_index.proofs.Fields.{first-field, first-other}
 use Rattle.convert.specs.Table.{position, componentKinds}
 use Rattle.convert.specs.FromJson.{onlyMembers, Component, component, componentOf}
-use Rattle.card_entry.specs.Rows.{StringIs, TellsString}
+use Rattle.card_value.specs.Values.{StringIs, TellsString}
 use Rattle.to_card_head.proofs.Slots.{slot-none, slot-some}
 use Rattle.to_card_parts.specs.declared.Found.{Found}
 use Rattle.to_card_parts.specs.declared.Found.the-variants.{Of, Wrong}
 use Rattle.to_card_parts.specs.declared.Array.the-variants.{At, Empty, Wrong as NoArray}
 use Rattle.to_card_parts.specs.Parts.{kindFrom, stringFrom, ComponentIs, TellsSlots, TellsComponent, Elements, OpensAs}
 use Rattle.to_card_parts.proofs.Elements.{not-array, empty-array, array-elements}
+
+-- the slots of kind, value and others, before the index
+pub clear-three : Clear (0 ∷ 0 ∷ 0 ∷ [])
+clear-three zero = refl
+clear-three (suc zero) = refl
+clear-three (suc (suc zero)) = refl
+clear-three (suc (suc (suc i))) = refl
 
 -- ---- the place of a kind
 

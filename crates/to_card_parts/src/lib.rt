@@ -1,5 +1,5 @@
 // The components of a name: judged in one pass, and written kind by kind, in an order that is given as data.
-use card_entry::string_in;
+use card_value::string_in;
 use card_pen::pen_string;
 use json_access::element_at;
 use json_index::index_object;

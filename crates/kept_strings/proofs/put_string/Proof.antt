@@ -8,7 +8,7 @@ use Rattle.kept_strings.proofs.put_string.Statement.{statement}
 use Rattle.kept_strings.proofs.put_string.Tie as tie
 use Rattle.kept_strings.proofs.put_string.Reads as reads
 use Rattle.kept_strings.proofs.put_string.Lts as lts
-use Rattle.card_entry.proofs.string_in.Reads as string-in-reads
+use Rattle.card_value.proofs.string_in.Reads as string-in-reads
 use Rattle.kept_strings.proofs.put_decoded.Reads as put-decoded-reads
 
 -- src/lib.rt:60:9

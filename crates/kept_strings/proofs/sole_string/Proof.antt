@@ -7,7 +7,7 @@ use Rattle.kept_strings.proofs.sole_string.Statement.{statement}
 use Rattle.kept_strings.proofs.sole_string.Tie as tie
 use Rattle.kept_strings.proofs.sole_string.Reads as reads
 use Rattle.kept_strings.proofs.sole_string.Lts as lts
-use Rattle.card_entry.proofs.string_in.Reads as string-in-reads
+use Rattle.card_value.proofs.string_in.Reads as string-in-reads
 use Rattle.json_access.proofs.element_at.Reads as element-at-reads
 use Rattle.json_marks.proofs.separator.Reads as separator-reads
 use Rattle.json_marks.proofs.skip_space.Reads as skip-space-reads

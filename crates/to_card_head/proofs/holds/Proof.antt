@@ -5,7 +5,7 @@ use Rattle.to_card_head.proofs.holds.Statement.{statement}
 use Rattle.to_card_head.proofs.holds.Tie as tie
 use Rattle.to_card_head.proofs.holds.Reads as reads
 use Rattle.to_card_head.proofs.holds.Lts as lts
-use Rattle.card_entry.proofs.string_in.Reads as string-in-reads
+use Rattle.card_value.proofs.string_in.Reads as string-in-reads
 use Rattle.json_equal.proofs.equals.Reads as equals-reads
 
 returns : tie.Need-returns

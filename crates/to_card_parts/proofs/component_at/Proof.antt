@@ -3,8 +3,7 @@ use denote.Ref.{now}
 use mathlib.Core.Path.{ap}
 use lib.ListN.{length}
 use Rattle.text.proofs.Cases.{not-true, not-false}
-use Rattle.card_entry.proofs.Judging.{clear-three}
-use Rattle.to_card_parts.proofs.Components.{names-are, object-not, object-strange, object-of}
+use Rattle.to_card_parts.proofs.Components.{clear-three, names-are, object-not, object-strange, object-of}
 use borrow.Author.Needs.{needs}
 use Rattle.to_card_parts.proofs.component_at.Statement.{statement}
 use Rattle.to_card_parts.proofs.component_at.Tie as tie

@@ -6,7 +6,7 @@ use Rattle.to_card_parts.proofs.component_of.Statement.{statement}
 use Rattle.to_card_parts.proofs.component_of.Tie as tie
 use Rattle.to_card_parts.proofs.component_of.Reads as reads
 use Rattle.to_card_parts.proofs.component_of.Lts as lts
-use Rattle.card_entry.proofs.string_in.Reads as string-in-reads
+use Rattle.card_value.proofs.string_in.Reads as string-in-reads
 use Rattle.json_index.proofs.which_name.Reads as which-name-reads
 
 returns : tie.Need-returns
