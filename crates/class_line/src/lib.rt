@@ -26,11 +26,20 @@ pub enum Class {
     Full,
     Parts,
     // of that map, with no PROP-ID
-    Entry { map: usize },
+    Entry {
+        map: usize,
+    },
     // of that map, unless its PROP-ID is used there: kept
-    Keyed { map: usize, start: usize, end: usize },
+    Keyed {
+        map: usize,
+        start: usize,
+        end: usize,
+    },
     // a top-level member, unless the name that its pointer names is used: kept
-    Member { start: usize, end: usize },
+    Member {
+        start: usize,
+        end: usize,
+    },
 }
 
 // A line of the map i.
@@ -55,7 +64,11 @@ fn map_class(
             return Class::Entry { map: i };
         }
         Key::At(a, b) => {
-            return Class::Keyed { map: i, start: a, end: b };
+            return Class::Keyed {
+                map: i,
+                start: a,
+                end: b,
+            };
         }
     }
 }

@@ -18,7 +18,7 @@ use Rattle.text.proofs.Same.{same-true, same-eq, among-append}
 use Rattle.convert.specs.Table.{reserved}
 use Rattle.convert.specs.Pointer.{push, pointedFrom, pointed, pointer}
 use Rattle.convert.proofs.Pointers.{pointer-pointed}
-use Rattle.class_member.specs.Member.{pointsOn}
+use Rattle.class_member.specs.Member.{pointsOn, Pointers}
 
 -- ---- byte by byte
 
@@ -70,26 +70,24 @@ same-pointed p q n m a b =
     byBool (same p q)
     (λ e. same-eq (some-same (sym a ∙ ap pointed (same-true p q e) ∙ b)) ∙ sym e)
     (λ e. byBool (same n m)
-      (λ f. not-both (same-eq (sym (pointer-pointed p n a) ∙ ap pointer (same-true n m f) ∙ pointer-pointed q m b)) e)
-      (λ f. f ∙ sym e))
+    (λ f. not-both (same-eq (sym (pointer-pointed p n a) ∙ ap pointer (same-true n m f) ∙ pointer-pointed q m b)) e)
+    (λ f. f ∙ sym e))
 
--- names that are their own pointers
-abbrev Plain : List Bytes → Type 0
-Plain [] = Unit {0}
-Plain (w ∷ ws) = (pointed w ≡ some w) × Plain ws
-
-among-plain : (p n : Bytes) → pointed p ≡ some n → (ws : List Bytes) → Plain ws → among n ws ≡ among p ws
+-- the name is one of those that some pointers point at, exactly where its pointer is one of them
+pub among-pointers : (p n : Bytes) → pointed p ≡ some n → (qs ms : List Bytes) → Pointers qs ms → among n ms ≡ among p qs
 unfolding among any
-among-plain p n a [] h = refl
-among-plain p n a (w ∷ ws) h = rw (same-pointed p w n w a (h .0)) (ap (λ b. same p w || b) (among-plain p n a ws (h .1)))
+among-pointers p n a [] [] h = refl
+among-pointers p n a [] (m ∷ ms) h = absurd h
+among-pointers p n a (q ∷ qs) [] h = absurd h
+among-pointers p n a (q ∷ qs) (m ∷ ms) h = rw (same-pointed p q n m a (h .0)) (ap (λ b. same p q || b) (among-pointers p n a qs ms (h .1)))
 
-reserved-plain : Plain reserved
+reserved-plain : Pointers reserved reserved
 unfolding pointed pointedFrom
 reserved-plain = (refl, (refl, (refl, (refl, (refl, (refl, (refl, (refl, (refl, (refl, (refl, (refl, (refl, tt)))))))))))))
 
 -- no reserved name has a tilde or a slash: its pointer is compared as it stands
 pub among-reserved : (p n : Bytes) → pointed p ≡ some n → among n reserved ≡ among p (take 5 reserved) || among p (drop 5 reserved)
-among-reserved p n a = among-plain p n a reserved reserved-plain ∙ among-append p (take 5 reserved) (drop 5 reserved)
+among-reserved p n a = among-pointers p n a reserved reserved reserved-plain ∙ among-append p (take 5 reserved) (drop 5 reserved)
 
 pub is-word : (p w : Bytes) (ws : List Bytes) → among w ws ≡ true → same p w ≡ true → true ≡ among p ws
 is-word p w ws h e = sym (ap (λ x. among x ws) (same-true p w e) ∙ h)

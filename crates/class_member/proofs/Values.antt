@@ -72,8 +72,7 @@ never-full v room l e = omega (arith, said-full room (plainText v) e, plain-shor
 pub written : {room x after : Bytes} {r : Wrote} (n : ℕ) → Puts room x r after → r ≡ Wrote-Bytes n → (n ≤ length after) × (take (n - 0) (drop 0 after) ≡ x)
 written {room} {x} {after} n p e =
     let q = said-bytes room x n (sym (p .said) ∙ e) in
-    let is : after ≡ x ++ drop (length x) room = p .left ∙ put-fits room x (omega arith) in
-    (
+    let is : after ≡ x ++ drop (length x) room = p .left ∙ put-fits room x (omega arith) in (
       rw is (omega (arith, length-append x (drop (length x) room))),
       let z : n - 0 ≡ length x = omega arith in rw (is, z) (take-at x (drop (length x) room) (length x) refl),
     )

@@ -24,6 +24,13 @@ abbrev pub pointsOn : Bool → ℕ → Bool
 pointsOn true c = eqb c 48 || eqb c 49
 pointsOn false c = not (eqb c 47)
 
+-- these pointers point at those names, in order
+abbrev pub Pointers : List Bytes → List Bytes → Type 0
+Pointers [] [] = Unit {0}
+Pointers [] (n ∷ ns) = ⊥
+Pointers (p ∷ ps) [] = ⊥
+Pointers (p ∷ ps) (n ∷ ns) = (pointed p ≡ some n) × Pointers ps ns
+
 -- a scratch as long as the bytes, and bytes that the reader of JSON takes
 pub record Room (s scratch : Bytes) : Type 0 where
   pub fits : length s ≤ length scratch

@@ -37,8 +37,7 @@ fn no_params(counts: &[usize]) -> bool
     (counts[0] == 0)
         & ((counts[1] == 0)
             & ((counts[2] == 0)
-                & ((counts[4] == 0)
-                    & ((counts[5] == 0) & ((counts[6] == 0) & (counts[7] == 0))))))
+                & ((counts[4] == 0) & ((counts[5] == 0) & ((counts[6] == 0) & (counts[7] == 0))))))
 }
 
 fn none_but_derived(counts: &[usize]) -> bool

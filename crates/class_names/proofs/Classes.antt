@@ -82,14 +82,25 @@ none-else n i (a, (b, (c, (d, (e, (f, (g, _))))))) h = let l = high i (low i a b
 pub slotted : (n : Bytes) (i : ℕ) → nameNumber n ≡ 16 + i → Slotted n i
 unfolding wordsOf
 slotted n i =
-    byKeysP (λ i. nameNumber n ≡ 16 + i → Slotted n i) i (0 ∷ 1 ∷ 2 ∷ 3 ∷ 4 ∷ 5 ∷ 6 ∷ [])
-    (λ e. at-word (sole-word n (ascii "nickname") 16 refl (omega arith) e) slot-nickname,
-    (λ e. at-word (sole-word n (ascii "email") 17 refl (omega arith) e) slot-email,
-    (λ e. at-word (sole-word n (ascii "tel") 18 refl (omega arith) e) slot-tel,
-    (λ e. at-word (sole-word n (ascii "url") 19 refl (omega arith) e) slot-url,
-    (λ e. at-word (sole-word n (ascii "note") 20 refl (omega arith) e) slot-note,
-    (λ e. title-or-role n (words-of n 21 (omega arith) e),
-    (λ e. at-word (sole-word n (ascii "org") 22 refl (omega arith) e) slot-org, tt)))))))
+    byKeysP (λ i. nameNumber n ≡ 16 + i → Slotted n i) i (0 ∷ 1 ∷ 2 ∷ 3 ∷ 4 ∷ 5 ∷ 6 ∷ []) (
+      λ e. at-word (sole-word n (ascii "nickname") 16 refl (omega arith) e) slot-nickname,
+      (
+        λ e. at-word (sole-word n (ascii "email") 17 refl (omega arith) e) slot-email,
+        (
+          λ e. at-word (sole-word n (ascii "tel") 18 refl (omega arith) e) slot-tel,
+          (
+            λ e. at-word (sole-word n (ascii "url") 19 refl (omega arith) e) slot-url,
+            (
+              λ e. at-word (sole-word n (ascii "note") 20 refl (omega arith) e) slot-note,
+              (
+                λ e. title-or-role n (words-of n 21 (omega arith) e),
+                (λ e. at-word (sole-word n (ascii "org") 22 refl (omega arith) e) slot-org, tt),
+              ),
+            ),
+          ),
+        ),
+      ),
+    )
     (λ o e. absurd (none-else n i o e))
 
 -- a name of another number

@@ -87,8 +87,8 @@ split-goods false d (c ∷ s) =
     byBool (eqb c 92)
     (λ h. rw (h, eqb-true c 92 h) (good-backslash (splitFrom true d s) ∙ split-goods true d s))
     (λ h. byBool (eqb c d)
-      (λ k. rw (h, k) (sym (goods-all (splitFrom false d s)) ∙ split-goods false d s ∙ sym (push-some c (textFrom false s))))
-      (λ k. rw (h, k) (good-plain c (splitFrom false d s) h ∙ split-goods false d s ∙ sym (push-some c (textFrom false s)))))
+    (λ k. rw (h, k) (sym (goods-all (splitFrom false d s)) ∙ split-goods false d s ∙ sym (push-some c (textFrom false s))))
+    (λ k. rw (h, k) (good-plain c (splitFrom false d s) h ∙ split-goods false d s ∙ sym (push-some c (textFrom false s)))))
 
 -- splitting at bare separators keeps escapes
 pub split-reads : (d : ℕ) (s : Bytes) → all (λ x. is-some (readText x)) (splitText d s) ≡ is-some (readText s)

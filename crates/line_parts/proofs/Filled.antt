@@ -38,8 +38,8 @@ any-split p d b e (c ∷ s) =
     byBool (eqb c 92)
     (λ h. rw (h, eqb-true c 92 h) (any-head p 92 (splitFrom true d s) ∙ rw (b, e)))
     (λ h. byBool (eqb c d)
-      (λ k. rw (h, k) (any-split p d b e s))
-      (λ k. rw (h, k) (any-head p c (splitFrom false d s) ∙ ap (λ x. p c || x) (any-split p d b e s))))
+    (λ k. rw (h, k) (any-split p d b e s))
+    (λ k. rw (h, k) (any-head p c (splitFrom false d s) ∙ ap (λ x. p c || x) (any-split p d b e s))))
 
 and-same : (a : Bool) → a && true ≡ a && a
 and-same true = refl

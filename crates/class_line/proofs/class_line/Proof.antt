@@ -33,8 +33,13 @@ name-code-requires : tie.Need-name-code-requires
 name-code-requires c κs = search needs
 
 map-class-requires : tie.Need-map-class-requires
-map-class-requires c κs =
-    (c .before .before .before .before .before .before .before .before .before .before .before .pre .0, (numbered (now (c .before .before .before .before .before .before .before .before .before .before .before .args .s)) (now (c .before .before .before .before .before .before .before .before .before .before .before .args .t)) (c .before .name-code .result) (16 + (c .before .name-code .result - 16)) (c .before .name-code .ensures) (omega (arith, c .if1 .taken))))
+map-class-requires c κs = (
+  c .before .before .before .before .before .before .before .before .before .before .before .pre .0,
+  (numbered
+      (now (c .before .before .before .before .before .before .before .before .before .before .before .args .s))
+      (now (c .before .before .before .before .before .before .before .before .before .before .before .args .t)) (c .before .name-code .result)
+      (16 + (c .before .name-code .result - 16)) (c .before .name-code .ensures) (omega (arith, c .if1 .taken))),
+)
 
 returns : tie.Need-returns
 returns c =
@@ -43,29 +48,46 @@ returns c =
 
 returns-2 : tie.Need-returns-2
 returns-2 c =
-    of-other (now (c .before .before .before .before .before .before .before .before .before .before .before .before .args .s))
-    (now (c .before .before .before .before .before .before .before .before .before .before .before .before .args .t))
-    (numbered (now (c .before .before .before .before .before .before .before .before .before .before .before .before .args .s)) (now (c .before .before .before .before .before .before .before .before .before .before .before .before .args .t)) (c .before .before .name-code .result) 0 (c .before .before .name-code .ensures) (c .if2 .taken))
-    (c .before .before .before .before .before .before .before .before .before .before .before .before .args .full)
+    of-other (now (c .before .before .before .before .before .before .before .before .before .before .before .before .args .s)) (now
+    (c .before .before .before .before .before .before .before .before .before .before .before .before .args .t)) (numbered
+    (now (c .before .before .before .before .before .before .before .before .before .before .before .before .args .s))
+    (now (c .before .before .before .before .before .before .before .before .before .before .before .before .args .t)) (c .before .before .name-code .result) 0
+    (c .before .before .name-code .ensures) (c .if2 .taken)) (c .before .before .before .before .before .before .before .before .before .before .before .before .args .full)
     (c .before .before .before .before .before .before .before .before .before .before .before .before .args .parts)
 
 fn-class-requires : tie.Need-fn-class-requires
-fn-class-requires c κs =
-    (c .before .before .before .before .before .before .before .before .before .before .before .before .before .pre .0, (numbered (now (c .before .before .before .before .before .before .before .before .before .before .before .before .before .args .s)) (now (c .before .before .before .before .before .before .before .before .before .before .before .before .before .args .t)) (c .before .before .before .name-code .result) 4 (c .before .before .before .name-code .ensures) (c .if3 .taken)))
+fn-class-requires c κs = (
+  c .before .before .before .before .before .before .before .before .before .before .before .before .before .pre .0,
+  (numbered
+      (now (c .before .before .before .before .before .before .before .before .before .before .before .before .before .args .s))
+      (now (c .before .before .before .before .before .before .before .before .before .before .before .before .before .args .t)) (c .before .before .before .name-code .result)
+      4 (c .before .before .before .name-code .ensures) (c .if3 .taken)),
+)
 
 returns-3 : tie.Need-returns-3
 returns-3 c = c .fn-class .ensures (c .before .before .before .before .before .before .before .before .before .before .before .before .before .before .args .parts)
 
 n-class-requires : tie.Need-n-class-requires
-n-class-requires c κs =
-    (c .before .before .before .before .before .before .before .before .before .before .before .before .before .before .pre .0, (numbered (now (c .before .before .before .before .before .before .before .before .before .before .before .before .before .before .args .s)) (now (c .before .before .before .before .before .before .before .before .before .before .before .before .before .before .args .t)) (c .before .before .before .before .name-code .result) 5 (c .before .before .before .before .name-code .ensures) (c .if4 .taken)))
+n-class-requires c κs = (
+  c .before .before .before .before .before .before .before .before .before .before .before .before .before .before .pre .0,
+  (numbered
+      (now (c .before .before .before .before .before .before .before .before .before .before .before .before .before .before .args .s))
+      (now (c .before .before .before .before .before .before .before .before .before .before .before .before .before .before .args .t))
+      (c .before .before .before .before .name-code .result) 5 (c .before .before .before .before .name-code .ensures) (c .if4 .taken)),
+)
 
 returns-4 : tie.Need-returns-4
 returns-4 c = c .n-class .ensures (c .before .before .before .before .before .before .before .before .before .before .before .before .before .before .before .args .full)
 
 jsprop-class-requires : tie.Need-jsprop-class-requires
-jsprop-class-requires c κs =
-    (c .before .before .before .before .before .before .before .before .before .before .before .before .before .before .before .before .pre .0, c .before .before .before .before .before .before .before .before .before .before .before .before .before .before .before .before .pre .1, (numbered (now (c .before .before .before .before .before .before .before .before .before .before .before .before .before .before .before .before .args .s)) (now (c .before .before .before .before .before .before .before .before .before .before .before .before .before .before .before .before .args .t)) (c .before .before .before .before .before .before .name-code .result) 6 (c .before .before .before .before .before .before .name-code .ensures) (c .before .if5 .taken)))
+jsprop-class-requires c κs = (
+  c .before .before .before .before .before .before .before .before .before .before .before .before .before .before .before .before .pre .0,
+  c .before .before .before .before .before .before .before .before .before .before .before .before .before .before .before .before .pre .1,
+  (numbered
+      (now (c .before .before .before .before .before .before .before .before .before .before .before .before .before .before .before .before .args .s))
+      (now (c .before .before .before .before .before .before .before .before .before .before .before .before .before .before .before .before .args .t))
+      (c .before .before .before .before .before .before .name-code .result) 6 (c .before .before .before .before .before .before .name-code .ensures) (c .before .if5 .taken)),
+)
 
 same-length : tie.Need-same-length
 same-length c = search needs
@@ -78,25 +100,34 @@ returns-5 c =
 
 returns-6 : tie.Need-returns-6
 returns-6 c =
-    of-version (now (c .before .before .before .before .before .before .before .before .before .before .before .before .before .before .before .before .args .s))
+    of-version (now (c .before .before .before .before .before .before .before .before .before .before .before .before .before .before .before .before .args .s)) (now
+    (c .before .before .before .before .before .before .before .before .before .before .before .before .before .before .before .before .args .t)) (numbered
+    (now (c .before .before .before .before .before .before .before .before .before .before .before .before .before .before .before .before .args .s))
     (now (c .before .before .before .before .before .before .before .before .before .before .before .before .before .before .before .before .args .t))
-    (numbered (now (c .before .before .before .before .before .before .before .before .before .before .before .before .before .before .before .before .args .s)) (now (c .before .before .before .before .before .before .before .before .before .before .before .before .before .before .before .before .args .t)) (c .before .before .before .before .before .before .name-code .result) 1 (c .before .before .before .before .before .before .name-code .ensures) (c .if6 .taken))
+    (c .before .before .before .before .before .before .name-code .result) 1 (c .before .before .before .before .before .before .name-code .ensures) (c .if6 .taken))
     (c .before .before .before .before .before .before .before .before .before .before .before .before .before .before .before .before .args .full)
     (c .before .before .before .before .before .before .before .before .before .before .before .before .before .before .before .before .args .parts)
 
 returns-7 : tie.Need-returns-7
 returns-7 c =
-    of-uid (now (c .before .before .before .before .before .before .before .before .before .before .before .before .before .before .before .before .before .args .s))
+    of-uid (now (c .before .before .before .before .before .before .before .before .before .before .before .before .before .before .before .before .before .args .s)) (now
+    (c .before .before .before .before .before .before .before .before .before .before .before .before .before .before .before .before .before .args .t)) (numbered
+    (now (c .before .before .before .before .before .before .before .before .before .before .before .before .before .before .before .before .before .args .s))
     (now (c .before .before .before .before .before .before .before .before .before .before .before .before .before .before .before .before .before .args .t))
-    (numbered (now (c .before .before .before .before .before .before .before .before .before .before .before .before .before .before .before .before .before .args .s)) (now (c .before .before .before .before .before .before .before .before .before .before .before .before .before .before .before .before .before .args .t)) (c .before .before .before .before .before .before .before .name-code .result) 2 (c .before .before .before .before .before .before .before .name-code .ensures) (c .if7 .taken))
-    (c .before .before .before .before .before .before .before .before .before .before .before .before .before .before .before .before .before .args .full)
+    (c .before .before .before .before .before .before .before .name-code .result) 2 (c .before .before .before .before .before .before .before .name-code .ensures)
+    (c .if7 .taken)) (c .before .before .before .before .before .before .before .before .before .before .before .before .before .before .before .before .before .args .full)
     (c .before .before .before .before .before .before .before .before .before .before .before .before .before .before .before .before .before .args .parts)
 
 returns-8 : tie.Need-returns-8
 returns-8 c =
-    of-kind (now (c .before .before .before .before .before .before .before .before .before .before .before .before .before .before .before .before .before .args .s))
-    (now (c .before .before .before .before .before .before .before .before .before .before .before .before .before .before .before .before .before .args .t))
-    (numbered (now (c .before .before .before .before .before .before .before .before .before .before .before .before .before .before .before .before .before .args .s)) (now (c .before .before .before .before .before .before .before .before .before .before .before .before .before .before .before .before .before .args .t)) (c .before .before .before .before .before .before .before .name-code .result) 3 (c .before .before .before .before .before .before .before .name-code .ensures) (third _ (c .before .before .before .before .before .before .before .name-code .result) (c .before .before .before .before .before .before .before .name-code .ensures) (omega (arith, c .before .before .before .before .before .before .if1 .left)) (c .before .before .before .before .before .if2 .left) (c .before .before .before .before .if3 .left) (c .before .before .before .if4 .left) (c .before .before .if5 .left) (c .before .if6 .left) (c .if7 .left)))
+    of-kind (now (c .before .before .before .before .before .before .before .before .before .before .before .before .before .before .before .before .before .args .s)) (now
+    (c .before .before .before .before .before .before .before .before .before .before .before .before .before .before .before .before .before .args .t)) (numbered (now
+    (c .before .before .before .before .before .before .before .before .before .before .before .before .before .before .before .before .before .args .s)) (now
+    (c .before .before .before .before .before .before .before .before .before .before .before .before .before .before .before .before .before .args .t))
+    (c .before .before .before .before .before .before .before .name-code .result) 3 (c .before .before .before .before .before .before .before .name-code .ensures) (third _
+    (c .before .before .before .before .before .before .before .name-code .result) (c .before .before .before .before .before .before .before .name-code .ensures)
+    (omega (arith, c .before .before .before .before .before .before .if1 .left)) (c .before .before .before .before .before .if2 .left)
+    (c .before .before .before .before .if3 .left) (c .before .before .before .if4 .left) (c .before .before .if5 .left) (c .before .if6 .left) (c .if7 .left)))
     (c .before .before .before .before .before .before .before .before .before .before .before .before .before .before .before .before .before .args .full)
     (c .before .before .before .before .before .before .before .before .before .before .before .before .before .before .before .before .before .args .parts)
 

@@ -13,14 +13,15 @@ full-class-requires c κs = search needs
 returns : tie.Need-returns
 returns c =
     of-full (now (c .before .before .before .before .before .before .before .args .s)) (now (c .before .before .before .before .before .before .before .args .t))
-    (c .before .before .before .before .before .before .before .pre .1) (c .before .before .before .before .before .before .before .args .full) (c .before .full-class .result)
-    (c .before .full-class .ensures) (c .if1 .taken)
+    (c .before .before .before .before .before .before .before .pre .1) (c .before .before .before .before .before .before .before .args .full)
+    (c .before .full-class .result) (c .before .full-class .ensures) (c .if1 .taken)
 
 returns-2 : tie.Need-returns-2
 returns-2 c =
-    of-dropped (now (c .before .before .before .before .before .before .before .before .args .s)) (now (c .before .before .before .before .before .before .before .before .args .t))
-    (c .before .before .before .before .before .before .before .before .pre .1) (c .before .before .before .before .before .before .before .before .args .full)
-    (c .before .before .full-class .result) (c .before .before .full-class .ensures) (c .if2 .taken)
+    of-dropped (now (c .before .before .before .before .before .before .before .before .args .s))
+    (now (c .before .before .before .before .before .before .before .before .args .t)) (c .before .before .before .before .before .before .before .before .pre .1)
+    (c .before .before .before .before .before .before .before .before .args .full) (c .before .before .full-class .result) (c .before .before .full-class .ensures)
+    (c .if2 .taken)
 
 returns-3 : tie.Need-returns-3
 returns-3 c =

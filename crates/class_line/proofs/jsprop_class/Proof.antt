@@ -20,10 +20,12 @@ same-length c = search needs
 
 returns : tie.Need-returns
 returns c =
-    of-no-member (now (c .before .before .before .before .before .before .before .before .before .before .before .before .args .s))
-    (now (c .before .before .before .before .before .before .before .before .before .before .before .before .args .t))
-    (c .before .before .before .before .before .before .before .before .before .before .before .before .pre .2)
-    (subst (MemberIs (now (c .before .before .before .before .before .before .before .before .before .before .before .before .args .s)) (now (c .before .before .before .before .before .before .before .before .before .before .before .before .args .t))) (c .enum-told .given .1) (c .before .before .before .before .member-class .ensures))
+    of-no-member (now (c .before .before .before .before .before .before .before .before .before .before .before .before .args .s)) (now
+    (c .before .before .before .before .before .before .before .before .before .before .before .before .args .t))
+    (c .before .before .before .before .before .before .before .before .before .before .before .before .pre .2) (subst (MemberIs
+    (now (c .before .before .before .before .before .before .before .before .before .before .before .before .args .s))
+    (now (c .before .before .before .before .before .before .before .before .before .before .before .before .args .t))) (c .enum-told .given .1)
+    (c .before .before .before .before .member-class .ensures))
 
 enum-known-a : tie.Need-enum-known-a
 enum-known-a c = search needs
@@ -33,10 +35,12 @@ same-length-2 c = search needs
 
 returns-2 : tie.Need-returns-2
 returns-2 c =
-    of-member (now (c .before .before .before .before .before .before .before .before .before .before .before .before .before .args .s))
-    (now (c .before .before .before .before .before .before .before .before .before .before .before .before .before .args .t))
-    (c .before .before .before .before .before .before .before .before .before .before .before .before .before .pre .2) (c .before .a .given .0 .0) (c .before .a .given .0 .1 .0)
-    (subst (MemberIs (now (c .before .before .before .before .before .before .before .before .before .before .before .before .before .args .s)) (now (c .before .before .before .before .before .before .before .before .before .before .before .before .before .args .t))) (c .before .a .given .1) (c .before .before .before .before .before .member-class .ensures))
+    of-member (now (c .before .before .before .before .before .before .before .before .before .before .before .before .before .args .s)) (now
+    (c .before .before .before .before .before .before .before .before .before .before .before .before .before .args .t))
+    (c .before .before .before .before .before .before .before .before .before .before .before .before .before .pre .2) (c .before .a .given .0 .0)
+    (c .before .a .given .0 .1 .0) (subst (MemberIs (now (c .before .before .before .before .before .before .before .before .before .before .before .before .before .args .s))
+    (now (c .before .before .before .before .before .before .before .before .before .before .before .before .before .args .t))) (c .before .a .given .1)
+    (c .before .before .before .before .before .member-class .ensures))
 
 pub jsprop-class-spec : {M : Type 1} → statement M
 jsprop-class-spec =

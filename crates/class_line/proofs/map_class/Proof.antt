@@ -25,37 +25,43 @@ enum-told c = search needs
 
 returns : tie.Need-returns
 returns c =
-    of-bad (now (c .before .before .before .before .before .before .before .before .before .before .args .s))
-    (now (c .before .before .before .before .before .before .before .before .before .before .args .t))
+    of-bad (now (c .before .before .before .before .before .before .before .before .before .before .args .s)) (now
+    (c .before .before .before .before .before .before .before .before .before .before .args .t))
     (c .before .before .before .before .before .before .before .before .before .before .args .i)
     (c .before .before .before .before .before .before .before .before .before .before .pre .1) (c .before .before .before .before .types-of .result)
-    (c .before .before .before .form-of .result) (c .before .before .before .before .types-of .ensures) (c .before .before .before .form-of .ensures .0)
-    (subst (EntryKey (now (c .before .before .before .before .before .before .before .before .before .before .args .s)) (now (c .before .before .before .before .before .before .before .before .before .before .args .t)) (c .before .before .before .before .types-of .result) (c .before .before .before .form-of .result)) (c .enum-told .given .1) (c .before .before .entry-key .ensures))
+    (c .before .before .before .form-of .result) (c .before .before .before .before .types-of .ensures) (c .before .before .before .form-of .ensures .0) (subst (EntryKey
+    (now (c .before .before .before .before .before .before .before .before .before .before .args .s))
+    (now (c .before .before .before .before .before .before .before .before .before .before .args .t)) (c .before .before .before .before .types-of .result)
+    (c .before .before .before .form-of .result)) (c .enum-told .given .1) (c .before .before .entry-key .ensures))
 
 enum-told-2 : tie.Need-enum-told-2
 enum-told-2 c = search needs
 
 returns-2 : tie.Need-returns-2
 returns-2 c =
-    of-free (now (c .before .before .before .before .before .before .before .before .before .before .args .s))
-    (now (c .before .before .before .before .before .before .before .before .before .before .args .t))
+    of-free (now (c .before .before .before .before .before .before .before .before .before .before .args .s)) (now
+    (c .before .before .before .before .before .before .before .before .before .before .args .t))
     (c .before .before .before .before .before .before .before .before .before .before .args .i)
     (c .before .before .before .before .before .before .before .before .before .before .pre .1) (c .before .before .before .before .types-of .result)
-    (c .before .before .before .form-of .result) (c .before .before .before .before .types-of .ensures) (c .before .before .before .form-of .ensures .0)
-    (subst (EntryKey (now (c .before .before .before .before .before .before .before .before .before .before .args .s)) (now (c .before .before .before .before .before .before .before .before .before .before .args .t)) (c .before .before .before .before .types-of .result) (c .before .before .before .form-of .result)) (c .enum-told2 .given .1) (c .before .before .entry-key .ensures))
+    (c .before .before .before .form-of .result) (c .before .before .before .before .types-of .ensures) (c .before .before .before .form-of .ensures .0) (subst (EntryKey
+    (now (c .before .before .before .before .before .before .before .before .before .before .args .s))
+    (now (c .before .before .before .before .before .before .before .before .before .before .args .t)) (c .before .before .before .before .types-of .result)
+    (c .before .before .before .form-of .result)) (c .enum-told2 .given .1) (c .before .before .entry-key .ensures))
 
 enum-known-a : tie.Need-enum-known-a
 enum-known-a c = search needs
 
 returns-3 : tie.Need-returns-3
 returns-3 c =
-    of-keyed (now (c .before .before .before .before .before .before .before .before .before .before .before .args .s))
-    (now (c .before .before .before .before .before .before .before .before .before .before .before .args .t))
+    of-keyed (now (c .before .before .before .before .before .before .before .before .before .before .before .args .s)) (now
+    (c .before .before .before .before .before .before .before .before .before .before .before .args .t))
     (c .before .before .before .before .before .before .before .before .before .before .before .args .i)
     (c .before .before .before .before .before .before .before .before .before .before .before .pre .1) (c .before .before .before .before .before .types-of .result)
-    (c .before .before .before .before .form-of .result) (c .before .before .before .before .before .types-of .ensures) (c .before .before .before .before .form-of .ensures .0)
-    (c .before .a .given .0 .0) (c .before .a .given .0 .1 .0)
-    (subst (EntryKey (now (c .before .before .before .before .before .before .before .before .before .before .before .args .s)) (now (c .before .before .before .before .before .before .before .before .before .before .before .args .t)) (c .before .before .before .before .before .types-of .result) (c .before .before .before .before .form-of .result)) (c .before .a .given .1) (c .before .before .before .entry-key .ensures))
+    (c .before .before .before .before .form-of .result) (c .before .before .before .before .before .types-of .ensures)
+    (c .before .before .before .before .form-of .ensures .0) (c .before .a .given .0 .0) (c .before .a .given .0 .1 .0) (subst (EntryKey
+    (now (c .before .before .before .before .before .before .before .before .before .before .before .args .s))
+    (now (c .before .before .before .before .before .before .before .before .before .before .before .args .t)) (c .before .before .before .before .before .types-of .result)
+    (c .before .before .before .before .form-of .result)) (c .before .a .given .1) (c .before .before .before .entry-key .ensures))
 
 pub map-class-spec : {M : Type 1} → statement M
 map-class-spec =

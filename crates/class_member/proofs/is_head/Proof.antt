@@ -50,8 +50,8 @@ same-bytes-requires-4 c κs = search needs
 
 returns-4 : tie.Need-returns-4
 returns-4 c =
-    is-word (now (c .before .before .before .before .before .before .before .before .before .before .before .before .before .args .p)) (ascii "kind") (take 5 reserved) (word-kind)
-    (sym (c .before .same-bytes4 .ensures) ∙ (c .if4 .taken))
+    is-word (now (c .before .before .before .before .before .before .before .before .before .before .before .before .before .args .p)) (ascii "kind") (take 5 reserved)
+    (word-kind) (sym (c .before .same-bytes4 .ensures) ∙ (c .if4 .taken))
 
 slice-aggregate-same-bytes-5 : tie.Need-slice-aggregate-same-bytes-5
 slice-aggregate-same-bytes-5 c = search needs
@@ -61,8 +61,13 @@ same-bytes-requires-5 c κs = search needs
 
 returns-5 : tie.Need-returns-5
 returns-5 c =
-    c .same-bytes5 .ensures ∙ sym
-    (last-head (now (c .before .before .before .before .before .before .before .before .before .before .before .before .before .before .before .args .p)) (sym (c .before .before .before .before .before .before .before .before .before .before .before .before .same-bytes .ensures) ∙ (c .before .before .before .before .before .before .before .before .before .before .before .if1 .left)) (sym (c .before .before .before .before .before .before .before .before .before .same-bytes2 .ensures) ∙ (c .before .before .before .before .before .before .before .before .if2 .left)) (sym (c .before .before .before .before .before .before .same-bytes3 .ensures) ∙ (c .before .before .before .before .before .if3 .left)) (sym (c .before .before .before .same-bytes4 .ensures) ∙ (c .before .before .if4 .left)))
+    c .same-bytes5 .ensures ∙ sym (last-head (now
+    (c .before .before .before .before .before .before .before .before .before .before .before .before .before .before .before .args .p)) (sym
+    (c .before .before .before .before .before .before .before .before .before .before .before .before .same-bytes .ensures) ∙
+    (c .before .before .before .before .before .before .before .before .before .before .before .if1 .left)) (sym
+    (c .before .before .before .before .before .before .before .before .before .same-bytes2 .ensures) ∙
+    (c .before .before .before .before .before .before .before .before .if2 .left)) (sym (c .before .before .before .before .before .before .same-bytes3 .ensures) ∙
+    (c .before .before .before .before .before .if3 .left)) (sym (c .before .before .before .same-bytes4 .ensures) ∙ (c .before .before .if4 .left)))
 
 pub is-head-spec : {M : Type 1} → statement M
 is-head-spec =

@@ -1,4 +1,3 @@
-
 use mathlib.Core.Path.{sym, ap, _∙_}
 use denote.Ref.{now}
 use Rattle.class_member.proofs.Values.{never-full, written, soundly, judged-text}
@@ -24,8 +23,9 @@ same-length c = search needs
 
 returns : tie.Need-returns
 returns c =
-    absurd
-    (never-full (now (c .before .before .before .before .before .before .before .before .args .v)) (now (c .before .before .before .before .before .before .before .before .args .scratch)) (c .before .before .before .before .before .before .before .before .pre .fits) (sym (c .before .before .before .before .read-text .ensures .said) ∙ (c .enum-told .given .1)))
+    absurd (never-full (now (c .before .before .before .before .before .before .before .before .args .v))
+    (now (c .before .before .before .before .before .before .before .before .args .scratch)) (c .before .before .before .before .before .before .before .before .pre .fits)
+    (sym (c .before .before .before .before .read-text .ensures .said) ∙ (c .enum-told .given .1)))
 
 sub-read : tie.Need-sub-read
 sub-read c = search needs
@@ -47,11 +47,12 @@ same-length-2 c = search needs
 
 returns-2 : tie.Need-returns-2
 returns-2 c =
-    sym (ap soundly (c .enum-told2 .given .1)) ∙ judged-text
-    (now (c .before .before .before .before .before .before .before .before .before .before .before .before .before .before .args .v)) _ (c .before .before .read .result)
-    (c .before .before .before .before .before .before .before .before .before .before .before .before .before .before .pre .small)
-    ((written (c .before .before .before .before .before .before .n .given .0 .0) (c .before .before .before .before .before .before .before .before .before .before .read-text .ensures) (c .before .before .before .before .before .before .n .given .1)) .1)
-    (c .before .before .read .ensures .0)
+    sym (ap soundly (c .enum-told2 .given .1)) ∙ judged-text (now
+    (c .before .before .before .before .before .before .before .before .before .before .before .before .before .before .args .v)) _ (c .before .before .read .result)
+    (c .before .before .before .before .before .before .before .before .before .before .before .before .before .before .pre .small) ((written
+    (c .before .before .before .before .before .before .n .given .0 .0)
+    (c .before .before .before .before .before .before .before .before .before .before .read-text .ensures)
+    (c .before .before .before .before .before .before .n .given .1)) .1) (c .before .before .read .ensures .0)
 
 enum-told-3 : tie.Need-enum-told-3
 enum-told-3 c = search needs
@@ -61,11 +62,12 @@ same-length-3 c = search needs
 
 returns-3 : tie.Need-returns-3
 returns-3 c =
-    sym (ap soundly (c .enum-told3 .given .1)) ∙ judged-text
-    (now (c .before .before .before .before .before .before .before .before .before .before .before .before .before .before .args .v)) _ (c .before .before .read .result)
-    (c .before .before .before .before .before .before .before .before .before .before .before .before .before .before .pre .small)
-    ((written (c .before .before .before .before .before .before .n .given .0 .0) (c .before .before .before .before .before .before .before .before .before .before .read-text .ensures) (c .before .before .before .before .before .before .n .given .1)) .1)
-    (c .before .before .read .ensures .0)
+    sym (ap soundly (c .enum-told3 .given .1)) ∙ judged-text (now
+    (c .before .before .before .before .before .before .before .before .before .before .before .before .before .before .args .v)) _ (c .before .before .read .result)
+    (c .before .before .before .before .before .before .before .before .before .before .before .before .before .before .pre .small) ((written
+    (c .before .before .before .before .before .before .n .given .0 .0)
+    (c .before .before .before .before .before .before .before .before .before .before .read-text .ensures)
+    (c .before .before .before .before .before .before .n .given .1)) .1) (c .before .before .read .ensures .0)
 
 enum-told-4 : tie.Need-enum-told-4
 enum-told-4 c = search needs
@@ -75,11 +77,12 @@ same-length-4 c = search needs
 
 returns-4 : tie.Need-returns-4
 returns-4 c =
-    sym (ap soundly (c .enum-told4 .given .1)) ∙ judged-text
-    (now (c .before .before .before .before .before .before .before .before .before .before .before .before .before .before .args .v)) _ (c .before .before .read .result)
-    (c .before .before .before .before .before .before .before .before .before .before .before .before .before .before .pre .small)
-    ((written (c .before .before .before .before .before .before .n .given .0 .0) (c .before .before .before .before .before .before .before .before .before .before .read-text .ensures) (c .before .before .before .before .before .before .n .given .1)) .1)
-    (c .before .before .read .ensures .0)
+    sym (ap soundly (c .enum-told4 .given .1)) ∙ judged-text (now
+    (c .before .before .before .before .before .before .before .before .before .before .before .before .before .before .args .v)) _ (c .before .before .read .result)
+    (c .before .before .before .before .before .before .before .before .before .before .before .before .before .before .pre .small) ((written
+    (c .before .before .before .before .before .before .n .given .0 .0)
+    (c .before .before .before .before .before .before .before .before .before .before .read-text .ensures)
+    (c .before .before .before .before .before .before .n .given .1)) .1) (c .before .before .read .ensures .0)
 
 pub is-json-spec : {M : Type 1} → statement M
 is-json-spec =

@@ -33,9 +33,9 @@ points-on-requires c κs = search needs
 
 returns-2 : tie.Need-returns-2 Inv-loop μ-loop
 returns-2 c =
-    sym
-    (point-off (now (c .before .before .before .before .before .before .before .args .p)) (c .before .before .before .before .loop .i) (c .before .before .before .before .loop .tilde) (c .before .before .before .loop-test .taken) (sym (c .before .points-on .ensures) ∙ not-true _ (c .if2 .taken)))
-    ∙ (c .before .before .before .before .loop .inv .1)
+    sym (point-off (now (c .before .before .before .before .before .before .before .args .p)) (c .before .before .before .before .loop .i)
+    (c .before .before .before .before .loop .tilde) (c .before .before .before .loop-test .taken) (sym (c .before .points-on .ensures) ∙ not-true _ (c .if2 .taken))) ∙
+    (c .before .before .before .before .loop .inv .1)
 
 add-i : tie.Need-add-i Inv-loop μ-loop
 add-i c = search needs
@@ -44,8 +44,12 @@ loop-less : tie.Need-loop-less Inv-loop μ-loop
 loop-less c = search needs
 
 loop-again : tie.Need-loop-again Inv-loop μ-loop
-loop-again c =
-    (search needs, sym (point-on (now (c .before .before .before .before .before .before .before .args .p)) (c .before .before .before .before .loop .i) (c .before .before .before .before .loop .tilde) (c .before .before .before .loop-test .taken) (sym (c .before .points-on .ensures) ∙ not-false _ (c .if2 .left))) ∙ (c .before .before .before .before .loop .inv .1))
+loop-again c = (
+  search needs,
+  sym (point-on (now (c .before .before .before .before .before .before .before .args .p)) (c .before .before .before .before .loop .i)
+      (c .before .before .before .before .loop .tilde) (c .before .before .before .loop-test .taken) (sym (c .before .points-on .ensures) ∙ not-false _ (c .if2 .left))) ∙
+      (c .before .before .before .before .loop .inv .1),
+)
 
 returns-3 : tie.Need-returns-3 Inv-loop μ-loop
 returns-3 c = sym (point-end (now (c .before .before .before .before .args .p)) (c .before .loop .i) (c .before .loop .tilde) (c .loop-test .left)) ∙ (c .before .loop .inv .1)

@@ -84,8 +84,8 @@ same-bytes-requires-7 c κs = search needs
 
 returns-7 : tie.Need-returns-7
 returns-7 c =
-    is-word
-    (now (c .before .before .before .before .before .before .before .before .before .before .before .before .before .before .before .before .before .before .before .before .before .before .args .p))
+    is-word (now
+    (c .before .before .before .before .before .before .before .before .before .before .before .before .before .before .before .before .before .before .before .before .before .before .args .p))
     (ascii "organizations") (drop 5 reserved) (word-organizations) (sym (c .before .same-bytes7 .ensures) ∙ (c .if7 .taken))
 
 slice-aggregate-same-bytes-8 : tie.Need-slice-aggregate-same-bytes-8
@@ -96,8 +96,22 @@ same-bytes-requires-8 c κs = search needs
 
 returns-8 : tie.Need-returns-8
 returns-8 c =
-    c .same-bytes8 .ensures ∙ sym
-    (last-section (now (c .before .before .before .before .before .before .before .before .before .before .before .before .before .before .before .before .before .before .before .before .before .before .before .before .args .p)) (sym (c .before .before .before .before .before .before .before .before .before .before .before .before .before .before .before .before .before .before .before .before .before .same-bytes .ensures) ∙ (c .before .before .before .before .before .before .before .before .before .before .before .before .before .before .before .before .before .before .before .before .if1 .left)) (sym (c .before .before .before .before .before .before .before .before .before .before .before .before .before .before .before .before .before .before .same-bytes2 .ensures) ∙ (c .before .before .before .before .before .before .before .before .before .before .before .before .before .before .before .before .before .if2 .left)) (sym (c .before .before .before .before .before .before .before .before .before .before .before .before .before .before .before .same-bytes3 .ensures) ∙ (c .before .before .before .before .before .before .before .before .before .before .before .before .before .before .if3 .left)) (sym (c .before .before .before .before .before .before .before .before .before .before .before .before .same-bytes4 .ensures) ∙ (c .before .before .before .before .before .before .before .before .before .before .before .if4 .left)) (sym (c .before .before .before .before .before .before .before .before .before .same-bytes5 .ensures) ∙ (c .before .before .before .before .before .before .before .before .if5 .left)) (sym (c .before .before .before .before .before .before .same-bytes6 .ensures) ∙ (c .before .before .before .before .before .if6 .left)) (sym (c .before .before .before .same-bytes7 .ensures) ∙ (c .before .before .if7 .left)))
+    c .same-bytes8 .ensures ∙ sym (last-section (now
+    (c .before .before .before .before .before .before .before .before .before .before .before .before .before .before .before .before .before .before .before .before .before .before .before .before .args .p))
+    (sym
+    (c .before .before .before .before .before .before .before .before .before .before .before .before .before .before .before .before .before .before .before .before .before .same-bytes .ensures)
+    ∙
+    (c .before .before .before .before .before .before .before .before .before .before .before .before .before .before .before .before .before .before .before .before .if1 .left))
+    (sym
+    (c .before .before .before .before .before .before .before .before .before .before .before .before .before .before .before .before .before .before .same-bytes2 .ensures)
+    ∙ (c .before .before .before .before .before .before .before .before .before .before .before .before .before .before .before .before .before .if2 .left)) (sym
+    (c .before .before .before .before .before .before .before .before .before .before .before .before .before .before .before .same-bytes3 .ensures) ∙
+    (c .before .before .before .before .before .before .before .before .before .before .before .before .before .before .if3 .left)) (sym
+    (c .before .before .before .before .before .before .before .before .before .before .before .before .same-bytes4 .ensures) ∙
+    (c .before .before .before .before .before .before .before .before .before .before .before .if4 .left)) (sym
+    (c .before .before .before .before .before .before .before .before .before .same-bytes5 .ensures) ∙
+    (c .before .before .before .before .before .before .before .before .if5 .left)) (sym (c .before .before .before .before .before .before .same-bytes6 .ensures) ∙
+    (c .before .before .before .before .before .if6 .left)) (sym (c .before .before .before .same-bytes7 .ensures) ∙ (c .before .before .if7 .left)))
 
 pub is-section-spec : {M : Type 1} → statement M
 is-section-spec =

@@ -45,7 +45,8 @@ returns-3 : tie.Need-returns-3
 returns-3 c =
     member-unbare (now (c .before .before .before .before .before .before .before .before .before .before .before .before .args .s))
     (now (c .before .before .before .before .before .before .before .before .before .before .before .before .args .t))
-    (c .before .before .before .before .before .before .before .before .before .before .before .before .pre .0 .row) (c .before .is-bare .ensures ∙ not-true _ (c .if3 .taken))
+    (c .before .before .before .before .before .before .before .before .before .before .before .before .pre .0 .row)
+    (c .before .is-bare .ensures ∙ not-true _ (c .if3 .taken))
 
 shared-slice-read-a : tie.Need-shared-slice-read-a
 shared-slice-read-a c = search needs
@@ -73,7 +74,8 @@ is-pointer-requires c κs = search needs
 
 returns-4 : tie.Need-returns-4
 returns-4 c =
-    member-unpointed (now (c .before .before .before .before .before .before .before .before .before .before .before .before .before .before .before .before .before .args .s))
+    member-unpointed
+    (now (c .before .before .before .before .before .before .before .before .before .before .before .before .before .before .before .before .before .args .s))
     (now (c .before .before .before .before .before .before .before .before .before .before .before .before .before .before .before .before .before .args .t))
     (c .before .before .before .before .before .before .before .before .before .before .before .before .before .before .before .before .before .pre .0 .row)
     (c .before .before .before .before .before .before .before .before .before .if1 .left)
@@ -103,45 +105,60 @@ is-head-requires c κs = search needs
 
 returns-5 : tie.Need-returns-5
 returns-5 c =
-    member-head
-    (now (c .before .before .before .before .before .before .before .before .before .before .before .before .before .before .before .before .before .before .before .before .args .s))
-    (now (c .before .before .before .before .before .before .before .before .before .before .before .before .before .before .before .before .before .before .before .before .args .t))
+    member-head (now
+    (c .before .before .before .before .before .before .before .before .before .before .before .before .before .before .before .before .before .before .before .before .args .s))
+    (now
+    (c .before .before .before .before .before .before .before .before .before .before .before .before .before .before .before .before .before .before .before .before .args .t))
     (c .before .before .before .before .before .before .before .before .before .before .before .before .before .before .before .before .before .before .before .before .pre .0 .row)
-    (c .before .before .before .before .before .before .before .before .before .before .before .before .if1 .left)
-    (sym (c .before .before .before .before .before .before .before .before .before .before .before .none-but-pointer .ensures) ∙ not-false _ (c .before .before .before .before .before .before .before .before .before .before .if2 .left))
-    (sym (c .before .before .before .before .is-pointer .ensures) ∙ not-false _ (c .before .before .before .if4 .left)) (c .before .is-head .result) false
-    (c .before .is-head .ensures) (c .if5 .taken)
+    (c .before .before .before .before .before .before .before .before .before .before .before .before .if1 .left) (sym
+    (c .before .before .before .before .before .before .before .before .before .before .before .none-but-pointer .ensures) ∙ not-false _
+    (c .before .before .before .before .before .before .before .before .before .before .if2 .left)) (sym (c .before .before .before .before .is-pointer .ensures) ∙ not-false
+    _ (c .before .before .before .if4 .left)) (c .before .is-head .result) false (c .before .is-head .ensures) (c .if5 .taken)
 
 sub-is-section : tie.Need-sub-is-section
 sub-is-section c =
     let v = held-first
-    (c .before .before .before .before .before .before .before .before .before .before .before .before .before .before .before .before .before .before .before .before .pre .0 .row .held 4 (omega arith))
-    (λ e. omega (arith, c .before .before .before .before .before .before .before .before .before .before .before .before .if1 .left)) in omega (arith, v .ordered, v .within)
+    (c .before .before .before .before .before .before .before .before .before .before .before .before .before .before .before .before .before .before .before .before .pre .0 .row .held
+    4 (omega arith)) (λ e. omega (arith, c .before .before .before .before .before .before .before .before .before .before .before .before .if1 .left)) in omega (
+      arith,
+      v .ordered,
+      v .within,
+    )
 
 part-is-section-start : tie.Need-part-is-section-start
 part-is-section-start c =
     let v = held-first
-    (c .before .before .before .before .before .before .before .before .before .before .before .before .before .before .before .before .before .before .before .before .pre .0 .row .held 4 (omega arith))
-    (λ e. omega (arith, c .before .before .before .before .before .before .before .before .before .before .before .before .if1 .left)) in omega (arith, v .ordered, v .within)
+    (c .before .before .before .before .before .before .before .before .before .before .before .before .before .before .before .before .before .before .before .before .pre .0 .row .held
+    4 (omega arith)) (λ e. omega (arith, c .before .before .before .before .before .before .before .before .before .before .before .before .if1 .left)) in omega (
+      arith,
+      v .ordered,
+      v .within,
+    )
 
 part-is-section-end : tie.Need-part-is-section-end
 part-is-section-end c =
     let v = held-first
-    (c .before .before .before .before .before .before .before .before .before .before .before .before .before .before .before .before .before .before .before .before .pre .0 .row .held 4 (omega arith))
-    (λ e. omega (arith, c .before .before .before .before .before .before .before .before .before .before .before .before .if1 .left)) in omega (arith, v .ordered, v .within)
+    (c .before .before .before .before .before .before .before .before .before .before .before .before .before .before .before .before .before .before .before .before .pre .0 .row .held
+    4 (omega arith)) (λ e. omega (arith, c .before .before .before .before .before .before .before .before .before .before .before .before .if1 .left)) in omega (
+      arith,
+      v .ordered,
+      v .within,
+    )
 
 is-section-requires : tie.Need-is-section-requires
 is-section-requires c κs = search needs
 
 returns-6 : tie.Need-returns-6
 returns-6 c =
-    member-section
-    (now (c .before .before .before .before .before .before .before .before .before .before .before .before .before .before .before .before .before .before .before .before .before .before .before .args .s))
-    (now (c .before .before .before .before .before .before .before .before .before .before .before .before .before .before .before .before .before .before .before .before .before .before .before .args .t))
+    member-section (now
+    (c .before .before .before .before .before .before .before .before .before .before .before .before .before .before .before .before .before .before .before .before .before .before .before .args .s))
+    (now
+    (c .before .before .before .before .before .before .before .before .before .before .before .before .before .before .before .before .before .before .before .before .before .before .before .args .t))
     (c .before .before .before .before .before .before .before .before .before .before .before .before .before .before .before .before .before .before .before .before .before .before .before .pre .0 .row)
-    (c .before .before .before .before .before .before .before .before .before .before .before .before .before .before .before .if1 .left)
-    (sym (c .before .before .before .before .before .before .before .before .before .before .before .before .before .before .none-but-pointer .ensures) ∙ not-false _ (c .before .before .before .before .before .before .before .before .before .before .before .before .before .if2 .left))
-    (sym (c .before .before .before .before .before .before .before .is-pointer .ensures) ∙ not-false _ (c .before .before .before .before .before .before .if4 .left))
+    (c .before .before .before .before .before .before .before .before .before .before .before .before .before .before .before .if1 .left) (sym
+    (c .before .before .before .before .before .before .before .before .before .before .before .before .before .before .none-but-pointer .ensures) ∙ not-false _
+    (c .before .before .before .before .before .before .before .before .before .before .before .before .before .if2 .left)) (sym
+    (c .before .before .before .before .before .before .before .is-pointer .ensures) ∙ not-false _ (c .before .before .before .before .before .before .if4 .left))
     (c .before .before .before .before .is-head .result) (c .before .is-section .result) (c .before .before .before .before .is-head .ensures)
     (c .before .before .before .if5 .left) (c .before .is-section .ensures) (c .if6 .taken)
 
@@ -168,19 +185,27 @@ same-length c = search needs
 
 returns-7 : tie.Need-returns-7
 returns-7 c =
-    member-invalid
-    (now (c .before .before .before .before .before .before .before .before .before .before .before .before .before .before .before .before .before .before .before .before .before .before .before .before .before .before .before .before .before .before .before .args .s))
-    (now (c .before .before .before .before .before .before .before .before .before .before .before .before .before .before .before .before .before .before .before .before .before .before .before .before .before .before .before .before .before .before .before .args .t))
+    member-invalid (now
+    (c .before .before .before .before .before .before .before .before .before .before .before .before .before .before .before .before .before .before .before .before .before .before .before .before .before .before .before .before .before .before .before .args .s))
+    (now
+    (c .before .before .before .before .before .before .before .before .before .before .before .before .before .before .before .before .before .before .before .before .before .before .before .before .before .before .before .before .before .before .before .args .t))
     (c .before .before .before .before .before .before .before .before .before .before .before .before .before .before .before .before .before .before .before .before .before .before .before .before .before .before .before .before .before .before .before .pre .0 .row)
     (c .before .before .before .before .before .before .before .before .before .before .before .before .before .before .before .before .before .before .before .before .before .before .before .if1 .left)
-    (sym (c .before .before .before .before .before .before .before .before .before .before .before .before .before .before .before .before .before .before .before .before .before .before .none-but-pointer .ensures) ∙ not-false _ (c .before .before .before .before .before .before .before .before .before .before .before .before .before .before .before .before .before .before .before .before .before .if2 .left))
-    (sym (c .before .before .before .before .before .before .before .before .before .before .before .before .before .before .before .is-pointer .ensures) ∙ not-false _ (c .before .before .before .before .before .before .before .before .before .before .before .before .before .before .if4 .left))
+    (sym
+    (c .before .before .before .before .before .before .before .before .before .before .before .before .before .before .before .before .before .before .before .before .before .before .none-but-pointer .ensures)
+    ∙ not-false _
+    (c .before .before .before .before .before .before .before .before .before .before .before .before .before .before .before .before .before .before .before .before .before .if2 .left))
+    (sym (c .before .before .before .before .before .before .before .before .before .before .before .before .before .before .before .is-pointer .ensures) ∙ not-false _
+    (c .before .before .before .before .before .before .before .before .before .before .before .before .before .before .if4 .left))
     (c .before .before .before .before .before .before .before .before .before .before .before .before .is-head .result)
     (c .before .before .before .before .before .before .before .before .before .is-section .result)
     (c .before .before .before .before .before .before .before .before .before .before .before .before .is-head .ensures)
     (c .before .before .before .before .before .before .before .before .before .before .before .if5 .left)
-    (c .before .before .before .before .before .before .before .before .before .is-section .ensures)
-    (ap (λ u. is-some (memberValue u)) (value-is (now (c .before .before .before .before .before .before .before .before .before .before .before .before .before .before .before .before .before .before .before .before .before .before .before .before .before .before .before .before .before .before .before .args .s)) (now (c .before .before .before .before .before .before .before .before .before .before .before .before .before .before .before .before .before .before .before .before .before .before .before .before .before .before .before .before .before .before .before .args .t))) ∙ sym (c .before .before .before .is-json .ensures) ∙ not-true _ (c .if7 .taken))
+    (c .before .before .before .before .before .before .before .before .before .is-section .ensures) (ap (λ u. is-some (memberValue u)) (value-is (now
+    (c .before .before .before .before .before .before .before .before .before .before .before .before .before .before .before .before .before .before .before .before .before .before .before .before .before .before .before .before .before .before .before .args .s))
+    (now
+    (c .before .before .before .before .before .before .before .before .before .before .before .before .before .before .before .before .before .before .before .before .before .before .before .before .before .before .before .before .before .before .before .args .t)))
+    ∙ sym (c .before .before .before .is-json .ensures) ∙ not-true _ (c .if7 .taken))
 
 same-length-2 : tie.Need-same-length-2
 same-length-2 c = search needs
@@ -188,23 +213,37 @@ same-length-2 c = search needs
 returns-8 : tie.Need-returns-8
 returns-8 c =
     let v = held-first
-    (c .before .before .before .before .before .before .before .before .before .before .before .before .before .before .before .before .before .before .before .before .before .before .before .before .before .before .before .before .before .before .before .pre .0 .row .held 4 (omega arith))
-    (λ e. omega (arith, c .before .before .before .before .before .before .before .before .before .before .before .before .before .before .before .before .before .before .before .before .before .before .before .if1 .left))
-    in member-at
-    (now (c .before .before .before .before .before .before .before .before .before .before .before .before .before .before .before .before .before .before .before .before .before .before .before .before .before .before .before .before .before .before .before .args .s))
-    (now (c .before .before .before .before .before .before .before .before .before .before .before .before .before .before .before .before .before .before .before .before .before .before .before .before .before .before .before .before .before .before .before .args .t))
+    (c .before .before .before .before .before .before .before .before .before .before .before .before .before .before .before .before .before .before .before .before .before .before .before .before .before .before .before .before .before .before .before .pre .0 .row .held
+    4 (omega arith)) (λ e. omega (
+      arith,
+      c .before .before .before .before .before .before .before .before .before .before .before .before .before .before .before .before .before .before .before .before .before .before .before .if1 .left,
+    ))
+    in member-at (now
+    (c .before .before .before .before .before .before .before .before .before .before .before .before .before .before .before .before .before .before .before .before .before .before .before .before .before .before .before .before .before .before .before .args .s))
+    (now
+    (c .before .before .before .before .before .before .before .before .before .before .before .before .before .before .before .before .before .before .before .before .before .before .before .before .before .before .before .before .before .before .before .args .t))
     (c .before .before .before .before .before .before .before .before .before .before .before .before .before .before .before .before .before .before .before .before .before .before .before .before .before .before .before .before .before .before .before .pre .0 .row)
     (c .before .before .before .before .before .before .before .before .before .before .before .before .before .before .before .before .before .before .before .before .before .before .before .if1 .left)
-    (sym (c .before .before .before .before .before .before .before .before .before .before .before .before .before .before .before .before .before .before .before .before .before .before .none-but-pointer .ensures) ∙ not-false _ (c .before .before .before .before .before .before .before .before .before .before .before .before .before .before .before .before .before .before .before .before .before .if2 .left))
-    (sym (c .before .before .before .before .before .before .before .before .before .before .before .before .before .before .before .is-pointer .ensures) ∙ not-false _ (c .before .before .before .before .before .before .before .before .before .before .before .before .before .before .if4 .left))
+    (sym
+    (c .before .before .before .before .before .before .before .before .before .before .before .before .before .before .before .before .before .before .before .before .before .before .none-but-pointer .ensures)
+    ∙ not-false _
+    (c .before .before .before .before .before .before .before .before .before .before .before .before .before .before .before .before .before .before .before .before .before .if2 .left))
+    (sym (c .before .before .before .before .before .before .before .before .before .before .before .before .before .before .before .is-pointer .ensures) ∙ not-false _
+    (c .before .before .before .before .before .before .before .before .before .before .before .before .before .before .if4 .left))
     (c .before .before .before .before .before .before .before .before .before .before .before .before .is-head .result)
     (c .before .before .before .before .before .before .before .before .before .is-section .result)
     (c .before .before .before .before .before .before .before .before .before .before .before .before .is-head .ensures)
     (c .before .before .before .before .before .before .before .before .before .before .before .if5 .left)
-    (c .before .before .before .before .before .before .before .before .before .is-section .ensures) (c .before .before .before .before .before .before .before .before .if6 .left)
-    (c .before .before .before .before .before .before .before .before .before .before .before .before .before .before .before .before .before .before .before .before .is-bare .ensures ∙ not-false _ (c .before .before .before .before .before .before .before .before .before .before .before .before .before .before .before .before .before .before .before .if3 .left))
-    (ap (λ u. is-some (memberValue u)) (value-is (now (c .before .before .before .before .before .before .before .before .before .before .before .before .before .before .before .before .before .before .before .before .before .before .before .before .before .before .before .before .before .before .before .args .s)) (now (c .before .before .before .before .before .before .before .before .before .before .before .before .before .before .before .before .before .before .before .before .before .before .before .before .before .before .before .before .before .before .before .args .t))) ∙ sym (c .before .before .before .is-json .ensures) ∙ not-false _ (c .if7 .left))
-    (record { ordered = v .ordered; within = v .within })
+    (c .before .before .before .before .before .before .before .before .before .is-section .ensures)
+    (c .before .before .before .before .before .before .before .before .if6 .left)
+    (c .before .before .before .before .before .before .before .before .before .before .before .before .before .before .before .before .before .before .before .before .is-bare .ensures
+    ∙ not-false _
+    (c .before .before .before .before .before .before .before .before .before .before .before .before .before .before .before .before .before .before .before .if3 .left))
+    (ap (λ u. is-some (memberValue u)) (value-is (now
+    (c .before .before .before .before .before .before .before .before .before .before .before .before .before .before .before .before .before .before .before .before .before .before .before .before .before .before .before .before .before .before .before .args .s))
+    (now
+    (c .before .before .before .before .before .before .before .before .before .before .before .before .before .before .before .before .before .before .before .before .before .before .before .before .before .before .before .before .before .before .before .args .t)))
+    ∙ sym (c .before .before .before .is-json .ensures) ∙ not-false _ (c .if7 .left)) (record { ordered = v .ordered; within = v .within })
 
 pub member-class-spec : {M : Type 1} → statement M
 member-class-spec =

@@ -38,21 +38,21 @@ returns-2 c =
 
 returns-3 : tie.Need-returns-3
 returns-3 c =
-    λ seen e. full-again
-    (lineIn (now (c .before .before .before .before .before .before .before .before .before .before .args .s)) (now (c .before .before .before .before .before .before .before .before .before .before .args .t)))
-    seen (c .before .before .before .before .is-bare .ensures ∙ not-false _ (c .before .before .before .if1 .left))
-    (c .before .before .is-derived .ensures ∙ (c .before .if2 .left)) (e ∙ (c .if3 .taken))
+    λ seen e. full-again (lineIn (now (c .before .before .before .before .before .before .before .before .before .before .args .s))
+    (now (c .before .before .before .before .before .before .before .before .before .before .args .t))) seen (c .before .before .before .before .is-bare .ensures ∙ not-false
+    _ (c .before .before .before .if1 .left)) (c .before .before .is-derived .ensures ∙ (c .before .if2 .left)) (e ∙ (c .if3 .taken))
 
 no-params-requires : tie.Need-no-params-requires
 no-params-requires c κs = search needs
 
 returns-4 : tie.Need-returns-4
 returns-4 c =
-    λ seen e. full-params
-    (lineIn (now (c .before .before .before .before .before .before .before .before .before .before .before .before .args .s)) (now (c .before .before .before .before .before .before .before .before .before .before .before .before .args .t)))
-    seen (c .before .before .before .before .before .before .is-bare .ensures ∙ not-false _ (c .before .before .before .before .before .if1 .left))
-    (c .before .before .before .before .is-derived .ensures ∙ (c .before .before .before .if2 .left))
-    (none-besides (c .before .before .before .before .before .before .before .before .before .before .before .before .pre .row) ∙ sym (c .before .no-params .ensures) ∙ not-true _ (c .if4 .taken))
+    λ seen e. full-params (lineIn (now (c .before .before .before .before .before .before .before .before .before .before .before .before .args .s))
+    (now (c .before .before .before .before .before .before .before .before .before .before .before .before .args .t))) seen
+    (c .before .before .before .before .before .before .is-bare .ensures ∙ not-false _ (c .before .before .before .before .before .if1 .left))
+    (c .before .before .before .before .is-derived .ensures ∙ (c .before .before .before .if2 .left)) (none-besides
+    (c .before .before .before .before .before .before .before .before .before .before .before .before .pre .row) ∙ sym (c .before .no-params .ensures) ∙ not-true _
+    (c .if4 .taken))
 
 shared-slice-read-a : tie.Need-shared-slice-read-a
 shared-slice-read-a c = search needs
@@ -74,27 +74,35 @@ is-text-requires c κs = search needs
 
 returns-5 : tie.Need-returns-5
 returns-5 c =
-    λ seen e. full-read
-    (lineIn (now (c .before .before .before .before .before .before .before .before .before .before .before .before .before .before .before .before .before .args .s)) (now (c .before .before .before .before .before .before .before .before .before .before .before .before .before .before .before .before .before .args .t)))
-    seen
-    (c .before .before .before .before .before .before .before .before .before .before .before .is-bare .ensures ∙ not-false _ (c .before .before .before .before .before .before .before .before .before .before .if1 .left))
-    (c .before .before .before .before .before .before .before .before .before .is-derived .ensures ∙ (c .before .before .before .before .before .before .before .before .if2 .left))
-    (e ∙ (c .before .before .before .before .before .before .before .if3 .left))
-    (none-besides (c .before .before .before .before .before .before .before .before .before .before .before .before .before .before .before .before .before .pre .row) ∙ sym (c .before .before .before .before .before .before .no-params .ensures) ∙ not-false _ (c .before .before .before .before .before .if4 .left))
-    false
-    (sym (ap (λ u. is-some (readText u)) (value-is (now (c .before .before .before .before .before .before .before .before .before .before .before .before .before .before .before .before .before .args .s)) (now (c .before .before .before .before .before .before .before .before .before .before .before .before .before .before .before .before .before .args .t))) ∙ sym (c .before .is-text .ensures) ∙ not-true _ (c .if5 .taken)))
+    λ seen e. full-read (lineIn (now
+    (c .before .before .before .before .before .before .before .before .before .before .before .before .before .before .before .before .before .args .s)) (now
+    (c .before .before .before .before .before .before .before .before .before .before .before .before .before .before .before .before .before .args .t))) seen
+    (c .before .before .before .before .before .before .before .before .before .before .before .is-bare .ensures ∙ not-false _
+    (c .before .before .before .before .before .before .before .before .before .before .if1 .left))
+    (c .before .before .before .before .before .before .before .before .before .is-derived .ensures ∙
+    (c .before .before .before .before .before .before .before .before .if2 .left)) (e ∙ (c .before .before .before .before .before .before .before .if3 .left)) (none-besides
+    (c .before .before .before .before .before .before .before .before .before .before .before .before .before .before .before .before .before .pre .row) ∙ sym
+    (c .before .before .before .before .before .before .no-params .ensures) ∙ not-false _ (c .before .before .before .before .before .if4 .left)) false (sym (ap (λ u. is-some
+    (readText u)) (value-is
+    (now (c .before .before .before .before .before .before .before .before .before .before .before .before .before .before .before .before .before .args .s))
+    (now (c .before .before .before .before .before .before .before .before .before .before .before .before .before .before .before .before .before .args .t))) ∙ sym
+    (c .before .is-text .ensures) ∙ not-true _ (c .if5 .taken)))
 
 returns-6 : tie.Need-returns-6
 returns-6 c =
-    λ seen e. full-read
-    (lineIn (now (c .before .before .before .before .before .before .before .before .before .before .before .before .before .before .before .before .before .args .s)) (now (c .before .before .before .before .before .before .before .before .before .before .before .before .before .before .before .before .before .args .t)))
-    seen
-    (c .before .before .before .before .before .before .before .before .before .before .before .is-bare .ensures ∙ not-false _ (c .before .before .before .before .before .before .before .before .before .before .if1 .left))
-    (c .before .before .before .before .before .before .before .before .before .is-derived .ensures ∙ (c .before .before .before .before .before .before .before .before .if2 .left))
-    (e ∙ (c .before .before .before .before .before .before .before .if3 .left))
-    (none-besides (c .before .before .before .before .before .before .before .before .before .before .before .before .before .before .before .before .before .pre .row) ∙ sym (c .before .before .before .before .before .before .no-params .ensures) ∙ not-false _ (c .before .before .before .before .before .if4 .left))
-    true
-    (sym (ap (λ u. is-some (readText u)) (value-is (now (c .before .before .before .before .before .before .before .before .before .before .before .before .before .before .before .before .before .args .s)) (now (c .before .before .before .before .before .before .before .before .before .before .before .before .before .before .before .before .before .args .t))) ∙ sym (c .before .is-text .ensures) ∙ not-false _ (c .if5 .left)))
+    λ seen e. full-read (lineIn (now
+    (c .before .before .before .before .before .before .before .before .before .before .before .before .before .before .before .before .before .args .s)) (now
+    (c .before .before .before .before .before .before .before .before .before .before .before .before .before .before .before .before .before .args .t))) seen
+    (c .before .before .before .before .before .before .before .before .before .before .before .is-bare .ensures ∙ not-false _
+    (c .before .before .before .before .before .before .before .before .before .before .if1 .left))
+    (c .before .before .before .before .before .before .before .before .before .is-derived .ensures ∙
+    (c .before .before .before .before .before .before .before .before .if2 .left)) (e ∙ (c .before .before .before .before .before .before .before .if3 .left)) (none-besides
+    (c .before .before .before .before .before .before .before .before .before .before .before .before .before .before .before .before .before .pre .row) ∙ sym
+    (c .before .before .before .before .before .before .no-params .ensures) ∙ not-false _ (c .before .before .before .before .before .if4 .left)) true (sym (ap (λ u. is-some
+    (readText u)) (value-is
+    (now (c .before .before .before .before .before .before .before .before .before .before .before .before .before .before .before .before .before .args .s))
+    (now (c .before .before .before .before .before .before .before .before .before .before .before .before .before .before .before .before .before .args .t))) ∙ sym
+    (c .before .is-text .ensures) ∙ not-false _ (c .if5 .left)))
 
 pub full-class-spec : {M : Type 1} → statement M
 full-class-spec =

@@ -24,10 +24,11 @@ value-kind-requires c κs = search needs
 
 returns-2 : tie.Need-returns-2
 returns-2 c =
-    bare-kind
-    (lineIn (now (c .before .before .before .before .before .before .before .before .args .s)) (now (c .before .before .before .before .before .before .before .before .args .t)))
-    (c .value-kind .result) (c .before .before .has-group .ensures ∙ ap not (c .before .if1 .left))
-    (c .value-kind .ensures (lineIn (now (c .before .before .before .before .before .before .before .before .args .s)) (now (c .before .before .before .before .before .before .before .before .args .t)) .params) (c .before .before .before .before .before .before .before .before .pre .row))
+    bare-kind (lineIn (now (c .before .before .before .before .before .before .before .before .args .s))
+    (now (c .before .before .before .before .before .before .before .before .args .t))) (c .value-kind .result) (c .before .before .has-group .ensures ∙ ap not
+    (c .before .if1 .left)) (c .value-kind .ensures
+    (lineIn (now (c .before .before .before .before .before .before .before .before .args .s)) (now (c .before .before .before .before .before .before .before .before .args .t)) .params)
+    (c .before .before .before .before .before .before .before .before .pre .row))
 
 pub is-bare-spec : {M : Type 1} → statement M
 is-bare-spec = tie.close (tie.spec has-group-requires returns value-kind-requires returns-2)

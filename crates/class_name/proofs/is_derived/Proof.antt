@@ -26,8 +26,8 @@ none-but-derived-requires c κs = search needs
 returns-2 : tie.Need-returns-2
 returns-2 c =
     derived-others (now (c .before .before .before .before .before .before .before .before .before .args .s))
-    (now (c .before .before .before .before .before .before .before .before .before .args .t)) (c .before .before .before .before .before .before .before .before .before .pre .row)
-    (sym (c .before .none-but-derived .ensures) ∙ not-true _ (c .if2 .taken))
+    (now (c .before .before .before .before .before .before .before .before .before .args .t))
+    (c .before .before .before .before .before .before .before .before .before .pre .row) (sym (c .before .none-but-derived .ensures) ∙ not-true _ (c .if2 .taken))
 
 shared-slice-read-a : tie.Need-shared-slice-read-a
 shared-slice-read-a c = search needs

@@ -22,16 +22,19 @@ has-other-requires c κs = search needs
 
 returns-2 : tie.Need-returns-2
 returns-2 c =
-    sym
-    (name-reads (now (c .before .before .before .before .before .args .v)) ∙ rw (sym (c .before .before .before .few-parts .ensures) ∙ not-false _ (c .before .before .if1 .left), sym (c .before .has-other .ensures) ∙ not-true _ (c .if2 .taken)))
+    sym (name-reads (now (c .before .before .before .before .before .args .v)) ∙ rw
+    (sym (c .before .before .before .few-parts .ensures) ∙ not-false _ (c .before .before .if1 .left), sym (c .before .has-other .ensures) ∙ not-true _ (c .if2 .taken)))
 
 is-text-requires : tie.Need-is-text-requires
 is-text-requires c κs = search needs
 
 returns-3 : tie.Need-returns-3
 returns-3 c =
-    sym
-    (name-reads (now (c .before .before .before .before .before .before .args .v)) ∙ rw (sym (c .before .before .before .before .few-parts .ensures) ∙ not-false _ (c .before .before .before .if1 .left), sym (c .before .before .has-other .ensures) ∙ not-false _ (c .before .if2 .left)) (sym (c .is-text .ensures)))
+    sym (name-reads (now (c .before .before .before .before .before .before .args .v)) ∙ rw (
+      sym (c .before .before .before .before .few-parts .ensures) ∙ not-false _
+          (c .before .before .before .if1 .left),
+      sym (c .before .before .has-other .ensures) ∙ not-false _ (c .before .if2 .left),
+    ) (sym (c .is-text .ensures)))
 
 pub is-name-spec : {M : Type 1} → statement M
 is-name-spec =

@@ -36,10 +36,10 @@ no-params-requires c κs = search needs
 
 returns-3 : tie.Need-returns-3
 returns-3 c =
-    λ seen e. parts-params
-    (lineIn (now (c .before .before .before .before .before .before .before .before .before .before .args .s)) (now (c .before .before .before .before .before .before .before .before .before .before .args .t)))
-    seen (c .before .before .before .is-bare .ensures ∙ not-false _ (c .before .before .if2 .left))
-    (none-besides (c .before .before .before .before .before .before .before .before .before .before .pre .row) ∙ sym (c .before .no-params .ensures) ∙ not-true _ (c .if3 .taken))
+    λ seen e. parts-params (lineIn (now (c .before .before .before .before .before .before .before .before .before .before .args .s))
+    (now (c .before .before .before .before .before .before .before .before .before .before .args .t))) seen (c .before .before .before .is-bare .ensures ∙ not-false _
+    (c .before .before .if2 .left)) (none-besides (c .before .before .before .before .before .before .before .before .before .before .pre .row) ∙ sym
+    (c .before .no-params .ensures) ∙ not-true _ (c .if3 .taken))
 
 shared-slice-read-a : tie.Need-shared-slice-read-a
 shared-slice-read-a c = search needs
@@ -61,23 +61,27 @@ is-name-requires c κs = search needs
 
 returns-4 : tie.Need-returns-4
 returns-4 c =
-    λ seen e. parts-read
-    (lineIn (now (c .before .before .before .before .before .before .before .before .before .before .before .before .before .before .before .args .s)) (now (c .before .before .before .before .before .before .before .before .before .before .before .before .before .before .before .args .t)))
-    seen (c .before .before .before .before .before .before .before .before .is-bare .ensures ∙ not-false _ (c .before .before .before .before .before .before .before .if2 .left))
-    (e ∙ (c .before .before .before .before .before .before .before .before .before .if1 .left))
-    (none-besides (c .before .before .before .before .before .before .before .before .before .before .before .before .before .before .before .pre .row) ∙ sym (c .before .before .before .before .before .before .no-params .ensures) ∙ not-false _ (c .before .before .before .before .before .if3 .left))
-    false
-    (sym (ap (λ u. is-some (readName u)) (value-is (now (c .before .before .before .before .before .before .before .before .before .before .before .before .before .before .before .args .s)) (now (c .before .before .before .before .before .before .before .before .before .before .before .before .before .before .before .args .t))) ∙ sym (c .before .is-name .ensures) ∙ not-true _ (c .if4 .taken)))
+    λ seen e. parts-read (lineIn (now (c .before .before .before .before .before .before .before .before .before .before .before .before .before .before .before .args .s))
+    (now (c .before .before .before .before .before .before .before .before .before .before .before .before .before .before .before .args .t))) seen
+    (c .before .before .before .before .before .before .before .before .is-bare .ensures ∙ not-false _ (c .before .before .before .before .before .before .before .if2 .left))
+    (e ∙ (c .before .before .before .before .before .before .before .before .before .if1 .left)) (none-besides
+    (c .before .before .before .before .before .before .before .before .before .before .before .before .before .before .before .pre .row) ∙ sym
+    (c .before .before .before .before .before .before .no-params .ensures) ∙ not-false _ (c .before .before .before .before .before .if3 .left)) false (sym (ap (λ u. is-some
+    (readName u)) (value-is (now (c .before .before .before .before .before .before .before .before .before .before .before .before .before .before .before .args .s))
+    (now (c .before .before .before .before .before .before .before .before .before .before .before .before .before .before .before .args .t))) ∙ sym
+    (c .before .is-name .ensures) ∙ not-true _ (c .if4 .taken)))
 
 returns-5 : tie.Need-returns-5
 returns-5 c =
-    λ seen e. parts-read
-    (lineIn (now (c .before .before .before .before .before .before .before .before .before .before .before .before .before .before .before .args .s)) (now (c .before .before .before .before .before .before .before .before .before .before .before .before .before .before .before .args .t)))
-    seen (c .before .before .before .before .before .before .before .before .is-bare .ensures ∙ not-false _ (c .before .before .before .before .before .before .before .if2 .left))
-    (e ∙ (c .before .before .before .before .before .before .before .before .before .if1 .left))
-    (none-besides (c .before .before .before .before .before .before .before .before .before .before .before .before .before .before .before .pre .row) ∙ sym (c .before .before .before .before .before .before .no-params .ensures) ∙ not-false _ (c .before .before .before .before .before .if3 .left))
-    true
-    (sym (ap (λ u. is-some (readName u)) (value-is (now (c .before .before .before .before .before .before .before .before .before .before .before .before .before .before .before .args .s)) (now (c .before .before .before .before .before .before .before .before .before .before .before .before .before .before .before .args .t))) ∙ sym (c .before .is-name .ensures) ∙ not-false _ (c .if4 .left)))
+    λ seen e. parts-read (lineIn (now (c .before .before .before .before .before .before .before .before .before .before .before .before .before .before .before .args .s))
+    (now (c .before .before .before .before .before .before .before .before .before .before .before .before .before .before .before .args .t))) seen
+    (c .before .before .before .before .before .before .before .before .is-bare .ensures ∙ not-false _ (c .before .before .before .before .before .before .before .if2 .left))
+    (e ∙ (c .before .before .before .before .before .before .before .before .before .if1 .left)) (none-besides
+    (c .before .before .before .before .before .before .before .before .before .before .before .before .before .before .before .pre .row) ∙ sym
+    (c .before .before .before .before .before .before .no-params .ensures) ∙ not-false _ (c .before .before .before .before .before .if3 .left)) true (sym (ap (λ u. is-some
+    (readName u)) (value-is (now (c .before .before .before .before .before .before .before .before .before .before .before .before .before .before .before .args .s))
+    (now (c .before .before .before .before .before .before .before .before .before .before .before .before .before .before .before .args .t))) ∙ sym
+    (c .before .is-name .ensures) ∙ not-false _ (c .if4 .left)))
 
 pub parts-class-spec : {M : Type 1} → statement M
 parts-class-spec =

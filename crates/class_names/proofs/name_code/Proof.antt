@@ -99,14 +99,16 @@ returns-8 c = number-is _ (ascii "jsprop") _ number-jsprop (sym (c .before .is-n
 -- src/lib.rt:58:1
 returns-9 : tie.Need-returns-9
 returns-9 c =
-    no-name _
-    (λ e. c .before .before .before .before .before .before .before .before .before .before .before .before .before .before .before .before .before .if1 .left (sym (lowered-length _) ∙ e))
-    (λ e. c .before .before .before .before .before .before .before .before .before .before .before .before .before .before .before .before .if2 .left (sym (lowered-length _) ∙ e))
+    no-name _ (λ e. c .before .before .before .before .before .before .before .before .before .before .before .before .before .before .before .before .before .if1 .left
+    (sym (lowered-length _) ∙ e)) (λ e.
+    c .before .before .before .before .before .before .before .before .before .before .before .before .before .before .before .before .if2 .left (sym (lowered-length _) ∙ e))
     (λ e. c .before .before .before .before .before .before .before .before .before .before .before .before .before .before .before .if3 .left (sym (lowered-length _) ∙ e))
-    (sym (c .before .before .before .before .before .before .before .before .before .before .before .before .before .is-named .ensures) ∙ (c .before .before .before .before .before .before .before .before .before .before .before .before .if4 .left))
-    (sym (c .before .before .before .before .before .before .before .before .before .before .is-named2 .ensures) ∙ (c .before .before .before .before .before .before .before .before .before .if5 .left))
-    (sym (c .before .before .before .before .before .before .before .is-named3 .ensures) ∙ (c .before .before .before .before .before .before .if6 .left))
-    (sym (c .before .before .before .before .is-named4 .ensures) ∙ (c .before .before .before .if7 .left)) (sym (c .before .is-named5 .ensures) ∙ (c .if8 .left))
+    (sym (c .before .before .before .before .before .before .before .before .before .before .before .before .before .is-named .ensures) ∙
+    (c .before .before .before .before .before .before .before .before .before .before .before .before .if4 .left)) (sym
+    (c .before .before .before .before .before .before .before .before .before .before .is-named2 .ensures) ∙
+    (c .before .before .before .before .before .before .before .before .before .if5 .left)) (sym
+    (c .before .before .before .before .before .before .before .is-named3 .ensures) ∙ (c .before .before .before .before .before .before .if6 .left)) (sym
+    (c .before .before .before .before .is-named4 .ensures) ∙ (c .before .before .before .if7 .left)) (sym (c .before .is-named5 .ensures) ∙ (c .if8 .left))
 
 pub name-code-spec : {M : Type 1} → statement M
 name-code-spec =

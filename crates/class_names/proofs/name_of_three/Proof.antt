@@ -60,10 +60,11 @@ returns-4 c = number-is _ (ascii "uid") _ number-uid (sym (c .before .is-named4 
 -- src/lib.rt:9:1
 returns-5 : tie.Need-returns-5
 returns-5 c =
-    no-three _ (lowered-length _ ∙ (c .before .before .before .before .before .before .before .before .before .before .before .before .before .pre))
-    (sym (c .before .before .before .before .before .before .before .before .before .before .is-named .ensures) ∙ (c .before .before .before .before .before .before .before .before .before .if1 .left))
-    (sym (c .before .before .before .before .before .before .before .is-named2 .ensures) ∙ (c .before .before .before .before .before .before .if2 .left))
-    (sym (c .before .before .before .before .is-named3 .ensures) ∙ (c .before .before .before .if3 .left)) (sym (c .before .is-named4 .ensures) ∙ (c .if4 .left))
+    no-three _ (lowered-length _ ∙ (c .before .before .before .before .before .before .before .before .before .before .before .before .before .pre)) (sym
+    (c .before .before .before .before .before .before .before .before .before .before .is-named .ensures) ∙
+    (c .before .before .before .before .before .before .before .before .before .if1 .left)) (sym
+    (c .before .before .before .before .before .before .before .is-named2 .ensures) ∙ (c .before .before .before .before .before .before .if2 .left)) (sym
+    (c .before .before .before .before .is-named3 .ensures) ∙ (c .before .before .before .if3 .left)) (sym (c .before .is-named4 .ensures) ∙ (c .if4 .left))
 
 pub name-of-three-spec : {M : Type 1} → statement M
 name-of-three-spec =

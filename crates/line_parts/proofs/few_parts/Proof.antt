@@ -30,8 +30,8 @@ part-end-requires c κs = search needs
 -- src/lib.rt:35:13
 returns : tie.Need-returns Inv-loop μ-loop
 returns c =
-    sym
-    (le-leb (length (splitText (c .before .before .before .before .before .args .d) (now (c .before .before .before .before .before .args .s)))) (c .before .before .before .before .before .args .n) (omega (arith, c .before .before .before .loop .inv .1, part-last (c .before .part-end .ensures) (c .if1 .taken))))
+    sym (le-leb (length (splitText (c .before .before .before .before .before .args .d) (now (c .before .before .before .before .before .args .s))))
+    (c .before .before .before .before .before .args .n) (omega (arith, c .before .before .before .loop .inv .1, part-last (c .before .part-end .ensures) (c .if1 .taken))))
 
 -- src/lib.rt:37:14
 add-at : tie.Need-add-at Inv-loop μ-loop
@@ -47,14 +47,18 @@ loop-less c = omega (arith, c .before .before .loop-test .taken)
 
 -- src/lib.rt:32:5
 loop-again : tie.Need-loop-again Inv-loop μ-loop
-loop-again c =
-    (omega (arith, c .if1 .left), omega (arith, c .before .before .before .loop .inv .1, part-more (c .before .part-end .ensures) (omega (arith, c .if1 .left))), omega (arith, c .before .before .loop-test .taken))
+loop-again c = (
+  omega (arith, c .if1 .left),
+  omega (arith, c .before .before .before .loop .inv .1, part-more (c .before .part-end .ensures) (omega (arith, c .if1 .left))),
+  omega
+      (arith, c .before .before .loop-test .taken),
+)
 
 -- src/lib.rt:27:1
 returns-2 : tie.Need-returns-2 Inv-loop μ-loop
 returns-2 c =
-    sym
-    (lt-leb (length (splitText (c .before .before .before .args .d) (now (c .before .before .before .args .s)))) (c .before .before .before .args .n) (omega (arith, c .before .loop .inv .1, c .loop-test .left, parts-some (c .before .before .before .args .d) (drop (c .before .loop .at) (now (c .before .before .before .args .s))))))
+    sym (lt-leb (length (splitText (c .before .before .before .args .d) (now (c .before .before .before .args .s)))) (c .before .before .before .args .n)
+    (omega (arith, c .before .loop .inv .1, c .loop-test .left, parts-some (c .before .before .before .args .d) (drop (c .before .loop .at) (now (c .before .before .before .args .s))))))
 
 pub few-parts-spec : {M : Type 1} → statement M
 few-parts-spec =

@@ -28,9 +28,8 @@ shared-slice-read-c c = search needs
 -- src/lib.rt:19:13
 returns : tie.Need-returns Inv-loop μ-loop
 returns c =
-    sym
-    (any-here (otherThan (c .before .before .before .before .args .d) (c .before .before .before .before .args .e)) (now (c .before .before .before .before .args .s)) (c .before .before .before .loop .i) (c .before .before .loop-test .taken) (c .if1 .taken))
-    ∙ (c .before .before .before .loop .inv .1)
+    sym (any-here (otherThan (c .before .before .before .before .args .d) (c .before .before .before .before .args .e)) (now (c .before .before .before .before .args .s))
+    (c .before .before .before .loop .i) (c .before .before .loop-test .taken) (c .if1 .taken)) ∙ (c .before .before .before .loop .inv .1)
 
 -- src/lib.rt:21:9
 add-i : tie.Need-add-i Inv-loop μ-loop
@@ -42,8 +41,12 @@ loop-less c = search needs
 
 -- src/lib.rt:16:5
 loop-again : tie.Need-loop-again Inv-loop μ-loop
-loop-again c =
-    (search needs, sym (any-later (otherThan (c .before .before .before .before .args .d) (c .before .before .before .before .args .e)) (now (c .before .before .before .before .args .s)) (c .before .before .before .loop .i) (c .before .before .loop-test .taken) (c .if1 .left)) ∙ (c .before .before .before .loop .inv .1))
+loop-again c = (
+  search needs,
+  sym (any-later (otherThan (c .before .before .before .before .args .d) (c .before .before .before .before .args .e))
+      (now (c .before .before .before .before .args .s)) (c .before .before .before .loop .i) (c .before .before .loop-test .taken) (c .if1 .left)) ∙
+      (c .before .before .before .loop .inv .1),
+)
 
 -- src/lib.rt:12:1
 returns-2 : tie.Need-returns-2 Inv-loop μ-loop
