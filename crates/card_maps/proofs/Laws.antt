@@ -129,10 +129,12 @@ left-on : {ms : List Member} {m : Map} {rest : List Map} {ls : List Line} {ok : 
 left-on {ms} {m} {rest} {ls} {ok} l es e = record {
   fails = λ f. l .fails (each-cons ms m rest ∙ ap (both _∷_ (mapFrom ms m)) f ∙ both-none _∷_ (mapFrom ms m));
   goes = λ ess f.
-      let g = l .goes (es ∷ ess) (each-cons ms m rest ∙ ap (λ (o : Option (List Entry)). both _∷_ o (each (mapFrom ms) rest)) e ∙ ap (both _∷_ (some es)) f) in
-      (g .0, g .1,
-      g .2 ∙ ap (λ (x : List Line). ls ++ x) (lines-cons m rest es ess) ∙ sym (append-assoc ls (map (entryLine m) es) (mapsLines rest ess)),
-      g .3 ∙ ap (λ (x : Bool). ok && x) (carried-cons m rest es ess) ∙ and-assoc ok (carriedAll m es) (carriedMaps rest ess));
+      let g = l .goes (es ∷ ess) (each-cons ms m rest ∙ ap (λ (o : Option (List Entry)). both _∷_ o (each (mapFrom ms) rest)) e ∙ ap (both _∷_ (some es)) f) in (
+        g .0,
+        g .1,
+        g .2 ∙ ap (λ (x : List Line). ls ++ x) (lines-cons m rest es ess) ∙ sym (append-assoc ls (map (entryLine m) es) (mapsLines rest ess)),
+        g .3 ∙ ap (λ (x : Bool). ok && x) (carried-cons m rest es ess) ∙ and-assoc ok (carriedAll m es) (carriedMaps rest ess),
+      );
 }
 
 pub record Far (s : Bytes) (slots : List ℕ) (room : Bytes) (k n lines : ℕ) (ok : Bool) (out : Bytes) (ms : List Member) : Type 0 where
@@ -189,7 +191,7 @@ module _ (s : Bytes) (slots : List ℕ) (room : Bytes) (k n lines : ℕ) (ok : B
             let g = going ms i in
             let z = sym (f .1) ∙ e in
             let y : Fills (midOf n (length out - n) out) (linesBytes (map (entryLine m) es)) a last =
-                fills-as (lines-are m es) (subst (λ (u : ℕ). Fills (midOf n (length out - n) out) (linesOf m es) u last) (all-bytes z) (f .2)) in
+            fills-as (lines-are m es) (subst (λ (u : ℕ). Fills (midOf n (length out - n) out) (linesOf m es) u last) (all-bytes z) (f .2)) in
             record {
               done = g .done ++ map (entryLine m) es;
               left = subst (Left ms (drop (k + 1) maps) (g .done ++ map (entryLine m) es)) (ap (λ (u : Bool). ok && u) (all-carried z)) (left-on (now-left ms g) es q);
@@ -204,9 +206,11 @@ module _ (s : Bytes) (slots : List ℕ) (room : Bytes) (k n lines : ℕ) (ok : B
       let t : Left ms [] (g .done) ok = subst (λ (j : ℕ). Left ms (drop j maps) (g .done) ok) e (g .left) in
       let w = t .goes [] (each-end ms) in
       let x : mapsLines maps (w .0) ≡ g .done = w .2 ∙ ap (λ (y : List Line). g .done ++ y) lines-end ∙ append-nil (g .done) in
-      maps-as room (All n lines ok) out (w .1)
-      (n, ap (λ (y : ℕ). All n y ok) (g .is-lines ∙ ap length (sym x)) ∙ ap (All n (length (mapsLines maps (w .0)))) (and-end ok ∙ ap (λ (y : Bool). ok && y) (sym carried-end) ∙ sym (w .3)),
-      fills-as (ap linesBytes (sym x)) (g .fills))
+      maps-as room (All n lines ok) out (w .1) (
+        n,
+        ap (λ (y : ℕ). All n y ok) (g .is-lines ∙ ap length (sym x)) ∙ ap (All n (length (mapsLines maps (w .0)))) (and-end ok ∙ ap (λ (y : Bool). ok && y) (sym carried-end) ∙ sym (w .3)),
+        fills-as (ap linesBytes (sym x)) (g .fills),
+      )
     where
       and-end : (b : Bool) → b ≡ (b && true)
       and-end true = refl

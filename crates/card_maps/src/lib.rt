@@ -14,24 +14,87 @@ fn put_nth<'a, 'b>(out: &'a mut [u8], s: &'b [u8], k: usize, slot: usize) -> Lin
     ensures { λ r. ⌜ PutsNth (now (s .entry)) k slot (now (out .entry)) r (now (out .exit)) ⌝ }
 {
     if k == 0 {
-        return put_map(out, s, slot, b"name,name,contexts,pref,name,name", b"", 0, b"NICKNAME", 1);
+        return put_map(
+            out,
+            s,
+            slot,
+            b"name,name,contexts,pref,name,name",
+            b"",
+            0,
+            b"NICKNAME",
+            1,
+        );
     }
     if k == 1 {
-        return put_map(out, s, slot, b"address,address,contexts,pref,address,address", b"", 0, b"EMAIL", 0);
+        return put_map(
+            out,
+            s,
+            slot,
+            b"address,address,contexts,pref,address,address",
+            b"",
+            0,
+            b"EMAIL",
+            0,
+        );
     }
     if k == 2 {
-        return put_map(out, s, slot, b"number,number,contexts,pref,features,number", b"", 0, b"TEL", 3);
+        return put_map(
+            out,
+            s,
+            slot,
+            b"number,number,contexts,pref,features,number",
+            b"",
+            0,
+            b"TEL",
+            3,
+        );
     }
     if k == 3 {
-        return put_map(out, s, slot, b"uri,uri,contexts,pref,uri,uri", b"", 0, b"URL", 2);
+        return put_map(
+            out,
+            s,
+            slot,
+            b"uri,uri,contexts,pref,uri,uri",
+            b"",
+            0,
+            b"URL",
+            2,
+        );
     }
     if k == 4 {
-        return put_map(out, s, slot, b"note,note,note,note,note,note", b"", 0, b"NOTE", 0);
+        return put_map(
+            out,
+            s,
+            slot,
+            b"note,note,note,note,note,note",
+            b"",
+            0,
+            b"NOTE",
+            0,
+        );
     }
     if k == 5 {
-        return put_map(out, s, slot, b"name,kind,name,name,name,name", b"title,role", 2, b"TITLE,ROLE", 0);
+        return put_map(
+            out,
+            s,
+            slot,
+            b"name,kind,name,name,name,name",
+            b"title,role",
+            2,
+            b"TITLE,ROLE",
+            0,
+        );
     }
-    put_map(out, s, slot, b"name,name,name,name,name,units", b"", 0, b"ORG", 4)
+    put_map(
+        out,
+        s,
+        slot,
+        b"name,name,name,name,name,units",
+        b"",
+        0,
+        b"ORG",
+        4,
+    )
 }
 
 // All seven. The slots are those of the top-level members, by the list of reserved names: the first map's is the sixth.

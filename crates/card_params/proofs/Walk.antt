@@ -120,7 +120,7 @@ module _ {A : Type 0} {f : Member → Option A} {d : ℕ} {s : Bytes} {ms : List
       let l : membersOf (far .rest) ≡ member (x .key) (x .val) ∷ membersOf (x .others) = ap membersOf (sym (x .is)) ∙ members-cons (x .key) (x .val) (x .others) in
       let g : each f ms ≡ prepend done (both _∷_ (f (member (x .key) (x .val))) (each f (membersOf (x .others)))) = far .is-each ∙ ap (prepend done) (ap (each f) l ∙ each-one f (member (x .key) (x .val)) (membersOf (x .others))) in
       let h : (y : A) → f (member (x .key) (x .val)) ≡ some y → each f ms ≡ prepend (done ++ (y ∷ [])) (each f (membersOf (x .others))) =
-          λ y q. g ∙ ap (λ (o : Option A). prepend done (both _∷_ o (each f (membersOf (x .others))))) q ∙ prepend-one done y (each f (membersOf (x .others))) in
+      λ y q. g ∙ ap (λ (o : Option A). prepend done (both _∷_ o (each f (membersOf (x .others))))) q ∙ prepend-one done y (each f (membersOf (x .others))) in
       record {
         key = x .key;
         val = x .val;

@@ -204,7 +204,12 @@ fn pen_type<'a, 'b>(
 }
 
 // TYPE with all marked values, in the table's order; nothing where none is marked.
-pub fn pen_types<'a, 'b, 'c>(out: &'a mut [u8], column: usize, names: &'b [u8], row: &'c [u8]) -> Pen
+pub fn pen_types<'a, 'b, 'c>(
+    out: &'a mut [u8],
+    column: usize,
+    names: &'b [u8],
+    row: &'c [u8],
+) -> Pen
     requires { ⌜ 9 ≤ length (now row) ⌝ }
     ensures { λ r. ⌜ Pens (now (out .entry)) column (typesFrom (parts 44 (now (names .entry))) (now (row .entry)) 9 0 false) r (now (out .exit)) ⌝ }
 {

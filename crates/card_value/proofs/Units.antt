@@ -181,10 +181,11 @@ module _ (s : Bytes) (at : ℕ) (room : Bytes) (column i n k : ℕ) (ok full : B
 
     so-far : (done : List Bytes) (x : Bytes) → spelled s q ≡ some x → g .bytes ≡ unitsPiece done → ok ≡ all unitCarried done → full ≡ any filled done
         → (g .bytes ++ ink .bytes ≡ unitsPiece (done ++ (x ∷ []))) × ((ok && p .carried) ≡ all unitCarried (done ++ (x ∷ []))) × ((full || p .filled) ≡ any filled (done ++ (x ∷ [])))
-    so-far done x e a b c =
-        (ap (λ (l : Bytes). l ++ ink .bytes) a ∙ ap (λ (l : Bytes). unitsPiece done ++ l) (ink .is x e) ∙ units-more done x,
-        ap (λ (l : Bool). l && p .carried) b ∙ ap (λ (l : Bool). all unitCarried done && l) (ink .carried x e) ∙ all-more done x,
-        ap (λ (l : Bool). l || p .filled) c ∙ ap (λ (l : Bool). any filled done || l) (ink .filled x e) ∙ any-more done x)
+    so-far done x e a b c = (
+      ap (λ (l : Bytes). l ++ ink .bytes) a ∙ ap (λ (l : Bytes). unitsPiece done ++ l) (ink .is x e) ∙ units-more done x,
+      ap (λ (l : Bool). l && p .carried) b ∙ ap (λ (l : Bool). all unitCarried done && l) (ink .carried x e) ∙ all-more done x,
+      ap (λ (l : Bool). l || p .filled) c ∙ ap (λ (l : Bool). any filled done || l) (ink .filled x e) ∙ any-more done x,
+    )
 
     pub units-on : (j : ℕ) → GivesT s (r .end) (sep 93 zero suc (drop (r .end) s)) (Go j) → Going s at room column j (n + p .bytes) (p .column) (ok && p .carried) (full || p .filled) (putMid n (length out - n) out last)
     units-on j v = record {

@@ -105,9 +105,12 @@ module _ (s : Bytes) (slot : ℕ) (room : Bytes) (column : ℕ) (after : Bytes) 
       where
         by : (x : Option Bytes) → StringIs s q x → NameAs room column (Done (p .bytes) (p .column) (p .carried) (not b)) after x
         by none h = absurd (m h)
-        by (some x) h =
-            (p .bytes, p .column, done-is (i .carried ∙ stands-parts (i .text) ∙ ap carriedText (i .is x (h .1))) (ap not (e ∙ ap blankOf (h .1))),
-            pens-as (ap (λ (y : Bytes). ascii ":" ++ y) (ap (writtenIn 2) (i .is x (h .1)) ∙ written-parts x)) (i .pens))
+        by (some x) h = (
+          p .bytes,
+          p .column,
+          done-is (i .carried ∙ stands-parts (i .text) ∙ ap carriedText (i .is x (h .1))) (ap not (e ∙ ap blankOf (h .1))),
+          pens-as (ap (λ (y : Bytes). ascii ":" ++ y) (ap (writtenIn 2) (i .is x (h .1)) ∙ written-parts x)) (i .pens),
+        )
 
 -- ---- name and units
 
@@ -155,9 +158,14 @@ module _ (s : Bytes) (name units : ℕ) (room : Bytes) (column : ℕ) (out : Byt
     name-done : (o : Option Bytes) → NameAs room column x out o → (v : Bytes) × (o ≡ some v) × (ok ≡ carriedText v) × (f ≡ filled v) × Pens room column (ascii ":" ++ writeText true v) (record { bytes = n; column = k }) out
     name-done none p = absurd (not-done (sym p ∙ e))
     name-done (some v) p =
-        let z = sym e ∙ p .2 in
-        (v, refl, done-carried z, done-filled z, subst (λ (a : ℕ). Pens room column (ascii ":" ++ writeText true v) (record { bytes = a; column = k }) out) (sym (done-bytes z))
-        (subst (λ (a : ℕ). Pens room column (ascii ":" ++ writeText true v) (record { bytes = p .0; column = a }) out) (sym (done-column z)) (p .3)))
+        let z = sym e ∙ p .2 in (
+          v,
+          refl,
+          done-carried z,
+          done-filled z,
+          subst (λ (a : ℕ). Pens room column (ascii ":" ++ writeText true v) (record { bytes = a; column = k }) out) (sym (done-bytes z))
+              (subst (λ (a : ℕ). Pens room column (ascii ":" ++ writeText true v) (record { bytes = p .0; column = a }) out) (sym (done-column z)) (p .3)),
+        )
 
     pub org-no-units : (after : Bytes) → y ≡ Wrong → TellsOrg s name units room column Refused after
     org-no-units after q c u h g =
@@ -173,9 +181,14 @@ module _ (s : Bytes) (name units : ℕ) (room : Bytes) (column : ℕ) (out : Byt
           → (us : List Bytes) × (o ≡ some us) × (every ≡ all unitCarried us) × (any′ ≡ any filled us) × Pens (midOf n (length out - n) out) k (unitsPiece us) (record { bytes = m; column = l }) last
       units-done none p = absurd (not-done (sym p ∙ q))
       units-done (some us) p =
-          let z = sym q ∙ p .2 in
-          (us, refl, done-carried z, done-filled z, subst (λ (a : ℕ). Pens (midOf n (length out - n) out) k (unitsPiece us) (record { bytes = a; column = l }) last) (sym (done-bytes z))
-          (subst (λ (a : ℕ). Pens (midOf n (length out - n) out) k (unitsPiece us) (record { bytes = p .0; column = a }) last) (sym (done-column z)) (p .3)))
+          let z = sym q ∙ p .2 in (
+            us,
+            refl,
+            done-carried z,
+            done-filled z,
+            subst (λ (a : ℕ). Pens (midOf n (length out - n) out) k (unitsPiece us) (record { bytes = a; column = l }) last) (sym (done-bytes z))
+                (subst (λ (a : ℕ). Pens (midOf n (length out - n) out) k (unitsPiece us) (record { bytes = p .0; column = a }) last) (sym (done-column z)) (p .3)),
+          )
 
       org-both : (c u : Option Json) (v : Bytes) (us : List Bytes) → nameIn c ≡ some v → unitsIn u ≡ some us → f ≡ filled v → any′ ≡ any filled us → orgIn c u ≡ provided (f || any′) (some (v ∷ keep filled us))
       unfolding any
@@ -195,9 +208,11 @@ module _ (s : Bytes) (name units : ℕ) (room : Bytes) (column : ℕ) (out : Byt
           let v = name-done (nameIn c) (named c h) in
           let w = units-done (unitsIn u) (told u g) in
           value-as 4 room column (Line (n + m) (ok && every)) (putMid n (length out - n) out last)
-          (org-both c u (v .0) (w .0) (v .1) (w .1) (v .3) (w .3) ∙ ap (λ (b : Bool). provided b (some (v .0 ∷ keep filled (w .0)))) (not-false (f || any′) t))
-          (n + m, ap (Line (n + m)) (ap (λ (b : Bool). b && every) (v .2) ∙ ap (λ (b : Bool). carriedText (v .0) && b) (w .2) ∙ org-carried (v .0) (w .0)),
-          fills-of (pens-as (org-value (v .0) (w .0)) (pens-then (v .4) (w .4))))
+          (org-both c u (v .0) (w .0) (v .1) (w .1) (v .3) (w .3) ∙ ap (λ (b : Bool). provided b (some (v .0 ∷ keep filled (w .0)))) (not-false (f || any′) t)) (
+            n + m,
+            ap (Line (n + m)) (ap (λ (b : Bool). b && every) (v .2) ∙ ap (λ (b : Bool). carriedText (v .0) && b) (w .2) ∙ org-carried (v .0) (w .0)),
+            fills-of (pens-as (org-value (v .0) (w .0)) (pens-then (v .4) (w .4))),
+          )
 
 -- ---- any form
 

@@ -30,7 +30,12 @@ pub struct Inked {
 
 // The same, or 12.
 pub enum Ink {
-    Done { bytes: usize, column: usize, carried: bool, filled: bool },
+    Done {
+        bytes: usize,
+        column: usize,
+        carried: bool,
+        filled: bool,
+    },
     Wrong,
 }
 

@@ -199,7 +199,14 @@ Going b₀ n t₀ m a e s at i k r b t = (us es : Elems) (w : Bytes) → loop (i
 
 pub going-first : (b : Bytes) (n : ℕ) (t : List ℕ) (m a e : ℕ) (s : Bytes) (at : ℕ) → n ≤ length b → Going b n t m a e s at at n m b t
 going-first b n t m a e s at h us es w x y l = record {
-  units = us; rest = es; done = []; is-units = x; is-rest = y; is-each = both-none (each asString (elemsOf es)); added = added-none b n t m a e h; room = l;
+  units = us;
+  rest = es;
+  done = [];
+  is-units = x;
+  is-rest = y;
+  is-each = both-none (each asString (elemsOf es));
+  added = added-none b n t m a e h;
+  room = l;
 }
 
 module _ (b₀ : Bytes) (n : ℕ) (t₀ : List ℕ) (m a e : ℕ) (s : Bytes) (at i k r : ℕ) (b : Bytes) (t : List ℕ) (going : Going b₀ n t₀ m a e s at i k r b t)

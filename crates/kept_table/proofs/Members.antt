@@ -241,7 +241,15 @@ none-has b n t = record { table = table-none (take n b) t; few = refl; many = re
 
 pub going-first : (b : Bytes) (n : ℕ) (t : List ℕ) (s : Bytes) (at : ℕ) → n ≤ length b → Going b n s at at (empty-at n) b t
 going-first b n t s at h us ms w x y l = record {
-  units = us; rest = ms; state = noneYet; is-units = x; is-rest = y; is-steps = refl; has = none-has b n t; stays = stays-none b n h; room = omega arith;
+  units = us;
+  rest = ms;
+  state = noneYet;
+  is-units = x;
+  is-rest = y;
+  is-steps = refl;
+  has = none-has b n t;
+  stays = stays-none b n h;
+  room = omega arith;
 }
 
 module _ (b₀ : Bytes) (n : ℕ) (s : Bytes) (at i : ℕ) (f : Filled) (b : Bytes) (t : List ℕ) (going : Going b₀ n s at i f b t)

@@ -111,7 +111,13 @@ fn put_member<'a, 'b, 'c>(
 }
 
 // The parameters from a place of their object on.
-fn put_from<'a, 'b, 'c>(b: &'a mut [u8], n: usize, t: &'b mut [usize], s: &'c [u8], at: usize) -> Step
+fn put_from<'a, 'b, 'c>(
+    b: &'a mut [u8],
+    n: usize,
+    t: &'b mut [usize],
+    s: &'c [u8],
+    at: usize,
+) -> Step
     requires { ⌜ n ≤ length (now b) ⌝ }
     requires { ⌜ 264 ≤ length (now t) ⌝ }
     requires { ⌜ at ≤ length (now s) ⌝ }

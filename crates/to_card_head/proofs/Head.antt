@@ -173,9 +173,10 @@ module _ (s : Bytes) (card version uid kind : ℕ) (room : Bytes) where
           let i : isLowerWord x ≡ true = ap isLowerWord (line .is (y .0) (y .2) ∙ sym (some-same (f .1))) ∙ f .0 in
           let h = kind-lines (start .text) x i in
           let j : linesBytes (startLines (start .text)) ++ lineBytes (property (ascii "kind") [] x) ≡ linesBytes (headLines (start .text) x) =
-              ap (λ (e : Bytes). linesBytes (startLines (start .text)) ++ e) (sym (lines-one (property (ascii "kind") [] x)))
-              ∙ sym (lines-append (startLines (start .text)) (property (ascii "kind") [] x ∷ [])) ∙ ap linesBytes (sym h) in
-          heads t v u k _ (head-some t v u k st sv su x z) _ _
-          (p .bytes + l .bytes,
-          ap (λ (c : ℕ). All (p .bytes + l .bytes) c (p .carried)) (count (start .text) (property (ascii "kind") [] x) ∙ ap length (sym h)) ∙ ap (All (p .bytes + l .bytes) (length (headLines (start .text) x))) (start .carried),
-          fills-as (ap (λ (e : Bytes). begin ++ e) j) kind-row)
+          ap (λ (e : Bytes). linesBytes (startLines (start .text)) ++ e) (sym (lines-one (property (ascii "kind") [] x)))
+          ∙ sym (lines-append (startLines (start .text)) (property (ascii "kind") [] x ∷ [])) ∙ ap linesBytes (sym h) in
+          heads t v u k _ (head-some t v u k st sv su x z) _ _ (
+            p .bytes + l .bytes,
+            ap (λ (c : ℕ). All (p .bytes + l .bytes) c (p .carried)) (count (start .text) (property (ascii "kind") [] x) ∙ ap length (sym h)) ∙ ap (All (p .bytes + l .bytes) (length (headLines (start .text) x))) (start .carried),
+            fills-as (ap (λ (e : Bytes). begin ++ e) j) kind-row,
+          )

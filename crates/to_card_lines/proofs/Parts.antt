@@ -97,4 +97,3 @@ done-all room n lines ok out p d o e =
 -- a part that is none
 pub none-wrong : (room after : Bytes) (o : Option Part) → o ≡ none → PartAs room Wrong after o
 none-wrong room after o e = subst (PartAs room Wrong after) (sym e) refl
-

@@ -88,9 +88,11 @@ module _ (s : Bytes) (name a e : ℕ) (room : Bytes) (k : ℕ) (names : Bytes) (
     pub other-line : b ≡ true → (l : Penned) (after : Bytes) → MemberLine s name a e room l after → PutsOther s name a e room (All (l .bytes) 1 (l .carried)) after
     other-line r l after m x v q w =
         let t : m .text ≡ x = m .is x q in
-        subst (PartAs room (All (l .bytes) 1 (l .carried)) after) (sym (other-is x v q true r))
-        (l .bytes, ap (All (l .bytes) 1) (m .carried ∙ ap carriedParam t),
-        fills-as (ap (λ (u : Bytes). foldFrom 0 (memberBytes u (squeezed (take (e - a) (drop a s)))) ++ (13 ∷ 10 ∷ [])) t ∙ line-bytes x _ v w ∙ sym (lines-one (memberLine (member x v)))) (m .fills))
+        subst (PartAs room (All (l .bytes) 1 (l .carried)) after) (sym (other-is x v q true r)) (
+          l .bytes,
+          ap (All (l .bytes) 1) (m .carried ∙ ap carriedParam t),
+          fills-as (ap (λ (u : Bytes). foldFrom 0 (memberBytes u (squeezed (take (e - a) (drop a s)))) ++ (13 ∷ 10 ∷ [])) t ∙ line-bytes x _ v w ∙ sym (lines-one (memberLine (member x v)))) (m .fills),
+        )
 
 -- ---- all of them
 

@@ -107,8 +107,8 @@ module _ (room head bs : Bytes) (m n : ℕ) (after : Bytes) where
       let lm : length (take m bs) ≡ m = simp length-take (omega arith) in
       let big : length room < length (foldFrom 0 x) = omega (arith, fold-longer 0 x, text-longer (take m bs), lx, lm) in
       let e : head ++ writeText false bs ≡ x ++ y =
-          ap (λ (t : Bytes). head ++ writeText false t) (sym (take-append-drop m bs)) ∙ ap (λ (t : Bytes). head ++ t) (text-append (take m bs) (drop m bs))
-          ∙ sym (append-assoc head (writeText false (take m bs)) y) in
+      ap (λ (t : Bytes). head ++ writeText false t) (sym (take-append-drop m bs)) ∙ ap (λ (t : Bytes). head ++ t) (text-append (take m bs) (drop m bs))
+      ∙ sym (append-assoc head (writeText false (take m bs)) y) in
       let g = fills-over (foldFrom 0 x) (13 ∷ 10 ∷ []) (foldFrom (columnFrom 0 x) y ++ (13 ∷ 10 ∷ [])) big f in
       fills-as (sym (append-assoc (foldFrom 0 x) (foldFrom (columnFrom 0 x) y) (13 ∷ 10 ∷ [])) ∙ ap (λ (t : Bytes). t ++ (13 ∷ 10 ∷ [])) (sym (fold-append x y 0) ∙ ap (foldFrom 0) (sym e))) g
 

@@ -169,7 +169,11 @@ fn put_other<'a, 'b, 'c>(
     ensures { λ r. ⌜ length (now (buffer .exit)) ≡ length (now (buffer .entry)) ⌝ }
     ensures { λ r. ⌜ PutsOther (now (s .entry)) name a e (now (out .entry)) r (now (out .exit)) ⌝ }
 {
-    let k = which_name(s, name, b"@type,version,uid,kind,name,nicknames,emails,phones,links,notes,titles,organizations,vCardProps");
+    let k = which_name(
+        s,
+        name,
+        b"@type,version,uid,kind,name,nicknames,emails,phones,links,notes,titles,organizations,vCardProps",
+    );
     if k != 13 {
         return Lines::All(0, 0, true);
     }

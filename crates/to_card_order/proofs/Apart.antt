@@ -64,7 +64,7 @@ module _ (s : Bytes) (at kind value i : ℕ) (b : Bool) (going : Finding s at ki
     more : (past : List Component) (x y : Bytes) → spelled s value ≡ some x → spelled s v ≡ some y → filled x ≡ true → b ≡ among x (valuesOf kind past) → (b || c) ≡ among x (valuesOf kind (past ++ (component k y ∷ [])))
     more past x y q w h z =
         let a : c ≡ among x (ofKind kind (component k y)) =
-            agrees ∙ ap (λ (o : Option Bytes). eqb kind k && agree o (spelled s v)) q ∙ ap (λ (o : Option Bytes). eqb kind k && agree (some x) o) w ∙ sym (one-among x y (eqb kind k) h) in
+        agrees ∙ ap (λ (o : Option Bytes). eqb kind k && agree o (spelled s v)) q ∙ ap (λ (o : Option Bytes). eqb kind k && agree (some x) o) w ∙ sym (one-among x y (eqb kind k) h) in
         ap (λ (t : Bool). t || c) z ∙ ap (λ (t : Bool). among x (valuesOf kind past) || t) a ∙ sym (among-append x (valuesOf kind past) (ofKind kind (component k y))) ∙ ap (among x) (sym (values-more kind past (component k y)))
 
     pub finding-on : (j : ℕ) → GivesT s (r .end) (sep 93 zero suc (drop (r .end) s)) (Go j) → Finding s at kind value j (b || c)

@@ -148,13 +148,14 @@ module _ (s : Bytes) (at : ℕ) (marks : List ℕ) (style mark : ℕ) (order roo
         let p = going .so cs l m in
         let q = w .says cs l m in
         let d : drop i order ≡ getD order i 0 ∷ drop (i + 1) order = drop-cons order i 0 h ∙ ap (λ (j : ℕ). getD order i 0 ∷ drop j order) (sym (add-one i)) in
-        let o = drop (i + 1) order in
-        (p .0 ∙ ap (λ (x : Bytes). going .text ++ x)
-        (ap (orderFrom style mark ps b) d ∙ order-cons style mark ps b (getD order i 0) o ∙ ap (λ (x : Bytes). x ++ orderFrom style mark ps (placeBegun ps b (getD order i 0)) o) (sym (q .is-text))
-        ∙ ap (λ (x : Bool). w .text ++ orderFrom style mark ps x o) (sym (q .is-begun)))
-        ∙ sym (append-assoc (going .text) (w .text) (orderFrom style mark ps (r .begun) o)),
-        p .1 ∙ ap (λ (x : Bool). ok && x) (ap (carriedOrder style ps) d ∙ carried-cons style ps (getD order i 0) o ∙ ap (λ (x : Bool). x && carriedOrder style ps o) (sym (q .is-carried)))
-        ∙ and-assoc ok (r .carried) (carriedOrder style ps o));
+        let o = drop (i + 1) order in (
+          p .0 ∙ ap (λ (x : Bytes). going .text ++ x)
+              (ap (orderFrom style mark ps b) d ∙ order-cons style mark ps b (getD order i 0) o ∙ ap (λ (x : Bytes). x ++ orderFrom style mark ps (placeBegun ps b (getD order i 0)) o) (sym (q .is-text))
+              ∙ ap (λ (x : Bool). w .text ++ orderFrom style mark ps x o) (sym (q .is-begun)))
+              ∙ sym (append-assoc (going .text) (w .text) (orderFrom style mark ps (r .begun) o)),
+          p .1 ∙ ap (λ (x : Bool). ok && x) (ap (carriedOrder style ps) d ∙ carried-cons style ps (getD order i 0) o ∙ ap (λ (x : Bool). x && carriedOrder style ps o) (sym (q .is-carried)))
+              ∙ and-assoc ok (r .carried) (carriedOrder style ps o),
+        );
   }
 
   order-nil : (ps : List (List Bytes)) → orderFrom style mark ps b [] ≡ []
@@ -176,7 +177,8 @@ module _ (s : Bytes) (at : ℕ) (marks : List ℕ) (style mark : ℕ) (order roo
     says = λ cs l m.
         let ps = byKind cs in
         let p = going .so cs l m in
-        let d : drop i order ≡ [] = drop-of-length-le order h in
-        (sym (p .0 ∙ ap (λ (x : Bytes). going .text ++ orderFrom style mark ps b x) d ∙ ap (λ (x : Bytes). going .text ++ x) (order-nil ps) ∙ append-nil (going .text)),
-        sym (p .1 ∙ ap (λ (x : Bytes). ok && carriedOrder style ps x) d ∙ ap (λ (x : Bool). ok && x) (carried-nil ps) ∙ and-end ok));
+        let d : drop i order ≡ [] = drop-of-length-le order h in (
+          sym (p .0 ∙ ap (λ (x : Bytes). going .text ++ orderFrom style mark ps b x) d ∙ ap (λ (x : Bytes). going .text ++ x) (order-nil ps) ∙ append-nil (going .text)),
+          sym (p .1 ∙ ap (λ (x : Bytes). ok && carriedOrder style ps x) d ∙ ap (λ (x : Bool). ok && x) (carried-nil ps) ∙ and-end ok),
+        );
   }

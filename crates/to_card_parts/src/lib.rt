@@ -1,6 +1,6 @@
 // The components of a name: judged in one pass, and written kind by kind, in an order that is given as data.
-use card_value::string_in;
 use card_pen::pen_string;
+use card_value::string_in;
 use json_access::element_at;
 use json_index::index_object;
 use json_index::which_name;
@@ -52,7 +52,11 @@ fn component_of(s: &[u8], kind: usize, value: usize) -> Found
     if q == 0 {
         return Found::Wrong;
     }
-    let k = which_name(s, q, b"surname,given,given2,title,credential,surname2,generation");
+    let k = which_name(
+        s,
+        q,
+        b"surname,given,given2,title,credential,surname2,generation",
+    );
     if k >= 7 {
         return Found::Wrong;
     }

@@ -15,7 +15,6 @@ use Rattle.card_pen.proofs.pen_string.Reads as pen-string-reads
 use Rattle.json_index.proofs.nth_name.Reads as nth-name-reads
 use Rattle.line_pen.proofs.pen_bytes.Reads as pen-bytes-reads
 
-
 abbrev s1 : tie.After-slice-known2 → Here
 s1 c = first! (c .before .before .pen-bytes .ensures)
 

@@ -57,9 +57,11 @@ loop-less : tie.Need-loop-less Inv-loop μ-loop
 loop-less c = byte-in (now (c .before .before .before .before .before .before .before .before .before .args .s)) (c .before .before .before .before .before .before .loop .i) (c .before .before .before .before .before .before .loop .h) (c .before .before .before .before .before .next-byte .ensures .1) (c .before .before .before .b .given .1) .1
 
 loop-again : tie.Need-loop-again Inv-loop μ-loop
-loop-again c = (byte-in (now (c .before .before .before .before .before .before .before .before .before .args .s)) (c .before .before .before .before .before .before .loop .i) (c .before .before .before .before .before .before .loop .h) (c .before .before .before .before .before .next-byte .ensures .1) (c .before .before .before .b .given .1) .0,
-    c .before .before .before .before .before .before .loop .inv .1 ∙ ap (wordFrom (c .before .before .before .before .before .before .loop .begun)) (is-one (now (c .before .before .before .before .before .before .before .before .before .args .s)) (c .before .before .before .before .before .next-byte .ensures .0) (c .before .before .before .b .given .1))
-    ∙ word-on (c .before .before .before .before .before .before .loop .begun) (c .before .before .before .b .given .0 .0) (left (now (c .before .before .before .before .before .before .before .before .before .args .s)) (c .before .before .before .b .given .0 .1 .0) (c .before .before .before .b .given .0 .1 .1 .0)) (sym (c .before .is-lower-name .ensures) ∙ not-false _ (c .if2 .left)))
+loop-again c = (
+  byte-in (now (c .before .before .before .before .before .before .before .before .before .args .s)) (c .before .before .before .before .before .before .loop .i) (c .before .before .before .before .before .before .loop .h) (c .before .before .before .before .before .next-byte .ensures .1) (c .before .before .before .b .given .1) .0,
+  c .before .before .before .before .before .before .loop .inv .1 ∙ ap (wordFrom (c .before .before .before .before .before .before .loop .begun)) (is-one (now (c .before .before .before .before .before .before .before .before .before .args .s)) (c .before .before .before .before .before .next-byte .ensures .0) (c .before .before .before .b .given .1))
+      ∙ word-on (c .before .before .before .before .before .before .loop .begun) (c .before .before .before .b .given .0 .0) (left (now (c .before .before .before .before .before .before .before .before .before .args .s)) (c .before .before .before .b .given .0 .1 .0) (c .before .before .before .b .given .0 .1 .1 .0)) (sym (c .before .is-lower-name .ensures) ∙ not-false _ (c .if2 .left)),
+)
 
 pub is-word-spec : {M : Type 1} → statement M
 is-word-spec =

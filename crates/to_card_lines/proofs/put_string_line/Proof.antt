@@ -1,6 +1,6 @@
 use borrow.Author.Needs.{needs}
 use Rattle.line_pen.proofs.Filling.{then}
-use Rattle.line_pen.proofs.Laws.{filled, first!, next!}
+use Rattle.line_pen.proofs.Laws.{filled, first!, next! }
 use Rattle.to_card_lines.proofs.put_string_line.Statement.{statement}
 use Rattle.to_card_lines.proofs.put_string_line.Tie as tie
 use Rattle.to_card_lines.proofs.put_string_line.Reads as reads

@@ -72,10 +72,14 @@ loop-less c = let h = turn-as (c .before .before .before .separator .ensures) (c
 
 loop-again : tie.Need-loop-again Inv-loop μ-loop
 loop-again c = let h = turn-as (c .before .before .before .separator .ensures) (c .before .j .given .1) in
-    let l = part-length (c .before .before .before .before .before .before .before .before .before .before .before .before .before .before .before .loop .n) (c .before .before .before .before .before .before .before .before .before .before .before .before .before .before .before .loop .out) (c .before .before .before .before .before .before .before .before .before .before .before .put-other .last .0) (c .before .before .before .before .before .before .before .before .before .before .before .before .before .before .before .loop .inv .1) (c .before .before .before .before .before .before .before .before .before .before .before .put-other .ensures .1 .0) in
-    (h .within .1, omega (arith, l, part-in (c .before .before .before .before .before .before .before .before .before .before .before .before .before .before .before .loop .n) (c .before .before .before .before .before .before .before .before .before .before .before .before .before .before .before .loop .out) (c .before .before .before .before .before .before .before .before .before .before .before .before .before .before .before .loop .inv .1) (one-in (c .before .before .before .before .before .before .before .before .before .before .before .put-other .ensures .0) (c .before .before .before .before .before .k .given .1) .0)), l ∙ (c .before .before .before .before .before .before .before .before .before .before .before .before .before .before .before .loop .inv .2),
-    omega (arith, c .before .before .before .before .before .before .before .before .before .before .before .before .before .before .before .loop .inv .3, h .within .0, c .before .before .before .before .before .before .before .before .before .before .before .before .before .before .member-at .ensures .1 .0 .from (c .before .before .before .before .before .before .before .before .before .before .before .before .before .before .before .loop .inv .0), c .before .before .before .before .before .before .before .before .before .before .before .before .before .before .member-at .ensures .1 .0 .ordered, one-in (c .before .before .before .before .before .before .before .before .before .before .before .put-other .ensures .0) (c .before .before .before .before .before .k .given .1) .1),
-    c .before .before .before .before .before .before .before .before .before .before .before .put-other .ensures .1 .1 .0 ∙ (c .before .before .before .before .before .before .before .before .before .before .before .before .before .before .before .loop .inv .4), going-on (now (c .before .before .before .before .before .before .before .before .before .before .before .before .before .before .before .before .before .before .before .args .s)) (c .before .before .before .before .before .before .before .before .before .before .before .before .before .before .before .before .before .before .before .args .at) (now (c .before .before .before .before .before .before .before .before .before .before .before .before .before .before .before .before .before .before .before .args .out)) (c .before .before .before .before .before .before .before .before .before .before .before .before .before .before .before .loop .i) (c .before .before .before .before .before .before .before .before .before .before .before .before .before .before .before .loop .n) (c .before .before .before .before .before .before .before .before .before .before .before .before .before .before .before .loop .lines) (c .before .before .before .before .before .before .before .before .before .before .before .before .before .before .before .loop .ok) (c .before .before .before .before .before .before .before .before .before .before .before .before .before .before .before .loop .out) (c .before .before .before .before .before .before .before .before .before .before .before .before .before .before .before .loop .inv .5) (c .before .before .before .before .before .before .before .before .before .before .before .before .before .before .member-at .result) (c .before .before .before .before .before .before .before .before .before .before .before .before .before .before .member-at .ensures .1 .0) (c .before .before .before .before .before .before .before .before .before .before .before .before .before .before .member-at .ensures .1 .1) (c .before .before .before .before .before .before .before .before .before .before .before .put-other .result) _ (c .before .before .before .before .before .before .before .before .before .before .before .put-other .ensures .1 .1 .1) _ _ _ (c .before .before .before .before .before .k .given .1) _ h)
+    let l = part-length (c .before .before .before .before .before .before .before .before .before .before .before .before .before .before .before .loop .n) (c .before .before .before .before .before .before .before .before .before .before .before .before .before .before .before .loop .out) (c .before .before .before .before .before .before .before .before .before .before .before .put-other .last .0) (c .before .before .before .before .before .before .before .before .before .before .before .before .before .before .before .loop .inv .1) (c .before .before .before .before .before .before .before .before .before .before .before .put-other .ensures .1 .0) in (
+      h .within .1,
+      omega (arith, l, part-in (c .before .before .before .before .before .before .before .before .before .before .before .before .before .before .before .loop .n) (c .before .before .before .before .before .before .before .before .before .before .before .before .before .before .before .loop .out) (c .before .before .before .before .before .before .before .before .before .before .before .before .before .before .before .loop .inv .1) (one-in (c .before .before .before .before .before .before .before .before .before .before .before .put-other .ensures .0) (c .before .before .before .before .before .k .given .1) .0)),
+      l ∙ (c .before .before .before .before .before .before .before .before .before .before .before .before .before .before .before .loop .inv .2),
+      omega (arith, c .before .before .before .before .before .before .before .before .before .before .before .before .before .before .before .loop .inv .3, h .within .0, c .before .before .before .before .before .before .before .before .before .before .before .before .before .before .member-at .ensures .1 .0 .from (c .before .before .before .before .before .before .before .before .before .before .before .before .before .before .before .loop .inv .0), c .before .before .before .before .before .before .before .before .before .before .before .before .before .before .member-at .ensures .1 .0 .ordered, one-in (c .before .before .before .before .before .before .before .before .before .before .before .put-other .ensures .0) (c .before .before .before .before .before .k .given .1) .1),
+      c .before .before .before .before .before .before .before .before .before .before .before .put-other .ensures .1 .1 .0 ∙ (c .before .before .before .before .before .before .before .before .before .before .before .before .before .before .before .loop .inv .4),
+      going-on (now (c .before .before .before .before .before .before .before .before .before .before .before .before .before .before .before .before .before .before .before .args .s)) (c .before .before .before .before .before .before .before .before .before .before .before .before .before .before .before .before .before .before .before .args .at) (now (c .before .before .before .before .before .before .before .before .before .before .before .before .before .before .before .before .before .before .before .args .out)) (c .before .before .before .before .before .before .before .before .before .before .before .before .before .before .before .loop .i) (c .before .before .before .before .before .before .before .before .before .before .before .before .before .before .before .loop .n) (c .before .before .before .before .before .before .before .before .before .before .before .before .before .before .before .loop .lines) (c .before .before .before .before .before .before .before .before .before .before .before .before .before .before .before .loop .ok) (c .before .before .before .before .before .before .before .before .before .before .before .before .before .before .before .loop .out) (c .before .before .before .before .before .before .before .before .before .before .before .before .before .before .before .loop .inv .5) (c .before .before .before .before .before .before .before .before .before .before .before .before .before .before .member-at .result) (c .before .before .before .before .before .before .before .before .before .before .before .before .before .before .member-at .ensures .1 .0) (c .before .before .before .before .before .before .before .before .before .before .before .before .before .before .member-at .ensures .1 .1) (c .before .before .before .before .before .before .before .before .before .before .before .put-other .result) _ (c .before .before .before .before .before .before .before .before .before .before .before .put-other .ensures .1 .1 .1) _ _ _ (c .before .before .before .before .before .k .given .1) _ h,
+    )
 
 enum-known-r : tie.Need-enum-known-r Inv-loop μ-loop
 enum-known-r c = search needs

@@ -2,7 +2,7 @@ use native.Mathlib.Omega.{arith}
 use native.Mathlib.Nat.{le-refl}
 use denote.Ref.{now}
 use Rattle.line_pen.proofs.Filling.{then}
-use Rattle.line_pen.proofs.Laws.{filled, first!, next!, in!, fit!, same!}
+use Rattle.line_pen.proofs.Laws.{filled, first!, next!, in!, fit!, same! }
 use Rattle.to_card_lines.proofs.Laws.{fills-in, fills-length, begun, onto, row-fits, row-in}
 use Rattle.to_card_members.proofs.Values.{member-line}
 use borrow.Author.Needs.{needs}
