@@ -65,9 +65,7 @@ fn put_member_turn(out: &mut [u8], t: &mut [usize], text: &mut [u8], s: &[u8]) -
     let Wrote::Bytes(a) = put_byte(out, b',') else {
         return Wrote::Full;
     };
-    let Wrote::Bytes(b) =
-        put_member_line(&mut out[a..], text, s, t, &counts, &froms, &tos)
-    else {
+    let Wrote::Bytes(b) = put_member_line(&mut out[a..], text, s, t, &counts, &froms, &tos) else {
         return Wrote::Full;
     };
     let ab = a + b;

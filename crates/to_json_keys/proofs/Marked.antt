@@ -24,19 +24,21 @@ unfolding among any
 among-one x k = or-false (same x k)
 
 pub mark : (p k : Bytes) (row : List ℕ) (n : ℕ) → Numbers p k n → 1025 ≤ length row → Marks p k row (set row n 1)
-mark p k row n h w =
-    (length-set row n 1, λ ids t. record {
-      wide = rw length-set w;
-      marks = λ j a b.
-          let last : among (numbered p j) (ids ++ (k ∷ [])) ≡ among (numbered p j) ids || eqb j n
-              = among-append (numbered p j) ids (k ∷ []) ∙ ap (λ x. among (numbered p j) ids || x) (among-one (numbered p j) k ∙ h .says j a b) in
-          byBool (eqb j n)
-          (λ q.
-              let z : j ≡ n = eqb-true j n q in
-              let g : n < length row = omega (arith, w, b, z) in
-              eq-eqb (getD (set row n 1) j 0) 1 (ap (λ x. getD (set row n 1) x 0) z ∙ getD-set-same row n 1 0 g) ∙ sym (last ∙ or-second (among (numbered p j) ids) (eqb j n) q))
-          (λ q. ap (λ x. eqb x 1) (getD-set-other row n j 1 0 (eqb-false j n q)) ∙ t .marks j a b ∙ sym (last ∙ ap (λ x. among (numbered p j) ids || x) q ∙ or-false (among (numbered p j) ids)));
-    })
+mark p k row n h w = (
+  length-set row n 1,
+  λ ids t. record {
+    wide = rw length-set w;
+    marks = λ j a b.
+        let last : among (numbered p j) (ids ++ (k ∷ [])) ≡ among (numbered p j) ids || eqb j n
+        = among-append (numbered p j) ids (k ∷ []) ∙ ap (λ x. among (numbered p j) ids || x) (among-one (numbered p j) k ∙ h .says j a b) in
+        byBool (eqb j n)
+        (λ q.
+        let z : j ≡ n = eqb-true j n q in
+        let g : n < length row = omega (arith, w, b, z) in
+        eq-eqb (getD (set row n 1) j 0) 1 (ap (λ x. getD (set row n 1) x 0) z ∙ getD-set-same row n 1 0 g) ∙ sym (last ∙ or-second (among (numbered p j) ids) (eqb j n) q))
+        (λ q. ap (λ x. eqb x 1) (getD-set-other row n j 1 0 (eqb-false j n q)) ∙ t .marks j a b ∙ sym (last ∙ ap (λ x. among (numbered p j) ids || x) q ∙ or-false (among (numbered p j) ids)));
+  },
+)
 
 -- ---- the next free place
 

@@ -57,7 +57,7 @@ pub own-among : (i : ℕ) (cs : List Classed) (k : ℕ) (e : Entry) (es : List E
 own-among i cs k e es q h =
     let a : List Bytes = idsOf (entriesOf i (take k cs)) in
     let z : idsOf (entriesOf i cs) ≡ a ++ idsOf (e ∷ es)
-        = ap (λ x. idsOf (entriesOf i x)) (sym (take-append-drop k cs)) ∙ ap idsOf (entries-append i (take k cs) (drop k cs)) ∙ ids-append (entriesOf i (take k cs)) (entriesOf i (drop k cs)) ∙ ap (λ x. a ++ idsOf x) q in
+    = ap (λ x. idsOf (entriesOf i x)) (sym (take-append-drop k cs)) ∙ ap idsOf (entries-append i (take k cs) (drop k cs)) ∙ ids-append (entriesOf i (take k cs)) (entriesOf i (drop k cs)) ∙ ap (λ x. a ++ idsOf x) q in
     ap (among (e .key)) z ∙ among-append (e .key) a (idsOf (e ∷ es)) ∙ or-second (among (e .key) a) (among (e .key) (idsOf (e ∷ es))) (own-first e es h)
 
 -- ---- no more than lines

@@ -161,9 +161,19 @@ fn put_keyed(
     let Wrote::Bytes(a) = put_map_head(out, i, begun) else {
         return Wrote::Full;
     };
-    let Wrote::Bytes(b) =
-        put_map_line(&mut out[a..], s, t, counts, froms, tos, i, types, form, kind, key)
-    else {
+    let Wrote::Bytes(b) = put_map_line(
+        &mut out[a..],
+        s,
+        t,
+        counts,
+        froms,
+        tos,
+        i,
+        types,
+        form,
+        kind,
+        key,
+    ) else {
         return Wrote::Full;
     };
     let ab = a + b;
@@ -225,18 +235,25 @@ fn put_turn(
     if ids == 0 {
         let number = next_number(row, taken, from);
         let next = number + 1;
-        let Wrote::Bytes(bytes) =
-            put_made(out, s, t, &counts, &froms, &tos, i, begun, prefix, number)
-        else {
+        let Wrote::Bytes(bytes) = put_made(
+            out,
+            s,
+            t,
+            &counts,
+            &froms,
+            &tos,
+            i,
+            begun,
+            prefix,
+            number,
+        ) else {
             return Turn::Full;
         };
         return Turn::Put { bytes, next };
     }
     let a = froms[0];
     let b = tos[0];
-    let Wrote::Bytes(bytes) =
-        put_keyed(out, s, t, &counts, &froms, &tos, i, begun, &s[a..b])
-    else {
+    let Wrote::Bytes(bytes) = put_keyed(out, s, t, &counts, &froms, &tos, i, begun, &s[a..b]) else {
         return Turn::Full;
     };
     Turn::Put { bytes, next: from }
@@ -268,9 +285,17 @@ fn put_entries(
             continue;
         }
         let s = line_at(scratch, starts, k);
-        let Turn::Put { bytes, next } =
-            put_turn(&mut out[at..], t, s, i, begun, prefix, row, taken, from)
-        else {
+        let Turn::Put { bytes, next } = put_turn(
+            &mut out[at..],
+            t,
+            s,
+            i,
+            begun,
+            prefix,
+            row,
+            taken,
+            from,
+        ) else {
             return Wrote::Full;
         };
         at += bytes;
@@ -307,7 +332,18 @@ pub fn put_map(
         return Wrote::Full;
     };
     let taken = mark_ids(&mut row, t, &prefix[0..p], scratch, starts, codes, n, i);
-    put_entries(out, t, scratch, starts, codes, n, i, &prefix[0..p], &row, taken)
+    put_entries(
+        out,
+        t,
+        scratch,
+        starts,
+        codes,
+        n,
+        i,
+        &prefix[0..p],
+        &row,
+        taken,
+    )
 }
 
 // The members of all maps, in the table's order.

@@ -57,7 +57,7 @@ slice-aggregate-put-entries : tie.Need-slice-aggregate-put-entries
 slice-aggregate-put-entries c = search needs
 
 put-entries-requires : tie.Need-put-entries-requires
-put-entries-requires c κs = (search needs, record { lines = c .before .before .before .before .before .before .before .before .before .before .before .before .before .before .before .before .before .before .before .before .before .before .before .before .pre .1; small = c .before .before .before .before .before .before .before .before .before .before .before .before .before .before .before .before .before .before .before .before .before .before .before .before .pre .2; is = (put-front _ _ _ _ _ (c .before .before .before .before .before .before .before .before .before .before .before .before .before .before .before .before .before .put-prefix .ensures) (c .before .before .before .before .before .before .before .before .before .before .before .before .before .before .p .given .1)); ids = c .before .before .before .before .before .before .before .before .mark-ids .ensures})
+put-entries-requires c κs = (search needs, record { lines = c .before .before .before .before .before .before .before .before .before .before .before .before .before .before .before .before .before .before .before .before .before .before .before .before .pre .1; small = c .before .before .before .before .before .before .before .before .before .before .before .before .before .before .before .before .before .before .before .before .before .before .before .before .pre .2; is = (put-front _ _ _ _ _ (c .before .before .before .before .before .before .before .before .before .before .before .before .before .before .before .before .before .put-prefix .ensures) (c .before .before .before .before .before .before .before .before .before .before .before .before .before .before .p .given .1)); ids = c .before .before .before .before .before .before .before .before .mark-ids .ensures })
 
 same-length : tie.Need-same-length
 same-length c = search needs
