@@ -1,0 +1,102 @@
+use borrow.Author.Needs.{needs}
+use mathlib.Core.Path.{_≡_, refl, sym, ap, _∙_}
+use mathlib.Core.List.{List, [], _∷_}
+use Prim.Native.Nat.{ℕ, _+_, _-_, _≤_, _<_}
+use native.Mathlib.Nat.{le-refl, lt-of-le-of-lt}
+use native.Mathlib.Omega.{arith}
+use denote.Ref.{now}
+use lib.ListN.{length, take, drop, getD}
+use Rattle.output.proofs.Rows.{Here, first!, next!, none, stop!, all, in!, fit!, same!, length-puts}
+use Rattle.convert.specs.Classify.{Classed}
+use Rattle.card_lines.specs.Classified.{Classified}
+use Rattle.to_json_card.proofs.put_end.Statement.{statement}
+use Rattle.to_json_card.proofs.put_end.Tie as tie
+use Rattle.to_json_card.proofs.put_end.Reads as reads
+use Rattle.to_json_card.proofs.put_end.Lts as lts
+
+abbrev s₁ : (c : tie.After-known-told) (cs : List Classed) → Classified (now (c .before .before .before .before .before .before .before .before .before .before .before .before .before .before .before .args .scratch)) (now (c .before .before .before .before .before .before .before .before .before .before .before .before .before .before .before .args .starts)) (now (c .before .before .before .before .before .before .before .before .before .before .before .before .before .before .before .args .codes)) (c .before .before .before .before .before .before .before .before .before .before .before .before .before .before .before .args .n) cs → Here
+s₁ c cs h = first! ((125 ∷ []) ∷ []) (c .before .before .before .before .before .before .before .put-props .ensures cs h) (c .before .a1 .given .1)
+
+abbrev s₂ : (c : tie.After-known-told2) (cs : List Classed) → Classified (now (c .before .before .before .before .before .before .before .before .before .before .before .before .before .before .before .before .before .before .before .before .before .before .args .scratch)) (now (c .before .before .before .before .before .before .before .before .before .before .before .before .before .before .before .before .before .before .before .before .before .before .args .starts)) (now (c .before .before .before .before .before .before .before .before .before .before .before .before .before .before .before .before .before .before .before .before .before .before .args .codes)) (c .before .before .before .before .before .before .before .before .before .before .before .before .before .before .before .before .before .before .before .before .before .before .args .n) cs → Here
+s₂ c cs h = next! (s₁ (c .before .before .before .before .before .before .before) cs h) (c .before .before .before .before .before .put-byte .ensures) (c .before .a2 .given .1)
+
+put-props-requires : tie.Need-put-props-requires
+put-props-requires c κs = c .before .before .before .before .before .before .before .pre
+
+enum-known-a1 : tie.Need-enum-known-a1
+enum-known-a1 c = c .match .keys1
+
+enum-told : tie.Need-enum-told
+enum-told c = c .match .keys2
+
+same-length : tie.Need-same-length
+same-length c = length-puts (none ((125 ∷ []) ∷ []) (c .before .before .before .before .before .before .put-props .ensures (c .before .before .before .before .before .before .before .before .before .before .before .before .before .before .pre .1 .0) (c .before .before .before .before .before .before .before .before .before .before .before .before .before .before .pre .1 .1)) (c .enum-told .given .1))
+
+same-length-2 : tie.Need-same-length-2
+same-length-2 c = search needs
+
+returns : tie.Need-returns
+returns c = λ cs h. none ((125 ∷ []) ∷ []) (c .before .before .before .before .before .before .put-props .ensures cs h) (c .enum-told .given .1)
+
+sub-put-byte : tie.Need-sub-put-byte
+sub-put-byte c = in! (s₁ c (c .before .before .before .before .before .before .before .before .before .before .before .before .before .before .before .pre .1 .0) (c .before .before .before .before .before .before .before .before .before .before .before .before .before .before .before .pre .1 .1))
+
+part-put-byte-start : tie.Need-part-put-byte-start
+part-put-byte-start c = in! (s₁ c (c .before .before .before .before .before .before .before .before .before .before .before .before .before .before .before .pre .1 .0) (c .before .before .before .before .before .before .before .before .before .before .before .before .before .before .before .pre .1 .1))
+
+part-put-byte-end : tie.Need-part-put-byte-end
+part-put-byte-end c = le-refl _
+
+put-byte-requires : tie.Need-put-byte-requires
+put-byte-requires c κs = tt
+
+enum-known-a2 : tie.Need-enum-known-a2
+enum-known-a2 c = c .match2 .keys1
+
+enum-told-2 : tie.Need-enum-told-2
+enum-told-2 c = c .match2 .keys2
+
+same-length-3 : tie.Need-same-length-3
+same-length-3 c = length-puts (stop! (s₁ (c .before .before .before .before .before .before) (c .before .before .before .before .before .before .before .before .before .before .before .before .before .before .before .before .before .before .before .before .before .pre .1 .0) (c .before .before .before .before .before .before .before .before .before .before .before .before .before .before .before .before .before .before .before .before .before .pre .1 .1)) (c .before .before .before .before .put-byte .ensures) (c .enum-told2 .given .1))
+
+same-length-4 : tie.Need-same-length-4
+same-length-4 c = search needs
+
+returns-2 : tie.Need-returns-2
+returns-2 c = λ cs h. stop! (s₁ (c .before .before .before .before .before .before) cs h) (c .before .before .before .before .put-byte .ensures) (c .enum-told2 .given .1)
+
+add-b2 : tie.Need-add-b2
+add-b2 c = fit! (s₂ c (c .before .before .before .before .before .before .before .before .before .before .before .before .before .before .before .before .before .before .before .before .before .before .pre .1 .0) (c .before .before .before .before .before .before .before .before .before .before .before .before .before .before .before .before .before .before .before .before .before .before .pre .1 .1)) (c .before .before .before .before .before .before .before .before .before .before .before .before .before .before .before .before .before .before .before .before .before .before .good .0 .0)
+
+same-length-5 : tie.Need-same-length-5
+same-length-5 c = same! (s₂ c (c .before .before .before .before .before .before .before .before .before .before .before .before .before .before .before .before .before .before .before .before .before .before .pre .1 .0) (c .before .before .before .before .before .before .before .before .before .before .before .before .before .before .before .before .before .before .before .before .before .before .pre .1 .1))
+
+same-length-6 : tie.Need-same-length-6
+same-length-6 c = search needs
+
+returns-3 : tie.Need-returns-3
+returns-3 c = λ cs h. all (s₂ c cs h .left)
+
+pub put-end-spec : {M : Type 1} → statement M
+put-end-spec =
+    tie.close
+    (tie.spec
+    put-props-requires
+    enum-known-a1
+    enum-told
+    same-length
+    same-length-2
+    returns
+    sub-put-byte
+    part-put-byte-start
+    part-put-byte-end
+    put-byte-requires
+    enum-known-a2
+    enum-told-2
+    same-length-3
+    same-length-4
+    returns-2
+    add-b2
+    same-length-5
+    same-length-6
+    returns-3)

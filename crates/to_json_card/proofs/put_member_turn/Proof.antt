@@ -1,0 +1,149 @@
+use borrow.Author.Needs.{needs}
+use mathlib.Core.Path.{_≡_, refl, sym, ap, _∙_}
+use mathlib.Core.List.{List, [], _∷_}
+use Prim.Native.Nat.{ℕ, _+_, _-_, _≤_, _<_}
+use native.Mathlib.Nat.{le-refl, lt-of-le-of-lt}
+use native.Mathlib.Omega.{arith}
+use denote.Ref.{now}
+use borrow.Author.Tests.{not-true, not-false}
+use lib.ListN.{length, take, drop, getD}
+use Rattle.to_json_maps.proofs.Marking.{filled-holds, filled-none}
+use Rattle.output.proofs.Laws.{first, first-full, next, stop, more, done, within, puts-as}
+use Rattle.output.proofs.Rows.{length-puts}
+use Rattle.text.proofs.Choices.{none-some}
+use Rattle.convert_entry.proofs.Entry.{clear-eight}
+use Rattle.convert_put.specs.Pieces.{memberBytes}
+use Rattle.to_json_card.proofs.Members.{held-member}
+use Rattle.to_json_card.proofs.put_member_turn.Statement.{statement}
+use Rattle.to_json_card.proofs.put_member_turn.Tie as tie
+use Rattle.to_json_card.proofs.put_member_turn.Reads as reads
+use Rattle.to_json_card.proofs.put_member_turn.Lts as lts
+
+fill-requires : tie.Need-fill-requires
+fill-requires c κs = c .before .before .before .before .before .pre .0
+
+same-length : tie.Need-same-length
+same-length c = search needs
+
+returns : tie.Need-returns
+returns c = λ m x. none-some (sym (filled-none _ _ (c .before .before .before .fill .result) (c .before .before .before .fill .ensures) (not-true _ (c .if1 .taken))) ∙ x .read)
+
+slice-aggregate-scan-rows : tie.Need-slice-aggregate-scan-rows
+slice-aggregate-scan-rows c = search needs
+
+slice-aggregate-scan-rows-2 : tie.Need-slice-aggregate-scan-rows-2
+slice-aggregate-scan-rows-2 c = search needs
+
+slice-aggregate-scan-rows-3 : tie.Need-slice-aggregate-scan-rows-3
+slice-aggregate-scan-rows-3 c = search needs
+
+scan-rows-requires : tie.Need-scan-rows-requires
+scan-rows-requires c κs = (clear-eight, (filled-holds (c .before .before .before .before .before .before .before .fill .result) (c .before .before .before .before .before .before .before .fill .ensures) (not-false _ (c .before .before .before .before .if1 .left))) .sound)
+
+put-byte-requires : tie.Need-put-byte-requires
+put-byte-requires c κs = tt
+
+enum-known-a : tie.Need-enum-known-a
+enum-known-a c = c .match .keys1
+
+enum-told : tie.Need-enum-told
+enum-told c = c .match .keys2
+
+same-length-2 : tie.Need-same-length-2
+same-length-2 c = search needs
+
+same-length-3 : tie.Need-same-length-3
+same-length-3 c = search needs
+
+returns-2 : tie.Need-returns-2
+returns-2 c = λ m x. more (memberBytes m) (first-full (c .before .before .before .before .put-byte .ensures) (c .enum-told .given .1))
+
+sub-put-member-line : tie.Need-sub-put-member-line
+sub-put-member-line c = within (first (c .before .before .before .before .before .put-byte .ensures) (c .before .a .given .1))
+
+part-put-member-line-start : tie.Need-part-put-member-line-start
+part-put-member-line-start c = within (first (c .before .before .before .before .before .put-byte .ensures) (c .before .a .given .1))
+
+part-put-member-line-end : tie.Need-part-put-member-line-end
+part-put-member-line-end c = le-refl _
+
+slice-aggregate-put-member-line : tie.Need-slice-aggregate-put-member-line
+slice-aggregate-put-member-line c = search needs
+
+slice-aggregate-put-member-line-2 : tie.Need-slice-aggregate-put-member-line-2
+slice-aggregate-put-member-line-2 c = search needs
+
+slice-aggregate-put-member-line-3 : tie.Need-slice-aggregate-put-member-line-3
+slice-aggregate-put-member-line-3 c = search needs
+
+put-member-line-requires : tie.Need-put-member-line-requires
+put-member-line-requires c κs = (record { rowed = record { wide = record { counts = search needs; froms = search needs; tos = search needs }; row = c .before .before .before .before .before .before .before .before .before .before .before .before .before .before .before .before .scan-rows .ensures; sound = (filled-holds (c .before .before .before .before .before .before .before .before .before .before .before .before .before .before .before .before .before .before .before .before .before .before .before .before .fill .result) (c .before .before .before .before .before .before .before .before .before .before .before .before .before .before .before .before .before .before .before .before .before .before .before .before .fill .ensures) (not-false _ (c .before .before .before .before .before .before .before .before .before .before .before .before .before .before .before .before .before .before .before .before .before .if1 .left))) .sound }; seen = (c .before .before .before .before .before .before .before .before .before .before .before .before .before .before .before .before .before .before .before .before .before .before .before .before .before .before .before .before .before .before .pre .2 .1) .seen; name = (c .before .before .before .before .before .before .before .before .before .before .before .before .before .before .before .before .before .before .before .before .before .before .before .before .before .before .before .before .before .before .pre .2 .1) .name; value = (c .before .before .before .before .before .before .before .before .before .before .before .before .before .before .before .before .before .before .before .before .before .before .before .before .before .before .before .before .before .before .pre .2 .1) .value; is = held-member (filled-holds (c .before .before .before .before .before .before .before .before .before .before .before .before .before .before .before .before .before .before .before .before .before .before .before .before .fill .result) (c .before .before .before .before .before .before .before .before .before .before .before .before .before .before .before .before .before .before .before .before .before .before .before .before .fill .ensures) (not-false _ (c .before .before .before .before .before .before .before .before .before .before .before .before .before .before .before .before .before .before .before .before .before .if1 .left))) (c .before .before .before .before .before .before .before .before .before .before .before .before .before .before .before .before .before .before .before .before .before .before .before .before .before .before .before .before .before .before .pre .2 .1) }, c .before .before .before .before .before .before .before .before .before .before .before .before .before .before .before .before .before .before .before .before .before .before .before .before .before .before .before .before .before .before .pre .1)
+
+enum-known-b : tie.Need-enum-known-b
+enum-known-b c = c .match2 .keys1
+
+enum-told-2 : tie.Need-enum-told-2
+enum-told-2 c = c .match2 .keys2
+
+same-length-4 : tie.Need-same-length-4
+same-length-4 c = length-puts (stop (first (c .before .before .before .before .before .before .before .before .before .before .before .before .before .before .before .before .before .before .put-byte .ensures) (c .before .before .before .before .before .before .before .before .before .before .before .before .before .before .a .given .1)) (puts-as (ap memberBytes ((c .before .before .before .before .before .before .before .before .before .before .before .before .before .before .before .before .before .before .before .before .before .before .before .before .before .before .before .before .before .before .before .before .before .before .before .before .before .pre .2 .1) .is)) (c .before .before .before .before .before .before .put-member-line .ensures ((c .before .before .before .before .before .before .before .before .before .before .before .before .before .before .before .before .before .before .before .before .before .before .before .before .before .before .before .before .before .before .before .before .before .before .before .before .before .pre .2 .1) .seen) ((c .before .before .before .before .before .before .before .before .before .before .before .before .before .before .before .before .before .before .before .before .before .before .before .before .before .before .before .before .before .before .before .before .before .before .before .before .before .pre .2 .1) .name) ((c .before .before .before .before .before .before .before .before .before .before .before .before .before .before .before .before .before .before .before .before .before .before .before .before .before .before .before .before .before .before .before .before .before .before .before .before .before .pre .2 .1) .value) (held-member (filled-holds (c .before .before .before .before .before .before .before .before .before .before .before .before .before .before .before .before .before .before .before .before .before .before .before .before .before .before .before .before .before .before .before .fill .result) (c .before .before .before .before .before .before .before .before .before .before .before .before .before .before .before .before .before .before .before .before .before .before .before .before .before .before .before .before .before .before .before .fill .ensures) (not-false _ (c .before .before .before .before .before .before .before .before .before .before .before .before .before .before .before .before .before .before .before .before .before .before .before .before .before .before .before .before .if1 .left))) (c .before .before .before .before .before .before .before .before .before .before .before .before .before .before .before .before .before .before .before .before .before .before .before .before .before .before .before .before .before .before .before .before .before .before .before .before .before .pre .2 .1)))) (c .enum-told2 .given .1))
+
+same-length-5 : tie.Need-same-length-5
+same-length-5 c = search needs
+
+same-length-6 : tie.Need-same-length-6
+same-length-6 c = search needs
+
+returns-3 : tie.Need-returns-3
+returns-3 c = λ m x. stop (first (c .before .before .before .before .before .before .before .before .before .before .before .before .before .before .before .before .before .before .put-byte .ensures) (c .before .before .before .before .before .before .before .before .before .before .before .before .before .before .a .given .1)) (puts-as (ap memberBytes (x .is)) (c .before .before .before .before .before .before .put-member-line .ensures (x .seen) (x .name) (x .value) (held-member (filled-holds (c .before .before .before .before .before .before .before .before .before .before .before .before .before .before .before .before .before .before .before .before .before .before .before .before .before .before .before .before .before .before .before .fill .result) (c .before .before .before .before .before .before .before .before .before .before .before .before .before .before .before .before .before .before .before .before .before .before .before .before .before .before .before .before .before .before .before .fill .ensures) (not-false _ (c .before .before .before .before .before .before .before .before .before .before .before .before .before .before .before .before .before .before .before .before .before .before .before .before .before .before .before .before .if1 .left))) x))) (c .enum-told2 .given .1)
+
+add-ab : tie.Need-add-ab
+add-ab c = record { fits = lt-of-le-of-lt (next (first (c .before .before .before .before .before .before .before .before .before .before .before .before .before .before .before .before .before .before .before .put-byte .ensures) (c .before .before .before .before .before .before .before .before .before .before .before .before .before .before .before .a .given .1)) (puts-as (ap memberBytes ((c .before .before .before .before .before .before .before .before .before .before .before .before .before .before .before .before .before .before .before .before .before .before .before .before .before .before .before .before .before .before .before .before .before .before .before .before .before .before .pre .2 .1) .is)) (c .before .before .before .before .before .before .before .put-member-line .ensures ((c .before .before .before .before .before .before .before .before .before .before .before .before .before .before .before .before .before .before .before .before .before .before .before .before .before .before .before .before .before .before .before .before .before .before .before .before .before .before .pre .2 .1) .seen) ((c .before .before .before .before .before .before .before .before .before .before .before .before .before .before .before .before .before .before .before .before .before .before .before .before .before .before .before .before .before .before .before .before .before .before .before .before .before .before .pre .2 .1) .name) ((c .before .before .before .before .before .before .before .before .before .before .before .before .before .before .before .before .before .before .before .before .before .before .before .before .before .before .before .before .before .before .before .before .before .before .before .before .before .before .pre .2 .1) .value) (held-member (filled-holds (c .before .before .before .before .before .before .before .before .before .before .before .before .before .before .before .before .before .before .before .before .before .before .before .before .before .before .before .before .before .before .before .before .fill .result) (c .before .before .before .before .before .before .before .before .before .before .before .before .before .before .before .before .before .before .before .before .before .before .before .before .before .before .before .before .before .before .before .before .fill .ensures) (not-false _ (c .before .before .before .before .before .before .before .before .before .before .before .before .before .before .before .before .before .before .before .before .before .before .before .before .before .before .before .before .before .if1 .left))) (c .before .before .before .before .before .before .before .before .before .before .before .before .before .before .before .before .before .before .before .before .before .before .before .before .before .before .before .before .before .before .before .before .before .before .before .before .before .before .pre .2 .1)))) (c .before .b .given .1) .fits) (c .before .before .before .before .before .before .before .before .before .before .before .before .before .before .before .before .before .before .before .before .before .before .before .before .before .before .before .before .before .before .before .before .before .before .before .before .before .before .good .0 .0) }
+
+same-length-7 : tie.Need-same-length-7
+same-length-7 c = next (first (c .before .before .before .before .before .before .before .before .before .before .before .before .before .before .before .before .before .before .before .put-byte .ensures) (c .before .before .before .before .before .before .before .before .before .before .before .before .before .before .before .a .given .1)) (puts-as (ap memberBytes ((c .before .before .before .before .before .before .before .before .before .before .before .before .before .before .before .before .before .before .before .before .before .before .before .before .before .before .before .before .before .before .before .before .before .before .before .before .before .before .pre .2 .1) .is)) (c .before .before .before .before .before .before .before .put-member-line .ensures ((c .before .before .before .before .before .before .before .before .before .before .before .before .before .before .before .before .before .before .before .before .before .before .before .before .before .before .before .before .before .before .before .before .before .before .before .before .before .before .pre .2 .1) .seen) ((c .before .before .before .before .before .before .before .before .before .before .before .before .before .before .before .before .before .before .before .before .before .before .before .before .before .before .before .before .before .before .before .before .before .before .before .before .before .before .pre .2 .1) .name) ((c .before .before .before .before .before .before .before .before .before .before .before .before .before .before .before .before .before .before .before .before .before .before .before .before .before .before .before .before .before .before .before .before .before .before .before .before .before .before .pre .2 .1) .value) (held-member (filled-holds (c .before .before .before .before .before .before .before .before .before .before .before .before .before .before .before .before .before .before .before .before .before .before .before .before .before .before .before .before .before .before .before .before .fill .result) (c .before .before .before .before .before .before .before .before .before .before .before .before .before .before .before .before .before .before .before .before .before .before .before .before .before .before .before .before .before .before .before .before .fill .ensures) (not-false _ (c .before .before .before .before .before .before .before .before .before .before .before .before .before .before .before .before .before .before .before .before .before .before .before .before .before .before .before .before .before .if1 .left))) (c .before .before .before .before .before .before .before .before .before .before .before .before .before .before .before .before .before .before .before .before .before .before .before .before .before .before .before .before .before .before .before .before .before .before .before .before .before .before .pre .2 .1)))) (c .before .b .given .1) .same
+
+same-length-8 : tie.Need-same-length-8
+same-length-8 c = search needs
+
+same-length-9 : tie.Need-same-length-9
+same-length-9 c = search needs
+
+returns-4 : tie.Need-returns-4
+returns-4 c = λ m x. done (next (first (c .before .before .before .before .before .before .before .before .before .before .before .before .before .before .before .before .before .before .before .put-byte .ensures) (c .before .before .before .before .before .before .before .before .before .before .before .before .before .before .before .a .given .1)) (puts-as (ap memberBytes (x .is)) (c .before .before .before .before .before .before .before .put-member-line .ensures (x .seen) (x .name) (x .value) (held-member (filled-holds (c .before .before .before .before .before .before .before .before .before .before .before .before .before .before .before .before .before .before .before .before .before .before .before .before .before .before .before .before .before .before .before .before .fill .result) (c .before .before .before .before .before .before .before .before .before .before .before .before .before .before .before .before .before .before .before .before .before .before .before .before .before .before .before .before .before .before .before .before .fill .ensures) (not-false _ (c .before .before .before .before .before .before .before .before .before .before .before .before .before .before .before .before .before .before .before .before .before .before .before .before .before .before .before .before .before .if1 .left))) x))) (c .before .b .given .1))
+
+pub put-member-turn-spec : {M : Type 1} → statement M
+put-member-turn-spec =
+    tie.close
+    (tie.spec
+    fill-requires
+    same-length
+    returns
+    slice-aggregate-scan-rows
+    slice-aggregate-scan-rows-2
+    slice-aggregate-scan-rows-3
+    scan-rows-requires
+    put-byte-requires
+    enum-known-a
+    enum-told
+    same-length-2
+    same-length-3
+    returns-2
+    sub-put-member-line
+    part-put-member-line-start
+    part-put-member-line-end
+    slice-aggregate-put-member-line
+    slice-aggregate-put-member-line-2
+    slice-aggregate-put-member-line-3
+    put-member-line-requires
+    enum-known-b
+    enum-told-2
+    same-length-4
+    same-length-5
+    same-length-6
+    returns-3
+    add-ab
+    same-length-7
+    same-length-8
+    same-length-9
+    returns-4)

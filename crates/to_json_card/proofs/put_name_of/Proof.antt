@@ -1,0 +1,61 @@
+use borrow.Author.Needs.{needs}
+use mathlib.Core.Path.{_≡_, refl, sym, ap, _∙_}
+use mathlib.Core.List.{List, [], _∷_}
+use Prim.Native.Nat.{ℕ, _+_, _-_, _≤_, _<_}
+use native.Mathlib.Nat.{le-refl, lt-of-le-of-lt}
+use native.Mathlib.Omega.{arith}
+use denote.Ref.{now}
+use borrow.Author.Tests.{not-true, not-false}
+use lib.ListN.{length, take, drop, getD}
+use Rattle.to_json_maps.proofs.Marking.{filled-holds, filled-none}
+use Rattle.output.proofs.Laws.{puts-as}
+use Rattle.to_json_card.proofs.Name.{names-good, name-is}
+use Rattle.to_json_card.proofs.put_name_of.Statement.{statement}
+use Rattle.to_json_card.proofs.put_name_of.Tie as tie
+use Rattle.to_json_card.proofs.put_name_of.Reads as reads
+use Rattle.to_json_card.proofs.put_name_of.Lts as lts
+
+first-of-requires : tie.Need-first-of-requires
+first-of-requires c κs = (c .before .before .before .before .before .pre .1 .1) .wide
+
+first-of-requires-2 : tie.Need-first-of-requires-2
+first-of-requires-2 c κs = (c .before .before .before .before .before .before .pre .1 .1) .wide
+
+line-at-requires : tie.Need-line-at-requires
+line-at-requires c κs = tt
+
+value-of-requires : tie.Need-value-of-requires
+value-of-requires c κs = c .before .before .before .before .before .before .before .before .before .pre .0
+
+line-at-requires-2 : tie.Need-line-at-requires-2
+line-at-requires-2 c κs = tt
+
+value-of-requires-2 : tie.Need-value-of-requires-2
+value-of-requires-2 c κs = search needs
+
+put-name-requires : tie.Need-put-name-requires
+put-name-requires c κs = names-good (c .before .before .before .before .before .before .before .before .before .before .before .before .before .before .before .before .before .before .pre .1 .1) (c .before .before .before .before .before .before .before .before .before .before .before .before .first-of .ensures) (c .before .before .before .before .before .before .before .before .before .before .before .first-of2 .ensures) _ _ (c .before .before .before .before .before .before .before .before .before .line-at .ensures) (c .before .before .before .before .before .before .before .before .value-of .ensures) (c .before .before .before .before .line-at2 .ensures) (c .before .before .before .value-of2 .ensures)
+
+same-length : tie.Need-same-length
+same-length c = search needs
+
+same-length-2 : tie.Need-same-length-2
+same-length-2 c = search needs
+
+returns : tie.Need-returns
+returns c = λ cs h. puts-as (name-is h (c .before .before .before .before .before .before .before .before .before .before .before .before .before .before .before .first-of .ensures) (c .before .before .before .before .before .before .before .before .before .before .before .before .before .before .first-of2 .ensures) _ _ (c .before .before .before .before .before .before .before .before .before .before .before .before .line-at .ensures) (c .before .before .before .before .before .before .before .before .before .before .before .value-of .ensures) (c .before .before .before .before .before .before .before .line-at2 .ensures) (c .before .before .before .before .before .before .value-of2 .ensures)) (c .before .before .put-name .ensures)
+
+pub put-name-of-spec : {M : Type 1} → statement M
+put-name-of-spec =
+    tie.close
+    (tie.spec
+    first-of-requires
+    first-of-requires-2
+    line-at-requires
+    value-of-requires
+    line-at-requires-2
+    value-of-requires-2
+    put-name-requires
+    same-length
+    same-length-2
+    returns)
