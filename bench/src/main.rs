@@ -16,39 +16,38 @@ struct Workload<'a> {
 }
 
 fn main() {
-    let cards = [
-        ("ordinary card to JSON (12 lines, ASCII)", workloads::ordinary()),
-        ("folded international card to JSON", workloads::international()),
-        ("full card to JSON (512 lines)", workloads::full()),
-        ("509 lines with PROP-ID to JSON", workloads::prop_ids()),
+    let texts = [
+        ("look-up, an ordinary card's JSON", json_of(&workloads::ordinary())),
+        ("look-up, an international card's JSON", json_of(&workloads::international())),
+        ("look-up, a full card's JSON (512 lines)", json_of(&workloads::full())),
+        ("look-up, 509 entries in one map", json_of(&workloads::prop_ids())),
+        ("look-up, 9,000 names in one object", workloads::names()),
+        ("look-up, refused at the first byte", b"no JSON".to_vec()),
     ];
-    let refused = b"no card at all".to_vec();
-    let mut workloads: Vec<Workload> = cards.iter().map(|(name, card)| card_to_json(name, card)).collect();
-    workloads.push(card_to_json("a refused call", &refused));
     println!("{:<42} {:>8} {:>10} {:>10} {:>8} {:>7}", "workload", "bytes", "base us", "ours us", "MB/s", "ratio");
-    for workload in &mut workloads {
-        measure(workload);
+    for (name, text) in &texts {
+        measure(look_up(name, text));
     }
 }
 
-fn card_to_json<'a>(name: &'static str, card: &'a [u8]) -> Workload<'a> {
-    let mut out = vec![0u8; thymebarrel::JSON_BYTES];
+/// The JSON of a card, by the baseline.
+fn json_of(card: &[u8]) -> Vec<u8> {
+    baseline::card_to_json(card, b"reg", 1, 65_536).bytes
+}
+
+fn look_up<'a>(name: &'static str, text: &'a [u8]) -> Workload<'a> {
+    assert_eq!(thymebarrel::member(text, b"uid"), baseline::look_up(text, b"uid"), "{name}");
     let theirs = move || {
-        black_box(baseline::card_to_json(black_box(card), b"reg", 1, thymebarrel::JSON_BYTES));
+        black_box(baseline::look_up(black_box(text), b"uid"));
     };
-    let same = baseline::card_to_json(card, b"reg", 1, thymebarrel::JSON_BYTES);
-    match thymebarrel::card_to_json_into(b"reg", 1, card, &mut out) {
-        Ok(length) => assert_eq!(out[..length], same.bytes, "{name}"),
-        Err(refusal) => assert_eq!((refusal.number, refusal.place), (same.number, same.place), "{name}"),
-    }
     let ours = move || {
-        let _ = black_box(thymebarrel::card_to_json_into(b"reg", 1, black_box(card), &mut out));
+        black_box(thymebarrel::member(black_box(text), b"uid"));
     };
-    Workload { name, bytes: card.len(), ours: Box::new(ours), theirs: Box::new(theirs) }
+    Workload { name, bytes: text.len(), ours: Box::new(ours), theirs: Box::new(theirs) }
 }
 
 /// Microseconds a call, the best of many short batches; the sides take turns.
-fn measure(workload: &mut Workload) {
+fn measure(mut workload: Workload) {
     let batch = batch_size(&mut workload.theirs);
     let (mut ours, mut theirs) = (f64::MAX, f64::MAX);
     let start = Instant::now();

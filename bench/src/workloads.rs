@@ -89,11 +89,6 @@ pub fn names() -> Vec<u8> {
     format!("{{{}}}", members.join(",")).into_bytes()
 }
 
-/// Ordinary cards one after the other, about 10 MB.
-pub fn stream() -> Vec<u8> {
-    let one = ordinary();
-    one.iter().copied().cycle().take(one.len() * (10_000_000 / one.len())).collect()
-}
 
 fn card(lines: &[&str]) -> Vec<u8> {
     let mut text = String::from("BEGIN:VCARD\r\nVERSION:4.0\r\n");

@@ -59,7 +59,7 @@ fn find_in<'a, 'b>(s: &'a [u8], name: &'b [u8]) -> Part
 }
 
 // From where to where that value stands; 0 to 0 where there is none.
-fn locate<'a, 'b>(s: &'a [u8], name: &'b [u8]) -> Part
+pub fn locate<'a, 'b>(s: &'a [u8], name: &'b [u8]) -> Part
     ensures { λ r. ⌜ Bounds (length (now (s .entry))) r ⌝ }
     ensures { λ r. ⌜ r ≡ placeOf (lookUp (now (s .entry)) (now (name .entry))) ⌝ }
 {
