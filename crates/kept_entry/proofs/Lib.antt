@@ -1,0 +1,3 @@
+pub mod Words
+pub mod Fours
+pub mod Types
