@@ -18,7 +18,7 @@ ghost use mathlib.Core.Path.{_≡_};
 ghost use Prim.Native.Nat.{_+_, _≤_, _<_};
 ghost use lib.ListN.{length};
 ghost use Rattle.kept_strings.specs.Strings.{Within, Bounds, RowsIn};
-ghost use Rattle.kept_entry.specs.Entry.{PutsWord, PutsName, FourIn, TellsFour, PutsTyped, PutsType};
+ghost use Rattle.kept_entry.specs.Entry.{PutsWord, PutsName, FourIn, TellsFour, PutsTyped, PutsType, headedAt};
 
 // The places of the four elements.
 pub enum Four {
@@ -167,4 +167,27 @@ pub fn put_type<'a, 'b, 'c>(
         return Rows::Wrong;
     }
     put_typed(b, n, t, m, s, at)
+}
+
+// Group, name and value, and how many rows there are.
+pub fn put_head(
+    t: &mut [usize],
+    from: usize,
+    to: usize,
+    end: usize,
+    value: usize,
+    stop: usize,
+    n: usize,
+) -> bool
+    requires { ⌜ 264 ≤ length (now t) ⌝ }
+    ensures { λ r. ⌜ now (t .exit) ≡ headedAt (now (t .entry)) from to end value stop n ⌝ }
+{
+    t[0] = from;
+    t[1] = to;
+    t[2] = 0;
+    t[3] = end;
+    t[4] = value;
+    t[5] = stop;
+    t[6] = n;
+    true
 }
