@@ -65,7 +65,7 @@ pub fn put_string<'a, 'b>(b: &'a mut [u8], n: usize, s: &'b [u8], at: usize) -> 
 }
 
 // One value of the parameter whose name stands from a to e in the buffer.
-fn put_value<'a, 'b, 'c>(
+pub fn put_value<'a, 'b, 'c>(
     b: &'a mut [u8],
     n: usize,
     t: &'b mut [usize],

@@ -87,6 +87,25 @@ opened-some : (n : Bytes) (ws : List Bytes) → not (empty ws) ≡ true → open
 opened-some n [] e = let z : _≡_ {A = ℕ} 0 1 = cc in absurd (omega arith)
 opened-some n (w ∷ ws) e = refl
 
+-- the table with the values of a parameter whose name was put before them
+pub param-table : (b : Bytes) (n : ℕ) (t : List ℕ) (m : ℕ) → n ≤ length b → (c : Bytes) (i : ℕ) (k : Bytes) → Grew b n c i k → 0 < length k → (r′ : Rows) (d : Bytes) (u : List ℕ) (ws : List Bytes)
+    → not (empty ws) ≡ true → Added c i t m n i r′ d u ws → (qs : List Param) → Table (take n b) t m qs → Table (take n b ++ (k ++ flat ws)) u (m + length ws) (qs ++ (param k ws ∷ []))
+param-table b n t m h c i k g f r′ d u ws ne a qs tb =
+    let len : length (take n b) ≡ n = length-take-le n b h in
+    let a0 : Adding (take n b ++ k) t m (length (take n b)) (length (take n b) + length k) qs [] = adding-first (take n b) k t m qs f tb in
+    let a1 : Adding (take n b ++ k) t m n (n + length k) qs [] = subst (λ (y : ℕ). Adding (take n b ++ k) t m y (y + length k) qs []) len a0 in
+    let a2 : Adding (take n b ++ k) t m n i qs [] = subst (λ (y : ℕ). Adding (take n b ++ k) t m n y qs []) (sym (g .to)) a1 in
+    let a3 : Adding (take i c) t m n i qs [] = subst (λ (y : Bytes). Adding y t m n i qs []) (sym (g .is)) a2 in
+    let a4 : Adding (take i c ++ flat ws) u (m + length ws) n i qs ws = a .adds qs [] a3 in
+    let a5 : Adding ((take n b ++ k) ++ flat ws) u (m + length ws) n i qs ws = subst (λ (y : Bytes). Adding (y ++ flat ws) u (m + length ws) n i qs ws) (g .is) a4 in
+    let pk : part ((take n b ++ k) ++ flat ws) n i ≡ k =
+    part-longer (take n b ++ k) (flat ws) n i (omega (arith, g .to)) (let z = length-append (take n b) k in omega (arith, g .to, len, z))
+    ∙ ap (λ (y : ℕ). part (take n b ++ k) n y) (g .to) ∙ ap (λ (y : ℕ). part (take n b ++ k) y (y + length k)) (sym len) ∙ part-new (take n b) k in
+    let t5 : Table ((take n b ++ k) ++ flat ws) u (m + length ws) (qs ++ (param k ws ∷ [])) =
+    subst (λ (y : List Param). Table ((take n b ++ k) ++ flat ws) u (m + length ws) (qs ++ y)) (ap (λ (y : Bytes). opened y ws) pk ∙ opened-some k ws ne) (a5 .table) in
+    subst (λ (y : Bytes). Table y u (m + length ws) (qs ++ (param k ws ∷ []))) (append-assoc (take n b) k (flat ws)) t5
+
+
 module _ (b : Bytes) (n : ℕ) (t : List ℕ) (m : ℕ) (s : Bytes) (q at : ℕ) (h : n ≤ length b) (r : To) (c : Bytes) (p : Puts b n (textAt s q) r c) where
   name-put : (k : Bytes) (v : Json) → spelled s q ≡ some k → n + (length k + size v) ≤ length b → PutAs b n r c (some k)
   name-put k v e l = put-as b n k r c (omega arith) (subst (λ (z : Bytes). Puts b n z r c) (text-some s q k e) p)
@@ -125,23 +144,6 @@ module _ (b : Bytes) (n : ℕ) (t : List ℕ) (m : ℕ) (s : Bytes) (q at : ℕ)
           let f : same k (ascii "value") ≡ false = same-swap k (ascii "value") ∙ sym (ap (λ (o : Option Bytes). spells o (ascii "value")) e) ∙ x in
           and-true (word-is k v e l ∙ y) (ap not f)
 
-      put-table : (k : Bytes) (ws : List Bytes) → Grew b n c i k → 0 < length k → not (empty ws) ≡ true → Added c i t m n i r′ d u ws → (qs : List Param) → Table (take n b) t m qs
-          → Table (take n b ++ (k ++ flat ws)) u (m + length ws) (qs ++ (param k ws ∷ []))
-      put-table k ws g f ne a qs tb =
-          let len : length (take n b) ≡ n = length-take-le n b h in
-          let a0 : Adding (take n b ++ k) t m (length (take n b)) (length (take n b) + length k) qs [] = adding-first (take n b) k t m qs f tb in
-          let a1 : Adding (take n b ++ k) t m n (n + length k) qs [] = subst (λ (y : ℕ). Adding (take n b ++ k) t m y (y + length k) qs []) len a0 in
-          let a2 : Adding (take n b ++ k) t m n i qs [] = subst (λ (y : ℕ). Adding (take n b ++ k) t m n y qs []) (sym (g .to)) a1 in
-          let a3 : Adding (take i c) t m n i qs [] = subst (λ (y : Bytes). Adding y t m n i qs []) (sym (g .is)) a2 in
-          let a4 : Adding (take i c ++ flat ws) u (m + length ws) n i qs ws = a .adds qs [] a3 in
-          let a5 : Adding ((take n b ++ k) ++ flat ws) u (m + length ws) n i qs ws = subst (λ (y : Bytes). Adding (y ++ flat ws) u (m + length ws) n i qs ws) (g .is) a4 in
-          let pk : part ((take n b ++ k) ++ flat ws) n i ≡ k =
-          part-longer (take n b ++ k) (flat ws) n i (omega (arith, g .to)) (let z = length-append (take n b) k in omega (arith, g .to, len, z))
-          ∙ ap (λ (y : ℕ). part (take n b ++ k) n y) (g .to) ∙ ap (λ (y : ℕ). part (take n b ++ k) y (y + length k)) (sym len) ∙ part-new (take n b) k in
-          let t5 : Table ((take n b ++ k) ++ flat ws) u (m + length ws) (qs ++ (param k ws ∷ [])) =
-          subst (λ (y : List Param). Table ((take n b ++ k) ++ flat ws) u (m + length ws) (qs ++ y)) (ap (λ (y : Bytes). opened y ws) pk ∙ opened-some k ws ne) (a5 .table) in
-          subst (λ (y : Bytes). Table y u (m + length ws) (qs ++ (param k ws ∷ []))) (append-assoc (take n b) k (flat ws)) t5
-
       pub param-all : PutsParam b n t m s q at r′ d u
       param-all k v e w l =
           let g = name-grew k v e l in
@@ -154,7 +156,7 @@ module _ (b : Bytes) (n : ℕ) (t : List ℕ) (m : ℕ) (s : Bytes) (q at : ℕ)
             end = a .end;
             said = a .said;
             grew = grew-then g (a .grew);
-            adds = put-table k ws g f (strings-some v ws (capped-inv m (strings v) ws e)) a;
+            adds = param-table b n t m h c i k g f r′ d u ws (strings-some v ws (capped-inv m (strings v) ws e)) a;
           }
 
 -- ---- bounds

@@ -1,0 +1,4 @@
+pub mod Words
+pub mod Fours
+pub mod Types
+pub mod Final

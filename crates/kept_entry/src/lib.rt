@@ -1,0 +1,193 @@
+// An entry of vCardProps, [name, {parameters}, type, value], as the table of the line that it is.
+use card_entry::string_in;
+use json_access::element_at;
+use json_equal::equals;
+use json_index::which_name;
+use json_marks::separator;
+use json_marks::skip_space;
+use kept_strings::Rows;
+use kept_strings::To;
+use kept_strings::is_word;
+use kept_strings::put_decoded;
+use kept_strings::put_value;
+use output::Wrote;
+use output::put_text;
+use text::Turn;
+use text::look;
+ghost use mathlib.Core.Path.{_≡_};
+ghost use Prim.Native.Nat.{_+_, _≤_, _<_};
+ghost use lib.ListN.{length};
+ghost use Rattle.kept_strings.specs.Strings.{Within, Bounds, RowsIn};
+ghost use Rattle.kept_entry.specs.Entry.{PutsWord, PutsName, FourIn, TellsFour, PutsTyped, PutsType, headedAt};
+
+// The places of the four elements.
+pub enum Four {
+    At { name: usize, params: usize, kind: usize, value: usize },
+    Bad,
+}
+
+// A string that is a name in lower case.
+fn put_word<'a, 'b>(b: &'a mut [u8], n: usize, s: &'b [u8], q: usize) -> To
+    requires { ⌜ n ≤ length (now b) ⌝ }
+    ensures { λ r. ⌜ length (now (b .exit)) ≡ length (now (b .entry)) ⌝ }
+    ensures { λ r. ⌜ Within n (length (now (b .entry))) r ⌝ }
+    ensures { λ r. ⌜ PutsWord (now (b .entry)) n (now (s .entry)) q r (now (b .exit)) ⌝ }
+{
+    let To::End(k) = put_decoded(b, n, s, q) else {
+        return To::Bad;
+    };
+    if !is_word(&b[n..k]) {
+        return To::Bad;
+    }
+    To::End(k)
+}
+
+// The line's name.
+pub fn put_name<'a, 'b>(b: &'a mut [u8], n: usize, s: &'b [u8], at: usize) -> To
+    requires { ⌜ n ≤ length (now b) ⌝ }
+    ensures { λ r. ⌜ length (now (b .exit)) ≡ length (now (b .entry)) ⌝ }
+    ensures { λ r. ⌜ Within n (length (now (b .entry))) r ⌝ }
+    ensures { λ r. ⌜ PutsName (now (b .entry)) n (now (s .entry)) at r (now (b .exit)) ⌝ }
+{
+    let q = string_in(s, at);
+    if q == 0 {
+        return To::Bad;
+    }
+    if which_name(s, q, b"begin,end,version,uid,kind") != 5 {
+        return To::Bad;
+    }
+    put_word(b, n, s, q)
+}
+
+// Four elements, no more and no less.
+pub fn four_at(s: &[u8], at: usize) -> Four
+    requires { ⌜ at ≤ length (now s) ⌝ }
+    ensures { λ r. ⌜ FourIn (length (now (s .entry))) r ⌝ }
+    ensures { λ r. ⌜ TellsFour (now (s .entry)) at r ⌝ }
+{
+    let i = skip_space(s, at);
+    if look(s, i) != 91 {
+        return Four::Bad;
+    }
+    let j = skip_space(s, i + 1);
+    if look(s, j) == 93 {
+        return Four::Bad;
+    }
+    let p = element_at(s, j, 13);
+    let name = p.start;
+    let x = p.end;
+    let Turn::Go(j2) = separator(s, x, 93) else {
+        return Four::Bad;
+    };
+    let p2 = element_at(s, j2, 13);
+    let params = p2.start;
+    let x2 = p2.end;
+    let Turn::Go(j3) = separator(s, x2, 93) else {
+        return Four::Bad;
+    };
+    let p3 = element_at(s, j3, 13);
+    let kind = p3.start;
+    let x3 = p3.end;
+    let Turn::Go(j4) = separator(s, x3, 93) else {
+        return Four::Bad;
+    };
+    let p4 = element_at(s, j4, 13);
+    let value = p4.start;
+    let x4 = p4.end;
+    let Turn::Stop(r) = separator(s, x4, 93) else {
+        return Four::Bad;
+    };
+    Four::At {
+        name: name,
+        params: params,
+        kind: kind,
+        value: value,
+    }
+}
+
+// VALUE: its name, then the type.
+pub fn put_typed<'a, 'b, 'c>(
+    b: &'a mut [u8],
+    n: usize,
+    t: &'b mut [usize],
+    m: usize,
+    s: &'c [u8],
+    at: usize,
+) -> Rows
+    requires { ⌜ n ≤ length (now b) ⌝ }
+    requires { ⌜ 264 ≤ length (now t) ⌝ }
+    ensures { λ r. ⌜ Bounds (now (b .entry)) (now (b .exit)) (now (t .entry)) (now (t .exit)) ⌝ }
+    ensures { λ r. ⌜ RowsIn n (length (now (b .entry))) r ⌝ }
+    ensures { λ r. ⌜ PutsTyped (now (b .entry)) n (now (t .entry)) m (now (s .entry)) at r (now (b .exit)) (now (t .exit)) ⌝ }
+{
+    let Wrote::Bytes(k) = put_text(&mut b[n..], b"value") else {
+        return Rows::Wrong;
+    };
+    let a = n + k;
+    let Rows::More { end, count } = put_value(b, a, t, m, n, a, s, at) else {
+        return Rows::Wrong;
+    };
+    if !is_word(&b[a..end]) {
+        return Rows::Wrong;
+    }
+    Rows::More {
+        end: end,
+        count: count,
+    }
+}
+
+// The type: a parameter VALUE, none where it is unknown.
+pub fn put_type<'a, 'b, 'c>(
+    b: &'a mut [u8],
+    n: usize,
+    t: &'b mut [usize],
+    m: usize,
+    count: usize,
+    s: &'c [u8],
+    at: usize,
+) -> Rows
+    requires { ⌜ n ≤ length (now b) ⌝ }
+    requires { ⌜ 264 ≤ length (now t) ⌝ }
+    requires { ⌜ m ≤ 64 ⌝ }
+    ensures { λ r. ⌜ Bounds (now (b .entry)) (now (b .exit)) (now (t .entry)) (now (t .exit)) ⌝ }
+    ensures { λ r. ⌜ RowsIn n (length (now (b .entry))) r ⌝ }
+    ensures { λ r. ⌜ PutsType (now (b .entry)) n (now (t .entry)) m count (now (s .entry)) at r (now (b .exit)) (now (t .exit)) ⌝ }
+{
+    let q = string_in(s, at);
+    if q == 0 {
+        return Rows::Wrong;
+    }
+    if equals(s, q, b"unknown") {
+        if count > 32 {
+            return Rows::Wrong;
+        }
+        return Rows::More { end: n, count: m };
+    }
+    if count >= 32 {
+        return Rows::Wrong;
+    }
+    put_typed(b, n, t, m, s, at)
+}
+
+// Group, name and value, and how many rows there are.
+pub fn put_head(
+    t: &mut [usize],
+    from: usize,
+    to: usize,
+    end: usize,
+    value: usize,
+    stop: usize,
+    n: usize,
+) -> bool
+    requires { ⌜ 264 ≤ length (now t) ⌝ }
+    ensures { λ r. ⌜ now (t .exit) ≡ headedAt (now (t .entry)) from to end value stop n ⌝ }
+{
+    t[0] = from;
+    t[1] = to;
+    t[2] = 0;
+    t[3] = end;
+    t[4] = value;
+    t[5] = stop;
+    t[6] = n;
+    true
+}
