@@ -42,9 +42,10 @@ module _ (s : Bytes) (i : ℕ) (es : Elems) (h : Here s i es) (e : Part) (told :
       let z = item-here 13 s i (h .units) (h .rest) (h .is-units) in
       let x = elem-stands 13 s i (h .units) z e told in
       let o = elems-on 13 s i (h .units) (h .rest) (h .is-units) z (e .end) (x .0) j w in
-      let n = next-elem (z .val) (o .0) es (ap decodedElems (o .2) ∙ h .is-es) in
-      (record { val = n .val; others = n .others; is = ap elemsOf (sym (n .is)) ∙ elems-cons (n .val) (n .others); stands = x .1 (n .val) (n .is-val) },
-      record { units = o .0; rest = h .rest; is-units = o .1; is-es = n .is-others })
+      let n = next-elem (z .val) (o .0) es (ap decodedElems (o .2) ∙ h .is-es) in (
+        record { val = n .val; others = n .others; is = ap elemsOf (sym (n .is)) ∙ elems-cons (n .val) (n .others); stands = x .1 (n .val) (n .is-val) },
+        record { units = o .0; rest = h .rest; is-units = o .1; is-es = n .is-others },
+      )
 
   pub then-last : (r : Read) → GivesT s (e .end) (sep 93 zero suc (drop (e .end) s)) (Stop r) → (v : Json) × (elemsOf es ≡ v ∷ []) × (jsonAt 13 s (e .start) ≡ some v)
   then-last r w =

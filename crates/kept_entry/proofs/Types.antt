@@ -18,7 +18,7 @@ use Rattle.output.specs.Put.{Puts}
 use Rattle.json.specs.Tree.{Json, asString}
 use Rattle.json_strings.specs.Spelled.{spelled, spells}
 use Rattle.json_index.specs.Index.{jsonAt}
-use Rattle.card_entry.specs.Rows.{StringIs, TellsString}
+use Rattle.card_value.specs.Values.{StringIs, TellsString}
 use Rattle.line.specs.Grammar.{Param, param}
 use Rattle.convert.specs.FromJson.{isLowerWord}
 use Rattle.kept_strings.specs.declared.Rows.{Rows}

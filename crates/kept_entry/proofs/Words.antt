@@ -16,7 +16,7 @@ use Rattle.json_strings.specs.Spelled.{spelled, textAt}
 use Rattle.json_strings.proofs.NextByte.{text-some}
 use Rattle.json_index.specs.Index.{jsonAt, placed, firstAt}
 use Rattle.json_index.proofs.Fields.{first-other}
-use Rattle.card_entry.specs.Rows.{StringIs, TellsString}
+use Rattle.card_value.specs.Values.{StringIs, TellsString}
 use Rattle.convert.specs.FromJson.{isLowerWord, neverKept}
 use Rattle.kept_strings.specs.declared.To.{To}
 use Rattle.kept_strings.specs.declared.To.the-variants.{End, Bad}

@@ -1,5 +1,5 @@
 // An entry of vCardProps, [name, {parameters}, type, value], as the table of the line that it is.
-use card_entry::string_in;
+use card_value::string_in;
 use json_access::element_at;
 use json_equal::equals;
 use json_index::which_name;
@@ -22,7 +22,12 @@ ghost use Rattle.kept_entry.specs.Entry.{PutsWord, PutsName, FourIn, Tel
 
 // The places of the four elements.
 pub enum Four {
-    At { name: usize, params: usize, kind: usize, value: usize },
+    At {
+        name: usize,
+        params: usize,
+        kind: usize,
+        value: usize,
+    },
     Bad,
 }
 

@@ -105,7 +105,6 @@ param-table b n t m h c i k g f r′ d u ws ne a qs tb =
     subst (λ (y : List Param). Table ((take n b ++ k) ++ flat ws) u (m + length ws) (qs ++ y)) (ap (λ (y : Bytes). opened y ws) pk ∙ opened-some k ws ne) (a5 .table) in
     subst (λ (y : Bytes). Table y u (m + length ws) (qs ++ (param k ws ∷ []))) (append-assoc (take n b) k (flat ws)) t5
 
-
 module _ (b : Bytes) (n : ℕ) (t : List ℕ) (m : ℕ) (s : Bytes) (q at : ℕ) (h : n ≤ length b) (r : To) (c : Bytes) (p : Puts b n (textAt s q) r c) where
   name-put : (k : Bytes) (v : Json) → spelled s q ≡ some k → n + (length k + size v) ≤ length b → PutAs b n r c (some k)
   name-put k v e l = put-as b n k r c (omega arith) (subst (λ (z : Bytes). Puts b n z r c) (text-some s q k e) p)

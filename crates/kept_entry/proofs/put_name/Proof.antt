@@ -17,7 +17,7 @@ use Rattle.kept_entry.proofs.put_name.Statement.{statement}
 use Rattle.kept_entry.proofs.put_name.Tie as tie
 use Rattle.kept_entry.proofs.put_name.Reads as reads
 use Rattle.kept_entry.proofs.put_name.Lts as lts
-use Rattle.card_entry.proofs.string_in.Reads as string-in-reads
+use Rattle.card_value.proofs.string_in.Reads as string-in-reads
 use Rattle.json_index.proofs.which_name.Reads as which-name-reads
 use Rattle.kept_entry.proofs.put_word.Reads as put-word-reads
 

@@ -17,7 +17,7 @@ use Rattle.kept_entry.proofs.put_type.Statement.{statement}
 use Rattle.kept_entry.proofs.put_type.Tie as tie
 use Rattle.kept_entry.proofs.put_type.Reads as reads
 use Rattle.kept_entry.proofs.put_type.Lts as lts
-use Rattle.card_entry.proofs.string_in.Reads as string-in-reads
+use Rattle.card_value.proofs.string_in.Reads as string-in-reads
 use Rattle.json_equal.proofs.equals.Reads as equals-reads
 use Rattle.kept_entry.proofs.put_typed.Reads as put-typed-reads
 
