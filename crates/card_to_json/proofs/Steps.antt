@@ -23,6 +23,7 @@ use Rattle.convert.specs.FromCard.{cardOfLines}
 use Rattle.convert.specs.ToJson.{printJson}
 use Rattle.card_to_json.specs.Inner.{inner}
 use Rattle.card_to_json.specs.Laying.{Lays}
+use Rattle.card_to_json.specs.declared.Lines.{Lines}
 use Rattle.card_to_json.specs.declared.Lines.the-variants.{Count, Refused}
 
 -- ---- 1 and 3 (lines)
@@ -66,3 +67,6 @@ inner-3 s x r scratch starts f e u stem n =
 pub lays : (s x : Bytes) (r : Unfolded) (k : ℕ) (scratch starts : List ℕ) → framed (physical s) ≡ some (physical x) → r ≡ Unfolded-Lines k
     → Unfolds (unfold′ (physical x)) r scratch starts → Lays s (Count k) scratch starts
 lays s x r k scratch starts f e u = (unfold′ (physical x), raw-some s (physical x) f, subst (λ o. Unfolds (unfold′ (physical x)) o scratch starts) e u)
+
+pub lays-as : (s : Bytes) (r r′ : Lines) (scratch starts : List ℕ) → r ≡ r′ → Lays s r scratch starts → Lays s r′ scratch starts
+lays-as s r r′ scratch starts e l = subst (λ o. Lays s o scratch starts) e l
