@@ -1,1 +1,4 @@
 pub mod Inner
+pub mod Steps
+pub mod Making
+pub mod Serving

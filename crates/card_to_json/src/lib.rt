@@ -2,11 +2,28 @@
 ghost use mathlib.Core.Path.{_≡_};
 ghost use Prim.Native.Nat.{_≤_};
 ghost use lib.ListN.{length};
-ghost use Rattle.convert.specs.Answers.{jsonRoom, yes};
-ghost use Rattle.card_to_json.specs.Inner.{Serves};
+ghost use Rattle.convert.specs.Answers.{cardRoom, jsonRoom, yes, cardToJson};
+ghost use Rattle.convert.specs.Served.{leftBy};
+ghost use Rattle.served.specs.Served.{outcomeOf};
+ghost use Rattle.card_classes.specs.Pass.{HasLines, Lent};
+ghost use Rattle.to_json_card.specs.Card.{Lent as Written};
+ghost use Rattle.card_to_json.specs.Inner.{inner, Serves};
+ghost use Rattle.card_to_json.specs.Laying.{Lays};
+ghost use Rattle.card_to_json.specs.Making.{Tests, Makes, MakesJson, MakesLines};
+use card_classes::class_lines;
+use card_garbled::first_garbled;
+use card_refusals::Refusal;
+use card_stem::is_card_number;
+use card_stem::is_stem;
+use line_frame::Frame;
+use line_frame::frame_of;
+use line_frame::size_of;
+use line_unfold::Unfolded;
+use line_unfold::unfold;
 use output::Wrote;
 use output::put_text;
 use served::Outcome;
+use to_json_card::put_card;
 
 // The JSON, whole in a scratch, to the lent output: 14 where it is longer, and then no byte is written.
 pub fn finish(out: &mut [u8], text: &[u8]) -> Outcome
@@ -26,4 +43,166 @@ pub fn finish(out: &mut [u8], text: &[u8]) -> Outcome
         };
     };
     Outcome::Written(k)
+}
+
+// How many unfolded lines a card has, or refusal 1 or 3.
+pub enum Lines {
+    Count(usize),
+    Refused { number: u8, place: usize },
+}
+
+// The lines between BEGIN and END, unfolded into a scratch.
+fn lines_of(scratch: &mut [u8], starts: &mut [usize], card: &[u8]) -> Lines
+    requires { ⌜ (length (now card) ≤ length (now scratch)) × (513 ≤ length (now starts)) ⌝ }
+    ensures { λ r. ⌜ Lays (now (card .entry)) r (now (scratch .exit)) (now (starts .exit)) ⌝ }
+{
+    let Frame::Body(a, b) = frame_of(card) else {
+        return Lines::Refused { number: 1, place: 0 };
+    };
+    let Unfolded::Lines(n) = unfold(scratch, starts, &card[a..b]) else {
+        return Lines::Refused { number: 3, place: 0 };
+    };
+    Lines::Count(n)
+}
+
+// Refusals 4 to 10 over the lines of a scratch. Where none is given, `codes` has the number of each line's class.
+fn refusal_in(
+    codes: &mut [u8],
+    ids: &mut [usize],
+    prints: &mut [u16],
+    t: &mut [usize],
+    text: &mut [u8],
+    scratch: &[u8],
+    starts: &[usize],
+    n: usize,
+) -> Refusal
+    requires { ⌜ HasLines (now scratch) (now starts) n × Lent (now codes) (now ids) (now prints) (now t) (now text) (now scratch) ⌝ }
+    ensures { λ r. ⌜ Tests (now (scratch .entry)) (now (starts .entry)) (now (codes .exit)) n r ⌝ }
+{
+    let place = first_garbled(scratch, starts, n);
+    if place > 0 {
+        return Refusal::At { number: 4, place };
+    }
+    class_lines(codes, ids, prints, t, text, scratch, starts, n)
+}
+
+// The length of a card's JSON at the front of a result; or a refusal; or the result is too short for it.
+pub enum Made {
+    Json(usize),
+    Refused { number: u8, place: usize },
+    Full,
+}
+
+// Of classified lines.
+fn put_json(
+    result: &mut [u8],
+    t: &mut [usize],
+    text: &mut [u8],
+    stem: &[u8],
+    number: usize,
+    scratch: &[u8],
+    starts: &[usize],
+    codes: &[u8],
+    n: usize,
+) -> Made
+    requires { ⌜ Written (now t) (now text) (now scratch) (now starts) (now codes) n ⌝ }
+    ensures { λ r. ⌜ MakesJson (now (stem .entry)) number (now (scratch .entry)) (now (starts .entry)) (now (codes .entry)) n (now (result .entry)) r (now (result .exit)) ⌝ }
+{
+    let Wrote::Bytes(k) = put_card(result, t, text, stem, number, scratch, starts, codes, n) else {
+        return Made::Full;
+    };
+    Made::Json(k)
+}
+
+// Of lines in a scratch.
+fn json_of(
+    result: &mut [u8],
+    codes: &mut [u8],
+    ids: &mut [usize],
+    prints: &mut [u16],
+    t: &mut [usize],
+    text: &mut [u8],
+    stem: &[u8],
+    number: usize,
+    scratch: &[u8],
+    starts: &[usize],
+    n: usize,
+) -> Made
+    requires { ⌜ HasLines (now scratch) (now starts) n × Lent (now codes) (now ids) (now prints) (now t) (now text) (now scratch) ⌝ }
+    ensures { λ r. ⌜ MakesLines (now (stem .entry)) number (now (scratch .entry)) (now (starts .entry)) n (now (result .entry)) r (now (result .exit)) ⌝ }
+{
+    let Refusal::At { number: k, place } = refusal_in(codes, ids, prints, t, text, scratch, starts, n) else {
+        return put_json(result, t, text, stem, number, scratch, starts, codes, n);
+    };
+    Made::Refused { number: k, place }
+}
+
+// Of a card. All that is lent but `result` is scratch.
+fn convert(
+    result: &mut [u8],
+    scratch: &mut [u8],
+    starts: &mut [usize],
+    codes: &mut [u8],
+    ids: &mut [usize],
+    prints: &mut [u16],
+    t: &mut [usize],
+    text: &mut [u8],
+    stem: &[u8],
+    number: usize,
+    card: &[u8],
+) -> Made
+    requires { ⌜ (length (now card) ≤ length (now scratch)) × (513 ≤ length (now starts)) × Lent (now codes) (now ids) (now prints) (now t) (now text) (now scratch) ⌝ }
+    ensures { λ r. ⌜ Makes (inner (now (stem .entry)) number (now (card .entry))) (now (result .entry)) r (now (result .exit)) ⌝ }
+{
+    match lines_of(scratch, starts, card) {
+        Lines::Refused { number: k, place } => {
+            return Made::Refused { number: k, place };
+        }
+        Lines::Count(n) => {
+            return json_of(result, codes, ids, prints, t, text, stem, number, scratch, starts, n);
+        }
+    }
+}
+
+// Scratch for every card that has room: 32,768 bytes, 512 lines, a result of 65,536 bytes.
+fn large(out: &mut [u8], stem: &[u8], number: usize, card: &[u8]) -> Outcome
+    requires { ⌜ length (now card) ≤ cardRoom ⌝ }
+    ensures { λ r. ⌜ Serves (now (out .entry)) (inner (now (stem .entry)) number (now (card .entry))) r (now (out .exit)) ⌝ }
+{
+    let mut result = [0u8; 65536];
+    let mut scratch = [0u8; 32768];
+    let mut starts = [0usize; 513];
+    let mut codes = [0u8; 512];
+    let mut ids = [0usize; 1536];
+    let mut prints = [0u16; 512];
+    let mut t = [0usize; 264];
+    let mut text = [0u8; 32768];
+    match convert(&mut result, &mut scratch, &mut starts, &mut codes, &mut ids, &mut prints, &mut t, &mut text, stem, number, card) {
+        Made::Refused { number: k, place } => {
+            return Outcome::Refused { number: k, place };
+        }
+        Made::Full => {
+            return Outcome::Refused { number: 3, place: 0 };
+        }
+        Made::Json(k) => {
+            return finish(out, &result[0..k]);
+        }
+    }
+}
+
+// Card to JSON: 15, then 3 for a long card, then what its lines say. A refusal leaves the lent output as it was.
+pub fn card_to_json(stem: &[u8], number: usize, card: &[u8], out: &mut [u8]) -> Outcome
+    ensures { λ r. ⌜ r ≡ outcomeOf (cardToJson (now (stem .entry)) number (length (now (out .entry))) (now (card .entry))) ⌝ }
+    ensures { λ r. ⌜ now (out .exit) ≡ leftBy (now (out .entry)) (cardToJson (now (stem .entry)) number (length (now (out .entry))) (now (card .entry))) ⌝ }
+{
+    if !is_stem(stem) {
+        return Outcome::Refused { number: 15, place: 0 };
+    }
+    if !is_card_number(number) {
+        return Outcome::Refused { number: 15, place: 0 };
+    }
+    if size_of(card) > 32768 {
+        return Outcome::Refused { number: 3, place: 0 };
+    }
+    large(out, stem, number, card)
 }
