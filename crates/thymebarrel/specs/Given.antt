@@ -1,6 +1,12 @@
 -- What a caller in C is given.
 use Prim.Native.Nat.{ℕ, _+_}
+use Rattle.text.specs.Bytes.{Bytes}
+use Rattle.convert.specs.Served.{Served}
 use Rattle.json_access.specs.declared.Part.{Part}
+
+-- a service's answer: the number returned, what stands behind the two pointers, and the lent output
+abbrev pub given : (number place written : ℕ) (output : Bytes) → Served
+given n p w out = record { number = n; place = p; written = w; output = out }
 
 -- a part of a text by where it begins and how long it is
 abbrev pub partFrom : (start length : ℕ) → Part
