@@ -57,10 +57,16 @@ fn lines_of(scratch: &mut [u8], starts: &mut [usize], card: &[u8]) -> Lines
     ensures { λ r. ⌜ Lays (now (card .entry)) r (now (scratch .exit)) (now (starts .exit)) ⌝ }
 {
     let Frame::Body(a, b) = frame_of(card) else {
-        return Lines::Refused { number: 1, place: 0 };
+        return Lines::Refused {
+            number: 1,
+            place: 0,
+        };
     };
     let Unfolded::Lines(n) = unfold(scratch, starts, &card[a..b]) else {
-        return Lines::Refused { number: 3, place: 0 };
+        return Lines::Refused {
+            number: 3,
+            place: 0,
+        };
     };
     Lines::Count(n)
 }
@@ -131,7 +137,16 @@ fn json_of(
     requires { ⌜ HasLines (now scratch) (now starts) n × Lent (now codes) (now ids) (now prints) (now t) (now text) (now scratch) ⌝ }
     ensures { λ r. ⌜ MakesLines (now (stem .entry)) number (now (scratch .entry)) (now (starts .entry)) n (now (result .entry)) r (now (result .exit)) ⌝ }
 {
-    let Refusal::At { number: k, place } = refusal_in(codes, ids, prints, t, text, scratch, starts, n) else {
+    let Refusal::At { number: k, place } = refusal_in(
+        codes,
+        ids,
+        prints,
+        t,
+        text,
+        scratch,
+        starts,
+        n,
+    ) else {
         return put_json(result, t, text, stem, number, scratch, starts, codes, n);
     };
     Made::Refused { number: k, place }
@@ -159,7 +174,19 @@ fn convert(
             return Made::Refused { number: k, place };
         }
         Lines::Count(n) => {
-            return json_of(result, codes, ids, prints, t, text, stem, number, scratch, starts, n);
+            return json_of(
+                result,
+                codes,
+                ids,
+                prints,
+                t,
+                text,
+                stem,
+                number,
+                scratch,
+                starts,
+                n,
+            );
         }
     }
 }
@@ -177,12 +204,65 @@ fn large(out: &mut [u8], stem: &[u8], number: usize, card: &[u8]) -> Outcome
     let mut prints = [0u16; 512];
     let mut t = [0usize; 264];
     let mut text = [0u8; 32768];
-    match convert(&mut result, &mut scratch, &mut starts, &mut codes, &mut ids, &mut prints, &mut t, &mut text, stem, number, card) {
+    match convert(
+        &mut result,
+        &mut scratch,
+        &mut starts,
+        &mut codes,
+        &mut ids,
+        &mut prints,
+        &mut t,
+        &mut text,
+        stem,
+        number,
+        card,
+    ) {
         Made::Refused { number: k, place } => {
             return Outcome::Refused { number: k, place };
         }
         Made::Full => {
-            return Outcome::Refused { number: 3, place: 0 };
+            return Outcome::Refused {
+                number: 3,
+                place: 0,
+            };
+        }
+        Made::Json(k) => {
+            return finish(out, &result[0..k]);
+        }
+    }
+}
+
+// Most cards are short: their scratch is quick to clear. A result that is too long for it goes the large way.
+fn small(out: &mut [u8], stem: &[u8], number: usize, card: &[u8]) -> Outcome
+    requires { ⌜ length (now card) ≤ 2048 ⌝ }
+    ensures { λ r. ⌜ Serves (now (out .entry)) (inner (now (stem .entry)) number (now (card .entry))) r (now (out .exit)) ⌝ }
+{
+    let mut result = [0u8; 8192];
+    let mut scratch = [0u8; 2048];
+    let mut starts = [0usize; 513];
+    let mut codes = [0u8; 512];
+    let mut ids = [0usize; 1536];
+    let mut prints = [0u16; 512];
+    let mut t = [0usize; 264];
+    let mut text = [0u8; 2048];
+    match convert(
+        &mut result,
+        &mut scratch,
+        &mut starts,
+        &mut codes,
+        &mut ids,
+        &mut prints,
+        &mut t,
+        &mut text,
+        stem,
+        number,
+        card,
+    ) {
+        Made::Refused { number: k, place } => {
+            return Outcome::Refused { number: k, place };
+        }
+        Made::Full => {
+            return large(out, stem, number, card);
         }
         Made::Json(k) => {
             return finish(out, &result[0..k]);
@@ -196,13 +276,25 @@ pub fn card_to_json(stem: &[u8], number: usize, card: &[u8], out: &mut [u8]) -> 
     ensures { λ r. ⌜ now (out .exit) ≡ leftBy (now (out .entry)) (cardToJson (now (stem .entry)) number (length (now (out .entry))) (now (card .entry))) ⌝ }
 {
     if !is_stem(stem) {
-        return Outcome::Refused { number: 15, place: 0 };
+        return Outcome::Refused {
+            number: 15,
+            place: 0,
+        };
     }
     if !is_card_number(number) {
-        return Outcome::Refused { number: 15, place: 0 };
+        return Outcome::Refused {
+            number: 15,
+            place: 0,
+        };
     }
     if size_of(card) > 32768 {
-        return Outcome::Refused { number: 3, place: 0 };
+        return Outcome::Refused {
+            number: 3,
+            place: 0,
+        };
+    }
+    if card.len() <= 2048 {
+        return small(out, stem, number, card);
     }
     large(out, stem, number, card)
 }
