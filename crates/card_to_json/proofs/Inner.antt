@@ -1,25 +1,24 @@
 -- The definition of card to JSON goes by these two steps.
 use mathlib.Core.Path.{_≡_, refl, sym, ap, _∙_}
-use mathlib.Core.Bool.{Bool, true, false, not, _&&_}
-use mathlib.Core.List.{List, [], _∷_, _++_}
+use mathlib.Core.Bool.{not, _&&_}
+use mathlib.Core.List.{List, [], _∷_}
 use mathlib.Core.Option.{Option, none, some}
 use Prim.Native.Nat.{ℕ, _≤_, _<_}
 use native.Mathlib.Omega.{arith}
 use lib.Dec.{ltb}
-use lib.ListN.{length, drop}
+use lib.ListN.{length}
 use borrow.Author.Tests.{lt-ltb, le-ltb}
 use Rattle.text.specs.Choice.{pick, with-some}
 use Rattle.text.specs.Bytes.{Bytes}
 use Rattle.output.specs.declared.Wrote.{Wrote}
 use Rattle.output.specs.declared.Wrote.the-variants.{Bytes as Wrote-Bytes, Full}
-use Rattle.output.specs.Put.{put, Puts}
+use Rattle.output.specs.Put.{Puts}
 use Rattle.output.proofs.Laws.{put-fits, first, said-full}
 use Rattle.line.specs.Physical.{sizeOf}
-use Rattle.convert.specs.Answers.{Answer, no, yes, Test, fine, fails, seek, given, fitted, jsonRoom, cardRoom, lineTests, linesOf, rawLines, convertLines, convertCard, cardToJson, isStemText, isCardNumber}
+use Rattle.convert.specs.Answers.{Answer, no, yes, Test, fine, fails, seek, fitted, jsonRoom, cardRoom, lineTests, linesOf, rawLines, convertLines, convertCard, cardToJson, isStemText, isCardNumber}
 use Rattle.convert.specs.FromCard.{cardOfLines}
 use Rattle.convert.specs.ToJson.{printJson}
 use Rattle.convert.specs.Served.{leftBy}
-use Rattle.served.specs.declared.Outcome.{Outcome}
 use Rattle.served.specs.declared.Outcome.the-variants.{Written, Refused}
 use Rattle.served.specs.Served.{outcomeOf}
 use Rattle.card_to_json.specs.Inner.{inner, fit, Serves}

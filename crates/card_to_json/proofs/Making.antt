@@ -1,12 +1,11 @@
 -- The steps from a card's lines to its JSON.
 use mathlib.Core.Path.{_≡_, refl, sym, ap, subst, _∙_}
-use mathlib.Core.Bool.{Bool, true, false}
+use mathlib.Core.Bool.{Bool}
 use mathlib.Core.List.{List, [], _∷_}
 use mathlib.Core.Option.{Option, none, some}
 use Prim.Native.Nat.{ℕ, suc, _-_, _≤_, _<_}
 use native.Mathlib.Omega.{arith}
-use lib.Dec.{ltb}
-use lib.ListN.{length, take, drop}
+use lib.ListN.{length}
 use borrow.Author.Tests.{le-ltb}
 use Rattle.text.specs.Bytes.{Bytes}
 use Rattle.text.proofs.Cases.{byBool}
@@ -15,24 +14,21 @@ use Rattle.output.specs.declared.Wrote.the-variants.{Bytes as Wrote-Bytes, Full
 use Rattle.output.specs.Put.{Puts}
 use Rattle.output.proofs.Laws.{said-full}
 use Rattle.line_unfold.specs.Table.{Laid}
-use Rattle.convert.specs.Classify.{Classed, classed}
-use Rattle.convert.specs.Answers.{Answer, no, yes, Test, fine, fails, seek, given, givenAt, atLine, firstFrom, garbled, ungrammatical, lineTests, lineRoom, linesOf, rawLines}
-use Rattle.convert.specs.FromCard.{cardOfLines, cardOfClassed}
+use Rattle.convert.specs.Classify.{classed}
+use Rattle.convert.specs.Answers.{Answer, no, yes, Test, seek, given, givenAt, atLine, firstFrom, garbled, ungrammatical, lineTests, lineRoom, linesOf, rawLines}
+use Rattle.convert.specs.FromCard.{cardOfLines}
 use Rattle.convert.specs.ToJson.{printJson}
-use Rattle.class_member.specs.Member.{Room}
-use Rattle.card_lines.specs.Classified.{Classified}
 use Rattle.card_garbled.specs.Garbled.{placeOf}
 use Rattle.card_refusals.specs.declared.Refusal.{Refusal}
 use Rattle.card_refusals.specs.declared.Refusal.the-variants.{None, At}
 use Rattle.card_refusals.specs.Judged.{laterTests, answered}
 use Rattle.card_refusals.proofs.Judging.{tests-are}
 use Rattle.card_classes.specs.Pass.{Passed, Lent}
-use Rattle.to_json_card.specs.Card.{PutsCard}
 use Rattle.to_json_maps.proofs.Turns.{put-front, fits-front}
 use Rattle.card_to_json.specs.Inner.{inner}
 use Rattle.card_to_json.specs.Making.{Tested, Makes, MakesJson, linesAnswer}
 use Rattle.card_to_json.specs.declared.Made.{Made}
-use Rattle.card_to_json.specs.declared.Made.the-variants.{Json, Refused, Full}
+use Rattle.card_to_json.specs.declared.Made.the-variants.{Json, Full}
 use Rattle.card_to_json.proofs.Steps.{inner-some}
 
 -- ---- 4, then 5 to 10

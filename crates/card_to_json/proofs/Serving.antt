@@ -8,8 +8,7 @@ use lib.ListN.{length, take, length-take}
 use borrow.Author.Tests.{lt-ltb, le-ltb}
 use Rattle.text.specs.Choice.{pick}
 use Rattle.text.specs.Bytes.{Bytes}
-use Rattle.text.proofs.Cases.{byBool}
-use Rattle.line.specs.Physical.{sizeOf, lacksLf}
+use Rattle.line.specs.Physical.{sizeOf}
 use Rattle.convert.specs.Answers.{Answer, no, yes, cardRoom, jsonRoom, cardToJson, isStemText, isCardNumber}
 use Rattle.convert.specs.Served.{leftBy}
 use Rattle.served.specs.declared.Outcome.{Outcome}

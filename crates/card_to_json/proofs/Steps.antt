@@ -1,14 +1,11 @@
 -- What each way out of the conversion needs.
-use mathlib.Core.Path.{_≡_, refl, sym, ap, subst, _∙_}
-use mathlib.Core.Bool.{Bool, true, false}
-use mathlib.Core.List.{List, [], _∷_}
-use mathlib.Core.Option.{Option, none, some}
+use mathlib.Core.Path.{_≡_, subst, _∙_}
+use mathlib.Core.List.{List}
+use mathlib.Core.Option.{none, some}
 use Prim.Native.Nat.{ℕ, _-_, _≤_, _<_}
 use native.Mathlib.Omega.{arith}
-use lib.Dec.{ltb}
 use lib.ListN.{length, take, drop, length-take, length-drop}
-use borrow.Author.Tests.{lt-ltb, le-ltb}
-use Rattle.text.specs.Choice.{with-some}
+use borrow.Author.Tests.{lt-ltb}
 use Rattle.text.specs.Bytes.{Bytes}
 use Rattle.line.specs.Physical.{physical, framed}
 use Rattle.line.specs.Unfold.{unfold′}
@@ -17,14 +14,14 @@ use Rattle.line_frame.specs.declared.Frame.the-variants.{Body, NotOne}
 use Rattle.line_frame.specs.Frame.{Framed}
 use Rattle.line_unfold.specs.declared.Unfolded.{Unfolded}
 use Rattle.line_unfold.specs.declared.Unfolded.the-variants.{Lines as Unfolded-Lines, TooMany}
-use Rattle.line_unfold.specs.Table.{Laid, Unfolds}
+use Rattle.line_unfold.specs.Table.{Unfolds}
 use Rattle.convert.specs.Answers.{Answer, no, yes, seek, lineTests, lineRoom, linesOf, rawLines}
 use Rattle.convert.specs.FromCard.{cardOfLines}
 use Rattle.convert.specs.ToJson.{printJson}
 use Rattle.card_to_json.specs.Inner.{inner}
 use Rattle.card_to_json.specs.Laying.{Lays}
 use Rattle.card_to_json.specs.declared.Lines.{Lines}
-use Rattle.card_to_json.specs.declared.Lines.the-variants.{Count, Refused}
+use Rattle.card_to_json.specs.declared.Lines.the-variants.{Count}
 
 -- ---- 1 and 3 (lines)
 

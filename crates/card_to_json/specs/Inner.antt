@@ -1,7 +1,7 @@
 -- The answer of card to JSON in two steps: what the lines of a card become, and whether that has room.
 use mathlib.Core.Path.{_≡_}
-use Prim.Native.Nat.{ℕ, _≤_, _<_}
-use lib.ListN.{length, take}
+use Prim.Native.Nat.{ℕ}
+use lib.ListN.{length}
 use Rattle.text.specs.Choice.{with-some}
 use Rattle.text.specs.Bytes.{Bytes}
 use Rattle.convert.specs.Answers.{Answer, no, yes, seek, fitted, jsonRoom, lineTests, linesOf, rawLines}

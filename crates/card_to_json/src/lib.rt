@@ -232,6 +232,44 @@ fn large(out: &mut [u8], stem: &[u8], number: usize, card: &[u8]) -> Outcome
     }
 }
 
+// Most cards are short: their scratch is quick to clear. A result that is too long for it goes the large way.
+fn small(out: &mut [u8], stem: &[u8], number: usize, card: &[u8]) -> Outcome
+    requires { ⌜ length (now card) ≤ 2048 ⌝ }
+    ensures { λ r. ⌜ Serves (now (out .entry)) (inner (now (stem .entry)) number (now (card .entry))) r (now (out .exit)) ⌝ }
+{
+    let mut result = [0u8; 8192];
+    let mut scratch = [0u8; 2048];
+    let mut starts = [0usize; 513];
+    let mut codes = [0u8; 512];
+    let mut ids = [0usize; 1536];
+    let mut prints = [0u16; 512];
+    let mut t = [0usize; 264];
+    let mut text = [0u8; 2048];
+    match convert(
+        &mut result,
+        &mut scratch,
+        &mut starts,
+        &mut codes,
+        &mut ids,
+        &mut prints,
+        &mut t,
+        &mut text,
+        stem,
+        number,
+        card,
+    ) {
+        Made::Refused { number: k, place } => {
+            return Outcome::Refused { number: k, place };
+        }
+        Made::Full => {
+            return large(out, stem, number, card);
+        }
+        Made::Json(k) => {
+            return finish(out, &result[0..k]);
+        }
+    }
+}
+
 // Card to JSON: 15, then 3 for a long card, then what its lines say. A refusal leaves the lent output as it was.
 pub fn card_to_json(stem: &[u8], number: usize, card: &[u8], out: &mut [u8]) -> Outcome
     ensures { λ r. ⌜ r ≡ outcomeOf (cardToJson (now (stem .entry)) number (length (now (out .entry))) (now (card .entry))) ⌝ }
@@ -254,6 +292,9 @@ pub fn card_to_json(stem: &[u8], number: usize, card: &[u8], out: &mut [u8]) -> 
             number: 3,
             place: 0,
         };
+    }
+    if card.len() <= 2048 {
+        return small(out, stem, number, card);
     }
     large(out, stem, number, card)
 }

@@ -3,8 +3,6 @@ use Prim.Native.Nat.{_-_, _≤_}
 use lib.ListN.{length}
 use Rattle.card.proofs.number_of.Statement.{statement}
 use Rattle.card.proofs.number_of.Tie as tie
-use Rattle.card.proofs.number_of.Reads as reads
-use Rattle.card.proofs.number_of.Lts as lts
 
 abbrev Inv-loop : tie.InvT-loop
 Inv-loop digits n₀ i₀ n i = i ≤ length digits

@@ -1,17 +1,9 @@
 use borrow.Author.Needs.{needs}
-use mathlib.Core.Path.{_≡_, refl}
-use Prim.Native.Nat.{_≤_}
-use native.Mathlib.Omega.{arith}
 use denote.Ref.{now}
-use lib.ListN.{length}
 use Rattle.card_to_json.proofs.Steps.{lays-as}
 use Rattle.card_to_json.proofs.Making.{made-card, lent-as}
 use Rattle.card_to_json.proofs.convert.Statement.{statement}
 use Rattle.card_to_json.proofs.convert.Tie as tie
-use Rattle.card_to_json.proofs.convert.Reads as reads
-use Rattle.card_to_json.proofs.convert.Lts as lts
-use Rattle.card_to_json.proofs.json_of.Reads as json-of-reads
-use Rattle.card_to_json.proofs.lines_of.Reads as lines-of-reads
 
 lines-of-requires : tie.Need-lines-of-requires
 lines-of-requires c κs = search needs
@@ -26,13 +18,21 @@ same-length-2 : tie.Need-same-length-2
 same-length-2 c = search needs
 
 returns : tie.Need-returns
-returns c = lays-as (now (c .before .before .before .before .before .before .before .before .before .before .before .before .before .before .before .before .before .before .before .before .args .card)) (c .before .before .before .before .before .before .before .lines-of .result) _ (c .before .before .before .before .before .before .before .lines-of .last .0) (c .before .before .before .before .before .before .before .lines-of .last .1 .0) (c .before .k .given .1) (c .before .before .before .before .before .before .before .lines-of .ensures) (now (c .before .before .before .before .before .before .before .before .before .before .before .before .before .before .before .before .before .before .before .before .args .stem)) (c .before .before .before .before .before .before .before .before .before .before .before .before .before .before .before .before .before .before .before .before .args .number)
+returns c =
+    let at-lines-of = c .before .before .before .before .before .before .before in
+    let start = at-lines-of .before .before .before .before .before .before .before .before .before .before .before .before .before in
+    lays-as (now (start .args .card)) (at-lines-of .lines-of .result) _ (at-lines-of .lines-of .last .0) (at-lines-of .lines-of .last .1 .0) (c .before .k .given .1) (at-lines-of .lines-of .ensures) (now (start .args .stem)) (start .args .number)
 
 enum-known-n : tie.Need-enum-known-n
 enum-known-n c = search needs
 
 json-of-requires : tie.Need-json-of-requires
-json-of-requires c κs = (((lays-as (now (c .before .before .before .before .before .before .before .before .before .before .before .before .before .before .before .before .before .before .before .before .before .before .before .before .before .before .before .before .args .card)) (c .before .before .before .before .before .before .before .before .before .before .before .before .before .before .before .lines-of .result) _ (c .before .before .before .before .before .before .before .before .before .before .before .before .before .before .before .lines-of .last .0) (c .before .before .before .before .before .before .before .before .before .before .before .before .before .before .before .lines-of .last .1 .0) (c .before .before .before .before .before .before .before .before .before .n .given .1) (c .before .before .before .before .before .before .before .before .before .before .before .before .before .before .before .lines-of .ensures)) .0, (lays-as (now (c .before .before .before .before .before .before .before .before .before .before .before .before .before .before .before .before .before .before .before .before .before .before .before .before .before .before .before .before .args .card)) (c .before .before .before .before .before .before .before .before .before .before .before .before .before .before .before .lines-of .result) _ (c .before .before .before .before .before .before .before .before .before .before .before .before .before .before .before .lines-of .last .0) (c .before .before .before .before .before .before .before .before .before .before .before .before .before .before .before .lines-of .last .1 .0) (c .before .before .before .before .before .before .before .before .before .n .given .1) (c .before .before .before .before .before .before .before .before .before .before .before .before .before .before .before .lines-of .ensures)) .2), lent-as _ _ _ _ _ (now (c .before .before .before .before .before .before .before .before .before .before .before .before .before .before .before .before .before .before .before .before .before .before .before .before .before .before .before .before .args .scratch)) _ (c .before .before .before .before .before .before .before .before .before .before .before .before .before .before .before .lines-of .kept .0) (c .before .before .before .before .before .before .before .before .before .before .before .before .before .before .before .before .before .before .before .before .before .before .before .before .before .before .before .before .pre .2))
+json-of-requires c κs =
+    let at-n = c .before .before .before .before .before .before .before .before .before in
+    let at-lines-of = at-n .before .before .before .before .before .before in
+    let start = at-lines-of .before .before .before .before .before .before .before .before .before .before .before .before .before in
+    let laid = lays-as (now (start .args .card)) (at-lines-of .lines-of .result) _ (at-lines-of .lines-of .last .0) (at-lines-of .lines-of .last .1 .0) (at-n .n .given .1) (at-lines-of .lines-of .ensures) in
+    ((laid .0, laid .2), lent-as _ _ _ _ _ (now (start .args .scratch)) _ (at-lines-of .lines-of .kept .0) (start .pre .2))
 
 same-length-3 : tie.Need-same-length-3
 same-length-3 c = search needs
@@ -59,7 +59,13 @@ same-length-10 : tie.Need-same-length-10
 same-length-10 c = search needs
 
 returns-2 : tie.Need-returns-2
-returns-2 c = made-card (now (c .before .before .before .before .before .before .before .before .before .before .before .before .before .before .before .before .before .before .before .before .before .before .before .before .before .before .before .before .before .before .before .before .before .before .before .before .before .before .before .before .before .args .stem)) (c .before .before .before .before .before .before .before .before .before .before .before .before .before .before .before .before .before .before .before .before .before .before .before .before .before .before .before .before .before .before .before .before .before .before .before .before .before .before .before .before .before .args .number) (now (c .before .before .before .before .before .before .before .before .before .before .before .before .before .before .before .before .before .before .before .before .before .before .before .before .before .before .before .before .before .before .before .before .before .before .before .before .before .before .before .before .before .args .card)) ((lays-as (now (c .before .before .before .before .before .before .before .before .before .before .before .before .before .before .before .before .before .before .before .before .before .before .before .before .before .before .before .before .before .before .before .before .before .before .before .before .before .before .before .before .before .args .card)) (c .before .before .before .before .before .before .before .before .before .before .before .before .before .before .before .before .before .before .before .before .before .before .before .before .before .before .before .before .lines-of .result) _ (c .before .before .before .before .before .before .before .before .before .before .before .before .before .before .before .before .before .before .before .before .before .before .before .before .before .before .before .before .lines-of .last .0) (c .before .before .before .before .before .before .before .before .before .before .before .before .before .before .before .before .before .before .before .before .before .before .before .before .before .before .before .before .lines-of .last .1 .0) (c .before .before .before .before .before .before .before .before .before .before .before .before .before .before .before .before .before .before .before .before .before .before .n .given .1) (c .before .before .before .before .before .before .before .before .before .before .before .before .before .before .before .before .before .before .before .before .before .before .before .before .before .before .before .before .lines-of .ensures)) .0) (now (c .before .before .before .before .before .before .before .before .before .before .before .before .before .before .before .before .before .before .before .before .before .before .before .before .before .before .before .before .before .before .before .before .before .before .before .before .before .before .before .before .before .args .result)) (c .before .before .before .before .before .before .before .before .before .before .before .before .json-of .result) _ ((lays-as (now (c .before .before .before .before .before .before .before .before .before .before .before .before .before .before .before .before .before .before .before .before .before .before .before .before .before .before .before .before .before .before .before .before .before .before .before .before .before .before .before .before .before .args .card)) (c .before .before .before .before .before .before .before .before .before .before .before .before .before .before .before .before .before .before .before .before .before .before .before .before .before .before .before .before .lines-of .result) _ (c .before .before .before .before .before .before .before .before .before .before .before .before .before .before .before .before .before .before .before .before .before .before .before .before .before .before .before .before .lines-of .last .0) (c .before .before .before .before .before .before .before .before .before .before .before .before .before .before .before .before .before .before .before .before .before .before .before .before .before .before .before .before .lines-of .last .1 .0) (c .before .before .before .before .before .before .before .before .before .before .before .before .before .before .before .before .before .before .before .before .before .before .n .given .1) (c .before .before .before .before .before .before .before .before .before .before .before .before .before .before .before .before .before .before .before .before .before .before .before .before .before .before .before .before .lines-of .ensures)) .1) (c .before .before .before .before .before .before .before .before .before .before .before .before .json-of .ensures ((lays-as (now (c .before .before .before .before .before .before .before .before .before .before .before .before .before .before .before .before .before .before .before .before .before .before .before .before .before .before .before .before .before .before .before .before .before .before .before .before .before .before .before .before .before .args .card)) (c .before .before .before .before .before .before .before .before .before .before .before .before .before .before .before .before .before .before .before .before .before .before .before .before .before .before .before .before .lines-of .result) _ (c .before .before .before .before .before .before .before .before .before .before .before .before .before .before .before .before .before .before .before .before .before .before .before .before .before .before .before .before .lines-of .last .0) (c .before .before .before .before .before .before .before .before .before .before .before .before .before .before .before .before .before .before .before .before .before .before .before .before .before .before .before .before .lines-of .last .1 .0) (c .before .before .before .before .before .before .before .before .before .before .before .before .before .before .before .before .before .before .before .before .before .before .n .given .1) (c .before .before .before .before .before .before .before .before .before .before .before .before .before .before .before .before .before .before .before .before .before .before .before .before .before .before .before .before .lines-of .ensures)) .0) ((lays-as (now (c .before .before .before .before .before .before .before .before .before .before .before .before .before .before .before .before .before .before .before .before .before .before .before .before .before .before .before .before .before .before .before .before .before .before .before .before .before .before .before .before .before .args .card)) (c .before .before .before .before .before .before .before .before .before .before .before .before .before .before .before .before .before .before .before .before .before .before .before .before .before .before .before .before .lines-of .result) _ (c .before .before .before .before .before .before .before .before .before .before .before .before .before .before .before .before .before .before .before .before .before .before .before .before .before .before .before .before .lines-of .last .0) (c .before .before .before .before .before .before .before .before .before .before .before .before .before .before .before .before .before .before .before .before .before .before .before .before .before .before .before .before .lines-of .last .1 .0) (c .before .before .before .before .before .before .before .before .before .before .before .before .before .before .before .before .before .before .before .before .before .before .n .given .1) (c .before .before .before .before .before .before .before .before .before .before .before .before .before .before .before .before .before .before .before .before .before .before .before .before .before .before .before .before .lines-of .ensures)) .2))
+returns-2 c =
+    let at-json-of = c .before .before .before .before .before .before .before .before .before .before .before .before in
+    let at-n = at-json-of .before .before .before .before .before .before .before .before .before .before in
+    let at-lines-of = at-n .before .before .before .before .before .before in
+    let start = at-lines-of .before .before .before .before .before .before .before .before .before .before .before .before .before in
+    let laid = lays-as (now (start .args .card)) (at-lines-of .lines-of .result) _ (at-lines-of .lines-of .last .0) (at-lines-of .lines-of .last .1 .0) (at-n .n .given .1) (at-lines-of .lines-of .ensures) in
+    made-card (now (start .args .stem)) (start .args .number) (now (start .args .card)) (laid .0) (now (start .args .result)) (at-json-of .json-of .result) _ (laid .1) (at-json-of .json-of .ensures (laid .0) (laid .2))
 
 pub convert-spec : {M : Type 1} → statement M
 convert-spec =

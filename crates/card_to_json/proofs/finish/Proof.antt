@@ -1,16 +1,14 @@
 use borrow.Author.Needs.{needs}
-use mathlib.Core.Path.{_≡_, refl, sym, ap, _∙_}
-use native.Mathlib.Omega.{arith}
 use denote.Ref.{now}
 use Rattle.convert.specs.Answers.{yes}
 use Rattle.card_to_json.proofs.Inner.{fit-long, serves-refused, serves-written, never-full}
 use Rattle.card_to_json.proofs.finish.Statement.{statement}
 use Rattle.card_to_json.proofs.finish.Tie as tie
-use Rattle.card_to_json.proofs.finish.Reads as reads
-use Rattle.card_to_json.proofs.finish.Lts as lts
 
 returns : tie.Need-returns
-returns c = serves-refused (now (c .before .before .before .args .out)) (yes (now (c .before .before .before .args .text))) 14 0 (fit-long _ (now (c .before .before .before .args .text)) (c .before .before .before .pre) (c .if1 .taken))
+returns c =
+    let start = c .before .before .before in
+    serves-refused (now (start .args .out)) (yes (now (start .args .text))) 14 0 (fit-long _ (now (start .args .text)) (start .pre) (c .if1 .taken))
 
 put-text-requires : tie.Need-put-text-requires
 put-text-requires c κs = tt
@@ -31,7 +29,11 @@ same-length-2 : tie.Need-same-length-2
 same-length-2 c = search needs
 
 returns-3 : tie.Need-returns-3
-returns-3 c = serves-written (now (c .before .before .before .before .before .before .before .before .before .before .args .out)) (now (c .before .before .before .before .before .before .before .before .before .before .args .text)) _ _ _ (c .before .before .before .before .before .before .before .before .before .before .pre) (c .before .before .before .before .before .before .before .if1 .left) (c .before .before .before .before .before .put-text .ensures) (c .before .k .given .1)
+returns-3 c =
+    let at-put-text = c .before .before .before .before .before in
+    let at-if1 = at-put-text .before .before in
+    let start = at-if1 .before .before .before in
+    serves-written (now (start .args .out)) (now (start .args .text)) _ _ _ (start .pre) (at-if1 .if1 .left) (at-put-text .put-text .ensures) (c .before .k .given .1)
 
 pub finish-spec : {M : Type 1} → statement M
 finish-spec =

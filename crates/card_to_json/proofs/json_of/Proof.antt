@@ -1,18 +1,11 @@
 use borrow.Author.Needs.{needs}
-use mathlib.Core.Path.{_≡_, refl}
-use Prim.Native.Nat.{_≤_}
 use native.Mathlib.Omega.{arith}
 use denote.Ref.{now}
-use lib.ListN.{length}
 use Rattle.convert.specs.Classify.{classed}
 use Rattle.convert.specs.Answers.{linesOf}
 use Rattle.card_to_json.proofs.Making.{made-refused, made-lines}
 use Rattle.card_to_json.proofs.json_of.Statement.{statement}
 use Rattle.card_to_json.proofs.json_of.Tie as tie
-use Rattle.card_to_json.proofs.json_of.Reads as reads
-use Rattle.card_to_json.proofs.json_of.Lts as lts
-use Rattle.card_to_json.proofs.put_json.Reads as put-json-reads
-use Rattle.card_to_json.proofs.refusal_in.Reads as refusal-in-reads
 
 refusal-in-requires : tie.Need-refusal-in-requires
 refusal-in-requires c κs = search needs
@@ -24,7 +17,11 @@ enum-told : tie.Need-enum-told
 enum-told c = search needs
 
 put-json-requires : tie.Need-put-json-requires
-put-json-requires c κs = record { parts = omega (arith, c .before .before .before .before .before .before .before .before .before .before .before .before .before .before .before .before .refusal-in .kept .1 .1 .1 .0, c .before .before .before .before .before .before .before .before .before .before .before .before .before .before .before .before .before .before .before .before .before .before .before .before .before .before .before .before .before .before .before .pre .1 .parts); room = omega (arith, c .before .before .before .before .before .before .before .before .before .before .before .before .before .before .before .before .refusal-in .kept .1 .1 .1 .1 .0, c .before .before .before .before .before .before .before .before .before .before .before .before .before .before .before .before .before .before .before .before .before .before .before .before .before .before .before .before .before .before .before .pre .1 .room .fits); lines = (classed (linesOf (c .before .before .before .before .before .before .before .before .before .before .before .before .before .before .before .before .before .before .before .before .before .before .before .before .before .before .before .before .before .before .before .pre .0 .0)), (c .before .before .before .before .before .before .before .before .before .before .before .before .before .before .before .before .refusal-in .ensures (c .before .before .before .before .before .before .before .before .before .before .before .before .before .before .before .before .before .before .before .before .before .before .before .before .before .before .before .before .before .before .before .pre .0 .0) (c .before .before .before .before .before .before .before .before .before .before .before .before .before .before .before .before .before .before .before .before .before .before .before .before .before .before .before .before .before .before .before .pre .0 .1)) .classes (c .before .before .before .before .enum-told .given .1)) }
+put-json-requires c κs =
+    let at-enum-told = c .before .before .before .before in
+    let at-refusal-in = at-enum-told .before .before .before .before .before .before .before .before .before .before .before .before in
+    let start = at-refusal-in .before .before .before .before .before .before .before .before .before .before .before .before .before .before .before in
+    record { parts = omega (arith, at-refusal-in .refusal-in .kept .1 .1 .1 .0, start .pre .1 .parts); room = omega (arith, at-refusal-in .refusal-in .kept .1 .1 .1 .1 .0, start .pre .1 .room .fits); lines = (classed (linesOf (start .pre .0 .0)), (at-refusal-in .refusal-in .ensures (start .pre .0 .0) (start .pre .0 .1)) .classes (at-enum-told .enum-told .given .1)) }
 
 same-length : tie.Need-same-length
 same-length c = search needs
@@ -45,7 +42,12 @@ same-length-6 : tie.Need-same-length-6
 same-length-6 c = search needs
 
 returns : tie.Need-returns
-returns c = λ raw laid. made-lines (now (c .before .before .before .before .before .before .before .before .before .before .before .before .before .before .before .before .before .before .before .before .before .before .before .before .before .before .before .before .before .before .before .before .before .before .before .before .before .before .args .stem)) (c .before .before .before .before .before .before .before .before .before .before .before .before .before .before .before .before .before .before .before .before .before .before .before .before .before .before .before .before .before .before .before .before .before .before .before .before .before .before .args .number) (now (c .before .before .before .before .before .before .before .before .before .before .before .before .before .before .before .before .before .before .before .before .before .before .before .before .before .before .before .before .before .before .before .before .before .before .before .before .before .before .args .scratch)) (now (c .before .before .before .before .before .before .before .before .before .before .before .before .before .before .before .before .before .before .before .before .before .before .before .before .before .before .before .before .before .before .before .before .before .before .before .before .before .before .args .starts)) _ (c .before .before .before .before .before .before .before .before .before .before .before .before .before .before .before .before .before .before .before .before .before .before .before .before .before .before .before .before .before .before .before .before .before .before .before .before .before .before .args .n) (c .before .before .before .before .before .before .before .before .before .before .before .before .before .before .before .before .before .before .before .before .before .before .before .refusal-in .result) raw (now (c .before .before .before .before .before .before .before .before .before .before .before .before .before .before .before .before .before .before .before .before .before .before .before .before .before .before .before .before .before .before .before .before .before .before .before .before .before .before .args .result)) (c .before .before .before .before .before .before .put-json .result) _ (c .before .before .before .before .before .before .before .before .before .before .before .before .before .before .before .before .before .before .before .before .before .before .before .refusal-in .ensures raw laid) (c .before .before .before .before .before .before .before .before .before .before .before .enum-told .given .1) (c .before .before .before .before .before .before .put-json .ensures)
+returns c =
+    let at-put-json = c .before .before .before .before .before .before in
+    let at-enum-told = at-put-json .before .before .before .before .before in
+    let at-refusal-in = at-enum-told .before .before .before .before .before .before .before .before .before .before .before .before in
+    let start = at-refusal-in .before .before .before .before .before .before .before .before .before .before .before .before .before .before .before in
+    λ raw laid. made-lines (now (start .args .stem)) (start .args .number) (now (start .args .scratch)) (now (start .args .starts)) _ (start .args .n) (at-refusal-in .refusal-in .result) raw (now (start .args .result)) (at-put-json .put-json .result) _ (at-refusal-in .refusal-in .ensures raw laid) (at-enum-told .enum-told .given .1) (at-put-json .put-json .ensures)
 
 same-length-7 : tie.Need-same-length-7
 same-length-7 c = search needs
@@ -63,7 +65,10 @@ same-length-11 : tie.Need-same-length-11
 same-length-11 c = search needs
 
 returns-2 : tie.Need-returns-2
-returns-2 c = λ raw laid. made-refused (now (c .before .before .before .before .before .before .before .before .before .before .before .before .before .before .before .before .before .before .before .before .before .before .before .before .before .before .before .before .args .scratch)) (now (c .before .before .before .before .before .before .before .before .before .before .before .before .before .before .before .before .before .before .before .before .before .before .before .before .before .before .before .before .args .starts)) _ (c .before .before .before .before .before .before .before .before .before .before .before .before .before .before .before .before .before .before .before .before .before .before .before .before .before .before .before .before .args .n) (c .before .before .before .before .before .before .before .before .before .before .before .before .before .refusal-in .result) raw _ _ _ (c .before .before .before .before .before .before .before .before .before .before .before .before .before .refusal-in .ensures raw laid) (c .before .k .given .1)
+returns-2 c =
+    let at-refusal-in = c .before .before .before .before .before .before .before .before .before .before .before .before .before in
+    let start = at-refusal-in .before .before .before .before .before .before .before .before .before .before .before .before .before .before .before in
+    λ raw laid. made-refused (now (start .args .scratch)) (now (start .args .starts)) _ (start .args .n) (at-refusal-in .refusal-in .result) raw _ _ _ (at-refusal-in .refusal-in .ensures raw laid) (c .before .k .given .1)
 
 pub json-of-spec : {M : Type 1} → statement M
 json-of-spec =

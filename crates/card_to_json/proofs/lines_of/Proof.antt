@@ -1,18 +1,9 @@
 use borrow.Author.Needs.{needs}
-use mathlib.Core.Path.{_≡_, refl}
-use Prim.Native.Nat.{_≤_}
 use native.Mathlib.Omega.{arith}
 use denote.Ref.{now}
-use lib.ListN.{length, length-take, length-drop}
-use Rattle.line_frame.specs.Frame.{Framed}
-use Rattle.line_frame.specs.declared.Frame.the-variants.{Body}
 use Rattle.card_to_json.proofs.Steps.{inner-1, inner-3, body, lays, part-length}
 use Rattle.card_to_json.proofs.lines_of.Statement.{statement}
 use Rattle.card_to_json.proofs.lines_of.Tie as tie
-use Rattle.card_to_json.proofs.lines_of.Reads as reads
-use Rattle.card_to_json.proofs.lines_of.Lts as lts
-use Rattle.line_frame.proofs.frame_of.Reads as frame-of-reads
-use Rattle.line_unfold.proofs.unfold.Reads as unfold-reads
 
 frame-of-requires : tie.Need-frame-of-requires
 frame-of-requires c κs = search needs
@@ -27,16 +18,31 @@ returns : tie.Need-returns
 returns c = inner-1 (now (c .before .before .before .before .before .before .args .card)) (c .before .before .frame-of .result) (c .enum-told .given .1) (c .before .before .frame-of .ensures)
 
 sub-unfold : tie.Need-sub-unfold
-sub-unfold c = (body (now (c .before .before .before .before .before .before .before .before .before .args .card)) (c .before .before .before .before .before .frame-of .result) (c .before .before .before .a .given .0 .0) (c .before .before .before .a .given .0 .1 .0) (c .before .before .before .a .given .1) (c .before .before .before .before .before .frame-of .ensures)) .0
+sub-unfold c =
+    let at-a = c .before .before .before in
+    let at-frame-of = at-a .before .before in
+    let start = at-frame-of .before .before .before .before in
+    (body (now (start .args .card)) (at-frame-of .frame-of .result) (at-a .a .given .0 .0) (at-a .a .given .0 .1 .0) (at-a .a .given .1) (at-frame-of .frame-of .ensures)) .0
 
 part-unfold-start : tie.Need-part-unfold-start
-part-unfold-start c = (body (now (c .before .before .before .before .before .before .before .before .before .args .card)) (c .before .before .before .before .before .frame-of .result) (c .before .before .before .a .given .0 .0) (c .before .before .before .a .given .0 .1 .0) (c .before .before .before .a .given .1) (c .before .before .before .before .before .frame-of .ensures)) .0
+part-unfold-start c =
+    let at-a = c .before .before .before in
+    let at-frame-of = at-a .before .before in
+    let start = at-frame-of .before .before .before .before in
+    (body (now (start .args .card)) (at-frame-of .frame-of .result) (at-a .a .given .0 .0) (at-a .a .given .0 .1 .0) (at-a .a .given .1) (at-frame-of .frame-of .ensures)) .0
 
 part-unfold-end : tie.Need-part-unfold-end
-part-unfold-end c = (body (now (c .before .before .before .before .before .before .before .before .before .args .card)) (c .before .before .before .before .before .frame-of .result) (c .before .before .before .a .given .0 .0) (c .before .before .before .a .given .0 .1 .0) (c .before .before .before .a .given .1) (c .before .before .before .before .before .frame-of .ensures)) .1
+part-unfold-end c =
+    let at-a = c .before .before .before in
+    let at-frame-of = at-a .before .before in
+    let start = at-frame-of .before .before .before .before in
+    (body (now (start .args .card)) (at-frame-of .frame-of .result) (at-a .a .given .0 .0) (at-a .a .given .0 .1 .0) (at-a .a .given .1) (at-frame-of .frame-of .ensures)) .1
 
 unfold-requires : tie.Need-unfold-requires
-unfold-requires c κs = (omega (arith, part-length (now (c .before .before .before .before .before .before .before .before .before .before .args .card)) (c .before .before .before .before .a .given .0 .0) (c .before .before .before .before .a .given .0 .1 .0), c .before .before .before .before .before .before .before .before .before .before .pre .0), omega (arith, c .before .before .before .before .before .before .before .before .before .before .pre .1))
+unfold-requires c κs =
+    let at-a = c .before .before .before .before in
+    let start = at-a .before .before .before .before .before .before in
+    (omega (arith, part-length (now (start .args .card)) (at-a .a .given .0 .0) (at-a .a .given .0 .1 .0), start .pre .0), omega (arith, start .pre .1))
 
 enum-known-n : tie.Need-enum-known-n
 enum-known-n c = search needs
@@ -51,7 +57,12 @@ same-length-2 : tie.Need-same-length-2
 same-length-2 c = search needs
 
 returns-2 : tie.Need-returns-2
-returns-2 c = inner-3 (now (c .before .before .before .before .before .before .before .before .before .before .before .before .before .before .before .before .before .args .card)) _ (c .before .before .before .before .before .before .«unfold» .result) (c .before .before .before .before .before .before .«unfold» .last .0) (c .before .before .before .before .before .before .«unfold» .last .1 .0) ((body (now (c .before .before .before .before .before .before .before .before .before .before .before .before .before .before .before .before .before .args .card)) (c .before .before .before .before .before .before .before .before .before .before .before .before .before .frame-of .result) (c .before .before .before .before .before .before .before .before .before .before .before .a .given .0 .0) (c .before .before .before .before .before .before .before .before .before .before .before .a .given .0 .1 .0) (c .before .before .before .before .before .before .before .before .before .before .before .a .given .1) (c .before .before .before .before .before .before .before .before .before .before .before .before .before .frame-of .ensures)) .2) (c .enum-told2 .given .1) (c .before .before .before .before .before .before .«unfold» .ensures)
+returns-2 c =
+    let at-unfold = c .before .before .before .before .before .before in
+    let at-a = at-unfold .before .before .before .before .before in
+    let at-frame-of = at-a .before .before in
+    let start = at-frame-of .before .before .before .before in
+    inner-3 (now (start .args .card)) _ (at-unfold .«unfold» .result) (at-unfold .«unfold» .last .0) (at-unfold .«unfold» .last .1 .0) ((body (now (start .args .card)) (at-frame-of .frame-of .result) (at-a .a .given .0 .0) (at-a .a .given .0 .1 .0) (at-a .a .given .1) (at-frame-of .frame-of .ensures)) .2) (c .enum-told2 .given .1) (at-unfold .«unfold» .ensures)
 
 same-length-3 : tie.Need-same-length-3
 same-length-3 c = search needs
@@ -60,7 +71,12 @@ same-length-4 : tie.Need-same-length-4
 same-length-4 c = search needs
 
 returns-3 : tie.Need-returns-3
-returns-3 c = lays (now (c .before .before .before .before .before .before .before .before .before .before .before .before .before .before .before .before .before .before .args .card)) _ (c .before .before .before .before .before .before .before .«unfold» .result) (c .before .n .given .0 .0) (c .before .before .before .before .before .before .before .«unfold» .last .0) (c .before .before .before .before .before .before .before .«unfold» .last .1 .0) ((body (now (c .before .before .before .before .before .before .before .before .before .before .before .before .before .before .before .before .before .before .args .card)) (c .before .before .before .before .before .before .before .before .before .before .before .before .before .before .frame-of .result) (c .before .before .before .before .before .before .before .before .before .before .before .before .a .given .0 .0) (c .before .before .before .before .before .before .before .before .before .before .before .before .a .given .0 .1 .0) (c .before .before .before .before .before .before .before .before .before .before .before .before .a .given .1) (c .before .before .before .before .before .before .before .before .before .before .before .before .before .before .frame-of .ensures)) .2) (c .before .n .given .1) (c .before .before .before .before .before .before .before .«unfold» .ensures)
+returns-3 c =
+    let at-unfold = c .before .before .before .before .before .before .before in
+    let at-a = at-unfold .before .before .before .before .before in
+    let at-frame-of = at-a .before .before in
+    let start = at-frame-of .before .before .before .before in
+    lays (now (start .args .card)) _ (at-unfold .«unfold» .result) (c .before .n .given .0 .0) (at-unfold .«unfold» .last .0) (at-unfold .«unfold» .last .1 .0) ((body (now (start .args .card)) (at-frame-of .frame-of .result) (at-a .a .given .0 .0) (at-a .a .given .0 .1 .0) (at-a .a .given .1) (at-frame-of .frame-of .ensures)) .2) (c .before .n .given .1) (at-unfold .«unfold» .ensures)
 
 pub lines-of-spec : {M : Type 1} → statement M
 lines-of-spec =

@@ -3,9 +3,6 @@ use denote.Ref.{now}
 use Rattle.card_to_json.proofs.Making.{made-json, made-full}
 use Rattle.card_to_json.proofs.put_json.Statement.{statement}
 use Rattle.card_to_json.proofs.put_json.Tie as tie
-use Rattle.card_to_json.proofs.put_json.Reads as reads
-use Rattle.card_to_json.proofs.put_json.Lts as lts
-use Rattle.to_json_card.proofs.put_card.Reads as put-card-reads
 
 put-card-requires : tie.Need-put-card-requires
 put-card-requires c κs = search needs
@@ -26,7 +23,10 @@ same-length-3 : tie.Need-same-length-3
 same-length-3 c = search needs
 
 returns : tie.Need-returns
-returns c = λ cs x. made-full (now (c .before .before .before .before .before .before .before .before .before .before .before .before .before .before .before .before .before .before .before .args .result)) _ (c .before .before .before .before .before .before .before .before .put-card .result) _ (c .before .before .before .before .before .before .before .before .put-card .ensures cs x) (c .enum-told .given .1)
+returns c =
+    let at-put-card = c .before .before .before .before .before .before .before .before in
+    let start = at-put-card .before .before .before .before .before .before .before .before .before .before .before in
+    λ cs x. made-full (now (start .args .result)) _ (at-put-card .put-card .result) _ (at-put-card .put-card .ensures cs x) (c .enum-told .given .1)
 
 same-length-4 : tie.Need-same-length-4
 same-length-4 c = search needs
@@ -38,7 +38,10 @@ same-length-6 : tie.Need-same-length-6
 same-length-6 c = search needs
 
 returns-2 : tie.Need-returns-2
-returns-2 c = λ cs x. made-json (now (c .before .before .before .before .before .before .before .before .before .before .before .before .before .before .before .before .before .before .before .before .args .result)) _ (c .before .before .before .before .before .before .before .before .before .put-card .result) _ (c .before .k .given .0 .0) (c .before .before .before .before .before .before .before .before .before .put-card .ensures cs x) (c .before .k .given .1)
+returns-2 c =
+    let at-put-card = c .before .before .before .before .before .before .before .before .before in
+    let start = at-put-card .before .before .before .before .before .before .before .before .before .before .before in
+    λ cs x. made-json (now (start .args .result)) _ (at-put-card .put-card .result) _ (c .before .k .given .0 .0) (at-put-card .put-card .ensures cs x) (c .before .k .given .1)
 
 pub put-json-spec : {M : Type 1} → statement M
 put-json-spec =
