@@ -14,8 +14,35 @@
 extern "C" {
 #endif
 
-/* JSON of at most so many bytes is read; of a longer text nothing is found. */
+/* JSON of at most so many bytes is read and written, and a card of at most so many. */
 #define THYMEBARREL_JSON_BYTES 65536
+#define THYMEBARREL_CARD_BYTES 32768
+
+/* Refusals of a card, in the order in which they are sought. The place is the number of the first offending unfolded line (VERSION is 1) for 4, 5, 7, 8
+ * and 9, else 0. */
+#define THYMEBARREL_CONVERTED 0
+#define THYMEBARREL_NOT_ONE_CARD 1 /* BEGIN first, END last, no other such line */
+#define THYMEBARREL_OVER_ROOM 3 /* over 32,768 bytes or 512 lines, or JSON over 65,536 bytes */
+#define THYMEBARREL_NOT_TEXT 4 /* a line is not UTF-8, or has a control character */
+#define THYMEBARREL_OFF_GRAMMAR 5
+#define THYMEBARREL_NOT_VERSION_4 6
+#define THYMEBARREL_BAD_PARAMETER 7 /* on UID or KIND, GROUP, or VALUE that is no single name */
+#define THYMEBARREL_REPEATED 8 /* a second VERSION, UID or KIND */
+#define THYMEBARREL_BAD_UID_OR_KIND 9
+#define THYMEBARREL_NO_FN 10
+#define THYMEBARREL_OUTPUT_TOO_SHORT 14
+#define THYMEBARREL_BAD_STEM_OR_NUMBER 15 /* stem: 1 to 200 of A-Z a-z 0-9 : - _; number: 1 to 999,999 */
+
+/* Card to JSON. The JSON is written to the front of `out`; its length is put behind `written` and 0 is answered. A refused card is answered with its number, its
+ * place behind `place`, and every byte of `out` is as it was. The stem and the number make the UID of a card that has none. THYMEBARREL_JSON_BYTES of
+ * output are always enough. `place` and `written` must not be null. About 200 KiB of stack are used.
+ *
+ *     size_t place, written;
+ *     uint8_t number = thymebarrel_card_to_json((const uint8_t *)"reg", 3, 1, card, card_length, out, sizeof out, &place, &written);
+ *     if (number == THYMEBARREL_CONVERTED) fwrite(out, 1, written, stdout);
+ */
+uint8_t thymebarrel_card_to_json(const uint8_t *stem, size_t stem_length, size_t number, const uint8_t *card, size_t card_length, uint8_t *out,
+                                 size_t out_length, size_t *place, size_t *written);
 
 /* Where the value of the top-level member of that name begins in the JSON; its length is put behind `length`, 0 where there is none: where the text is
  * over THYMEBARREL_JSON_BYTES, is no JSON (RFC 8259, depth 16, no equal names in one object) or no object, or has no such member. Names are compared

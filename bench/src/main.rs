@@ -16,6 +16,13 @@ struct Workload<'a> {
 }
 
 fn main() {
+    let cards = [
+        ("ordinary card to JSON (12 lines, ASCII)", workloads::ordinary()),
+        ("folded international card to JSON", workloads::international()),
+        ("full card to JSON (512 lines)", workloads::full()),
+        ("509 lines with PROP-ID to JSON", workloads::prop_ids()),
+        ("card to JSON, refused at the first line", b"no card".to_vec()),
+    ];
     let texts = [
         ("look-up, an ordinary card's JSON", json_of(&workloads::ordinary())),
         ("look-up, an international card's JSON", json_of(&workloads::international())),
@@ -25,6 +32,9 @@ fn main() {
         ("look-up, refused at the first byte", b"no JSON".to_vec()),
     ];
     println!("{:<42} {:>8} {:>10} {:>10} {:>8} {:>7}", "workload", "bytes", "base us", "ours us", "MB/s", "ratio");
+    for (name, card) in &cards {
+        measure(card_to_json(name, card));
+    }
     for (name, text) in &texts {
         measure(look_up(name, text));
     }
@@ -33,6 +43,22 @@ fn main() {
 /// The JSON of a card, by the baseline.
 fn json_of(card: &[u8]) -> Vec<u8> {
     baseline::card_to_json(card, b"reg", 1, 65_536).bytes
+}
+
+fn card_to_json<'a>(name: &'static str, card: &'a [u8]) -> Workload<'a> {
+    let mut out = vec![0u8; thymebarrel::JSON_BYTES];
+    let want = baseline::card_to_json(card, b"reg", 1, thymebarrel::JSON_BYTES);
+    match thymebarrel::card_to_json_into(b"reg", 1, card, &mut out) {
+        Ok(length) => assert_eq!(out[..length], want.bytes, "{name}"),
+        Err(refusal) => assert_eq!((u32::from(refusal.number), refusal.place), (want.number, want.place), "{name}"),
+    }
+    let theirs = move || {
+        black_box(baseline::card_to_json(black_box(card), b"reg", 1, thymebarrel::JSON_BYTES));
+    };
+    let ours = move || {
+        let _ = black_box(thymebarrel::card_to_json_into(b"reg", 1, black_box(card), &mut out));
+    };
+    Workload { name, bytes: card.len(), ours: Box::new(ours), theirs: Box::new(theirs) }
 }
 
 fn look_up<'a>(name: &'static str, text: &'a [u8]) -> Workload<'a> {

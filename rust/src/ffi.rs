@@ -4,7 +4,21 @@
 //! length of that slice beside it, and no two of them overlap where one is
 //! written.
 
+use crate::Refusal;
+
 extern "C" {
+    fn thymebarrel_card_to_json(
+        stem: *const u8,
+        stem_length: usize,
+        number: usize,
+        card: *const u8,
+        card_length: usize,
+        out: *mut u8,
+        out_length: usize,
+        place: *mut usize,
+        written: *mut usize,
+    ) -> u8;
+
     fn thymebarrel_member(
         json: *const u8,
         json_length: usize,
@@ -27,4 +41,26 @@ pub fn member(json: &[u8], name: &[u8]) -> (usize, usize) {
         )
     };
     (start, length)
+}
+
+/// The length of the JSON at the front of `out`, or the refusal.
+pub fn card_to_json(stem: &[u8], number: usize, card: &[u8], out: &mut [u8]) -> Result<usize, Refusal> {
+    let (mut place, mut written) = (0, 0);
+    let number = unsafe {
+        thymebarrel_card_to_json(
+            stem.as_ptr(),
+            stem.len(),
+            number,
+            card.as_ptr(),
+            card.len(),
+            out.as_mut_ptr(),
+            out.len(),
+            &mut place,
+            &mut written,
+        )
+    };
+    match number {
+        0 => Ok(written),
+        number => Err(Refusal { number, place }),
+    }
 }

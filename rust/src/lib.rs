@@ -1,8 +1,35 @@
 //! The proved library that `rt staticlib thymebarrel` builds from the Rattle
-//! sources, for Rust. So far it has the look-up; the conversions come with their
-//! services.
+//! sources, for Rust. So far it has card to JSON and the look-up.
 
 mod ffi;
+
+/// Bytes of JSON at the most.
+pub const JSON_BYTES: usize = 65_536;
+/// Bytes of a card at the most.
+pub const CARD_BYTES: usize = 32_768;
+
+/// Why an input is refused: the number of the rules' table, and the place (a
+/// line's number, or a byte's offset for 11; else 0).
+#[derive(Debug, Clone, Copy, PartialEq, Eq)]
+pub struct Refusal {
+    pub number: u8,
+    pub place: usize,
+}
+
+/// Converts one card into `out`, and answers the length of the JSON there. `stem`
+/// and `number` make the UID of a card without one. A refused card leaves every
+/// byte of `out` as it was.
+pub fn card_to_json_into(stem: &[u8], number: usize, card: &[u8], out: &mut [u8]) -> Result<usize, Refusal> {
+    ffi::card_to_json(stem, number, card, out)
+}
+
+/// Converts one card.
+pub fn card_to_json(stem: &[u8], number: usize, card: &[u8]) -> Result<Vec<u8>, Refusal> {
+    let mut out = vec![0; JSON_BYTES];
+    let length = card_to_json_into(stem, number, card, &mut out)?;
+    out.truncate(length);
+    Ok(out)
+}
 
 /// The value of the top-level member of that name, as that very part of `json`;
 /// empty where the text is over 65,536 bytes, is no JSON or no object, or has no

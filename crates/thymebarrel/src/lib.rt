@@ -30,7 +30,10 @@ pub extern "C" fn thymebarrel_card_to_json(
             *written = n;
             return 0;
         }
-        Outcome::Refused { number: k, place: p } => {
+        Outcome::Refused {
+            number: k,
+            place: p,
+        } => {
             *place = p;
             *written = 0;
             return k;
