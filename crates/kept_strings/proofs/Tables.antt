@@ -109,7 +109,7 @@ spread-more qs n vs v =
     ∙ ap (λ (l : List Param). spread qs ++ l) (ap (λ (l : List Param). ones n vs ++ l) (sym (ones-single n v)) ∙ sym (ones-append n vs (v ∷ [])) ∙ sym (spread-opened n (vs ++ (v ∷ []))))
     ∙ sym (spread-append qs (opened n (vs ++ (v ∷ []))))
 
-runs-same : (s : Bytes) (n : ℕ) (t u : List ℕ) → Agree n t u → runsIn s u n ≡ runsIn s t n
+pub runs-same : (s : Bytes) (n : ℕ) (t u : List ℕ) → Agree n t u → runsIn s u n ≡ runsIn s t n
 unfolding runsIn
 runs-same s zero t u h = refl
 runs-same s (suc n) t u h =

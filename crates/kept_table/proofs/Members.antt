@@ -61,7 +61,7 @@ grew-stays {b} {n} {after} {k} {x} h g = record {
       sym (take-take n k after (omega (arith, g .to))) ∙ ap (take n) (g .is) ∙ take-at (take n b) x n l;
 }
 
-stays-then : {b : Bytes} {n : ℕ} {c : Bytes} {k : ℕ} {d : Bytes} {j : ℕ} → Stays b n c k → Stays c k d j → Stays b n d j
+pub stays-then : {b : Bytes} {n : ℕ} {c : Bytes} {k : ℕ} {d : Bytes} {j : ℕ} → Stays b n c k → Stays c k d j → Stays b n d j
 stays-then {b} {n} {c} {k} {d} {j} g h = record {
   long = h .long ∙ g .long;
   from = omega (arith, g .from, h .from);
@@ -74,7 +74,7 @@ stays-none b n h = record { long = refl; from = omega arith; within = h; is = re
 
 -- ---- the group's place in a longer buffer
 
-group-longer : (p x : Bytes) (from to : ℕ) (g : Option Bytes) → GroupAt p from to g → GroupAt (p ++ x) from to g
+pub group-longer : (p x : Bytes) (from to : ℕ) (g : Option Bytes) → GroupAt p from to g → GroupAt (p ++ x) from to g
 group-longer p x from to none h = h
 group-longer p x from to (some w) h = (longer-span p x from to (h .0), part-longer p x from to (h .0 .ordered) (h .0 .within) ∙ h .1, h .2)
 

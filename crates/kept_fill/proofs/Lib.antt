@@ -1,0 +1,4 @@
+pub mod Distinct
+pub mod Composed
+pub mod Rest
+pub mod Fill

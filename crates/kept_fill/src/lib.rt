@@ -1,0 +1,73 @@
+// An entry of vCardProps, decoded into a lent buffer and laid out as the table of the line that it is.
+use kept_entry::Four;
+use kept_entry::four_at;
+use kept_entry::put_head;
+use kept_entry::put_name;
+use kept_entry::put_type;
+use kept_strings::Rows;
+use kept_strings::To;
+use kept_strings::put_string;
+use kept_table::Filled;
+use kept_table::Step;
+use kept_table::put_object;
+ghost use Prim.Native.Nat.{_≤_};
+ghost use lib.ListN.{length};
+ghost use Rattle.kept_strings.specs.Strings.{Bounds};
+ghost use Rattle.kept_entry.specs.Entry.{FillsRest, FillsKept};
+
+// Type and value, then the head.
+fn put_rest<'a, 'b, 'c>(
+    b: &'a mut [u8],
+    t: &'b mut [usize],
+    f: Filled,
+    e: usize,
+    s: &'c [u8],
+    kind: usize,
+    value: usize,
+) -> bool
+    requires { ⌜ f .end ≤ length (now b) ⌝ }
+    requires { ⌜ 264 ≤ length (now t) ⌝ }
+    requires { ⌜ f .rows ≤ 64 ⌝ }
+    requires { ⌜ e ≤ f .end ⌝ }
+    ensures { λ r. ⌜ Bounds (now (b .entry)) (now (b .exit)) (now (t .entry)) (now (t .exit)) ⌝ }
+    ensures { λ r. ⌜ FillsRest (now (b .entry)) (now (t .entry)) f e (now (s .entry)) kind value r (now (b .exit)) (now (t .exit)) ⌝ }
+{
+    let n = f.end;
+    let m = f.rows;
+    let count = f.count;
+    let from = f.from;
+    let to = f.to;
+    let Rows::More { end, count: rows } = put_type(b, n, t, m, count, s, kind) else {
+        return false;
+    };
+    let To::End(x) = put_string(b, end, s, value) else {
+        return false;
+    };
+    put_head(t, from, to, e, end, x, rows);
+    true
+}
+
+// The whole entry: false where no kept line gives it in form.
+pub fn fill_kept<'a, 'b, 'c>(b: &'a mut [u8], t: &'b mut [usize], s: &'c [u8], at: usize) -> bool
+    requires { ⌜ 264 ≤ length (now t) ⌝ }
+    requires { ⌜ at ≤ length (now s) ⌝ }
+    ensures { λ r. ⌜ Bounds (now (b .entry)) (now (b .exit)) (now (t .entry)) (now (t .exit)) ⌝ }
+    ensures { λ r. ⌜ FillsKept (now (b .entry)) (now (s .entry)) at r (now (b .exit)) (now (t .exit)) ⌝ }
+{
+    let Four::At {
+        name,
+        params,
+        kind,
+        value,
+    } = four_at(s, at)
+    else {
+        return false;
+    };
+    let To::End(e) = put_name(b, 0, s, name) else {
+        return false;
+    };
+    let Step::On(f) = put_object(b, e, t, s, params) else {
+        return false;
+    };
+    put_rest(b, t, f, e, s, kind, value)
+}
