@@ -28,7 +28,7 @@ use Rattle.to_card_name.specs.declared.Full.{Full}
 use Rattle.to_card_name.specs.declared.Full.the-variants.{At, Absent, Wrong}
 use Rattle.to_card_name.specs.declared.Listed.{Listed}
 use Rattle.to_card_name.specs.declared.Listed.the-variants.{At as ListAt, Nothing, Wrong as NoList}
-use Rattle.to_card_name.specs.Name.{orderedIn, fullIn, componentsIn, nameOf, nameLines, TellsUnordered, FullAs, TellsFull, ListedIn, ListedAs, ListsAs, PutsAlone, PutsBoth, PutsList, nameFromSlots, PutsSlots, PutsName}
+use Rattle.to_card_name.specs.Name.{orderedIn, fullIn, componentsIn, nameOf, nameLines, TellsUnordered, FullAs, TellsFull, ListedIn, ListedAs, ListsAs, PutsAlone, PutsBoth, PutsList, nameFromSlots, PutsSlots, nameGiven, PutsName}
 use Rattle.to_card_name.proofs.Members.{no-value}
 use Rattle.to_card_name.proofs.Rows.{no-kinds}
 
@@ -190,7 +190,7 @@ new-2 = refl
 
 module _ (s : Bytes) (slot : ℕ) (room : Bytes) where
   abbrev named : Option Json → Option Part
-  named o = Option·map nameLines (with-some o nameFrom (some nameless))
+  named o = Option·map nameLines (nameGiven o)
 
   pub name-absent : slot ≡ 0 → (r : Lines) (after : Bytes) → PutsAlone s 0 room r after → PutsName s slot room r after
   name-absent e r after p o h =

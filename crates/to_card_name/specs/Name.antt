@@ -130,6 +130,10 @@ abbrev pub PutsSlots : Bytes → ℕ → ℕ → ℕ → ℕ → Bytes → Lines
 PutsSlots s full components ordered other room r after = (f c i x : Option Json) → Slot 14 s full f → Slot 14 s components c → Slot 14 s ordered i → Slot 14 s other x
     → PartAs room r after (Option·map nameLines (nameFromSlots f c i x))
 
--- the value in the slot of `name`; no name where there is none
+-- the name that the value in the slot of `name` says; nameless where there is none
+abbrev pub nameGiven : Option Json → Option Name
+nameGiven o = with-some o nameFrom (some nameless)
+
+-- 12, or FN and N of the value in the slot of `name`
 abbrev pub PutsName : Bytes → ℕ → Bytes → Lines → Bytes → Type 0
-PutsName s slot room r after = (o : Option Json) → Slot 15 s slot o → PartAs room r after (Option·map nameLines (with-some o nameFrom (some nameless)))
+PutsName s slot room r after = (o : Option Json) → Slot 15 s slot o → PartAs room r after (Option·map nameLines (nameGiven o))
