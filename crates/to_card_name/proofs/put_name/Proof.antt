@@ -1,0 +1,101 @@
+use denote.Ref.{now}
+use native.Mathlib.Omega.{arith}
+use mathlib.Core.Path.{refl, ap}
+use lib.ListN.{length}
+use Rattle.text.proofs.Cases.{not-true, not-false}
+use Rattle.to_card_name.proofs.Whole.{clear-four, names-are, name-absent, name-past, name-object, name-slots}
+use borrow.Author.Needs.{needs}
+use Rattle.to_card_name.proofs.put_name.Statement.{statement}
+use Rattle.to_card_name.proofs.put_name.Tie as tie
+use Rattle.to_card_name.proofs.put_name.Reads as reads
+use Rattle.to_card_name.proofs.put_name.Lts as lts
+use Rattle.json_index.proofs.index_object.Reads as index-object-reads
+use Rattle.to_card_name.proofs.put_alone.Reads as put-alone-reads
+use Rattle.to_card_name.proofs.put_slots.Reads as put-slots-reads
+
+put-alone-requires : tie.Need-put-alone-requires
+put-alone-requires c κs = search needs
+
+same-length : tie.Need-same-length
+same-length c = search needs
+
+returns : tie.Need-returns
+returns c =
+    let args = c .before .before .before .before .before .before .before .args in
+    let if1 = c .before .before .before .before .if1 in
+    let put-alone = c .before .before .put-alone in (
+      put-alone .ensures .0,
+      (put-alone .ensures .1 .0, name-absent (now (args .s)) (args .slot) (now (args .out)) (if1 .taken) (put-alone .result) _ (put-alone .ensures .1 .1)),
+    )
+
+returns-2 : tie.Need-returns-2
+returns-2 c =
+    let args = c .before .before .before .before .args in
+    (tt, (refl, name-past (now (args .s)) (args .slot) (now (args .out)) (c .before .if1 .left) (c .if2 .taken) _))
+
+slice-aggregate-index-object : tie.Need-slice-aggregate-index-object
+slice-aggregate-index-object c = search needs
+
+slice-aggregate-index-object-2 : tie.Need-slice-aggregate-index-object-2
+slice-aggregate-index-object-2 c = search needs
+
+index-object-requires : tie.Need-index-object-requires
+index-object-requires c κs = (omega (arith, c .before .before .if2 .left), (omega (arith, ap length names-are), clear-four))
+
+returns-3 : tie.Need-returns-3
+returns-3 c =
+    let args = c .before .before .before .before .before .before .before .before .before .args in
+    let if1 = c .before .before .before .before .before .before .if1 in
+    let index-object = c .before .before .index-object in (
+      tt,
+      (refl, name-object (now (args .s)) (args .slot) (now (args .out)) (if1 .left) _ (index-object .result) (index-object .ensures) (not-true _ (c .if3 .taken)) _),
+    )
+
+array-read-a : tie.Need-array-read-a
+array-read-a c = search needs
+
+array-read-b : tie.Need-array-read-b
+array-read-b c = search needs
+
+array-read-c : tie.Need-array-read-c
+array-read-c c = search needs
+
+array-read-d : tie.Need-array-read-d
+array-read-d c = search needs
+
+put-slots-requires : tie.Need-put-slots-requires
+put-slots-requires c κs = search needs
+
+same-length-2 : tie.Need-same-length-2
+same-length-2 c = search needs
+
+returns-4 : tie.Need-returns-4
+returns-4 c =
+    let args = c .before .before .before .before .before .before .before .before .before .before .before .before .before .args in
+    let if1 = c .before .before .before .before .before .before .before .before .before .before .if1 in
+    let index-object = c .before .before .before .before .before .before .index-object in
+    let if3 = c .before .before .before .before .if3 in
+    let put-slots = c .before .before .put-slots in (
+      put-slots .ensures .0,
+      (put-slots .ensures .1 .0, name-slots (now (args .s)) (args .slot) (now (args .out)) (if1 .left) _ (index-object .result) (index-object .ensures) (not-false _ (if3 .left)) (put-slots .result) _ (put-slots .ensures .1 .1)),
+    )
+
+pub put-name-spec : {M : Type 1} → statement M
+put-name-spec =
+    tie.close
+    (tie.spec
+    put-alone-requires
+    same-length
+    returns
+    returns-2
+    slice-aggregate-index-object
+    slice-aggregate-index-object-2
+    index-object-requires
+    returns-3
+    array-read-a
+    array-read-b
+    array-read-c
+    array-read-d
+    put-slots-requires
+    same-length-2
+    returns-4)

@@ -1,0 +1,308 @@
+// FN and N from the member `name` of the JSON: judged (12), written, and told whether lines can carry them (13).
+use card_value::string_in;
+use json_access::Kind;
+use json_access::kind_at;
+use json_index::index_object;
+use line_pen::fill;
+use line_pen::pen_bytes;
+use to_card_lines::Lines;
+use to_card_lines::Penned;
+use to_card_lines::put_string_line;
+use to_card_order::are_apart;
+use to_card_order::pen_order;
+use to_card_parts::Array;
+use to_card_parts::check_components;
+use to_card_parts::open_array;
+ghost use mathlib.Core.Path.{_≡_};
+ghost use Prim.Native.Nat.{_≤_, _<_};
+ghost use lib.ListN.{length};
+ghost use Rattle.json_index.specs.Index.{Clear};
+ghost use Rattle.to_card_lines.specs.Lines.{LinesIn};
+ghost use Rattle.to_card_name.specs.Name.{TellsUnordered, TellsFull, ListedIn, ListsAs, TellsParts, TellsApart, OrderLine, FnLine, NLine, PutsAlone, PutsBoth, PutsList, PutsSlots, PutsName};
+
+// The full name: where its string stands; it is absent; or 12.
+pub enum Full {
+    At(usize),
+    Absent,
+    Wrong,
+}
+
+// The components: where the first stands; there are none; or 12.
+pub enum Listed {
+    At(usize),
+    Nothing,
+    Wrong,
+}
+
+// How many bytes and lines were written, and whether lines can carry what they say.
+pub struct Counted {
+    pub bytes: usize,
+    pub lines: usize,
+    pub carried: bool,
+}
+
+// isOrdered is absent or false.
+fn is_unordered(s: &[u8], slot: usize) -> bool
+    ensures { λ r. ⌜ TellsUnordered (now (s .entry)) slot r ⌝ }
+{
+    if slot == 0 {
+        return true;
+    }
+    match kind_at(s, slot) {
+        Kind::False => true,
+        Kind::Null => false,
+        Kind::True => false,
+        Kind::Number => false,
+        Kind::String => false,
+        Kind::Array => false,
+        Kind::Object => false,
+    }
+}
+
+// The full name in a slot.
+fn full_in(s: &[u8], slot: usize) -> Full
+    ensures { λ r. ⌜ TellsFull (now (s .entry)) slot r ⌝ }
+{
+    if slot == 0 {
+        return Full::Absent;
+    }
+    let q = string_in(s, slot);
+    if q == 0 {
+        return Full::Wrong;
+    }
+    Full::At(q)
+}
+
+// The components in a slot, and marks of the kinds that have a value.
+fn list_components<'a, 'b>(marks: &'a mut [usize], s: &'b [u8], slot: usize) -> Listed
+    requires { ⌜ 7 ≤ length (now marks) ⌝ }
+    requires { ⌜ Clear (now marks) ⌝ }
+    ensures { λ r. ⌜ ListedIn (length (now (s .entry))) r ⌝ }
+    ensures { λ r. ⌜ ListsAs (now (s .entry)) slot (now (marks .exit)) r ⌝ }
+{
+    if slot == 0 {
+        return Listed::Nothing;
+    }
+    if slot > s.len() {
+        return Listed::Wrong;
+    }
+    match open_array(s, slot) {
+        Array::Wrong => Listed::Wrong,
+        Array::Empty => Listed::Nothing,
+        Array::At(j) => {
+            if !check_components(marks, s, j) {
+                return Listed::Wrong;
+            }
+            Listed::At(j)
+        }
+    }
+}
+
+// Whether any kind has a value.
+fn has_parts(marks: &[usize]) -> bool
+    requires { ⌜ 7 ≤ length (now marks) ⌝ }
+    ensures { λ r. ⌜ TellsParts (now (marks .entry)) r ⌝ }
+{
+    (marks[0] != 0)
+        | ((marks[1] != 0)
+            | ((marks[2] != 0)
+                | ((marks[3] != 0) | ((marks[4] != 0) | ((marks[5] != 0) | (marks[6] != 0))))))
+}
+
+// Whether two kinds have no value in common; looked for where both have values.
+fn apart_in<'a, 'b>(s: &'a [u8], at: usize, marks: &'b [usize], one: usize, other: usize) -> bool
+    requires { ⌜ at ≤ length (now s) ⌝ }
+    requires { ⌜ 7 ≤ length (now marks) ⌝ }
+    requires { ⌜ one < 7 ⌝ }
+    requires { ⌜ other < 7 ⌝ }
+    ensures { λ r. ⌜ TellsApart (now (s .entry)) at (now (marks .entry)) one other r ⌝ }
+{
+    if marks[one] == 0 {
+        return true;
+    }
+    if marks[other] == 0 {
+        return true;
+    }
+    are_apart(s, at, one, other)
+}
+
+// A line whose value is the values of the components in an order of kinds.
+fn put_order_line<'a, 'b, 'c, 'd, 'e>(
+    out: &'a mut [u8],
+    head: &'b [u8],
+    style: u8,
+    mark: u8,
+    s: &'c [u8],
+    at: usize,
+    marks: &'d [usize],
+    order: &'e [u8],
+) -> Penned
+    requires { ⌜ at ≤ length (now s) ⌝ }
+    requires { ⌜ 7 ≤ length (now marks) ⌝ }
+    ensures { λ r. ⌜ OrderLine (now (s .entry)) at (now (marks .entry)) style mark (now (head .entry)) (now (order .entry)) (now (out .entry)) r (now (out .exit)) ⌝ }
+{
+    let p = pen_bytes(out, 0, head);
+    let n1 = p.bytes;
+    let q = pen_order(&mut out[n1..], p.column, style, mark, s, at, marks, order);
+    let n2 = n1 + q.bytes;
+    let z = fill(&mut out[n2..], b"\r\n");
+    let n3 = n2 + z;
+    let ok = q.carried;
+    Penned {
+        bytes: n3,
+        carried: ok,
+    }
+}
+
+// FN: the full name, or one made of the components where there is none (its place is 0).
+fn put_fn<'a, 'b, 'c>(
+    out: &'a mut [u8],
+    s: &'b [u8],
+    full: usize,
+    at: usize,
+    marks: &'c [usize],
+) -> Penned
+    requires { ⌜ at ≤ length (now s) ⌝ }
+    requires { ⌜ 7 ≤ length (now marks) ⌝ }
+    ensures { λ r. ⌜ FnLine (now (s .entry)) full at (now (marks .entry)) (now (out .entry)) r (now (out .exit)) ⌝ }
+{
+    if full != 0 {
+        return put_string_line(out, b"FN:", 1, s, full);
+    }
+    let p = put_order_line(out, b"FN;DERIVED=TRUE:", 1, b' ', s, at, marks, b"0123456");
+    let n = p.bytes;
+    Penned {
+        bytes: n,
+        carried: true,
+    }
+}
+
+// N, where there is a component that is not empty: its parts with surname2 after the surname and generation after the credential.
+fn put_n<'a, 'b, 'c>(out: &'a mut [u8], s: &'b [u8], at: usize, marks: &'c [usize]) -> Counted
+    requires { ⌜ at ≤ length (now s) ⌝ }
+    requires { ⌜ 7 ≤ length (now marks) ⌝ }
+    ensures { λ r. ⌜ NLine (now (s .entry)) at (now (marks .entry)) (now (out .entry)) r (now (out .exit)) ⌝ }
+{
+    if !has_parts(marks) {
+        return Counted {
+            bytes: 0,
+            lines: 0,
+            carried: true,
+        };
+    }
+    let p = put_order_line(out, b"N:", 2, b',', s, at, marks, b"05;1;2;3;46;5;6");
+    let n = p.bytes;
+    let ok = p.carried;
+    let a = apart_in(s, at, marks, 0, 5);
+    let b = apart_in(s, at, marks, 4, 6);
+    Counted {
+        bytes: n,
+        lines: 1,
+        carried: ok & (a & b),
+    }
+}
+
+// The lines of a name without components.
+fn put_alone<'a, 'b>(out: &'a mut [u8], s: &'b [u8], full: usize) -> Lines
+    ensures { λ r. ⌜ LinesIn (length (now (out .entry))) r ⌝ }
+    ensures { λ r. ⌜ length (now (out .exit)) ≡ length (now (out .entry)) ⌝ }
+    ensures { λ r. ⌜ PutsAlone (now (s .entry)) full (now (out .entry)) r (now (out .exit)) ⌝ }
+{
+    if full == 0 {
+        let n = fill(out, b"FN;DERIVED=TRUE:\r\n");
+        return Lines::All(n, 1, true);
+    }
+    let p = put_string_line(out, b"FN:", 1, s, full);
+    let n = p.bytes;
+    let ok = p.carried;
+    Lines::All(n, 1, ok)
+}
+
+// The lines of a name with components.
+fn put_both<'a, 'b, 'c>(
+    out: &'a mut [u8],
+    s: &'b [u8],
+    full: usize,
+    at: usize,
+    marks: &'c [usize],
+) -> Lines
+    requires { ⌜ at ≤ length (now s) ⌝ }
+    requires { ⌜ 7 ≤ length (now marks) ⌝ }
+    ensures { λ r. ⌜ LinesIn (length (now (out .entry))) r ⌝ }
+    ensures { λ r. ⌜ length (now (out .exit)) ≡ length (now (out .entry)) ⌝ }
+    ensures { λ r. ⌜ PutsBoth (now (s .entry)) full at (now (marks .entry)) (now (out .entry)) r (now (out .exit)) ⌝ }
+{
+    let p = put_fn(out, s, full, at, marks);
+    let n = p.bytes;
+    let t = put_n(&mut out[n..], s, at, marks);
+    let m = n + t.bytes;
+    let k = 1 + t.lines;
+    let ok = p.carried & t.carried;
+    Lines::All(m, k, ok)
+}
+
+// The lines of a name whose full name stands at a place (0: it has none), by the slot of its components.
+fn put_list<'a, 'b>(out: &'a mut [u8], s: &'b [u8], full: usize, components: usize) -> Lines
+    ensures { λ r. ⌜ LinesIn (length (now (out .entry))) r ⌝ }
+    ensures { λ r. ⌜ length (now (out .exit)) ≡ length (now (out .entry)) ⌝ }
+    ensures { λ r. ⌜ PutsList (now (s .entry)) full components (now (out .entry)) r (now (out .exit)) ⌝ }
+{
+    let mut marks = [0usize; 7];
+    match list_components(&mut marks, s, components) {
+        Listed::Wrong => Lines::Wrong,
+        Listed::Nothing => put_alone(out, s, full),
+        Listed::At(j) => put_both(out, s, full, j, &marks),
+    }
+}
+
+// The lines of a name, by the slots of its members, and that of any other member.
+fn put_slots<'a, 'b>(
+    out: &'a mut [u8],
+    s: &'b [u8],
+    full: usize,
+    components: usize,
+    ordered: usize,
+    other: usize,
+) -> Lines
+    ensures { λ r. ⌜ LinesIn (length (now (out .entry))) r ⌝ }
+    ensures { λ r. ⌜ length (now (out .exit)) ≡ length (now (out .entry)) ⌝ }
+    ensures { λ r. ⌜ PutsSlots (now (s .entry)) full components ordered other (now (out .entry)) r (now (out .exit)) ⌝ }
+{
+    if other != 0 {
+        return Lines::Wrong;
+    }
+    if (full == 0) & (components == 0) {
+        return Lines::Wrong;
+    }
+    if !is_unordered(s, ordered) {
+        return Lines::Wrong;
+    }
+    match full_in(s, full) {
+        Full::Wrong => Lines::Wrong,
+        Full::Absent => put_list(out, s, 0, components),
+        Full::At(q) => put_list(out, s, q, components),
+    }
+}
+
+// FN, and N where there is a component, by the slot of `name`.
+pub fn put_name<'a, 'b>(out: &'a mut [u8], s: &'b [u8], slot: usize) -> Lines
+    ensures { λ r. ⌜ LinesIn (length (now (out .entry))) r ⌝ }
+    ensures { λ r. ⌜ length (now (out .exit)) ≡ length (now (out .entry)) ⌝ }
+    ensures { λ r. ⌜ PutsName (now (s .entry)) slot (now (out .entry)) r (now (out .exit)) ⌝ }
+{
+    if slot == 0 {
+        return put_alone(out, s, 0);
+    }
+    if slot > s.len() {
+        return Lines::Wrong;
+    }
+    let mut slots = [0usize; 4];
+    if !index_object(&mut slots, s, slot, 14, b"full,components,isOrdered") {
+        return Lines::Wrong;
+    }
+    let a = slots[0];
+    let b = slots[1];
+    let c = slots[2];
+    let d = slots[3];
+    put_slots(out, s, a, b, c, d)
+}
