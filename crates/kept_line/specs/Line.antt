@@ -26,6 +26,7 @@ isPointer n = same (uppered n) (ascii "JSPTR")
 unfoldable pub leadText : Bool → Bytes → Bytes
 leadText more n = pick more (44 ∷ []) (59 ∷ (uppered n ++ 61 ∷ []))
 
+-- a row of the table: what stands before its value, and the value
 unfoldable pub rowText : Bool → Bytes → Bool → Bytes → Bytes
 rowText more n quoted v = leadText more n ++ writeValue quoted v []
 
@@ -34,6 +35,7 @@ unfoldable pub paramsText : List Param → Bytes
 paramsText [] = []
 paramsText (param n vs ∷ ps) = 59 ∷ (uppered n ++ 61 ∷ writeValues (isPointer n) vs []) ++ paramsText ps
 
+-- a line can carry all values of these (13 otherwise)
 unfoldable pub carriedParams : List Param → Bool
 carriedParams ps = all (λ p. all carriedParam (paramValues p)) ps
 
