@@ -1,7 +1,7 @@
 -- Laws of the search for a name, over plain values.
 use mathlib.Core.Path.{_≡_, refl, sym, ap, _∙_}
 use mathlib.Core.Bool.{Bool, true, false, _||_}
-use mathlib.Core.List.{List, [], _∷_, map}
+use mathlib.Core.List.{List, [], _∷_}
 use mathlib.Core.Option.{Option, none, some}
 use Prim.Native.Nat.{ℕ, zero, suc, _+_, _<_}
 use native.Mathlib.Omega.{arith}
@@ -14,16 +14,14 @@ use Rattle.text.specs.Reader.{got, loop}
 use Rattle.text.specs.Places.{byteAt, Passes, GivesT}
 use Rattle.text.proofs.Same.{among-none}
 use Rattle.json.specs.Grammar.{isSpace}
-use Rattle.json.specs.Tree.{Json, Members, mnil, mcons, Member, member, membersOf, nameOf, asObject}
+use Rattle.json.specs.Tree.{Json, Members, mnil, mcons, Member, member, membersOf, asObject}
 use Rattle.json.specs.Syntax.{sep, pair, value}
 use Rattle.json.specs.Strings.{decodedMembers}
 use Rattle.json_strings.specs.Spelled.{spelled, spells}
 use Rattle.json_access.specs.declared.Places.{Places}
-use Rattle.json_access.specs.declared.Kind.{Kind}
 use Rattle.json_access.specs.declared.Kind.the-variants.{Null, True}
-use Rattle.json_access.specs.Access.{TellsMember, kindOf}
+use Rattle.json_access.specs.Access.{TellsMember}
 use Rattle.json_access.proofs.Past.{kind-past}
-use Rattle.json_index.specs.Index.{jsonAt}
 use Rattle.json_index.proofs.Laws.{Here, pair-here, others-on, others-none, next-of, members-cons, members-nil, nil-decoded}
 use Rattle.json_index.proofs.Objects.{at-inv, not-object, empty-object, object-members}
 use Rattle.json_has.specs.Has.{named, hasName, HasFrom, HasMember}

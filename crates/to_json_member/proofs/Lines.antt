@@ -8,8 +8,8 @@ use native.Mathlib.Omega.{arith}
 use lib.Dec.{eqb}
 use lib.ListN.{length, take, drop, getD, length-append, length-take, length-drop}
 use lib.Seq.{take-at}
-use Rattle.text.specs.Choice.{pick, is-some, with-some, chain, provided}
-use Rattle.text.specs.Bytes.{Bytes, ascii, same, among, lowered, empty, keep, flat}
+use Rattle.text.specs.Choice.{pick, with-some, chain, provided}
+use Rattle.text.specs.Bytes.{Bytes, ascii, same, among, lowered, keep, flat}
 use Rattle.text.proofs.Cases.{byBool}
 use Rattle.text.proofs.Choices.{provided-inv, chain-inv, some-same, none-some}
 use Rattle.line.specs.Grammar.{Param, Line, paramName, paramValues}

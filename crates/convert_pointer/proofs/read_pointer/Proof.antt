@@ -1,6 +1,5 @@
 use borrow.Author.Needs.{needs}
 use denote.Ref.{now}
-use mathlib.Core.Path.{sym, ap, _∙_}
 use Prim.Native.Nat.{_-_, _≤_}
 use native.Mathlib.Nat.{le-refl}
 use native.Mathlib.Omega.{arith}
@@ -8,7 +7,7 @@ use lib.ListN.{length, drop}
 use Rattle.output.specs.Put.{Rest}
 use Rattle.output.proofs.Rests.{rest-all, rest-as, rest-next, rest-stop, rest-done, rest-in, rest-fit, rest-same}
 use Rattle.convert_pointer.specs.Name.{nameIn, Pointing}
-use Rattle.convert_pointer.proofs.Pointers.{step, name-to, name-end, moved}
+use Rattle.convert_pointer.proofs.Pointers.{name-to, name-end, moved}
 use Rattle.convert_pointer.proofs.read_pointer.Statement.{statement}
 use Rattle.convert_pointer.proofs.read_pointer.Tie as tie
 

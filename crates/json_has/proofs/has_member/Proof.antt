@@ -1,4 +1,3 @@
-use native.Mathlib.Omega.{arith}
 use denote.Ref.{now}
 use Rattle.json_has.proofs.Laws.{has-past, has-not, has-none, has-some}
 use borrow.Author.Needs.{needs}
