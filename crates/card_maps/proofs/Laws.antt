@@ -54,7 +54,7 @@ distinct i l = inRange (λ i. among (getD reserved i []) (take i reserved)) (λ 
 member-name : (k : ℕ) → k < 7 → getD reserved (k + 5) [] ≡ getD maps k organizations .member
 member-name k l = inRange (λ k. getD reserved (k + 5) []) (λ k. getD maps k organizations .member) k 0 7 refl (omega arith) (omega arith)
 
-slot-map : (k : ℕ) → k < 7 → (ms : List Member) → valueAs (getD maps k organizations) (firstAt reserved (k + 5) ms) ≡ mapFrom ms (getD maps k organizations)
+pub slot-map : (k : ℕ) → k < 7 → (ms : List Member) → valueAs (getD maps k organizations) (firstAt reserved (k + 5) ms) ≡ mapFrom ms (getD maps k organizations)
 unfolding mapFrom
 slot-map k l ms =
     let i : k + 5 < 13 = omega arith in

@@ -8,8 +8,8 @@ use native.Mathlib.Omega.{arith}
 use lib.Dec.{eqb}
 use lib.ListN.{length, take, drop, getD, length-append, length-take, length-drop}
 use lib.Seq.{take-at}
-use Rattle.text.specs.Choice.{pick, is-some, with-some, chain, provided}
-use Rattle.text.specs.Bytes.{Bytes, ascii, same, among, lowered, empty, keep, flat}
+use Rattle.text.specs.Choice.{pick, with-some, chain, provided}
+use Rattle.text.specs.Bytes.{Bytes, ascii, same, among, lowered, keep, flat}
 use Rattle.text.proofs.Cases.{byBool}
 use Rattle.text.proofs.Choices.{provided-inv, chain-inv, some-same, none-some}
 use Rattle.line.specs.Grammar.{Param, Line, paramName, paramValues}
@@ -26,14 +26,15 @@ use Rattle.output.proofs.Laws.{said-bytes, said-full, put-fits}
 use Rattle.json_compact.specs.Squeezed.{squeezed}
 use Rattle.json_compact.proofs.Text.{squeezed-compact}
 use Rattle.convert.specs.Table.{reserved, position}
-use Rattle.convert.specs.Pointer.{pointedFrom, pointed}
+use Rattle.convert.specs.Pointer.{pointed}
 use Rattle.convert.specs.Classify.{Seen, Class, as-member, as-kept, bare, sole, treeOf, memberName, memberValue, memberClass}
 use Rattle.line_table.specs.Table.{part, lineIn}
 use Rattle.convert_marks.specs.Row.{kindOf, kindNames, isKind, valuesKind, First, Held, Row}
 use Rattle.convert_entry.proofs.Named.{kind-same}
 use Rattle.table_kept.proofs.Names.{values-besides}
 use Rattle.convert_put.specs.Pieces.{memberBytes}
-use Rattle.to_json_member.specs.Line.{nameIn, Pointing}
+use Rattle.convert_pointer.specs.Name.{nameIn, Pointing}
+use Rattle.convert_pointer.proofs.Pointers.{is-pointing, is-name}
 
 -- ---- the class
 
@@ -122,16 +123,14 @@ module _ (s : Bytes) (t : List ℕ) {C F T : List ℕ} (r : Row s C F T (lineIn 
       head-same : {a b : Bytes} {us vs : List Bytes} → a ∷ us ≡ b ∷ vs → a ≡ b
       head-same e = cc
 
-  pointing : pointedFrom false (x .pointer) ≡ some n
-  unfolding pointed
-  pointing = provided-inv (not (empty (x .pointer))) (pointedFrom false (x .pointer)) (x .name-is) .1
+  points-here : pointed (part s (getD F 4 0) (getD T 4 0)) ≡ some n
+  points-here = ap pointed pointer-here ∙ x .name-is
 
   pub pointing-here : Pointing (part s (getD F 4 0) (getD T 4 0))
-  pointing-here = ap (λ p. is-some (pointedFrom false p)) pointer-here ∙ ap is-some pointing
+  pointing-here = is-pointing _ n points-here
 
   name-here : nameIn (part s (getD F 4 0) (getD T 4 0)) ≡ n
-  unfolding nameIn
-  name-here = ap (λ p. with-some (pointedFrom false p) (λ m. m) []) pointer-here ∙ ap (λ o. with-some o (λ m. m) []) pointing
+  name-here = is-name _ n points-here
 
   -- ---- the value
 

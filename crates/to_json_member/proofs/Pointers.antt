@@ -1,129 +1,19 @@
--- A pointer's name, byte by byte.
-use mathlib.Core.Path.{_≡_, refl, sym, ap, _∙_}
-use mathlib.Core.Bool.{Bool, true, false}
-use mathlib.Core.List.{List, [], _∷_, _++_}
-use mathlib.Core.Option.{Option, none, some}
-use Prim.Native.Nat.{ℕ, zero, suc, _+_, _-_, _≤_, _<_}
-use native.Mathlib.Omega.{arith}
-use native.Mathlib.Numerals.{add-one}
-use lib.Dec.{eqb, ltb}
-use lib.ListN.{length, drop, getD, drop-of-length-le}
-use lib.Seq.{drop-cons}
-use borrow.Author.Tests.{eq-eqb, ne-eqb, eqb-true, ltb-true, ltb-false}
-use Rattle.text.specs.Choice.{pick, is-some, with-some}
+-- A pointer's name, byte by byte, as JSON.
+use mathlib.Core.Path.{_≡_, ap}
+use mathlib.Core.List.{[], _++_}
+use Prim.Native.Nat.{ℕ, _≤_, _<_}
+use lib.ListN.{length, drop}
 use Rattle.text.specs.Bytes.{Bytes}
-use Rattle.text.proofs.Cases.{byBool, tests}
 use Rattle.json.specs.Compact.{spelled, spelledAll}
-use Rattle.convert.specs.Pointer.{push, pointedFrom}
-use Rattle.to_json_member.specs.Line.{nameIn, Pointing, pointerByte, pointerNext}
-
-never : {P : Type 0} → false ≡ true → P
-never e = absurd (let z : _≡_ {A = ℕ} 0 1 = cc in omega arith)
-
--- one byte, and the rest
-record One (o : Option Bytes) (b : ℕ) (q : Option Bytes) : Type 0 where
-  rest : is-some q ≡ true
-  name : with-some o (λ n. n) [] ≡ b ∷ with-some q (λ n. n) []
-
-pushed : (b : ℕ) (q : Option Bytes) → is-some (push b q) ≡ true → One (push b q) b q
-pushed b none e = never e
-pushed b (some t) e = record { rest = refl; name = refl }
-
-plain-one : (c : ℕ) (s : Bytes) → eqb c 126 ≡ false → is-some (pointedFrom false (c ∷ s)) ≡ true → One (pointedFrom false (c ∷ s)) c (pointedFrom false s)
-unfolding pointedFrom
-plain-one c s n e = rw n (byBool (eqb c 47) (λ b. never (rw (n, b) at e)) (λ b. rw b (pushed c (pointedFrom false s) (rw (n, b) at e))))
-
-tilde-one : (c d : ℕ) (s : Bytes) → eqb c 126 ≡ true → is-some (pointedFrom false (c ∷ d ∷ s)) ≡ true
-    → One (pointedFrom false (c ∷ d ∷ s)) (pick (eqb d 49) 47 126) (pointedFrom false s)
-unfolding pointedFrom
-tilde-one c d s n e =
-    rw n (byBool (eqb d 48)
-    (λ b. let z : eqb d 49 ≡ false = ne-eqb d 49 (λ y. omega (tests, b)) in rw (b, z) (pushed 126 (pointedFrom false s) (rw (n, b) at e)))
-    (λ b. byBool (eqb d 49) (λ y. rw (b, y) (pushed 47 (pointedFrom false s) (rw (n, b, y) at e))) (λ y. never (rw (n, b, y) at e))))
-
-tilde-last : (c : ℕ) {P : Type 0} → eqb c 126 ≡ true → is-some (pointedFrom false (c ∷ [])) ≡ true → P
-unfolding pointedFrom
-tilde-last c n e = never (rw n at e)
-
--- the same at a place
-module _ (p : Bytes) (i : ℕ) (g : Pointing (drop i p)) (l : i < length p) where
-  cons : drop i p ≡ getD p i 0 ∷ drop (i + 1) p
-  cons = drop-cons p i 0 l ∙ ap (λ n. getD p i 0 ∷ drop n p) (sym (add-one i))
-
-  pub tilde-within : getD p i 0 ≡ 126 → i + 1 < length p
-  tilde-within e =
-      byBool (ltb (i + 1) (length p)) (λ b. ltb-true (i + 1) (length p) b)
-      (λ b.
-      let h : length p ≤ i + 1 = ltb-false (i + 1) (length p) b in
-      tilde-last (getD p i 0) (eq-eqb (getD p i 0) 126 e) (ap (λ x. is-some (pointedFrom false x)) (sym (cons ∙ ap (λ x. getD p i 0 ∷ x) (drop-of-length-le p h))) ∙ g))
-
-  pub byte-plain : (getD p i 0 ≡ 126 → ⊥) → getD p i 0 ≡ pointerByte p i
-  unfolding pointerByte
-  byte-plain n = rw (ne-eqb (getD p i 0) 126 n)
-
-  pub byte-slash : getD p i 0 ≡ 126 → getD p (i + 1) 0 ≡ 49 → 47 ≡ pointerByte p i
-  unfolding pointerByte
-  byte-slash e f = rw (e, f)
-
-  pub byte-tilde : getD p i 0 ≡ 126 → (getD p (i + 1) 0 ≡ 49 → ⊥) → 126 ≡ pointerByte p i
-  unfolding pointerByte
-  byte-tilde e f = rw (e, ne-eqb (getD p (i + 1) 0) 49 f)
-
-  pub next-tilde : getD p i 0 ≡ 126 → i + 2 ≡ pointerNext p i
-  unfolding pointerNext
-  next-tilde e = rw e
-
-  pub next-plain : (getD p i 0 ≡ 126 → ⊥) → i + 1 ≡ pointerNext p i
-  unfolding pointerNext
-  next-plain n = rw (ne-eqb (getD p i 0) 126 n)
-
-  pub record Step : Type 0 where
-    pub onward : i < pointerNext p i
-    pub within : pointerNext p i ≤ length p
-    pub good : Pointing (drop (pointerNext p i) p)
-    pub is : nameIn (drop i p) ≡ pointerByte p i ∷ nameIn (drop (pointerNext p i) p)
-
-  plain-step : eqb (getD p i 0) 126 ≡ false → Step
-  unfolding nameIn pointerByte pointerNext
-  plain-step b =
-      let o = plain-one (getD p i 0) (drop (i + 1) p) b (ap (λ x. is-some (pointedFrom false x)) (sym cons) ∙ g) in
-      record {
-        onward = rw b (omega arith);
-        within = rw b (omega arith);
-        good = rw b (o .rest);
-        is = rw b (ap (λ x. with-some (pointedFrom false x) (λ n. n) []) cons ∙ o .name);
-      }
-
-  tilde-step : eqb (getD p i 0) 126 ≡ true → i + 1 < length p → Step
-  unfolding nameIn pointerByte pointerNext
-  tilde-step b h =
-      let z : i + 2 ≡ suc (i + 1) = omega arith in
-      let two : drop i p ≡ getD p i 0 ∷ getD p (i + 1) 0 ∷ drop (i + 2) p = cons ∙ ap (λ x. getD p i 0 ∷ x) (drop-cons p (i + 1) 0 h ∙ ap (λ n. getD p (i + 1) 0 ∷ drop n p) (sym z)) in
-      let o = tilde-one (getD p i 0) (getD p (i + 1) 0) (drop (i + 2) p) b (ap (λ x. is-some (pointedFrom false x)) (sym two) ∙ g) in
-      record {
-        onward = rw b (omega arith);
-        within = rw b (omega arith);
-        good = rw b (o .rest);
-        is = rw b (ap (λ x. with-some (pointedFrom false x) (λ n. n) []) two ∙ o .name);
-      }
-
-  pub step : Step
-  step = byBool (eqb (getD p i 0) 126) (λ b. tilde-step b (tilde-within (eqb-true (getD p i 0) 126 b))) plain-step
-
-  pub spelled-step : spelledAll (nameIn (drop i p)) ≡ spelled (pointerByte p i) ++ spelledAll (nameIn (drop (pointerNext p i) p))
-  unfolding spelledAll
-  spelled-step = ap spelledAll (step .is)
+use Rattle.convert_pointer.specs.Name.{nameIn, Pointing, pointerByte, pointerNext}
+use Rattle.convert_pointer.proofs.Pointers.{name-to, name-end}
 
 pub spelled-end : (p : Bytes) (i : ℕ) → length p ≤ i → spelledAll (nameIn (drop i p)) ≡ []
-unfolding spelledAll nameIn pointedFrom
-spelled-end p i h = ap (λ x. spelledAll (nameIn x)) (drop-of-length-le p h)
+unfolding spelledAll
+spelled-end p i h = ap spelledAll (name-end p i h)
 
--- the byte that is written, and the place that comes next
-module _ (p : Bytes) (i : ℕ) (g : Pointing (drop i p)) (l : i < length p) where
-  pub spelled-to : (b : ℕ) → b ≡ pointerByte p i → spelledAll (nameIn (drop i p)) ≡ spelled b ++ spelledAll (nameIn (drop (pointerNext p i) p))
-  spelled-to b e = spelled-step p i g l ∙ ap (λ x. spelled x ++ spelledAll (nameIn (drop (pointerNext p i) p))) (sym e)
-
-  pub moved : (k : ℕ) → k ≡ pointerNext p i → (i < k) × (k ≤ length p) × Pointing (drop k p) × (spelledAll (nameIn (drop (pointerNext p i) p)) ≡ spelledAll (nameIn (drop k p)))
-  moved k e =
-      let s = step p i g l in
-      (rw e (s .onward), rw e (s .within), ap (λ n. is-some (pointedFrom false (drop n p))) e ∙ s .good, ap (λ n. spelledAll (nameIn (drop n p))) (sym e))
+-- the byte that is written
+pub spelled-to : (p : Bytes) (i : ℕ) → Pointing (drop i p) → i < length p → (b : ℕ) → b ≡ pointerByte p i
+    → spelledAll (nameIn (drop i p)) ≡ spelled b ++ spelledAll (nameIn (drop (pointerNext p i) p))
+unfolding spelledAll
+spelled-to p i g l b e = ap spelledAll (name-to p i g l b e)

@@ -1,44 +1,22 @@
 // A JSPROP line that converts, written as a top-level member.
 ghost use mathlib.Core.Path.{_≡_};
 ghost use mathlib.Core.List.{_∷_, []};
-ghost use Prim.Native.Nat.{_≤_, _<_};
-ghost use lib.ListN.{length, drop};
+ghost use Prim.Native.Nat.{_≤_};
+ghost use lib.ListN.{length};
 ghost use Rattle.text.specs.Bytes.{flat};
 ghost use Rattle.json.specs.Compact.{spelledAll};
 ghost use Rattle.output.specs.Put.{Puts};
 ghost use Rattle.json_compact.specs.Squeezed.{squeezed};
-ghost use Rattle.to_json_member.specs.Line.{nameIn, Pointing, pointerByte, pointerNext, MemberLine, PutsMember};
+ghost use Rattle.convert_pointer.specs.Name.{nameIn, Pointing};
+ghost use Rattle.to_json_member.specs.Line.{MemberLine, PutsMember};
+use convert_pointer::pointer_byte;
+use convert_pointer::pointer_next;
 use json_compact::put_compact;
 use json_write::put_byte_spelled;
 use line_text::read_text;
 use output::Wrote;
 use output::put_byte;
 use output::put_text;
-
-// `~1` is a slash, `~0` a tilde.
-fn pointer_byte(p: &[u8], i: usize) -> u8
-    requires { ⌜ Pointing (drop i (now p)) × (i < length (now p)) ⌝ }
-    ensures { λ r. ⌜ r ≡ pointerByte (now (p .entry)) i ⌝ }
-{
-    let c = p[i];
-    if c != b'~' {
-        return c;
-    }
-    if p[i + 1] == b'1' {
-        return b'/';
-    }
-    b'~'
-}
-
-fn pointer_next(p: &[u8], i: usize) -> usize
-    requires { ⌜ Pointing (drop i (now p)) × (i < length (now p)) ⌝ }
-    ensures { λ r. ⌜ r ≡ pointerNext (now (p .entry)) i ⌝ }
-{
-    if p[i] == b'~' {
-        return i + 2;
-    }
-    i + 1
-}
 
 // The name that a pointer spells, as JSON without quotes.
 fn spell_pointer(out: &mut [u8], p: &[u8]) -> Wrote

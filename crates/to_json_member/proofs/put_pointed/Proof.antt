@@ -1,6 +1,6 @@
 use Rattle.json.specs.Compact.{spelledAll}
 use Rattle.json_compact.specs.Squeezed.{squeezed}
-use Rattle.to_json_member.specs.Line.{nameIn}
+use Rattle.convert_pointer.specs.Name.{nameIn}
 use native.Mathlib.Nat.{le-refl}
 use mathlib.Core.List.{[], _∷_}
 use denote.Ref.{now}

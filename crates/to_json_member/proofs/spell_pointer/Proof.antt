@@ -8,8 +8,9 @@ use lib.ListN.{length, drop}
 use Rattle.json.specs.Compact.{spelled, spelledAll}
 use Rattle.output.specs.Put.{Rest}
 use Rattle.output.proofs.Rests.{rest-all, rest-as, rest-next, rest-stop, rest-done, rest-in, rest-fit, rest-same}
-use Rattle.to_json_member.specs.Line.{nameIn, Pointing}
-use Rattle.to_json_member.proofs.Pointers.{step, spelled-to, spelled-end, moved}
+use Rattle.convert_pointer.specs.Name.{nameIn, Pointing}
+use Rattle.convert_pointer.proofs.Pointers.{moved}
+use Rattle.to_json_member.proofs.Pointers.{spelled-to, spelled-end}
 use Rattle.to_json_member.proofs.spell_pointer.Statement.{statement}
 use Rattle.to_json_member.proofs.spell_pointer.Tie as tie
 
@@ -82,7 +83,7 @@ loop-again c =
     let c4 = c3 .before in
     let c5 = c4 .before in
     let c6 = c5 .before .before .before in
-    let h = moved (now (c6 .args .p)) (c5 .loop .i) (c5 .loop .inv .1) (c4 .loop-test .taken) (c .pointer-next .result) (c .pointer-next .ensures) in (h .1, h .2, rest-as (h .3) (rest-next _ (rest-as (spelled-to (now (c6 .args .p)) (c5 .loop .i) (c5 .loop .inv .1) (c4 .loop-test .taken) (c3 .pointer-byte .result) (c3 .pointer-byte .ensures)) (c5 .loop .inv .2)) (c2 .put-byte-spelled .ensures) (c1 .n .given .1)))
+    let h = moved (now (c6 .args .p)) (c5 .loop .i) (c5 .loop .inv .1) (c4 .loop-test .taken) (c .pointer-next .result) (c .pointer-next .ensures) in (h .1, h .2, rest-as (ap spelledAll (h .3)) (rest-next _ (rest-as (spelled-to (now (c6 .args .p)) (c5 .loop .i) (c5 .loop .inv .1) (c4 .loop-test .taken) (c3 .pointer-byte .result) (c3 .pointer-byte .ensures)) (c5 .loop .inv .2)) (c2 .put-byte-spelled .ensures) (c1 .n .given .1)))
 
 same-length-2 : tie.Need-same-length-2 Inv-loop μ-loop
 same-length-2 c = rest-same (c .before .loop .inv .2)

@@ -1,9 +1,8 @@
-use borrow.Author.Needs.{needs}
 use denote.Ref.{now}
 use native.Mathlib.Omega.{arith}
-use Rattle.to_json_member.proofs.Pointers.{tilde-within, byte-plain, byte-slash, byte-tilde}
-use Rattle.to_json_member.proofs.pointer_byte.Statement.{statement}
-use Rattle.to_json_member.proofs.pointer_byte.Tie as tie
+use Rattle.convert_pointer.proofs.Pointers.{tilde-within, byte-plain, byte-slash, byte-tilde}
+use Rattle.convert_pointer.proofs.pointer_byte.Statement.{statement}
+use Rattle.convert_pointer.proofs.pointer_byte.Tie as tie
 
 shared-slice-read-c : tie.Need-shared-slice-read-c
 shared-slice-read-c c = omega (arith, c .before .pre .1)

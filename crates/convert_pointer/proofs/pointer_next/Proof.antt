@@ -1,9 +1,8 @@
-use borrow.Author.Needs.{needs}
 use denote.Ref.{now}
 use native.Mathlib.Omega.{arith}
-use Rattle.to_json_member.proofs.Pointers.{tilde-within, next-tilde, next-plain}
-use Rattle.to_json_member.proofs.pointer_next.Statement.{statement}
-use Rattle.to_json_member.proofs.pointer_next.Tie as tie
+use Rattle.convert_pointer.proofs.Pointers.{tilde-within, next-tilde, next-plain}
+use Rattle.convert_pointer.proofs.pointer_next.Statement.{statement}
+use Rattle.convert_pointer.proofs.pointer_next.Tie as tie
 
 shared-slice-read-if1 : tie.Need-shared-slice-read-if1
 shared-slice-read-if1 c = omega (arith, c .before .pre .1)
