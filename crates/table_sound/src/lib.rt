@@ -1,0 +1,54 @@
+// Whether a table of places is one that code may read: every place is within the buffer. Asked where the table was filled from a text of which nothing
+// is known yet.
+ghost use Prim.Native.Nat.{_+_, _≤_, _<_};
+ghost use lib.ListN.{length, getD};
+ghost use Rattle.table_sound.specs.Sound.{TellsSpan, TellsSound};
+
+// Whether the part at the slots i and i + 1 is within n bytes.
+fn has_span(t: &[usize], i: usize, n: usize) -> bool
+    requires { ⌜ i + 1 < length (now t) ⌝ }
+    ensures { λ r. ⌜ TellsSpan n (getD (now (t .entry)) i 0) (getD (now (t .entry)) (i + 1) 0) r ⌝ }
+{
+    let a = t[i];
+    let e = t[i + 1];
+    if a > e {
+        return false;
+    }
+    if e > n {
+        return false;
+    }
+    true
+}
+
+pub fn is_sound<'a, 'b>(b: &'a [u8], t: &'b [usize]) -> bool
+    requires { ⌜ 264 ≤ length (now t) ⌝ }
+    ensures { λ r. ⌜ TellsSound (now (b .entry)) (now (t .entry)) r ⌝ }
+{
+    let m = b.len();
+    let n = t[6];
+    if n > 64 {
+        return false;
+    }
+    if !has_span(t, 0, m) {
+        return false;
+    }
+    if !has_span(t, 2, m) {
+        return false;
+    }
+    if !has_span(t, 4, m) {
+        return false;
+    }
+    let mut k: usize = 0;
+    while k < n {
+        let i = 4 * k + 8;
+        let j = i + 2;
+        if !has_span(t, i, m) {
+            return false;
+        }
+        if !has_span(t, j, m) {
+            return false;
+        }
+        k += 1;
+    }
+    true
+}

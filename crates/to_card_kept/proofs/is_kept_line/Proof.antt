@@ -1,0 +1,60 @@
+use Rattle.convert_entry.proofs.Entry.{clear-eight}
+use Rattle.to_card_kept.proofs.Entry.{tells-kept}
+use borrow.Author.Needs.{needs}
+use Rattle.to_card_kept.proofs.is_kept_line.Statement.{statement}
+use Rattle.to_card_kept.proofs.is_kept_line.Tie as tie
+
+slice-aggregate-scan-rows : tie.Need-slice-aggregate-scan-rows
+slice-aggregate-scan-rows c = search needs
+
+slice-aggregate-scan-rows-2 : tie.Need-slice-aggregate-scan-rows-2
+slice-aggregate-scan-rows-2 c = search needs
+
+slice-aggregate-scan-rows-3 : tie.Need-slice-aggregate-scan-rows-3
+slice-aggregate-scan-rows-3 c = search needs
+
+scan-rows-requires : tie.Need-scan-rows-requires
+scan-rows-requires c κs = (clear-eight, c .before .before .before .before .before .before .before .before .pre .0)
+
+slice-aggregate-class-line : tie.Need-slice-aggregate-class-line
+slice-aggregate-class-line c = search needs
+
+slice-aggregate-class-line-2 : tie.Need-slice-aggregate-class-line-2
+slice-aggregate-class-line-2 c = search needs
+
+slice-aggregate-class-line-3 : tie.Need-slice-aggregate-class-line-3
+slice-aggregate-class-line-3 c = search needs
+
+class-line-requires : tie.Need-class-line-requires
+class-line-requires c κs =
+    let pre = c .before .before .before .before .before .before .before .before .before .before .before .before .before .before .before .before .pre in
+    let scan-rows = c .before .before .before .before .before .before .before .scan-rows in
+    (record { wide = record { counts = search needs; froms = search needs; tos = search needs }; row = scan-rows .ensures; sound = pre .0 }, pre .1)
+
+is-kept-class-requires : tie.Need-is-kept-class-requires
+is-kept-class-requires c κs = search needs
+
+same-length : tie.Need-same-length
+same-length c = search needs
+
+returns : tie.Need-returns
+returns c =
+    let class-line = c .before .before .before .before .before .before .class-line in
+    let is-kept-class = c .before .before .is-kept-class in
+    tells-kept (is-kept-class .result) (class-line .ensures) (is-kept-class .ensures)
+
+pub is-kept-line-spec : {M : Type 1} → statement M
+is-kept-line-spec =
+    tie.close
+    (tie.spec
+    slice-aggregate-scan-rows
+    slice-aggregate-scan-rows-2
+    slice-aggregate-scan-rows-3
+    scan-rows-requires
+    slice-aggregate-class-line
+    slice-aggregate-class-line-2
+    slice-aggregate-class-line-3
+    class-line-requires
+    is-kept-class-requires
+    same-length
+    returns)

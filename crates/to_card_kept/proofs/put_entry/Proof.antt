@@ -1,0 +1,132 @@
+use denote.Ref.{now}
+use mathlib.Core.Path.{refl}
+use native.Mathlib.Omega.{arith}
+use Rattle.text.proofs.Cases.{not-true, not-false}
+use Rattle.to_card_kept.proofs.Entry.{sound-is, sound-not, lent-room, entry-unfilled, entry-unsound, entry-converts, entry-put}
+use borrow.Author.Needs.{needs}
+use Rattle.to_card_kept.proofs.put_entry.Statement.{statement}
+use Rattle.to_card_kept.proofs.put_entry.Tie as tie
+
+fill-kept-requires : tie.Need-fill-kept-requires
+fill-kept-requires c κs =
+    let pre = c .before .before .before .before .before .before .before .before .pre in
+    (pre .0 .all .table, pre .1)
+
+same-length : tie.Need-same-length
+same-length c = search needs
+
+same-length-2 : tie.Need-same-length-2
+same-length-2 c = search needs
+
+returns : tie.Need-returns
+returns c =
+    let args = c .before .before .before .before .before .before .before .before .before .before .before .before .before .before .args in
+    let pre = c .before .before .before .before .before .before .before .before .before .before .before .before .before .before .pre in
+    let fill-kept = c .before .before .before .before .before .fill-kept in (
+      tt,
+      (refl, entry-unfilled (now (args .s)) (now (args .slots)) (args .at) (args .full) (args .parts) (now (args .out)) (now (args .b)) (pre .0 .all .buffer) (fill-kept .result) _ _ (fill-kept .ensures .1) (not-true _ (c .if1 .taken)) _),
+    )
+
+is-sound-requires : tie.Need-is-sound-requires
+is-sound-requires c κs =
+    let pre = c .before .before .before .before .before .before .before .before .before .before .before .before .before .before .before .before .pre in
+    let fill-kept = c .before .before .before .before .before .before .before .fill-kept in
+    omega (arith, pre .0 .all .table, fill-kept .ensures .0 .wide)
+
+same-length-3 : tie.Need-same-length-3
+same-length-3 c = search needs
+
+same-length-4 : tie.Need-same-length-4
+same-length-4 c = search needs
+
+returns-2 : tie.Need-returns-2
+returns-2 c =
+    let pre = c .before .before .before .before .before .before .before .before .before .before .before .before .before .before .before .before .before .before .pre in
+    let args = c .before .before .before .before .before .before .before .before .before .before .before .before .before .before .before .before .before .before .args in
+    let fill-kept = c .before .before .before .before .before .before .before .before .before .fill-kept in
+    let is-sound = c .before .is-sound in (
+      tt,
+      (refl, entry-unsound (now (args .s)) (now (args .slots)) (args .at) (args .full) (args .parts) (now (args .out)) (now (args .b)) (pre .0 .all .buffer) (fill-kept .result) _ _ (fill-kept .ensures .1) (sound-not (is-sound .result) (is-sound .ensures) (not-true _ (c .if2 .taken))) _),
+    )
+
+is-kept-line-requires : tie.Need-is-kept-line-requires
+is-kept-line-requires c κs =
+    let pre = c .before .before .before .before .before .before .before .before .before .before .before .before .before .before .before .before .before .before .before .before .before .pre in
+    let fill-kept = c .before .before .before .before .before .before .before .before .before .before .before .before .fill-kept in
+    let is-sound = c .before .before .before .before .is-sound in
+    let if2 = c .before .before .before .if2 in
+    (sound-is (is-sound .result) (is-sound .ensures) (not-false _ (if2 .left)), lent-room (pre .0 .all) (fill-kept .ensures .0 .long), pre .0 .index)
+
+same-length-5 : tie.Need-same-length-5
+same-length-5 c = search needs
+
+same-length-6 : tie.Need-same-length-6
+same-length-6 c = search needs
+
+same-length-7 : tie.Need-same-length-7
+same-length-7 c = search needs
+
+returns-3 : tie.Need-returns-3
+returns-3 c =
+    let args = c .before .before .before .before .before .before .before .before .before .before .before .before .before .before .before .before .before .before .before .before .before .before .before .before .before .args in
+    let pre = c .before .before .before .before .before .before .before .before .before .before .before .before .before .before .before .before .before .before .before .before .before .before .before .before .before .pre in
+    let fill-kept = c .before .before .before .before .before .before .before .before .before .before .before .before .before .before .before .before .fill-kept in
+    let is-kept-line = c .before .before .before .is-kept-line in (
+      tt,
+      (refl, entry-converts (now (args .s)) (now (args .slots)) (args .at) (args .full) (args .parts) (now (args .out)) (now (args .b)) (pre .0 .all .buffer) (fill-kept .result) _ _ (fill-kept .ensures .1) (is-kept-line .result) (is-kept-line .ensures) (not-true _ (c .if3 .taken)) _),
+    )
+
+put-kept-line-requires : tie.Need-put-kept-line-requires
+put-kept-line-requires c κs =
+    let is-sound = c .before .before .before .before .before .before .before .before .before .before .before .is-sound in
+    let if2 = c .before .before .before .before .before .before .before .before .before .before .if2 in
+    sound-is (is-sound .result) (is-sound .ensures) (not-false _ (if2 .left))
+
+same-length-8 : tie.Need-same-length-8
+same-length-8 c = search needs
+
+same-length-9 : tie.Need-same-length-9
+same-length-9 c = search needs
+
+same-length-10 : tie.Need-same-length-10
+same-length-10 c = search needs
+
+same-length-11 : tie.Need-same-length-11
+same-length-11 c = search needs
+
+returns-4 : tie.Need-returns-4
+returns-4 c =
+    let pre = c .before .before .before .before .before .before .before .before .before .before .before .before .before .before .before .before .before .before .before .before .before .before .before .before .before .before .before .before .before .before .before .pre in
+    let args = c .before .before .before .before .before .before .before .before .before .before .before .before .before .before .before .before .before .before .before .before .before .before .before .before .before .before .before .before .before .before .before .args in
+    let fill-kept = c .before .before .before .before .before .before .before .before .before .before .before .before .before .before .before .before .before .before .before .before .before .before .fill-kept in
+    let if1 = c .before .before .before .before .before .before .before .before .before .before .before .before .before .before .before .before .before .if1 in
+    let is-kept-line = c .before .before .before .before .before .before .before .before .before .is-kept-line in
+    let if3 = c .before .before .before .before .before .before .if3 in
+    let put-kept-line = c .before .before .put-kept-line in (
+      (put-kept-line .ensures .0, omega arith),
+      (put-kept-line .ensures .1 .0, entry-put (now (args .s)) (now (args .slots)) (args .at) (args .full) (args .parts) (now (args .out)) (now (args .b)) (pre .0 .all .buffer) (fill-kept .result) _ _ (fill-kept .ensures .1) (is-kept-line .result) (is-kept-line .ensures) (not-false _ (if1 .left)) (not-false _ (if3 .left)) (put-kept-line .result) _ (put-kept-line .ensures .1 .1)),
+    )
+
+pub put-entry-spec : {M : Type 1} → statement M
+put-entry-spec =
+    tie.close
+    (tie.spec
+    fill-kept-requires
+    same-length
+    same-length-2
+    returns
+    is-sound-requires
+    same-length-3
+    same-length-4
+    returns-2
+    is-kept-line-requires
+    same-length-5
+    same-length-6
+    same-length-7
+    returns-3
+    put-kept-line-requires
+    same-length-8
+    same-length-9
+    same-length-10
+    same-length-11
+    returns-4)

@@ -1,0 +1,155 @@
+// The entries of vCardProps of a JSON text as kept lines of a card. Each is decoded into a lent buffer and laid out as a line's table. The classifier of
+// card lines then judges it: an entry whose line would convert in its place is 12.
+use class_line::class_line;
+use json_access::element_at;
+use json_marks::separator;
+use json_marks::skip_space;
+use kept_fill::fill_kept;
+use kept_line::put_kept_line;
+use kept_used::is_kept_class;
+use table_marks::scan_rows;
+use table_sound::is_sound;
+use text::Turn;
+use text::look;
+use to_card_lines::Lines;
+ghost use mathlib.Core.Path.{_≡_};
+ghost use Prim.Native.Nat.{_≤_};
+ghost use lib.ListN.{length};
+ghost use Rattle.line_table.specs.Table.{Sound};
+ghost use Rattle.class_member.specs.Member.{Room};
+ghost use Rattle.to_card_lines.specs.Lines.{LinesIn};
+ghost use Rattle.to_card_members.specs.Members.{OneIn};
+ghost use Rattle.to_card_kept.specs.Kept.{Lent, PutsKept};
+ghost use Rattle.to_card_kept.specs.Puts.{TellsKept, PutsEntry, PutsFrom};
+
+// Whether the line that the table holds is kept after all converted lines.
+fn is_kept_line(
+    b: &[u8],
+    t: &[usize],
+    scratch: &mut [u8],
+    s: &[u8],
+    slots: &[usize],
+    full: bool,
+    parts: bool,
+) -> bool
+    requires { ⌜ Sound (now b) (now t) × Room (now b) (now scratch) × (14 ≤ length (now slots)) ⌝ }
+    ensures { λ r. ⌜ TellsKept (now (s .entry)) (now (slots .entry)) (now (b .entry)) (now (t .entry)) full parts r ⌝ }
+{
+    let mut counts = [0usize; 8];
+    let mut froms = [0usize; 8];
+    let mut tos = [0usize; 8];
+    scan_rows(&mut counts, &mut froms, &mut tos, b, t);
+    let class = class_line(&counts, &froms, &tos, b, t, scratch, full, parts);
+    is_kept_class(s, slots, b, scratch, class)
+}
+
+// An entry as a line: 12 where no kept line gives it in its place.
+fn put_entry<'a, 'b, 'c, 'd, 'e, 'f>(
+    out: &'a mut [u8],
+    b: &'b mut [u8],
+    t: &'c mut [usize],
+    scratch: &'d mut [u8],
+    s: &'e [u8],
+    slots: &'f [usize],
+    at: usize,
+    full: bool,
+    parts: bool,
+) -> Lines
+    requires { ⌜ Lent (now b) (now t) (now scratch) (now s) (now slots) ⌝ }
+    requires { ⌜ at ≤ length (now s) ⌝ }
+    ensures { λ r. ⌜ OneIn (length (now (out .entry))) r ⌝ }
+    ensures { λ r. ⌜ length (now (out .exit)) ≡ length (now (out .entry)) ⌝ }
+    ensures { λ r. ⌜ PutsEntry (now (s .entry)) (now (slots .entry)) at full parts (now (out .entry)) r (now (out .exit)) ⌝ }
+{
+    if !fill_kept(b, t, s, at) {
+        return Lines::Wrong;
+    }
+    if !is_sound(b, t) {
+        return Lines::Wrong;
+    }
+    if !is_kept_line(b, t, scratch, s, slots, full, parts) {
+        return Lines::Wrong;
+    }
+    let p = put_kept_line(out, b, t);
+    let n = p.bytes;
+    let ok = p.carried;
+    Lines::All(n, 1, ok)
+}
+
+// The entries from a place on.
+fn put_from<'a, 'b, 'c, 'd, 'e, 'f>(
+    out: &'a mut [u8],
+    b: &'b mut [u8],
+    t: &'c mut [usize],
+    scratch: &'d mut [u8],
+    s: &'e [u8],
+    slots: &'f [usize],
+    at: usize,
+    full: bool,
+    parts: bool,
+) -> Lines
+    requires { ⌜ Lent (now b) (now t) (now scratch) (now s) (now slots) ⌝ }
+    requires { ⌜ at ≤ length (now s) ⌝ }
+    ensures { λ r. ⌜ LinesIn (length (now (out .entry))) r ⌝ }
+    ensures { λ r. ⌜ length (now (out .exit)) ≡ length (now (out .entry)) ⌝ }
+    ensures { λ r. ⌜ PutsFrom (now (s .entry)) (now (slots .entry)) at full parts (now (out .entry)) r (now (out .exit)) ⌝ }
+{
+    let mut i = at;
+    let mut n = 0;
+    let mut lines = 0;
+    let mut ok = true;
+    loop {
+        let p = element_at(s, i, 14);
+        let a = p.start;
+        let e = p.end;
+        let Lines::All(k, l, c) = put_entry(&mut out[n..], b, t, scratch, s, slots, a, full, parts)
+        else {
+            return Lines::Wrong;
+        };
+        n += k;
+        lines += l;
+        ok = ok & c;
+        match separator(s, e, 93) {
+            Turn::Go(j) => {
+                i = j;
+            }
+            Turn::Stop(r) => {
+                return Lines::All(n, lines, ok);
+            }
+        }
+    }
+}
+
+// All entries of vCardProps, whose slot is that of the last reserved name; no lines where the text has none. The buffer is as long as the text.
+pub fn put_kept<'a, 'b, 'c, 'd, 'e, 'f>(
+    out: &'a mut [u8],
+    b: &'b mut [u8],
+    t: &'c mut [usize],
+    scratch: &'d mut [u8],
+    s: &'e [u8],
+    slots: &'f [usize],
+    full: bool,
+    parts: bool,
+) -> Lines
+    requires { ⌜ Lent (now b) (now t) (now scratch) (now s) (now slots) ⌝ }
+    ensures { λ r. ⌜ LinesIn (length (now (out .entry))) r ⌝ }
+    ensures { λ r. ⌜ length (now (out .exit)) ≡ length (now (out .entry)) ⌝ }
+    ensures { λ r. ⌜ PutsKept (now (s .entry)) (now (slots .entry)) full parts (now (out .entry)) r (now (out .exit)) ⌝ }
+{
+    let at = slots[12];
+    if at == 0 {
+        return Lines::All(0, 0, true);
+    }
+    if at > s.len() {
+        return Lines::Wrong;
+    }
+    let i = skip_space(s, at);
+    if look(s, i) != 91 {
+        return Lines::Wrong;
+    }
+    let j = skip_space(s, i + 1);
+    if look(s, j) == 93 {
+        return Lines::All(0, 0, true);
+    }
+    put_from(out, b, t, scratch, s, slots, j, full, parts)
+}
