@@ -26,11 +26,12 @@ use Rattle.convert.specs.Carry.{carriedAs, carriedMaps}
 use Rattle.convert.specs.ToCard.{entryLine, mapsLines}
 use Rattle.card_entry.specs.Rows.{rowNames, Row, lineBytes}
 use Rattle.card_entry.proofs.Rows.{organizations}
-use Rattle.card_map.specs.declared.Lines.{Lines}
-use Rattle.card_map.specs.declared.Lines.the-variants.{All, Wrong}
+use Rattle.to_card_lines.specs.declared.Lines.{Lines}
+use Rattle.to_card_lines.specs.declared.Lines.the-variants.{All, Wrong}
 use Rattle.card_map.specs.Maps.{linesOf, carriedAll, LinesAs}
-use Rattle.card_map.proofs.Laws.{fills-none, fills-as}
-use Rattle.card_maps.specs.Seven.{linesBytes, valueAs, PutsNth, MapsAs, PutsMaps}
+use Rattle.to_card_lines.specs.Lines.{lineBytes as lineBytesOf, linesBytes}
+use Rattle.to_card_lines.proofs.Laws.{lines-none, lines-append, fills-none, fills-as}
+use Rattle.card_maps.specs.Seven.{valueAs, PutsNth, MapsAs, PutsMaps}
 
 -- ---- rows
 
@@ -62,23 +63,14 @@ slot-map k l ms =
 
 -- ---- lines
 
-lines-append : (xs ys : List Line) → linesBytes (xs ++ ys) ≡ linesBytes xs ++ linesBytes ys
-unfolding linesBytes flat
-lines-append [] ys = refl
-lines-append (a ∷ xs) ys = ap (λ (l : Bytes). (fold (writeLine a) ++ (13 ∷ 10 ∷ [])) ++ l) (lines-append xs ys) ∙ sym (append-assoc (fold (writeLine a) ++ (13 ∷ 10 ∷ [])) (linesBytes xs) (linesBytes ys))
-
 lines-are : (m : Map) (es : List Entry) → linesOf m es ≡ linesBytes (map (entryLine m) es)
-unfolding linesOf linesBytes lineBytes flat
+unfolding linesOf linesBytes lineBytes lineBytesOf flat
 lines-are m [] = refl
 lines-are m (e ∷ es) = ap (λ (l : Bytes). (fold (writeLine (entryLine m e)) ++ (13 ∷ 10 ∷ [])) ++ l) (lines-are m es)
 
 count-are : (m : Map) (es : List Entry) → length es ≡ length (map (entryLine m) es)
 count-are m [] = refl
 count-are m (e ∷ es) = ap suc (count-are m es)
-
-no-lines : linesBytes [] ≡ []
-unfolding linesBytes flat
-no-lines = refl
 
 each-end : (ms : List Member) → each (mapFrom ms) [] ≡ some []
 unfolding each
@@ -147,7 +139,7 @@ abbrev pub Going : Bytes → List ℕ → Bytes → ℕ → ℕ → ℕ → Bool
 Going s slots room k n lines ok out = (ms : List Member) → Indexed 15 s reserved slots ms → Far s slots room k n lines ok out ms
 
 pub going-first : (s : Bytes) (slots : List ℕ) (room : Bytes) → Going s slots room 0 0 0 true room
-going-first s slots room ms i = record { done = []; left = left-first ms; fills = fills-as (sym no-lines) (fills-none room); is-lines = refl }
+going-first s slots room ms i = record { done = []; left = left-first ms; fills = fills-as (sym lines-none) (fills-none room); is-lines = refl }
 
 not-all : {n k : ℕ} {c : Bool} → Wrong ≡ All n k c → ⊥
 not-all e = let z : _≡_ {A = ℕ} 0 1 = cc in omega arith

@@ -17,13 +17,10 @@ use Rattle.convert.specs.Model.{Entry}
 use Rattle.convert.specs.FromJson.{entryFrom, mapFrom}
 use Rattle.convert.specs.Carry.{carriedMaps}
 use Rattle.convert.specs.ToCard.{mapsLines}
-use Rattle.card_map.specs.declared.Lines.{Lines}
-use Rattle.card_map.specs.declared.Lines.the-variants.{All, Wrong}
+use Rattle.to_card_lines.specs.Lines.{linesBytes}
+use Rattle.to_card_lines.specs.declared.Lines.{Lines}
+use Rattle.to_card_lines.specs.declared.Lines.the-variants.{All, Wrong}
 use Rattle.card_map.specs.Maps.{LinesAs}
-
--- the lines of a part of a card, each folded and with its end
-unfoldable pub linesBytes : List Line → Bytes
-linesBytes ls = flat (map (λ l. fold (writeLine l) ++ (13 ∷ 10 ∷ [])) ls)
 
 -- the value in a slot as a map
 abbrev pub valueAs : Map → Option Json → Option (List Entry)

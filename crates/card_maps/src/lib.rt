@@ -1,6 +1,6 @@
 // The seven maps of a JSON card as lines, one after the other in the table's order. A row of the table is data: an eighth map is one more row here.
-use card_map::Lines;
 use card_map::put_map;
+use to_card_lines::Lines;
 ghost use mathlib.Core.Path.{_≡_};
 ghost use Prim.Native.Nat.{_≤_};
 ghost use lib.ListN.{length};

@@ -1,0 +1,208 @@
+use denote.Ref.{now}
+use native.Mathlib.Omega.{arith}
+use mathlib.Core.Path.{sym, ap, subst, _∙_}
+use borrow.Author.Needs.{needs}
+use borrow.Rule.Slice.PartMut.{putMid}
+use Prim.Native.Nat.{ℕ, _+_, _-_}
+use lib.ListN.{length}
+use Rattle.to_card_lines.proofs.Laws.{lines-in, part-length, part-in}
+use Rattle.to_card_lines.specs.declared.Lines.the-variants.{All}
+use mathlib.Core.Bool.{_&&_}
+use Rattle.to_card_card.specs.Whole.{few, PutsLast}
+use Rattle.to_card_card.proofs.Steps.{last-first, last-second, last-all}
+use Rattle.to_card_card.proofs.put_last.Statement.{statement}
+use Rattle.to_card_card.proofs.put_last.Tie as tie
+use Rattle.to_card_card.proofs.put_last.Reads as reads
+use Rattle.to_card_card.proofs.put_last.Lts as lts
+use Rattle.to_card_card.proofs.up_to.Reads as up-to-reads
+use Rattle.to_card_kept.proofs.put_kept.Reads as put-kept-reads
+use Rattle.to_card_members.proofs.put_members.Reads as put-members-reads
+
+-- src/lib.rt:61:31
+put-members-requires : tie.Need-put-members-requires
+put-members-requires c κs = search needs
+
+-- src/lib.rt:61:20
+enum-known-n : tie.Need-enum-known-n
+enum-known-n c = search needs
+
+-- src/lib.rt:62:9
+enum-told : tie.Need-enum-told
+enum-told c = search needs
+
+-- src/lib.rt:62:9
+same-length : tie.Need-same-length
+same-length c = search needs
+
+-- src/lib.rt:62:9
+same-length-2 : tie.Need-same-length-2
+same-length-2 c = search needs
+
+-- src/lib.rt:62:9
+returns : tie.Need-returns
+returns c =
+    let args = c .before .before .before .before .before .before .before .before .before .before .before .before .before .before .before .before .args in
+    let put-members = c .before .before .before .before .before .before .put-members in (
+      tt,
+      (put-members .ensures .1 .0, last-first (now (args .s)) (now (args .slots)) (args .full) (args .parts) (now (args .out)) (put-members .result) (put-members .last .0) (put-members .ensures .1 .1) (c .enum-told .given .1) (put-members .last .0)),
+    )
+
+-- src/lib.rt:64:40
+sub-put-kept : tie.Need-sub-put-kept
+sub-put-kept c =
+    let put-members = c .before .before .before .before .before .before .before .put-members in
+    omega (arith, lines-in (put-members .ensures .0) (c .before .n .given .1), put-members .ensures .1 .0)
+
+-- src/lib.rt:64:40
+part-put-kept-start : tie.Need-part-put-kept-start
+part-put-kept-start c =
+    let put-members = c .before .before .before .before .before .before .before .put-members in
+    omega (arith, lines-in (put-members .ensures .0) (c .before .n .given .1), put-members .ensures .1 .0)
+
+-- src/lib.rt:64:40
+part-put-kept-end : tie.Need-part-put-kept-end
+part-put-kept-end c = search needs
+
+-- src/lib.rt:64:31
+put-kept-requires : tie.Need-put-kept-requires
+put-kept-requires c κs = search needs
+
+-- src/lib.rt:64:20
+enum-known-m : tie.Need-enum-known-m
+enum-known-m c = search needs
+
+-- src/lib.rt:65:9
+enum-told-2 : tie.Need-enum-told-2
+enum-told-2 c = search needs
+
+-- src/lib.rt:65:9
+same-length-3 : tie.Need-same-length-3
+same-length-3 c = search needs
+
+-- src/lib.rt:65:9
+same-length-4 : tie.Need-same-length-4
+same-length-4 c = search needs
+
+-- src/lib.rt:65:9
+same-length-5 : tie.Need-same-length-5
+same-length-5 c = search needs
+
+-- src/lib.rt:65:9
+same-length-6 : tie.Need-same-length-6
+same-length-6 c = search needs
+
+-- src/lib.rt:65:9
+same-length-7 : tie.Need-same-length-7
+same-length-7 c = search needs
+
+-- src/lib.rt:65:9
+returns-2 : tie.Need-returns-2
+returns-2 c =
+    let args = c .before .before .before .before .before .before .before .before .before .before .before .before .before .before .before .before .before .before .before .before .before .before .before .before .before .before .before .before .before .before .before .before .args in
+    let put-members = c .before .before .before .before .before .before .before .before .before .before .before .before .before .before .before .before .before .before .before .before .before .before .put-members in
+    let n = c .before .before .before .before .before .before .before .before .before .before .before .before .before .before .before .before .n in
+    let put-kept = c .before .before .before .before .before .before .before .before .before .before .put-kept in (
+      tt,
+      (part-length (n .given .0 .0) (put-members .last .0) (put-kept .last .0) (omega (arith, lines-in (put-members .ensures .0) (n .given .1), put-members .ensures .1 .0)) (put-kept .ensures .1 .0) ∙ (put-members .ensures .1 .0), last-second (now (args .s)) (now (args .slots)) (args .full) (args .parts) (now (args .out)) (put-members .result) (put-members .last .0) (put-members .ensures .1 .1) (n .given .0 .0) (n .given .0 .1 .0) (n .given .0 .1 .1 .0) (n .given .1) (put-kept .result) (put-kept .last .0) (put-kept .ensures .1 .1) (c .enum-told2 .given .1) _),
+    )
+
+-- src/lib.rt:67:17
+add-bytes : tie.Need-add-bytes
+add-bytes c =
+    let good = c .before .before .before .before .before .before .before .before .before .before .before .before .before .before .before .before .before .before .before .before .before .before .before .before .before .before .before .before .before .before .before .before .before .good in
+    let put-members = c .before .before .before .before .before .before .before .before .before .before .before .before .before .before .before .before .before .before .before .before .before .before .before .put-members in
+    let n = c .before .before .before .before .before .before .before .before .before .before .before .before .before .before .before .before .before .n in
+    let put-kept = c .before .before .before .before .before .before .before .before .before .before .before .put-kept in
+    record {
+      fits = omega (
+        arith,
+        part-in (n .given .0 .0) (put-members .last .0) (omega (arith, lines-in (put-members .ensures .0) (n .given .1), put-members .ensures .1 .0)) (lines-in (put-kept .ensures .0) (c .before .m .given .1)),
+        put-members .ensures .1 .0,
+        good .0 .0,
+      );
+    }
+
+-- src/lib.rt:68:23
+up-to-requires : tie.Need-up-to-requires
+up-to-requires c κs = search needs
+
+-- src/lib.rt:68:34
+up-to-requires-2 : tie.Need-up-to-requires-2
+up-to-requires-2 c κs = search needs
+
+-- src/lib.rt:68:23
+add-up-to : tie.Need-add-up-to
+add-up-to c = search needs
+
+-- src/lib.rt:68:9
+up-to-requires-3 : tie.Need-up-to-requires-3
+up-to-requires-3 c κs = search needs
+
+-- src/lib.rt:44:1
+same-length-8 : tie.Need-same-length-8
+same-length-8 c = search needs
+
+-- src/lib.rt:44:1
+same-length-9 : tie.Need-same-length-9
+same-length-9 c = search needs
+
+-- src/lib.rt:44:1
+same-length-10 : tie.Need-same-length-10
+same-length-10 c = search needs
+
+-- src/lib.rt:44:1
+same-length-11 : tie.Need-same-length-11
+same-length-11 c = search needs
+
+-- src/lib.rt:44:1
+same-length-12 : tie.Need-same-length-12
+same-length-12 c = search needs
+
+-- src/lib.rt:44:1
+returns-3 : tie.Need-returns-3
+returns-3 c =
+    let args = c .before .before .before .before .before .before .before .before .before .before .before .before .before .before .before .before .before .before .before .before .before .before .before .before .before .before .before .before .before .before .before .before .before .before .before .before .args in
+    let put-members = c .before .before .before .before .before .before .before .before .before .before .before .before .before .before .before .before .before .before .before .before .before .before .before .before .before .before .put-members in
+    let n = c .before .before .before .before .before .before .before .before .before .before .before .before .before .before .before .before .before .before .before .before .n in
+    let put-kept = c .before .before .before .before .before .before .before .before .before .before .before .before .before .before .put-kept in
+    let m = c .before .before .before .before .m in
+    let up-to2 = c .before .up-to2 in
+    let counted = c .up-to3 .ensures ∙ ap (λ (k : ℕ). few (k + (up-to2 .result))) (c .before .before .up-to .ensures) ∙ ap
+    (λ (k : ℕ). few (few (n .given .0 .1 .0) + k)) (up-to2 .ensures) in (
+      (omega (arith, part-in (n .given .0 .0) (put-members .last .0) (omega (arith, lines-in (put-members .ensures .0) (n .given .1), put-members .ensures .1 .0)) (lines-in (put-kept .ensures .0) (m .given .1)), put-members .ensures .1 .0), omega (arith, c .up-to3 .ensures)),
+      (part-length (n .given .0 .0) (put-members .last .0) (put-kept .last .0) (omega (arith, lines-in (put-members .ensures .0) (n .given .1), put-members .ensures .1 .0)) (put-kept .ensures .1 .0) ∙ (put-members .ensures .1 .0), subst (λ (k : ℕ). PutsLast (now (args .s)) (now (args .slots)) (args .full) (args .parts) (now (args .out)) (All (n .given .0 .0 + (m .given .0 .0)) k (n .given .0 .1 .1 .0 && (m .given .0 .1 .1 .0))) (putMid (n .given .0 .0) (length (put-members .last .0) - (n .given .0 .0)) (put-members .last .0) (put-kept .last .0))) (sym counted) (last-all (now (args .s)) (now (args .slots)) (args .full) (args .parts) (now (args .out)) (put-members .result) (put-members .last .0) (put-members .ensures .1 .1) (n .given .0 .0) (n .given .0 .1 .0) (n .given .0 .1 .1 .0) (n .given .1) (put-kept .result) (put-kept .last .0) (put-kept .ensures .1 .1) (m .given .0 .0) (m .given .0 .1 .0) (m .given .0 .1 .1 .0) (m .given .1))),
+    )
+
+pub put-last-spec : {M : Type 1} → statement M
+put-last-spec =
+    tie.close
+    (tie.spec
+    put-members-requires
+    enum-known-n
+    enum-told
+    same-length
+    same-length-2
+    returns
+    sub-put-kept
+    part-put-kept-start
+    part-put-kept-end
+    put-kept-requires
+    enum-known-m
+    enum-told-2
+    same-length-3
+    same-length-4
+    same-length-5
+    same-length-6
+    same-length-7
+    returns-2
+    add-bytes
+    up-to-requires
+    up-to-requires-2
+    add-up-to
+    up-to-requires-3
+    same-length-8
+    same-length-9
+    same-length-10
+    same-length-11
+    same-length-12
+    returns-3)

@@ -1,0 +1,282 @@
+use denote.Ref.{now}
+use native.Mathlib.Omega.{arith}
+use mathlib.Core.Path.{sym, ap, subst, _∙_}
+use mathlib.Core.Bool.{_&&_}
+use borrow.Author.Needs.{needs}
+use borrow.Rule.Slice.PartMut.{putMid}
+use Prim.Native.Nat.{ℕ, _+_, _-_}
+use lib.ListN.{length}
+use Rattle.to_card_lines.proofs.Laws.{lines-in, part-length, part-in, fills-in, fills-length}
+use Rattle.to_card_lines.specs.declared.Lines.the-variants.{All}
+use Rattle.to_card_card.specs.Whole.{few, PutsWhole}
+use Rattle.to_card_card.proofs.Joining.{few-at}
+use Rattle.to_card_card.proofs.Whole.{whole-first, whole-second, whole-all}
+use Rattle.to_card_card.proofs.put_whole.Statement.{statement}
+use Rattle.to_card_card.proofs.put_whole.Tie as tie
+use Rattle.to_card_card.proofs.put_whole.Reads as reads
+use Rattle.to_card_card.proofs.put_whole.Lts as lts
+use Rattle.line_pen.proofs.fill.Reads as fill-reads
+use Rattle.to_card_card.proofs.put_body.Reads as put-body-reads
+use Rattle.to_card_card.proofs.up_to.Reads as up-to-reads
+use Rattle.to_card_head.proofs.put_head.Reads as put-head-reads
+
+-- src/lib.rt:152:16
+shared-slice-read-card : tie.Need-shared-slice-read-card
+shared-slice-read-card c = search needs
+
+-- src/lib.rt:153:19
+shared-slice-read-version : tie.Need-shared-slice-read-version
+shared-slice-read-version c = search needs
+
+-- src/lib.rt:154:15
+shared-slice-read-uid : tie.Need-shared-slice-read-uid
+shared-slice-read-uid c = search needs
+
+-- src/lib.rt:155:16
+shared-slice-read-kind : tie.Need-shared-slice-read-kind
+shared-slice-read-kind c = search needs
+
+-- src/lib.rt:156:31
+put-head-requires : tie.Need-put-head-requires
+put-head-requires c κs = search needs
+
+-- src/lib.rt:156:20
+enum-known-n : tie.Need-enum-known-n
+enum-known-n c = search needs
+
+-- src/lib.rt:157:9
+enum-told : tie.Need-enum-told
+enum-told c = search needs
+
+-- src/lib.rt:157:9
+same-length : tie.Need-same-length
+same-length c = search needs
+
+-- src/lib.rt:157:9
+returns : tie.Need-returns
+returns c =
+    let args = c .before .before .before .before .before .before .before .before .before .before .before .before .before .before .before .before .before .args in
+    let put-head = c .before .before .before .before .put-head in (
+      tt,
+      (put-head .ensures .1 .0, whole-first (now (args .s)) (now (args .slots)) (now (args .out)) (put-head .result) (put-head .last .0) (put-head .ensures .1 .1) (c .enum-told .given .1) (put-head .last .0)),
+    )
+
+-- src/lib.rt:159:40
+sub-put-body : tie.Need-sub-put-body
+sub-put-body c =
+    let put-head = c .before .before .before .before .before .put-head in
+    omega (arith, lines-in (put-head .ensures .0) (c .before .n .given .1), put-head .ensures .1 .0)
+
+-- src/lib.rt:159:40
+part-put-body-start : tie.Need-part-put-body-start
+part-put-body-start c =
+    let put-head = c .before .before .before .before .before .put-head in
+    omega (arith, lines-in (put-head .ensures .0) (c .before .n .given .1), put-head .ensures .1 .0)
+
+-- src/lib.rt:159:40
+part-put-body-end : tie.Need-part-put-body-end
+part-put-body-end c = search needs
+
+-- src/lib.rt:159:31
+put-body-requires : tie.Need-put-body-requires
+put-body-requires c κs = search needs
+
+-- src/lib.rt:159:20
+enum-known-m : tie.Need-enum-known-m
+enum-known-m c = search needs
+
+-- src/lib.rt:160:9
+enum-told-2 : tie.Need-enum-told-2
+enum-told-2 c = search needs
+
+-- src/lib.rt:160:9
+same-length-2 : tie.Need-same-length-2
+same-length-2 c = search needs
+
+-- src/lib.rt:160:9
+same-length-3 : tie.Need-same-length-3
+same-length-3 c = search needs
+
+-- src/lib.rt:160:9
+same-length-4 : tie.Need-same-length-4
+same-length-4 c = search needs
+
+-- src/lib.rt:160:9
+same-length-5 : tie.Need-same-length-5
+same-length-5 c = search needs
+
+-- src/lib.rt:160:9
+same-length-6 : tie.Need-same-length-6
+same-length-6 c = search needs
+
+-- src/lib.rt:160:9
+returns-2 : tie.Need-returns-2
+returns-2 c =
+    let args = c .before .before .before .before .before .before .before .before .before .before .before .before .before .before .before .before .before .before .before .before .before .before .before .before .before .before .before .before .before .before .before .before .before .before .before .before .args in
+    let put-head = c .before .before .before .before .before .before .before .before .before .before .before .before .before .before .before .before .before .before .before .before .before .before .before .put-head in
+    let n = c .before .before .before .before .before .before .before .before .before .before .before .before .before .before .before .before .before .before .before .n in
+    let put-body = c .before .before .before .before .before .before .before .before .before .before .before .before .put-body in (
+      tt,
+      (part-length (n .given .0 .0) (put-head .last .0) (put-body .last .0) (omega (arith, lines-in (put-head .ensures .0) (n .given .1), put-head .ensures .1 .0)) (put-body .ensures .1 .0) ∙ (put-head .ensures .1 .0), whole-second (now (args .s)) (now (args .slots)) (now (args .out)) (put-head .result) (put-head .last .0) (put-head .ensures .1 .1) (n .given .0 .0) (n .given .0 .1 .0) (n .given .0 .1 .1 .0) (n .given .1) (put-body .result) (put-body .last .0) (put-body .ensures .1 .1) (c .enum-told2 .given .1) _),
+    )
+
+-- src/lib.rt:162:13
+add-e : tie.Need-add-e
+add-e c =
+    let good = c .before .before .before .before .before .before .before .before .before .before .before .before .before .before .before .before .before .before .before .before .before .before .before .before .before .before .before .before .before .before .before .before .before .before .before .before .before .good in
+    let put-head = c .before .before .before .before .before .before .before .before .before .before .before .before .before .before .before .before .before .before .before .before .before .before .before .before .put-head in
+    let n = c .before .before .before .before .before .before .before .before .before .before .before .before .before .before .before .before .before .before .before .before .n in
+    let put-body = c .before .before .before .before .before .before .before .before .before .before .before .before .before .put-body in
+    record {
+      fits = omega (
+        arith,
+        part-in (n .given .0 .0) (put-head .last .0) (omega (arith, lines-in (put-head .ensures .0) (n .given .1), put-head .ensures .1 .0)) ((few-at (put-body .ensures .0) (c .before .m .given .1)) .0),
+        put-head .ensures .1 .0,
+        good .0 .0,
+      );
+    }
+
+-- src/lib.rt:163:18
+sub-fill : tie.Need-sub-fill
+sub-fill c =
+    let put-head = c .before .before .before .before .before .before .before .before .before .before .before .before .before .before .before .before .before .before .before .before .before .before .before .before .put-head in
+    let n = c .before .before .before .before .before .before .before .before .before .before .before .before .before .before .before .before .before .before .before .before .n in
+    let put-body = c .before .before .before .before .before .before .before .before .before .before .before .before .before .put-body in
+    omega (
+      arith,
+      part-in (n .given .0 .0) (put-head .last .0) (omega (arith, lines-in (put-head .ensures .0) (n .given .1), put-head .ensures .1 .0)) ((few-at (put-body .ensures .0) (c .before .m .given .1)) .0),
+      part-length (n .given .0 .0) (put-head .last .0) (put-body .last .0) (omega (arith, lines-in (put-head .ensures .0) (n .given .1), put-head .ensures .1 .0)) (put-body .ensures .1 .0),
+    )
+
+-- src/lib.rt:163:18
+part-fill-start : tie.Need-part-fill-start
+part-fill-start c =
+    let put-head = c .before .before .before .before .before .before .before .before .before .before .before .before .before .before .before .before .before .before .before .before .before .before .before .before .put-head in
+    let n = c .before .before .before .before .before .before .before .before .before .before .before .before .before .before .before .before .before .before .before .before .n in
+    let put-body = c .before .before .before .before .before .before .before .before .before .before .before .before .before .put-body in
+    omega (
+      arith,
+      part-in (n .given .0 .0) (put-head .last .0) (omega (arith, lines-in (put-head .ensures .0) (n .given .1), put-head .ensures .1 .0)) ((few-at (put-body .ensures .0) (c .before .m .given .1)) .0),
+      part-length (n .given .0 .0) (put-head .last .0) (put-body .last .0) (omega (arith, lines-in (put-head .ensures .0) (n .given .1), put-head .ensures .1 .0)) (put-body .ensures .1 .0),
+    )
+
+-- src/lib.rt:163:18
+part-fill-end : tie.Need-part-fill-end
+part-fill-end c = search needs
+
+-- src/lib.rt:163:33
+slice-aggregate-fill : tie.Need-slice-aggregate-fill
+slice-aggregate-fill c = search needs
+
+-- src/lib.rt:163:9
+fill-requires : tie.Need-fill-requires
+fill-requires c κs = search needs
+
+-- src/lib.rt:164:17
+add-bytes : tie.Need-add-bytes
+add-bytes c =
+    let good = c .before .before .before .before .before .before .before .before .before .before .before .before .before .before .before .before .before .before .before .before .before .before .before .before .before .before .before .before .before .before .before .before .before .before .before .before .before .before .before .before .before .before .good in
+    let put-head = c .before .before .before .before .before .before .before .before .before .before .before .before .before .before .before .before .before .before .before .before .before .before .before .before .before .before .before .before .before .put-head in
+    let n = c .before .before .before .before .before .before .before .before .before .before .before .before .before .before .before .before .before .before .before .before .before .before .before .before .before .n in
+    let put-body = c .before .before .before .before .before .before .before .before .before .before .before .before .before .before .before .before .before .before .put-body in
+    let m = c .before .before .before .before .before .before .m in
+    record {
+      fits = omega (
+        arith,
+        part-in (n .given .0 .0 + (m .given .0 .0)) (putMid (n .given .0 .0) (length (put-head .last .0) - (n .given .0 .0)) (put-head .last .0) (put-body .last .0)) (omega (arith, part-in (n .given .0 .0) (put-head .last .0) (omega (arith, lines-in (put-head .ensures .0) (n .given .1), put-head .ensures .1 .0)) ((few-at (put-body .ensures .0) (m .given .1)) .0), part-length (n .given .0 .0) (put-head .last .0) (put-body .last .0) (omega (arith, lines-in (put-head .ensures .0) (n .given .1), put-head .ensures .1 .0)) (put-body .ensures .1 .0))) (fills-in (c .before .before .fill .ensures)),
+        part-length (n .given .0 .0) (put-head .last .0) (put-body .last .0) (omega (arith, lines-in (put-head .ensures .0) (n .given .1), put-head .ensures .1 .0)) (put-body .ensures .1 .0),
+        put-head .ensures .1 .0,
+        good .0 .0,
+      );
+    }
+
+-- src/lib.rt:165:23
+up-to-requires : tie.Need-up-to-requires
+up-to-requires c κs = search needs
+
+-- src/lib.rt:165:23
+add-up-to : tie.Need-add-up-to
+add-up-to c =
+    let put-body = c .before .before .before .before .before .before .before .before .before .before .before .before .before .before .before .before .before .before .before .put-body in
+    let m = c .before .before .before .before .before .before .before .m in
+    record { fits = omega (arith, c .up-to .ensures, (few-at (put-body .ensures .0) (m .given .1)) .1) }
+
+-- src/lib.rt:165:9
+up-to-requires-2 : tie.Need-up-to-requires-2
+up-to-requires-2 c κs = search needs
+
+-- src/lib.rt:137:1
+same-length-7 : tie.Need-same-length-7
+same-length-7 c = search needs
+
+-- src/lib.rt:137:1
+same-length-8 : tie.Need-same-length-8
+same-length-8 c = search needs
+
+-- src/lib.rt:137:1
+same-length-9 : tie.Need-same-length-9
+same-length-9 c = search needs
+
+-- src/lib.rt:137:1
+same-length-10 : tie.Need-same-length-10
+same-length-10 c = search needs
+
+-- src/lib.rt:137:1
+same-length-11 : tie.Need-same-length-11
+same-length-11 c = search needs
+
+-- src/lib.rt:137:1
+returns-3 : tie.Need-returns-3
+returns-3 c =
+    let args = c .before .before .before .before .before .before .before .before .before .before .before .before .before .before .before .before .before .before .before .before .before .before .before .before .before .before .before .before .before .before .before .before .before .before .before .before .before .before .before .before .before .before .before .before .args in
+    let put-head = c .before .before .before .before .before .before .before .before .before .before .before .before .before .before .before .before .before .before .before .before .before .before .before .before .before .before .before .before .before .before .before .put-head in
+    let n = c .before .before .before .before .before .before .before .before .before .before .before .before .before .before .before .before .before .before .before .before .before .before .before .before .before .before .before .n in
+    let put-body = c .before .before .before .before .before .before .before .before .before .before .before .before .before .before .before .before .before .before .before .before .put-body in
+    let m = c .before .before .before .before .before .before .before .before .m in
+    let fill = c .before .before .before .before .fill in
+    let counted = c .up-to2 .ensures ∙ ap (λ (k : ℕ). few (k + (m .given .0 .1 .0))) (c .before .up-to .ensures) in (
+      (omega (arith, part-in (n .given .0 .0 + (m .given .0 .0)) (putMid (n .given .0 .0) (length (put-head .last .0) - (n .given .0 .0)) (put-head .last .0) (put-body .last .0)) (omega (arith, part-in (n .given .0 .0) (put-head .last .0) (omega (arith, lines-in (put-head .ensures .0) (n .given .1), put-head .ensures .1 .0)) ((few-at (put-body .ensures .0) (m .given .1)) .0), part-length (n .given .0 .0) (put-head .last .0) (put-body .last .0) (omega (arith, lines-in (put-head .ensures .0) (n .given .1), put-head .ensures .1 .0)) (put-body .ensures .1 .0))) (fills-in (fill .ensures)), part-length (n .given .0 .0) (put-head .last .0) (put-body .last .0) (omega (arith, lines-in (put-head .ensures .0) (n .given .1), put-head .ensures .1 .0)) (put-body .ensures .1 .0), put-head .ensures .1 .0), omega (arith, c .up-to2 .ensures)),
+      (part-length (n .given .0 .0 + (m .given .0 .0)) (putMid (n .given .0 .0) (length (put-head .last .0) - (n .given .0 .0)) (put-head .last .0) (put-body .last .0)) (fill .last .0) (omega (arith, part-in (n .given .0 .0) (put-head .last .0) (omega (arith, lines-in (put-head .ensures .0) (n .given .1), put-head .ensures .1 .0)) ((few-at (put-body .ensures .0) (m .given .1)) .0), part-length (n .given .0 .0) (put-head .last .0) (put-body .last .0) (omega (arith, lines-in (put-head .ensures .0) (n .given .1), put-head .ensures .1 .0)) (put-body .ensures .1 .0))) (fills-length (fill .ensures)) ∙ (part-length (n .given .0 .0) (put-head .last .0) (put-body .last .0) (omega (arith, lines-in (put-head .ensures .0) (n .given .1), put-head .ensures .1 .0)) (put-body .ensures .1 .0) ∙ (put-head .ensures .1 .0)), subst (λ (k : ℕ). PutsWhole (now (args .s)) (now (args .slots)) (now (args .out)) (All (n .given .0 .0 + (m .given .0 .0) + (fill .result)) k (n .given .0 .1 .1 .0 && (m .given .0 .1 .1 .0))) (putMid (n .given .0 .0 + (m .given .0 .0)) (length (putMid (n .given .0 .0) (length (put-head .last .0) - (n .given .0 .0)) (put-head .last .0) (put-body .last .0)) - (n .given .0 .0 + (m .given .0 .0))) (putMid (n .given .0 .0) (length (put-head .last .0) - (n .given .0 .0)) (put-head .last .0) (put-body .last .0)) (fill .last .0))) (sym counted) (whole-all (now (args .s)) (now (args .slots)) (now (args .out)) (put-head .result) (put-head .last .0) (put-head .ensures .1 .1) (n .given .0 .0) (n .given .0 .1 .0) (n .given .0 .1 .1 .0) (n .given .1) (put-body .result) (put-body .last .0) (put-body .ensures .1 .1) (m .given .0 .0) (m .given .0 .1 .0) (m .given .0 .1 .1 .0) (m .given .1) (fill .result) (fill .last .0) (fill .ensures))),
+    )
+
+pub put-whole-spec : {M : Type 1} → statement M
+put-whole-spec =
+    tie.close
+    (tie.spec
+    shared-slice-read-card
+    shared-slice-read-version
+    shared-slice-read-uid
+    shared-slice-read-kind
+    put-head-requires
+    enum-known-n
+    enum-told
+    same-length
+    returns
+    sub-put-body
+    part-put-body-start
+    part-put-body-end
+    put-body-requires
+    enum-known-m
+    enum-told-2
+    same-length-2
+    same-length-3
+    same-length-4
+    same-length-5
+    same-length-6
+    returns-2
+    add-e
+    sub-fill
+    part-fill-start
+    part-fill-end
+    slice-aggregate-fill
+    fill-requires
+    add-bytes
+    up-to-requires
+    add-up-to
+    up-to-requires-2
+    same-length-7
+    same-length-8
+    same-length-9
+    same-length-10
+    same-length-11
+    returns-3)

@@ -1,0 +1,196 @@
+// The whole card from JSON that was read as sound: its sections one after the other, each lent the rest of the room.
+use card_maps::put_maps;
+use json_index::index_object;
+use line_pen::fill;
+use to_card_head::put_head;
+use to_card_kept::put_kept;
+use to_card_lines::Lines;
+use to_card_members::put_members;
+use to_card_name::put_name;
+ghost use mathlib.Core.Path.{_≡_};
+ghost use Prim.Native.Nat.{_≤_};
+ghost use lib.ListN.{length};
+ghost use Rattle.to_card_kept.specs.Kept.{Lent, LentText};
+ghost use Rattle.to_card_card.specs.Whole.{few, FewIn, TellsFull, PutsLast, PutsRest, PutsBody, PutsWhole, PutsCard};
+
+// 513 for every number over 512.
+fn up_to(n: usize) -> usize
+    ensures { λ r. ⌜ r ≡ few n ⌝ }
+{
+    if n > 512 {
+        return 513;
+    }
+    n
+}
+
+// Whether the name in a slot says a full name.
+fn has_full(s: &[u8], slot: usize) -> bool
+    ensures { λ r. ⌜ TellsFull (now (s .entry)) slot r ⌝ }
+{
+    if slot == 0 {
+        return false;
+    }
+    if slot > s.len() {
+        return false;
+    }
+    let mut full = [0usize; 2];
+    if !index_object(&mut full, s, slot, 14, b"full") {
+        return false;
+    }
+    full[0] != 0
+}
+
+// Other members, then the kept lines.
+fn put_last<'a, 'b, 'c, 'd, 'e, 'f, 'g>(
+    out: &'a mut [u8],
+    buffer: &'b mut [u8],
+    b: &'c mut [u8],
+    t: &'d mut [usize],
+    scratch: &'e mut [u8],
+    s: &'f [u8],
+    slots: &'g [usize],
+    full: bool,
+    parts: bool,
+) -> Lines
+    requires { ⌜ length (now out) ≤ length (now buffer) ⌝ }
+    requires { ⌜ Lent (now b) (now t) (now scratch) (now s) (now slots) ⌝ }
+    ensures { λ r. ⌜ FewIn (length (now (out .entry))) r ⌝ }
+    ensures { λ r. ⌜ length (now (out .exit)) ≡ length (now (out .entry)) ⌝ }
+    ensures { λ r. ⌜ PutsLast (now (s .entry)) (now (slots .entry)) full parts (now (out .entry)) r (now (out .exit)) ⌝ }
+{
+    let Lines::All(n, l, c) = put_members(out, buffer, s) else {
+        return Lines::Wrong;
+    };
+    let Lines::All(m, k, d) = put_kept(&mut out[n..], b, t, scratch, s, slots, full, parts) else {
+        return Lines::Wrong;
+    };
+    let bytes = n + m;
+    let lines = up_to(up_to(l) + up_to(k));
+    let ok = c & d;
+    Lines::All(bytes, lines, ok)
+}
+
+// The maps, then these.
+fn put_rest<'a, 'b, 'c, 'd, 'e, 'f, 'g>(
+    out: &'a mut [u8],
+    buffer: &'b mut [u8],
+    b: &'c mut [u8],
+    t: &'d mut [usize],
+    scratch: &'e mut [u8],
+    s: &'f [u8],
+    slots: &'g [usize],
+    full: bool,
+    parts: bool,
+) -> Lines
+    requires { ⌜ length (now out) ≤ length (now buffer) ⌝ }
+    requires { ⌜ Lent (now b) (now t) (now scratch) (now s) (now slots) ⌝ }
+    ensures { λ r. ⌜ FewIn (length (now (out .entry))) r ⌝ }
+    ensures { λ r. ⌜ length (now (out .exit)) ≡ length (now (out .entry)) ⌝ }
+    ensures { λ r. ⌜ PutsRest (now (s .entry)) (now (slots .entry)) full parts (now (out .entry)) r (now (out .exit)) ⌝ }
+{
+    let Lines::All(n, l, c) = put_maps(out, s, slots) else {
+        return Lines::Wrong;
+    };
+    let Lines::All(m, k, d) = put_last(&mut out[n..], buffer, b, t, scratch, s, slots, full, parts)
+    else {
+        return Lines::Wrong;
+    };
+    let bytes = n + m;
+    let lines = up_to(up_to(l) + k);
+    let ok = c & d;
+    Lines::All(bytes, lines, ok)
+}
+
+// The name, then these. Two lines of a name are FN and N.
+fn put_body<'a, 'b, 'c, 'd, 'e, 'f, 'g>(
+    out: &'a mut [u8],
+    buffer: &'b mut [u8],
+    b: &'c mut [u8],
+    t: &'d mut [usize],
+    scratch: &'e mut [u8],
+    s: &'f [u8],
+    slots: &'g [usize],
+) -> Lines
+    requires { ⌜ length (now out) ≤ length (now buffer) ⌝ }
+    requires { ⌜ Lent (now b) (now t) (now scratch) (now s) (now slots) ⌝ }
+    ensures { λ r. ⌜ FewIn (length (now (out .entry))) r ⌝ }
+    ensures { λ r. ⌜ length (now (out .exit)) ≡ length (now (out .entry)) ⌝ }
+    ensures { λ r. ⌜ PutsBody (now (s .entry)) (now (slots .entry)) (now (out .entry)) r (now (out .exit)) ⌝ }
+{
+    let name = slots[4];
+    let Lines::All(n, l, c) = put_name(out, s, name) else {
+        return Lines::Wrong;
+    };
+    let full = has_full(s, name);
+    let parts = l == 2;
+    let Lines::All(m, k, d) = put_rest(&mut out[n..], buffer, b, t, scratch, s, slots, full, parts)
+    else {
+        return Lines::Wrong;
+    };
+    let bytes = n + m;
+    let lines = up_to(up_to(l) + k);
+    let ok = c & d;
+    Lines::All(bytes, lines, ok)
+}
+
+// BEGIN and the head, then these and END, by the slots of the top-level members.
+fn put_whole<'a, 'b, 'c, 'd, 'e, 'f, 'g>(
+    out: &'a mut [u8],
+    buffer: &'b mut [u8],
+    b: &'c mut [u8],
+    t: &'d mut [usize],
+    scratch: &'e mut [u8],
+    s: &'f [u8],
+    slots: &'g [usize],
+) -> Lines
+    requires { ⌜ length (now out) ≤ length (now buffer) ⌝ }
+    requires { ⌜ Lent (now b) (now t) (now scratch) (now s) (now slots) ⌝ }
+    ensures { λ r. ⌜ FewIn (length (now (out .entry))) r ⌝ }
+    ensures { λ r. ⌜ length (now (out .exit)) ≡ length (now (out .entry)) ⌝ }
+    ensures { λ r. ⌜ PutsWhole (now (s .entry)) (now (slots .entry)) (now (out .entry)) r (now (out .exit)) ⌝ }
+{
+    let card = slots[0];
+    let version = slots[1];
+    let uid = slots[2];
+    let kind = slots[3];
+    let Lines::All(n, l, c) = put_head(out, s, card, version, uid, kind) else {
+        return Lines::Wrong;
+    };
+    let Lines::All(m, k, d) = put_body(&mut out[n..], buffer, b, t, scratch, s, slots) else {
+        return Lines::Wrong;
+    };
+    let e = n + m;
+    let z = fill(&mut out[e..], b"END:VCARD\r\n");
+    let bytes = e + z;
+    let lines = up_to(up_to(l) + k);
+    let ok = c & d;
+    Lines::All(bytes, lines, ok)
+}
+
+// The card of a sound JSON text: 12, or as much of it as the room holds.
+pub fn put_card<'a, 'b, 'c, 'd, 'e, 'f>(
+    out: &'a mut [u8],
+    buffer: &'b mut [u8],
+    b: &'c mut [u8],
+    t: &'d mut [usize],
+    scratch: &'e mut [u8],
+    s: &'f [u8],
+) -> Lines
+    requires { ⌜ length (now out) ≤ length (now buffer) ⌝ }
+    requires { ⌜ LentText (now b) (now t) (now scratch) (now s) ⌝ }
+    ensures { λ r. ⌜ FewIn (length (now (out .entry))) r ⌝ }
+    ensures { λ r. ⌜ length (now (out .exit)) ≡ length (now (out .entry)) ⌝ }
+    ensures { λ r. ⌜ PutsCard (now (s .entry)) (now (out .entry)) r (now (out .exit)) ⌝ }
+{
+    let mut slots = [0usize; 14];
+    if !index_object(
+        &mut slots,
+        s,
+        0,
+        15,
+        b"@type,version,uid,kind,name,nicknames,emails,phones,links,notes,titles,organizations,vCardProps",
+    ) {
+        return Lines::Wrong;
+    }
+    put_whole(out, buffer, b, t, scratch, s, &slots)
+}
