@@ -18,6 +18,9 @@ extern "C" {
 #define THYMEBARREL_JSON_BYTES 65536
 #define THYMEBARREL_CARD_BYTES 32768
 
+/* A stream's state is so many numbers that the caller keeps; all 0, it is the fresh state. */
+#define THYMEBARREL_STREAM_WORDS 7
+
 /* Refusals of a card, in the order in which they are sought. The place is the number of the first offending unfolded line (VERSION is 1) for 4, 5, 7, 8
  * and 9, else 0. */
 #define THYMEBARREL_CONVERTED 0
@@ -32,6 +35,10 @@ extern "C" {
 #define THYMEBARREL_NO_FN 10
 #define THYMEBARREL_OUTPUT_TOO_SHORT 14
 #define THYMEBARREL_BAD_STEM_OR_NUMBER 15 /* stem: 1 to 200 of A-Z a-z 0-9 : - _; number: 1 to 999,999 */
+/* Of a stream besides: */
+#define THYMEBARREL_MORE 255 /* no line answered */
+#define THYMEBARREL_CARD_LEFT_OPEN 2 /* a card met BEGIN or the end before END */
+#define THYMEBARREL_STREAM_UNFIT 16 /* card buffer or output too short, or a state out of its ranges (docs/STREAM.md) */
 
 /* Card to JSON. The JSON is written to the front of `out`; its length is put behind `written` and 0 is answered. A refused card is answered with its number, its
  * place behind `place`, and every byte of `out` is as it was. The stem and the number make the UID of a card that has none. THYMEBARREL_JSON_BYTES of
@@ -44,6 +51,26 @@ extern "C" {
  */
 uint8_t thymebarrel_card_to_json(const uint8_t *stem, size_t stem_length, size_t number, const uint8_t *card, size_t card_length, uint8_t *out,
                                  size_t out_length, size_t *place, size_t *written);
+
+/* A call of a stream of cards with a piece, which may be cut anywhere. It is read until a line answers, else all of it; how many bytes were consumed is put behind
+ * `consumed`, and the rest is handed in again. Answered are THYMEBARREL_MORE, THYMEBARREL_CONVERTED with the JSON at the front of `out` and its length behind `written`, or a
+ * refusal's number with its place behind `place`; every other byte of `out` is as it was. `state` is THYMEBARREL_STREAM_WORDS numbers; `buffer` holds the open card and is at
+ * least THYMEBARREL_CARD_BYTES, `out` at least THYMEBARREL_JSON_BYTES. State and buffer are the caller's to keep from call to call, and not to change; 15 and 16 consume and change nothing.
+ * No pointer may be null, but that of an empty text.
+ *
+ *     size_t state[THYMEBARREL_STREAM_WORDS] = {0}, consumed, place, written;
+ *     for (size_t at = 0; at < length; at += consumed) {
+ *       uint8_t number = thymebarrel_stream_step(state, 7, stem, stem_length, piece + at, length - at, buffer, sizeof buffer, out, sizeof out, &consumed, &place, &written);
+ *       if (number == THYMEBARREL_BAD_STEM_OR_NUMBER || number == THYMEBARREL_STREAM_UNFIT) break;
+ *       if (number == THYMEBARREL_CONVERTED) fwrite(out, 1, written, stdout);
+ *     }
+ */
+uint8_t thymebarrel_stream_step(size_t *state, size_t state_length, const uint8_t *stem, size_t stem_length, const uint8_t *piece, size_t piece_length,
+                                uint8_t *buffer, size_t buffer_length, uint8_t *out, size_t out_length, size_t *consumed, size_t *place, size_t *written);
+
+/* An end call of a stream: one LF is supposed, and nothing is consumed. At most two of them make the state fresh, all 0 again. */
+uint8_t thymebarrel_stream_end(size_t *state, size_t state_length, const uint8_t *stem, size_t stem_length, uint8_t *buffer, size_t buffer_length, uint8_t *out,
+                               size_t out_length, size_t *consumed, size_t *place, size_t *written);
 
 /* Where the value of the top-level member of that name begins in the JSON; its length is put behind `length`, 0 where there is none: where the text is
  * over THYMEBARREL_JSON_BYTES, is no JSON (RFC 8259, depth 16, no equal names in one object) or no object, or has no such member. Names are compared

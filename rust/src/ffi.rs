@@ -4,7 +4,7 @@
 //! length of that slice beside it, and no two of them overlap where one is
 //! written.
 
-use crate::Refusal;
+use crate::{Lent, Refusal, Said, Words};
 
 extern "C" {
     fn thymebarrel_card_to_json(
@@ -15,6 +15,36 @@ extern "C" {
         card_length: usize,
         out: *mut u8,
         out_length: usize,
+        place: *mut usize,
+        written: *mut usize,
+    ) -> u8;
+
+    fn thymebarrel_stream_step(
+        state: *mut usize,
+        state_length: usize,
+        stem: *const u8,
+        stem_length: usize,
+        piece: *const u8,
+        piece_length: usize,
+        buffer: *mut u8,
+        buffer_length: usize,
+        out: *mut u8,
+        out_length: usize,
+        consumed: *mut usize,
+        place: *mut usize,
+        written: *mut usize,
+    ) -> u8;
+
+    fn thymebarrel_stream_end(
+        state: *mut usize,
+        state_length: usize,
+        stem: *const u8,
+        stem_length: usize,
+        buffer: *mut u8,
+        buffer_length: usize,
+        out: *mut u8,
+        out_length: usize,
+        consumed: *mut usize,
         place: *mut usize,
         written: *mut usize,
     ) -> u8;
@@ -62,5 +92,57 @@ pub fn card_to_json(stem: &[u8], number: usize, card: &[u8], out: &mut [u8]) -> 
     match number {
         0 => Ok(written),
         number => Err(Refusal { number, place }),
+    }
+}
+
+/// What is said, and the bytes consumed.
+pub fn stream_step(state: &mut Words, stem: &[u8], piece: &[u8], lent: &mut Lent) -> (Said, usize) {
+    let (mut consumed, mut place, mut written) = (0, 0, 0);
+    let number = unsafe {
+        thymebarrel_stream_step(
+            state.as_mut_ptr(),
+            state.len(),
+            stem.as_ptr(),
+            stem.len(),
+            piece.as_ptr(),
+            piece.len(),
+            lent.buffer.as_mut_ptr(),
+            lent.buffer.len(),
+            lent.out.as_mut_ptr(),
+            lent.out.len(),
+            &mut consumed,
+            &mut place,
+            &mut written,
+        )
+    };
+    (said(number, place, written), consumed)
+}
+
+/// What an end call says.
+pub fn stream_end(state: &mut Words, stem: &[u8], lent: &mut Lent) -> (Said, usize) {
+    let (mut consumed, mut place, mut written) = (0, 0, 0);
+    let number = unsafe {
+        thymebarrel_stream_end(
+            state.as_mut_ptr(),
+            state.len(),
+            stem.as_ptr(),
+            stem.len(),
+            lent.buffer.as_mut_ptr(),
+            lent.buffer.len(),
+            lent.out.as_mut_ptr(),
+            lent.out.len(),
+            &mut consumed,
+            &mut place,
+            &mut written,
+        )
+    };
+    (said(number, place, written), consumed)
+}
+
+fn said(number: u8, place: usize, written: usize) -> Said {
+    match number {
+        255 => Said::More,
+        0 => Said::Json(written),
+        number => Said::Refused(Refusal { number, place }),
     }
 }

@@ -1,5 +1,5 @@
 //! The proved library that `rt staticlib thymebarrel` builds from the Rattle
-//! sources, for Rust. So far it has card to JSON and the look-up.
+//! sources, for Rust. So far it has card to JSON, the stream and the look-up.
 
 mod ffi;
 
@@ -29,6 +29,47 @@ pub fn card_to_json(stem: &[u8], number: usize, card: &[u8]) -> Result<Vec<u8>, 
     let length = card_to_json_into(stem, number, card, &mut out)?;
     out.truncate(length);
     Ok(out)
+}
+
+/// A stream's state as numbers.
+type Words = [usize; 7];
+
+/// What a call of a stream says: nothing yet, the length of the JSON at the front
+/// of the output, or a refusal.
+#[derive(Debug, Clone, Copy, PartialEq, Eq)]
+pub enum Said {
+    More,
+    Json(usize),
+    Refused(Refusal),
+}
+
+/// What a stream is lent by each call: the card buffer, at least `CARD_BYTES`, which
+/// holds the open card from call to call, and the output, at least `JSON_BYTES`.
+pub struct Lent<'a> {
+    pub buffer: &'a mut [u8],
+    pub out: &'a mut [u8],
+}
+
+/// A stream of cards, each to JSON, in pieces cut anywhere.
+#[derive(Debug, Clone, Default, PartialEq, Eq)]
+pub struct Stream(Words);
+
+impl Stream {
+    /// No card yet, no line begun.
+    pub fn fresh() -> Stream {
+        Stream::default()
+    }
+
+    /// Reads a piece until a line answers, else all of it: what is said, and the
+    /// bytes consumed. 15 and 16 consume nothing.
+    pub fn step(&mut self, stem: &[u8], piece: &[u8], lent: &mut Lent) -> (Said, usize) {
+        ffi::stream_step(&mut self.0, stem, piece, lent)
+    }
+
+    /// Supposes one LF. At most two such calls make the stream fresh.
+    pub fn end(&mut self, stem: &[u8], lent: &mut Lent) -> Said {
+        ffi::stream_end(&mut self.0, stem, lent).0
+    }
 }
 
 /// The value of the top-level member of that name, as that very part of `json`;

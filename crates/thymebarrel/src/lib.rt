@@ -6,10 +6,17 @@ ghost use Rattle.convert.specs.Answers.{cardToJson};
 ghost use Rattle.convert.specs.Served.{served};
 ghost use Rattle.json.specs.Lookup.{lookUp};
 ghost use Rattle.json_lookup.specs.Finds.{placeOf};
+ghost use Rattle.stream.specs.Calls.{piece as piece-call, end as end-call};
+ghost use Rattle.stream_machine.specs.Turn.{called};
 ghost use Rattle.thymebarrel.specs.Given.{partFrom, given};
+ghost use Rattle.thymebarrel.specs.Streamed.{bit, stateOf, rowAfter, told, outcomeTold, toldBy, callGiven, calledOf};
 use card_to_json::card_to_json;
 use json_lookup::locate;
 use served::Outcome;
+use stream_cards::Answered;
+use stream_cards::Said;
+use stream_cards::Stream;
+use stream_reader::State;
 
 // Card to JSON: answers the refusal number, 0 where the JSON stands at the front of `out`; the refusal's place and the JSON's length stand behind the last
 // two pointers.
@@ -51,4 +58,137 @@ pub extern "C" fn thymebarrel_member(json: &[u8], name: &[u8], length: &mut usiz
     let end = p.end;
     *length = end - start;
     start
+}
+
+// The state that a caller's seven numbers stand for; what are not seven are no state.
+fn state_in(row: &[usize]) -> State
+    ensures { λ r. ⌜ r ≡ stateOf (now (row .entry)) ⌝ }
+{
+    if row.len() != 7 {
+        return State {
+            number: 1000001,
+            inside: false,
+            len: 0,
+            col: 0,
+            begins: true,
+            ends: true,
+            blank: true,
+        };
+    }
+    State {
+        number: row[0],
+        inside: row[1] == 1,
+        len: row[2],
+        col: row[3],
+        begins: !(row[4] == 1),
+        ends: !(row[5] == 1),
+        blank: !(row[6] == 1),
+    }
+}
+
+fn bit_of(b: bool) -> usize
+    ensures { λ r. ⌜ r ≡ bit b ⌝ }
+{
+    if b { 1 } else { 0 }
+}
+
+// The state as the caller's seven numbers.
+fn put_state(row: &mut [usize], s: State)
+    ensures { λ _. ⌜ now (row .exit) ≡ rowAfter (now (row .entry)) s ⌝ }
+{
+    if row.len() != 7 {
+        return;
+    }
+    row[0] = s.number;
+    row[1] = bit_of(s.inside);
+    row[2] = s.len;
+    row[3] = s.col;
+    row[4] = bit_of(!s.begins);
+    row[5] = bit_of(!s.ends);
+    row[6] = bit_of(!s.blank);
+}
+
+fn tell_outcome(r: Outcome, place: &mut usize, written: &mut usize) -> u8
+    ensures { λ n. ⌜ told n (now (place .exit)) (now (written .exit)) ≡ outcomeTold r ⌝ }
+{
+    match r {
+        Outcome::Written(n) => {
+            *place = 0;
+            *written = n;
+            return 0;
+        }
+        Outcome::Refused {
+            number: k,
+            place: p,
+        } => {
+            *place = p;
+            *written = 0;
+            return k;
+        }
+    }
+}
+
+fn tell(said: Said, place: &mut usize, written: &mut usize) -> u8
+    ensures { λ n. ⌜ told n (now (place .exit)) (now (written .exit)) ≡ toldBy said ⌝ }
+{
+    match said {
+        Said::More => {
+            *place = 0;
+            *written = 0;
+            return 255;
+        }
+        Said::Answer(r) => {
+            return tell_outcome(r, place, written);
+        }
+    }
+}
+
+// A call of the stream with a piece: answers 255 for more, 0 where a JSON stands at the front of `out`, or the refusal number; the bytes consumed, the refusal's
+// place and the JSON's length stand behind the last three pointers.
+#[no_mangle]
+pub extern "C" fn thymebarrel_stream_step(
+    state: &mut [usize],
+    stem: &[u8],
+    piece: &[u8],
+    buffer: &mut [u8],
+    out: &mut [u8],
+    consumed: &mut usize,
+    place: &mut usize,
+    written: &mut usize,
+) -> u8
+    ensures { λ r. ⌜ callGiven (told r (now (place .exit)) (now (written .exit))) (now (consumed .exit)) (now (state .exit)) (now (buffer .exit)) (now (out .exit)) ≡ calledOf (called (piece-call (now (stem .entry)) (now (piece .entry))) (stateOf (now (state .entry))) (now (buffer .entry)) (now (out .entry))) ⌝ }
+{
+    let s = Stream {
+        state: state_in(state),
+    };
+    let a = s.step(stem, piece, buffer, out);
+    let next = a.next;
+    put_state(state, next.state);
+    *consumed = a.used;
+    let said = a.said;
+    tell(said, place, written)
+}
+
+// An end call of the stream; it consumes nothing.
+#[no_mangle]
+pub extern "C" fn thymebarrel_stream_end(
+    state: &mut [usize],
+    stem: &[u8],
+    buffer: &mut [u8],
+    out: &mut [u8],
+    consumed: &mut usize,
+    place: &mut usize,
+    written: &mut usize,
+) -> u8
+    ensures { λ r. ⌜ callGiven (told r (now (place .exit)) (now (written .exit))) (now (consumed .exit)) (now (state .exit)) (now (buffer .exit)) (now (out .exit)) ≡ calledOf (called (end-call (now (stem .entry))) (stateOf (now (state .entry))) (now (buffer .entry)) (now (out .entry))) ⌝ }
+{
+    let s = Stream {
+        state: state_in(state),
+    };
+    let a = s.end(stem, buffer, out);
+    let next = a.next;
+    put_state(state, next.state);
+    *consumed = a.used;
+    let said = a.said;
+    tell(said, place, written)
 }

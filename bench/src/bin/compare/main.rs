@@ -1,6 +1,8 @@
 //! Holds the proved library, as it was compiled, to the baseline on generated
 //! inputs: `compare KIND COUNT SEED`. Run it by `tools/compare-library`.
 
+mod streams;
+
 use std::collections::BTreeMap;
 use std::process::ExitCode;
 use thymebarrel::{Refusal, CARD_BYTES, JSON_BYTES};
@@ -10,7 +12,7 @@ use thymebarrel_baseline::generate::{self, Rng};
 fn main() -> ExitCode {
     let arguments: Vec<String> = std::env::args().skip(1).collect();
     let Some((kind, compare, count, seed)) = read_arguments(&arguments) else {
-        eprintln!("usage: compare card|member COUNT SEED");
+        eprintln!("usage: compare card|member|stream COUNT SEED");
         return ExitCode::FAILURE;
     };
     let mut rng = Rng::new(seed);
@@ -41,6 +43,7 @@ fn read_arguments(arguments: &[String]) -> Option<(&str, Compare, usize, u64)> {
     let compare: Compare = match kind.as_str() {
         "card" => compare_card,
         "member" => compare_member,
+        "stream" => streams::compare,
         _ => return None,
     };
     Some((kind, compare, count.parse().ok()?, seed.parse().ok()?))

@@ -1,0 +1,249 @@
+//! Streams: the same text in many cuts, with refused calls among them, each call
+//! held to the baseline's plain reader, and the card buffer to its rule.
+
+use crate::Compared;
+use thymebarrel::{Lent, Refusal, Said, Stream, CARD_BYTES, JSON_BYTES};
+use thymebarrel_baseline::generate::{self, Rng, Step};
+use thymebarrel_baseline::{Reader, What};
+
+/// Bytes of a stream at the most; now and then a card over its room stands in it.
+const STREAM_BYTES: usize = 6_000;
+
+pub fn compare(rng: &mut Rng) -> Compared {
+    let mut steps = generate::stream(rng, STREAM_BYTES);
+    if rng.below(100) == 0 {
+        let at = rng.below(steps.len());
+        steps.insert(at, Step::Bytes(generate::large_card(rng)));
+    }
+    let stem = generate::good_stem(rng);
+    let mut first: Option<Vec<What>> = None;
+    for cut in [Cut::Whole, Cut::Bytes, Cut::Any(7), Cut::Any(40), Cut::Any(400), Cut::Any(4_000)] {
+        let told = Run::new(rng, &stem).all(rng, &steps, cut).map_err(|why| format!("{cut:?}: {why}: {}", shown(&steps)))?;
+        let want = first.get_or_insert_with(|| told.clone());
+        if *want != told {
+            return Err(format!("{cut:?}: other answers than the whole: {}", shown(&steps)));
+        }
+    }
+    let cards = first.iter().flatten().filter(|what| matches!(what, What::Json(_))).count();
+    Ok(format!("{} cards:", cards.min(5)))
+}
+
+fn shown(steps: &[Step]) -> String {
+    let parts = steps.iter().map(|step| match step {
+        Step::Bytes(bytes) => bytes.escape_ascii().to_string(),
+        Step::End => "<end>".to_string(),
+    });
+    parts.collect()
+}
+
+/// How long the pieces are.
+#[derive(Debug, Clone, Copy)]
+enum Cut {
+    Whole,
+    Bytes,
+    /// Any length up to this.
+    Any(usize),
+}
+
+impl Cut {
+    fn length(self, rng: &mut Rng, left: usize) -> usize {
+        match self {
+            Cut::Whole => left,
+            Cut::Bytes => 1,
+            Cut::Any(most) => (1 + rng.below(most)).min(left),
+        }
+    }
+}
+
+/// The library's stream and the plain reader side by side.
+struct Run<'a> {
+    stem: &'a [u8],
+    ours: Stream,
+    theirs: Reader,
+    buffer: Vec<u8>,
+    out: Vec<u8>,
+    /// The output as it should be.
+    lent: Vec<u8>,
+    rule: BufferRule,
+    told: Vec<What>,
+}
+
+impl<'a> Run<'a> {
+    fn new(rng: &mut Rng, stem: &'a [u8]) -> Run<'a> {
+        let more = rng.pick(&[0, 0, 1, 1_000]);
+        let buffer = crate::noise(rng, CARD_BYTES + more);
+        let out = crate::noise(rng, JSON_BYTES);
+        Run {
+            stem,
+            ours: Stream::fresh(),
+            theirs: Reader::fresh(),
+            rule: BufferRule::new(buffer.clone()),
+            buffer,
+            lent: out.clone(),
+            out,
+            told: Vec::new(),
+        }
+    }
+
+    /// Every answer but more.
+    fn all(mut self, rng: &mut Rng, steps: &[Step], cut: Cut) -> Result<Vec<What>, String> {
+        for step in steps {
+            match step {
+                Step::Bytes(bytes) => self.feed(rng, bytes, cut)?,
+                Step::End => self.end()?,
+            }
+            self.same_bytes()?;
+            self.refused_call(rng)?;
+        }
+        self.end()?;
+        self.end()?;
+        match self.ours == Stream::fresh() {
+            true => Ok(self.told),
+            false => Err("not fresh after two end calls".to_string()),
+        }
+    }
+
+    fn feed(&mut self, rng: &mut Rng, bytes: &[u8], cut: Cut) -> Result<(), String> {
+        let mut at = 0;
+        while at < bytes.len() {
+            let upto = at + cut.length(rng, bytes.len() - at);
+            while at < upto {
+                at += self.piece(&bytes[at..upto])?;
+            }
+        }
+        Ok(())
+    }
+
+    fn piece(&mut self, piece: &[u8]) -> Result<usize, String> {
+        let want = self.theirs.piece(self.stem, piece);
+        let (said, consumed) = self.ours.step(self.stem, piece, &mut Lent { buffer: &mut self.buffer, out: &mut self.out });
+        if consumed != want.consumed {
+            return Err(format!("{} against {consumed} bytes consumed", want.consumed));
+        }
+        piece[..consumed].iter().for_each(|&byte| self.rule.byte(byte));
+        self.same(want.what, said)?;
+        Ok(consumed)
+    }
+
+    fn end(&mut self) -> Result<(), String> {
+        let want = self.theirs.end(self.stem);
+        let said = self.ours.end(self.stem, &mut Lent { buffer: &mut self.buffer, out: &mut self.out });
+        self.rule.end();
+        self.same(want.what, said)
+    }
+
+    fn same(&mut self, want: What, said: Said) -> Result<(), String> {
+        let got = match said {
+            Said::More => What::More,
+            Said::Json(length) => What::Json(self.out[..length].to_vec()),
+            Said::Refused(Refusal { number, place }) => What::Refused(u32::from(number), place),
+        };
+        if got != want {
+            return Err(format!("{want:?} against {got:?}"));
+        }
+        if let What::Json(json) = &got {
+            self.lent[..json.len()].copy_from_slice(json);
+        }
+        if got == What::More {
+            return Ok(());
+        }
+        self.told.push(got);
+        self.same_bytes()
+    }
+
+    /// Every byte of the output and of the card buffer. Not asked after each more, for
+    /// the time's sake: a byte that is wrong then is wrong still at the next answer.
+    fn same_bytes(&self) -> Result<(), String> {
+        if self.out != self.lent {
+            return Err("output was written beyond the length or without a JSON".to_string());
+        }
+        if self.buffer != self.rule.buffer {
+            return Err("the card buffer is not by its rule".to_string());
+        }
+        Ok(())
+    }
+
+    /// A call with a bad stem, a short card buffer or a short output: it is refused
+    /// and changes nothing.
+    fn refused_call(&mut self, rng: &mut Rng) -> Result<(), String> {
+        let long = vec![b'a'; 201];
+        let stem: &[u8] = [&b""[..], b"a b", &long, self.stem][rng.below(4)];
+        let buffer = rng.pick(&[self.buffer.len(), CARD_BYTES - 1, 0]);
+        let out = rng.pick(&[JSON_BYTES, JSON_BYTES - 1, 0]);
+        let want = match (buffer < CARD_BYTES || out < JSON_BYTES, stem == self.stem) {
+            (true, _) => 16,
+            (false, false) => 15,
+            (false, true) => return Ok(()),
+        };
+        let before = self.ours.clone();
+        let mut lent = Lent { buffer: &mut self.buffer[..buffer], out: &mut self.out[..out] };
+        let (said, consumed) = match rng.below(2) {
+            0 => (self.ours.end(stem, &mut lent), 0),
+            _ => self.ours.step(stem, b"END:VCARD\nx\n", &mut lent),
+        };
+        if (said, consumed) != (Said::Refused(Refusal { number: want, place: 0 }), 0) {
+            return Err(format!("{want} against {said:?}, {consumed} consumed"));
+        }
+        if self.ours != before {
+            return Err(format!("{want} changed the state"));
+        }
+        self.same_bytes()
+    }
+}
+
+/// The card buffer by 01's words: "A consumed byte is stored in the card buffer at
+/// its distance from the start of the open card, or of the line outside one, if
+/// under 32,768. BEGIN in an open card [..] opens the next, whose BEGIN line is then
+/// put at the front in capitals, line end as read."
+struct BufferRule {
+    buffer: Vec<u8>,
+    open: bool,
+    distance: usize,
+    line: Vec<u8>,
+}
+
+impl BufferRule {
+    fn new(buffer: Vec<u8>) -> BufferRule {
+        BufferRule { buffer, open: false, distance: 0, line: Vec::new() }
+    }
+
+    fn byte(&mut self, byte: u8) {
+        if self.distance < CARD_BYTES {
+            self.buffer[self.distance] = byte;
+        }
+        self.distance += 1;
+        self.line.push(byte);
+        if byte == b'\n' {
+            self.line_end();
+        }
+    }
+
+    fn line_end(&mut self) {
+        let line = std::mem::take(&mut self.line);
+        let text = &line[..line.len() - 1];
+        let text = text.strip_suffix(b"\r").unwrap_or(text).to_ascii_uppercase();
+        match &text[..] {
+            b"BEGIN:VCARD" if self.open => {
+                self.buffer[..line.len()].copy_from_slice(&line.to_ascii_uppercase());
+                self.distance = line.len();
+            }
+            b"BEGIN:VCARD" => self.open = true,
+            b"END:VCARD" => (self.open, self.distance) = (false, 0),
+            _ if !self.open => self.distance = 0,
+            _ => {}
+        }
+    }
+
+    /// The supposed LF is no byte of the buffer, but where it ends the BEGIN line that
+    /// opens the next card.
+    fn end(&mut self) {
+        let text = self.line.strip_suffix(b"\r").unwrap_or(&self.line);
+        if self.open && text.eq_ignore_ascii_case(b"BEGIN:VCARD") {
+            self.line.push(b'\n');
+            self.line_end();
+        } else {
+            (self.open, self.distance) = (false, 0);
+            self.line.clear();
+        }
+    }
+}
