@@ -8,12 +8,12 @@ use mir.Val.{Fits}
 use mir.Syntax.{w8}
 use lib.Dec.{T}
 use lib.ListN.{getD}
-use Rattle.text.specs.Bytes.{Bytes, any, all}
+use Rattle.text.specs.Bytes.{Bytes, all}
 use Rattle.line_class.specs.declared.Class.{Class}
 use Rattle.line_class.specs.declared.Class.the-variants.{Name, LowerName, Bare, Quotable, Control, Blank, Key, Stem}
 use Rattle.line_class.specs.Classes.{inClass, bitOf, hasBit, entryRight, bitRight, Agrees}
 use Rattle.line_class.proofs.Table.{and-left, and-right, alike-eq, entry}
-use Rattle.line_class.proofs.Runs.{any-alike, all-alike}
+use Rattle.line_class.proofs.Runs.{all-alike}
 
 -- a class by the table's bits
 abbrev pub byTable : List ℕ → ℕ → ℕ → Bool
@@ -38,9 +38,6 @@ module _ (table : List ℕ) (is : Agrees table) where
   -- at a use, where the mask is what `bit` gave
   pub by-class : (k : Class) (m : ℕ) → m ≡ bitOf k → (b : ℕ) → b < 256 → byTable table m b ≡ inClass k b
   by-class k m e b h = rw e (table-at k b h)
-
-  pub any-by-class : (k : Class) (m : ℕ) → m ≡ bitOf k → (s : Bytes) → ((i : ℕ) → Fits w8 (getD s i 0)) → any (byTable table m) s ≡ any (inClass k) s
-  any-by-class k m e s h = any-alike (byTable table m) (inClass k) s (λ i. by-class k m e (getD s i 0) (h i .fits))
 
   pub all-by-class : (k : Class) (m : ℕ) → m ≡ bitOf k → (s : Bytes) → ((i : ℕ) → Fits w8 (getD s i 0)) → all (byTable table m) s ≡ all (inClass k) s
   all-by-class k m e s h = all-alike (byTable table m) (inClass k) s (λ i. by-class k m e (getD s i 0) (h i .fits))

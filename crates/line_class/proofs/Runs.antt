@@ -43,11 +43,6 @@ run-out p s i h =
 
 -- ---- two tests that agree on the bytes
 
-pub any-alike : (p q : ℕ → Bool) (s : Bytes) → ((i : ℕ) → p (getD s i 0) ≡ q (getD s i 0)) → any p s ≡ any q s
-unfolding any
-any-alike p q [] h = refl
-any-alike p q (c ∷ s) h = rw (h 0, any-alike p q s (λ i. h (suc i)))
-
 pub all-alike : (p q : ℕ → Bool) (s : Bytes) → ((i : ℕ) → p (getD s i 0) ≡ q (getD s i 0)) → all p s ≡ all q s
 unfolding all
 all-alike p q [] h = refl

@@ -3,7 +3,7 @@
 ghost use mathlib.Core.Path.{_≡_};
 ghost use Prim.Native.Nat.{_+_};
 ghost use lib.ListN.{length, drop, getD};
-ghost use Rattle.text.specs.Bytes.{any, all};
+ghost use Rattle.text.specs.Bytes.{all};
 ghost use Rattle.text.specs.Reader.{taken};
 ghost use Rattle.line.specs.Class.{isName, isBare, isQuotable};
 ghost use Rattle.line_class.specs.Classes.{inClass, bitOf, hasBit, Agrees};
@@ -47,7 +47,7 @@ fn marked(table: &[u8; 256], b: u8, mask: u8) -> bool
     table[b as usize] & mask != 0
 }
 
-// Whether b is of the class. For many bytes use any_of or all_of, which lay out the table once.
+// Whether b is of the class. For many bytes use all_of, which lays out the table once.
 pub fn in_class(b: u8, class: Class) -> bool
     ensures { λ r. ⌜ r ≡ inClass class b ⌝ }
 {
@@ -100,22 +100,6 @@ pub fn run_end(s: &[u8], at: usize, class: Class) -> usize
         i += 1;
     }
     i
-}
-
-// Whether a byte of s is of the class.
-pub fn any_of(s: &[u8], class: Class) -> bool
-    ensures { λ r. ⌜ r ≡ any (inClass class) (now (s .entry)) ⌝ }
-{
-    let table = classes();
-    let mask = bit(class);
-    let mut i = 0;
-    while i < s.len() {
-        if marked(&table, s[i], mask) {
-            return true;
-        }
-        i += 1;
-    }
-    false
 }
 
 // Whether all bytes of s are of the class.
