@@ -8,10 +8,12 @@ use output::put_text;
 ghost use mathlib.Core.Path.{_≡_};
 ghost use mathlib.Core.List.{_∷_, []};
 ghost use Prim.Native.Nat.{_<_};
+ghost use lib.ListN.{drop};
+ghost use Rattle.text.specs.Reader.{taken};
 ghost use Rattle.output.specs.Put.{Puts};
 ghost use Rattle.text.specs.Decimal.{decimal};
 ghost use Rattle.json.specs.Compact.{hexDigit, spelled, spelledAll, quoted};
-ghost use Rattle.json_write.specs.Pieces.{coded, Bare};
+ghost use Rattle.json_write.specs.Pieces.{coded, bare};
 ghost use Rattle.json_strings.specs.Spelled.{textAt};
 
 fn hex_digit(d: u8) -> u8
@@ -62,18 +64,9 @@ fn put_escaped(out: &mut [u8], c: u8) -> Wrote
 
 // A byte that stands for itself in a string.
 fn is_bare(c: u8) -> bool
-    ensures { λ r. ⌜ Bare c r ⌝ }
+    ensures { λ r. ⌜ r ≡ bare c ⌝ }
 {
-    if c == 34 {
-        return false;
-    }
-    if c == 92 {
-        return false;
-    }
-    if c < 32 {
-        return false;
-    }
-    c != 127
+    !((c == b'"') | (c == b'\\') | (c < 32) | (c == 127))
 }
 
 // A byte of a string: small, so that a loop over bytes has the bare byte in it and the rare one behind a call.
@@ -86,20 +79,48 @@ pub fn put_byte_spelled(out: &mut [u8], c: u8) -> Wrote
     put_escaped(out, c)
 }
 
+// The bytes from `at` on, up to the first that does not stand for itself.
+pub fn put_bare(out: &mut [u8], s: &[u8], at: usize) -> Wrote
+    ensures { λ r. ⌜ Puts (now (out .entry)) (taken bare (drop at (now (s .entry)))) r (now (out .exit)) ⌝ }
+{
+    let mut k = 0;
+    let mut i = at;
+    while i < s.len() {
+        let c = s[i];
+        if !is_bare(c) {
+            return Wrote::Bytes(k);
+        }
+        if k >= out.len() {
+            return Wrote::Full;
+        }
+        out[k] = c;
+        k += 1;
+        i += 1;
+    }
+    Wrote::Bytes(k)
+}
+
 // A string without its quotes.
 pub fn put_spelled(out: &mut [u8], s: &[u8]) -> Wrote
     ensures { λ r. ⌜ Puts (now (out .entry)) (spelledAll (now (s .entry))) r (now (out .exit)) ⌝ }
 {
     let mut at = 0;
     let mut i = 0;
-    while i < s.len() {
-        let Wrote::Bytes(n) = put_byte_spelled(&mut out[at..], s[i]) else {
+    loop {
+        let Wrote::Bytes(m) = put_bare(&mut out[at..], s, i) else {
+            return Wrote::Full;
+        };
+        at += m;
+        i += m;
+        if i >= s.len() {
+            return Wrote::Bytes(at);
+        }
+        let Wrote::Bytes(n) = put_escaped(&mut out[at..], s[i]) else {
             return Wrote::Full;
         };
         at += n;
         i += 1;
     }
-    Wrote::Bytes(at)
 }
 
 // A string.

@@ -1,21 +1,19 @@
--- A right table gives each class at each byte, and so its runs.
+-- A right table gives each class at each byte.
 use mathlib.Core.Path.{_≡_}
 use mathlib.Core.Bool.{Bool}
 use mathlib.Core.List.{List}
-use Prim.Native.Nat.{ℕ, _+_, _<_}
+use Prim.Native.Nat.{ℕ, _<_}
 use native.Mathlib.Omega.{arith}
 use mir.Val.{Fits}
 use mir.Syntax.{w8}
 use lib.Dec.{T}
-use lib.ListN.{drop, getD}
-use lib.Seq.{getD-drop}
-use Rattle.text.specs.Bytes.{Bytes, any, all}
-use Rattle.text.specs.Reader.{taken}
+use lib.ListN.{getD}
+use Rattle.text.specs.Bytes.{Bytes, all}
 use Rattle.line_class.specs.declared.Class.{Class}
 use Rattle.line_class.specs.declared.Class.the-variants.{Name, LowerName, Bare, Quotable, Control, Blank, Key, Stem}
 use Rattle.line_class.specs.Classes.{inClass, bitOf, hasBit, entryRight, bitRight, Agrees}
 use Rattle.line_class.proofs.Table.{and-left, and-right, alike-eq, entry}
-use Rattle.line_class.proofs.Runs.{taken-alike, any-alike, all-alike}
+use Rattle.line_class.proofs.Runs.{all-alike}
 
 -- a class by the table's bits
 abbrev pub byTable : List ℕ → ℕ → ℕ → Bool
@@ -40,14 +38,6 @@ module _ (table : List ℕ) (is : Agrees table) where
   -- at a use, where the mask is what `bit` gave
   pub by-class : (k : Class) (m : ℕ) → m ≡ bitOf k → (b : ℕ) → b < 256 → byTable table m b ≡ inClass k b
   by-class k m e b h = rw e (table-at k b h)
-
-  pub run-by-class : (k : Class) (m : ℕ) → m ≡ bitOf k → (s : Bytes) (at : ℕ) → ((i : ℕ) → Fits w8 (getD s i 0))
-      → taken (byTable table m) (drop at s) ≡ taken (inClass k) (drop at s)
-  run-by-class k m e s at h =
-      taken-alike (byTable table m) (inClass k) (drop at s) (λ i. by-class k m e (getD (drop at s) i 0) (rw (getD-drop at s i 0) (h (at + i) .fits)))
-
-  pub any-by-class : (k : Class) (m : ℕ) → m ≡ bitOf k → (s : Bytes) → ((i : ℕ) → Fits w8 (getD s i 0)) → any (byTable table m) s ≡ any (inClass k) s
-  any-by-class k m e s h = any-alike (byTable table m) (inClass k) s (λ i. by-class k m e (getD s i 0) (h i .fits))
 
   pub all-by-class : (k : Class) (m : ℕ) → m ≡ bitOf k → (s : Bytes) → ((i : ℕ) → Fits w8 (getD s i 0)) → all (byTable table m) s ≡ all (inClass k) s
   all-by-class k m e s h = all-alike (byTable table m) (inClass k) s (λ i. by-class k m e (getD s i 0) (h i .fits))

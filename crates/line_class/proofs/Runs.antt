@@ -41,17 +41,7 @@ run-out p s i h =
     let a : length (taken p (drop i s)) ≡ 0 = rw (drop-of-length-le s h) (taken-nil p) in
     omega arith
 
--- ---- two tests that agree on the bytes have the same run
-
-pub taken-alike : (p q : ℕ → Bool) (s : Bytes) → ((i : ℕ) → p (getD s i 0) ≡ q (getD s i 0)) → taken p s ≡ taken q s
-unfolding taken
-taken-alike p q [] h = refl
-taken-alike p q (c ∷ s) h = rw (h 0, taken-alike p q s (λ i. h (suc i)))
-
-pub any-alike : (p q : ℕ → Bool) (s : Bytes) → ((i : ℕ) → p (getD s i 0) ≡ q (getD s i 0)) → any p s ≡ any q s
-unfolding any
-any-alike p q [] h = refl
-any-alike p q (c ∷ s) h = rw (h 0, any-alike p q s (λ i. h (suc i)))
+-- ---- two tests that agree on the bytes
 
 pub all-alike : (p q : ℕ → Bool) (s : Bytes) → ((i : ℕ) → p (getD s i 0) ≡ q (getD s i 0)) → all p s ≡ all q s
 unfolding all

@@ -3,8 +3,9 @@
 ghost use mathlib.Core.Path.{_≡_};
 ghost use Prim.Native.Nat.{_+_};
 ghost use lib.ListN.{length, drop, getD};
-ghost use Rattle.text.specs.Bytes.{any, all};
+ghost use Rattle.text.specs.Bytes.{all};
 ghost use Rattle.text.specs.Reader.{taken};
+ghost use Rattle.line.specs.Class.{isName, isBare, isQuotable};
 ghost use Rattle.line_class.specs.Classes.{inClass, bitOf, hasBit, Agrees};
 
 pub enum Class {
@@ -46,7 +47,7 @@ fn marked(table: &[u8; 256], b: u8, mask: u8) -> bool
     table[b as usize] & mask != 0
 }
 
-// Whether b is of the class. For many bytes use run_end, which lays out the table once.
+// Whether b is of the class. For many bytes use all_of, which lays out the table once.
 pub fn in_class(b: u8, class: Class) -> bool
     ensures { λ r. ⌜ r ≡ inClass class b ⌝ }
 {
@@ -55,36 +56,50 @@ pub fn in_class(b: u8, class: Class) -> bool
     marked(&table, b, mask)
 }
 
+fn is_name(b: u8) -> bool
+    ensures { λ r. ⌜ r ≡ isName b ⌝ }
+{
+    (((b >= b'A') & (b <= b'Z')) | ((b >= b'a') & (b <= b'z')))
+        | ((b >= b'0') & (b <= b'9'))
+        | (b == b'-')
+}
+
+fn is_bare(b: u8) -> bool
+    ensures { λ r. ⌜ r ≡ isBare b ⌝ }
+{
+    !((b == b'"') | (b == b';') | (b == b':') | (b == b','))
+}
+
+fn is_quotable(b: u8) -> bool
+    ensures { λ r. ⌜ r ≡ isQuotable b ⌝ }
+{
+    b != b'"'
+}
+
+// Whether b is of the class. The three of the line grammar by their ranges: to lay out the table for a run of a few bytes takes longer than the run.
+fn in_run(b: u8, class: Class) -> bool
+    ensures { λ r. ⌜ r ≡ inClass class b ⌝ }
+{
+    match class {
+        Class::Name => is_name(b),
+        Class::Bare => is_bare(b),
+        Class::Quotable => is_quotable(b),
+        _ => in_class(b, class),
+    }
+}
+
 // Where the bytes of the class that start at `at` end.
 pub fn run_end(s: &[u8], at: usize, class: Class) -> usize
     ensures { λ r. ⌜ r ≡ at + length (taken (inClass class) (drop at (now (s .entry)))) ⌝ }
 {
-    let table = classes();
-    let mask = bit(class);
     let mut i = at;
     while i < s.len() {
-        if !marked(&table, s[i], mask) {
+        if !in_run(s[i], class) {
             return i;
         }
         i += 1;
     }
     i
-}
-
-// Whether a byte of s is of the class.
-pub fn any_of(s: &[u8], class: Class) -> bool
-    ensures { λ r. ⌜ r ≡ any (inClass class) (now (s .entry)) ⌝ }
-{
-    let table = classes();
-    let mask = bit(class);
-    let mut i = 0;
-    while i < s.len() {
-        if marked(&table, s[i], mask) {
-            return true;
-        }
-        i += 1;
-    }
-    false
 }
 
 // Whether all bytes of s are of the class.

@@ -1,6 +1,6 @@
 -- One physical line at the front of the bytes.
-use mathlib.Core.Path.{_≡_, refl, sym, ap, _∙_}
-use mathlib.Core.Bool.{true, false, not}
+use mathlib.Core.Path.{_≡_, refl, sym, ap, subst, _∙_}
+use mathlib.Core.Bool.{Bool, true, false, not, _||_}
 use mathlib.Core.List.{[], _∷_, _++_, tail, append-assoc}
 use Prim.Native.Nat.{ℕ, zero, suc, _+_, _-_, _≤_, _<_}
 use native.Mathlib.Omega.{arith}
@@ -12,9 +12,9 @@ use borrow.Author.Tests.{eq-eqb, ne-eqb, eqb-true, eqb-false, le-leb, lt-leb}
 use Rattle.text.specs.Bytes.{Bytes, onHead}
 use Rattle.text.specs.Reader.{taken, past}
 use Rattle.line.specs.Physical.{byLf, withoutCr, physical, lacksLf, sizeOf}
-use Rattle.text.proofs.Cases.{byBool, split}
-use Rattle.line_class.proofs.Runs.{taken-part, past-part, taken-within}
-use Rattle.line_frame.specs.Lines.{notLf, crEnd, LineAt}
+use Rattle.text.proofs.Cases.{byBool, split, or-left, or-right}
+use Rattle.line_class.proofs.Runs.{run-on, taken-part, past-part, taken-within}
+use Rattle.line_frame.specs.Lines.{notLf, SameLf, crEnd, LineAt}
 
 -- ---- up to the LF
 
@@ -25,6 +25,14 @@ is-lf c e = rw e
 pub is-not-lf : (c : ℕ) → (c ≡ 10 → ⊥) → notLf c ≡ true
 unfolding notLf
 is-not-lf c e = rw (ne-eqb c 10 e)
+
+-- one byte more that is no LF
+pub lf-more : (s : Bytes) (a k : ℕ) (found : Bool) → a + k < length s → (found ≡ false → SameLf s a (a + k))
+    → found || eqb (getD s (a + k) 0) 10 ≡ false → SameLf s a (a + (k + 1))
+unfolding notLf
+lf-more s a k found h so e =
+    let n : (a + k) + 1 ≡ a + (k + 1) = omega arith in
+    subst (λ m. SameLf s a m) n (sym (run-on notLf s (a + k) h (rw (or-right found _ e))) ∙ so (or-left found _ e))
 
 pub by-lf : (c : ℕ) (s : Bytes) → byLf (c ∷ s) ≡ taken notLf (c ∷ s) ∷ byLf (tail (past notLf (c ∷ s)))
 unfolding byLf taken past notLf onHead

@@ -7,11 +7,16 @@ use lib.ListN.{length, take, drop, getD}
 use lib.Dec.{eqb, leb}
 use Rattle.text.specs.Choice.{pick}
 use Rattle.text.specs.Bytes.{Bytes}
+use Rattle.text.specs.Reader.{taken}
 use Rattle.line.specs.Physical.{physical}
 use Rattle.line_frame.specs.declared.Line.{Line}
 
 unfoldable pub notLf : ℕ → Bool
 notLf c = not (eqb c 10)
+
+-- the first LF from a on is the first from b on
+abbrev pub SameLf : Bytes → ℕ → ℕ → Type 0
+SameLf s a b = b + length (taken notLf (drop b s)) ≡ a + length (taken notLf (drop a s))
 
 -- where the bytes of a line end, whose LF stands at lf
 unfoldable pub crEnd : Bytes → ℕ → ℕ → ℕ

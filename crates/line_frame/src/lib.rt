@@ -1,10 +1,11 @@
 // Physical lines, and the frame of one card.
 ghost use mathlib.Core.Path.{_≡_};
+ghost use mathlib.Core.Bool.{true, false};
 ghost use Prim.Native.Nat.{_+_, _≤_, _<_};
 ghost use lib.ListN.{length, drop};
 ghost use Rattle.text.specs.Reader.{taken};
 ghost use Rattle.line.specs.Physical.{sizeOf, isBegin, isEnd};
-ghost use Rattle.line_frame.specs.Lines.{notLf, crEnd, LineAt};
+ghost use Rattle.line_frame.specs.Lines.{notLf, SameLf, crEnd, LineAt};
 ghost use Rattle.line_frame.specs.Frame.{Ends, Framed};
 use line_name::is_named;
 
@@ -23,8 +24,8 @@ pub fn size_of(s: &[u8]) -> usize
     n + 1
 }
 
-// Where the line that begins at `at` has its LF, or where the bytes end.
-pub fn lf_at(s: &[u8], at: usize) -> usize
+// The first LF from `at` on, or where the bytes end: byte by byte.
+fn lf_from(s: &[u8], at: usize) -> usize
     ensures { λ r. ⌜ r ≡ at + length (taken notLf (drop at (now (s .entry)))) ⌝ }
 {
     let mut i = at;
@@ -35,6 +36,44 @@ pub fn lf_at(s: &[u8], at: usize) -> usize
         i += 1;
     }
     i
+}
+
+// Whether one of sixteen bytes is an LF. No early way out: one test of a vector.
+fn has_lf(s: &[u8], at: usize) -> bool
+    requires { ⌜ at + 16 ≤ length (now s) ⌝ }
+    ensures { λ r. ⌜ (r ≡ false → SameLf (now (s .entry)) at (at + 16)) ⌝ }
+{
+    let mut found = false;
+    let mut k = 0;
+    while k < 16 {
+        found = found | (s[at + k] == 10);
+        k += 1;
+    }
+    found
+}
+
+// Whether sixteen bytes stand there, and none of them is an LF.
+fn skips(s: &[u8], at: usize) -> bool
+    ensures { λ r. ⌜ (r ≡ true → (at + 16 ≤ length (now (s .entry))) × SameLf (now (s .entry)) at (at + 16)) ⌝ }
+{
+    if s.len() <= at {
+        return false;
+    }
+    if s.len() - at < 16 {
+        return false;
+    }
+    !has_lf(s, at)
+}
+
+// Where the line that begins at `at` has its LF, or where the bytes end.
+pub fn lf_at(s: &[u8], at: usize) -> usize
+    ensures { λ r. ⌜ r ≡ at + length (taken notLf (drop at (now (s .entry)))) ⌝ }
+{
+    let mut i = at;
+    while skips(s, i) {
+        i += 16;
+    }
+    lf_from(s, i)
 }
 
 // A physical line: where its bytes end, and where the next begins.

@@ -10,8 +10,6 @@ ghost use Rattle.line_unfold.specs.Table.{Adds, Unfolds, lineAt};
 use line_class::Class;
 use line_class::in_class;
 use line_frame::next_line;
-use output::Wrote;
-use output::put_text;
 
 // How many lines, or that there are more than 512.
 pub enum Unfolded {
@@ -29,15 +27,17 @@ fn folds(line: &[u8]) -> bool
     in_class(line[0], Class::Blank)
 }
 
-// Adds src to what stands before `at`.
+// Adds src to what stands before `at`. There is room: no early way out, so the loop copies by vectors.
 fn append(out: &mut [u8], at: usize, src: &[u8]) -> usize
     requires { ⌜ at + length (now src) ≤ length (now out) ⌝ }
     ensures { λ r. ⌜ Adds (now (out .entry)) at (now (src .entry)) r (now (out .exit)) ⌝ }
 {
-    let Wrote::Bytes(n) = put_text(&mut out[at..], src) else {
-        return at;
-    };
-    at + n
+    let mut i = 0;
+    while i < src.len() {
+        out[at + i] = src[i];
+        i += 1;
+    }
+    at + i
 }
 
 // The table has the start of each line, and the end of the last.

@@ -1,11 +1,11 @@
 -- The pieces of a card's head.
 use mathlib.Core.Path.{_≡_, refl, sym, ap, _∙_}
-use mathlib.Core.Bool.{Bool, true, false, not}
+use mathlib.Core.Bool.{Bool, true, false}
 use mathlib.Core.List.{List, [], _∷_, _++_, append-nil, append-assoc}
 use Prim.Native.Nat.{ℕ, _≤_, _<_}
 use native.Mathlib.Omega.{arith}
 use lib.ListN.{length}
-use borrow.Author.Tests.{ne-eqb}
+use borrow.Author.Tests.{ne-eqb, le-ltb}
 use Rattle.text.specs.Choice.{pick}
 use Rattle.text.specs.Bytes.{Bytes, ascii, all, isDigit, lowered, flat}
 use Rattle.text.specs.Decimal.{decimal}
@@ -14,7 +14,8 @@ use Rattle.text.proofs.Lists.{all-head, all-tail}
 use Rattle.text.proofs.Decimals.{decimal-digits}
 use Rattle.json.specs.Tree.{member, jstr}
 use Rattle.json.specs.Compact.{spelled, spelledAll, quoted, written}
-use Rattle.json_write.proofs.Spelling.{bare-when, bare-is}
+use Rattle.json_write.specs.Pieces.{bare}
+use Rattle.json_write.proofs.Spelling.{bare-one}
 use Rattle.convert.specs.FromCard.{madeUid}
 use Rattle.convert.specs.Value.{filled}
 use Rattle.convert.specs.ToJson.{where′}
@@ -29,9 +30,10 @@ spelled-append [] t = refl
 spelled-append (c ∷ s) t = ap (λ (x : Bytes). spelled c ++ x) (spelled-append s t) ∙ sym (append-assoc (spelled c) (spelledAll s) (spelledAll t))
 
 digit-spelled : (c : ℕ) → isDigit c ≡ true → spelled c ≡ c ∷ []
+unfolding bare
 digit-spelled c e =
     let b = between-true 48 57 c e in
-    sym (bare-is c (bare-when c true (λ q. omega arith) (λ q. omega arith) (omega arith) (sym (ap not (ne-eqb c 127 (λ q. omega arith))))) refl)
+    sym (bare-one c (rw (ne-eqb c 34 (λ q. omega arith), ne-eqb c 92 (λ q. omega arith), le-ltb c 32 (omega arith), ne-eqb c 127 (λ q. omega arith))))
 
 digits-spelled : (s : Bytes) → all isDigit s ≡ true → spelledAll s ≡ s
 unfolding spelledAll

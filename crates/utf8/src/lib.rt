@@ -1,7 +1,11 @@
 // UTF-8, by the rows of RFC 3629.
 ghost use mathlib.Core.Path.{_≡_};
-ghost use Rattle.text.specs.Utf8.{utf8, lead, next, tails};
+ghost use Prim.Native.Nat.{_≤_, _<_};
+ghost use lib.ListN.{length};
+ghost use Rattle.text.specs.Utf8.{utf8, lead, tails};
 ghost use Rattle.utf8.specs.Due.{dueOf};
+ghost use Rattle.utf8.specs.Met.{Alike, NextIs, Met, OneMore};
+use text::Read;
 
 // What must follow: a character's first byte, or a byte from low to high and so many tails after it; or nothing can.
 pub enum Due {
@@ -47,46 +51,93 @@ pub fn due_after(c: u8) -> Due
     Due::Broken
 }
 
-fn due_tails(n: u8) -> Due
-    ensures { λ r. ⌜ dueOf r ≡ tails n ⌝ }
+// Whether a byte from low to high stands at a place.
+fn is_next(s: &[u8], at: usize, low: u8, high: u8) -> bool
+    ensures { λ r. ⌜ NextIs (now (s .entry)) at low high r ⌝ }
 {
-    if n == 0 {
-        return Due::Start;
+    if at >= s.len() {
+        return false;
     }
-    Due::Byte(0x80, 0xbf, n - 1)
+    if s[at] < low {
+        return false;
+    }
+    if s[at] > high {
+        return false;
+    }
+    true
 }
 
-fn step(due: Due, c: u8) -> Due
-    ensures { λ r. ⌜ dueOf r ≡ next (dueOf due) c ⌝ }
+// So many tails.
+fn tails_end(s: &[u8], at: usize, n: u8) -> Read
+    requires { ⌜ at ≤ length (now s) ⌝ }
+    ensures { λ r. ⌜ Met (tails n) (now (s .entry)) at r ⌝ }
 {
-    match due {
-        Due::Start => due_after(c),
-        Due::Byte(low, high, n) => {
-            if c < low {
-                return Due::Broken;
-            }
-            if c > high {
-                return Due::Broken;
-            }
-            due_tails(n)
+    let mut i = at;
+    let mut left = n;
+    while left > 0 {
+        if !is_next(s, i, 0x80, 0xbf) {
+            return Read::Bad(i);
         }
-        Due::Broken => Due::Broken,
+        i += 1;
+        left -= 1;
     }
+    Read::Next(i)
+}
+
+// The character that begins at a place.
+fn character_end(s: &[u8], at: usize) -> Read
+    requires { ⌜ at < length (now s) ⌝ }
+    ensures { λ r. ⌜ OneMore (now (s .entry)) at r ⌝ }
+{
+    match due_after(s[at]) {
+        Due::Start => {
+            return Read::Next(at + 1);
+        }
+        Due::Byte(low, high, n) => {
+            let second = at + 1;
+            if !is_next(s, second, low, high) {
+                return Read::Bad(second);
+            }
+            return tails_end(s, second + 1, n);
+        }
+        Due::Broken => {
+            return Read::Bad(at);
+        }
+    }
+}
+
+// Where the ASCII from `at` on ends.
+fn ascii_end(s: &[u8], at: usize) -> usize
+    requires { ⌜ at ≤ length (now s) ⌝ }
+    ensures { λ r. ⌜ (at ≤ r) × (r ≤ length (now (s .entry))) × Alike (now (s .entry)) at r ⌝ }
+{
+    let mut i = at;
+    while i < s.len() {
+        if s[i] >= 128 {
+            return i;
+        }
+        i += 1;
+    }
+    i
 }
 
 // Whole characters, each by a row.
 pub fn is_utf8(s: &[u8]) -> bool
     ensures { λ r. ⌜ r ≡ utf8 (now (s .entry)) ⌝ }
 {
-    let mut due = Due::Start;
     let mut i = 0;
-    while i < s.len() {
-        due = step(due, s[i]);
-        i += 1;
-    }
-    match due {
-        Due::Start => true,
-        Due::Byte(_, _, _) => false,
-        Due::Broken => false,
+    loop {
+        let a = ascii_end(s, i);
+        if a >= s.len() {
+            return true;
+        }
+        match character_end(s, a) {
+            Read::Next(e) => {
+                i = e;
+            }
+            Read::Bad(_) => {
+                return false;
+            }
+        }
     }
 }

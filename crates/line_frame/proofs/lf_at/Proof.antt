@@ -1,17 +1,14 @@
 use Prim.Native.Nat.{_+_, _-_}
-use mathlib.Core.Path.{_≡_, refl, sym, _∙_}
+use mathlib.Core.Path.{_≡_, refl, _∙_}
+use native.Mathlib.Omega.{arith}
 use borrow.Author.Needs.{needs}
-use denote.Ref.{now}
-use lib.ListN.{length, drop}
-use Rattle.text.specs.Reader.{taken}
-use Rattle.line_class.proofs.Runs.{run-on, run-stops, run-out}
-use Rattle.line_frame.specs.Lines.{notLf}
-use Rattle.line_frame.proofs.Physical.{is-lf, is-not-lf}
+use lib.ListN.{length}
+use Rattle.line_frame.specs.Lines.{SameLf}
 use Rattle.line_frame.proofs.lf_at.Statement.{statement}
 use Rattle.line_frame.proofs.lf_at.Tie as tie
 
 abbrev Inv-loop : tie.InvT-loop
-Inv-loop s at i₀ i = i + length (taken notLf (drop i s)) ≡ at + length (taken notLf (drop at s))
+Inv-loop s at i₀ i = SameLf s at i
 
 abbrev μ-loop : tie.MeasureT-loop
 μ-loop s at i₀ i = length s - i
@@ -19,23 +16,23 @@ abbrev μ-loop : tie.MeasureT-loop
 loop-holds : tie.Need-loop-holds Inv-loop μ-loop
 loop-holds c = refl
 
-shared-slice-read-if1 : tie.Need-shared-slice-read-if1 Inv-loop μ-loop
-shared-slice-read-if1 c = search needs
-
-returns : tie.Need-returns Inv-loop μ-loop
-returns c = sym (run-stops notLf (now (c .before .before .before .before .args .s)) (c .before .before .before .loop .i) (c .before .before .loop-test .taken) (is-lf _ (c .if1 .taken))) ∙ (c .before .before .before .loop .inv)
+skips-requires : tie.Need-skips-requires Inv-loop μ-loop
+skips-requires c κs = search needs
 
 add-i : tie.Need-add-i Inv-loop μ-loop
-add-i c = search needs
+add-i c = omega (arith, c .before .skips .ensures (c .if1 .taken) .0)
 
 loop-less : tie.Need-loop-less Inv-loop μ-loop
-loop-less c = search needs
+loop-less c = omega (arith, c .before .skips .ensures (c .if1 .taken) .0)
 
 loop-again : tie.Need-loop-again Inv-loop μ-loop
-loop-again c = sym (run-on notLf (now (c .before .before .before .before .args .s)) (c .before .before .before .loop .i) (c .before .before .loop-test .taken) (is-not-lf _ (c .if1 .left))) ∙ (c .before .before .before .loop .inv)
+loop-again c = c .before .skips .ensures (c .if1 .taken) .1 ∙ (c .before .before .loop .inv)
 
-returns-2 : tie.Need-returns-2 Inv-loop μ-loop
-returns-2 c = sym (run-out notLf (now (c .before .before .args .s)) (c .before .loop .i) (c .loop-test .left)) ∙ (c .before .loop .inv)
+lf-from-requires : tie.Need-lf-from-requires Inv-loop μ-loop
+lf-from-requires c κs = search needs
+
+returns : tie.Need-returns Inv-loop μ-loop
+returns c = c .lf-from .ensures ∙ (c .before .before .before .loop .inv)
 
 pub lf-at-spec : {M : Type 1} → statement M
 lf-at-spec =
@@ -44,9 +41,9 @@ lf-at-spec =
     Inv-loop
     μ-loop
     loop-holds
-    shared-slice-read-if1
-    returns
+    skips-requires
     add-i
     loop-less
     loop-again
-    returns-2)
+    lf-from-requires
+    returns)

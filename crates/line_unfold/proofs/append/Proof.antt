@@ -1,56 +1,63 @@
-use Prim.Native.Nat.{_-_}
+use Prim.Native.Nat.{_+_, _-_, _≤_}
 use native.Mathlib.Omega.{arith}
+use mathlib.Core.Path.{_≡_, refl}
 use borrow.Author.Needs.{needs}
 use denote.Ref.{now}
-use Rattle.line_unfold.proofs.Adding.{adds, room-enough}
+use lib.ListN.{length, take, length-set}
+use Rattle.line_unfold.specs.Table.{Adds}
+use Rattle.line_unfold.proofs.Adding.{adds-none, adds-more, adds-all}
 use Rattle.line_unfold.proofs.append.Statement.{statement}
 use Rattle.line_unfold.proofs.append.Tie as tie
 
-sub-put-text : tie.Need-sub-put-text
-sub-put-text c = search needs
+abbrev Inv-loop : tie.InvT-loop
+Inv-loop out₀ at src i₀ out i = (i ≤ length src) × (length out ≡ length out₀) × Adds out₀ at (take i src) (at + i) out
 
-part-put-text-start : tie.Need-part-put-text-start
-part-put-text-start c = search needs
+abbrev μ-loop : tie.MeasureT-loop
+μ-loop out₀ at src i₀ out i = length src - i
 
-part-put-text-end : tie.Need-part-put-text-end
-part-put-text-end c = search needs
+loop-holds : tie.Need-loop-holds Inv-loop μ-loop
+loop-holds c = (omega arith, refl, adds-none (now (c .args .out)) (now (c .args .src)) (c .args .at))
 
-put-text-requires : tie.Need-put-text-requires
-put-text-requires c κs = search needs
+shared-slice-read-out : tie.Need-shared-slice-read-out Inv-loop μ-loop
+shared-slice-read-out c = search needs
 
-enum-known-n : tie.Need-enum-known-n
-enum-known-n c = search needs
+add-out : tie.Need-add-out Inv-loop μ-loop
+add-out c = omega (arith, c .before .before .before .pre, c .before .before .before .good .0 .0)
 
-enum-told : tie.Need-enum-told
-enum-told c = search needs
+slice-write-out : tie.Need-slice-write-out Inv-loop μ-loop
+slice-write-out c = omega (arith, c .before .before .before .pre, c .before .before .loop .inv .1)
 
-same-length : tie.Need-same-length
-same-length c = search needs
+add-i : tie.Need-add-i Inv-loop μ-loop
+add-i c = search needs
 
-returns : tie.Need-returns
-returns c = absurd (room-enough (now (c .before .before .before .before .before .before .before .before .args .out)) _ _ (c .before .before .before .before .before .before .before .before .args .at) _ (c .before .before .before .before .put-text .ensures) (c .enum-told .given .1) (c .before .before .before .before .before .before .before .before .pre))
+loop-less : tie.Need-loop-less Inv-loop μ-loop
+loop-less c = search needs
 
-add-result : tie.Need-add-result
-add-result c = omega (arith, adds (now (c .before .before .before .before .before .before .before .before .before .args .out)) _ _ (c .before .before .before .before .before .before .before .before .before .args .at) _ _ (c .before .before .before .before .before .put-text .ensures) (c .before .n .given .1) .is, c .before .before .before .before .before .before .before .before .before .pre, c .before .before .before .before .before .before .before .before .before .good .0 .0)
+loop-again : tie.Need-loop-again Inv-loop μ-loop
+loop-again c = (omega arith, simp length-set (c .before .before .loop .inv .1), adds-more (now (c .before .before .before .args .out)) (now (c .before .before .before .args .src)) (c .before .before .before .args .at) (c .before .before .loop .out) (c .before .before .loop .i) (c .before .before .loop .inv .2) (c .before .loop-test .taken) (omega (arith, c .before .before .before .pre, c .before .before .loop .inv .1)))
 
-same-length-2 : tie.Need-same-length-2
-same-length-2 c = search needs
+add-result : tie.Need-add-result Inv-loop μ-loop
+add-result c = omega (arith, c .before .before .pre, c .before .before .good .0 .0, c .before .loop .inv .0)
 
-returns-2 : tie.Need-returns-2
-returns-2 c = adds (now (c .before .before .before .before .before .before .before .before .before .args .out)) _ _ (c .before .before .before .before .before .before .before .before .before .args .at) _ _ (c .before .before .before .before .before .put-text .ensures) (c .before .n .given .1)
+same-length : tie.Need-same-length Inv-loop μ-loop
+same-length c = c .before .loop .inv .1
+
+returns : tie.Need-returns Inv-loop μ-loop
+returns c = adds-all (now (c .before .before .args .out)) (now (c .before .before .args .src)) (c .before .before .args .at) (c .before .loop .out) (c .before .loop .i) (c .before .loop .inv .2) (c .loop-test .left)
 
 pub append-spec : {M : Type 1} → statement M
 append-spec =
     tie.close
     (tie.spec
-    sub-put-text
-    part-put-text-start
-    part-put-text-end
-    put-text-requires
-    enum-known-n
-    enum-told
-    same-length
-    returns
+    Inv-loop
+    μ-loop
+    loop-holds
+    shared-slice-read-out
+    add-out
+    slice-write-out
+    add-i
+    loop-less
+    loop-again
     add-result
-    same-length-2
-    returns-2)
+    same-length
+    returns)

@@ -1,63 +1,46 @@
-use Prim.Native.Nat.{_+_, _-_}
-use mathlib.Core.Path.{_≡_, refl, sym, ap, _∙_}
+use Prim.Native.Nat.{_+_, _-_, _≤_}
+use native.Mathlib.Omega.{arith}
+use mathlib.Core.Path.{_≡_, refl, _∙_}
 use borrow.Author.Needs.{needs}
 use denote.Ref.{now}
-use lib.ListN.{length, drop}
-use Rattle.text.specs.Utf8.{start, atStart, run, utf8}
-use Rattle.utf8.specs.Due.{dueOf}
-use Rattle.utf8.proofs.Steps.{run-step, run-ends, utf8-ends}
+use lib.ListN.{length}
+use Rattle.utf8.specs.Met.{Alike}
+use Rattle.utf8.proofs.Steps.{one-as, utf8-all, utf8-not}
 use Rattle.utf8.proofs.is_utf8.Statement.{statement}
 use Rattle.utf8.proofs.is_utf8.Tie as tie
 
 abbrev Inv-loop : tie.InvT-loop
-Inv-loop s due₀ i₀ due i = run (dueOf due) (drop i s) ≡ run start s
+Inv-loop s i₀ i = (i ≤ length s) × Alike s 0 i
 
 abbrev μ-loop : tie.MeasureT-loop
-μ-loop s due₀ i₀ due i = length s - i
-
--- what the loop leaves decides
-ended : (c : tie.After-loop Inv-loop μ-loop) → atStart (dueOf (c .before .loop .due)) ≡ utf8 (now (c .before .before .before .args .s))
-ended c =
-    let s = now (c .before .before .before .args .s) in
-    utf8-ends s _ (sym (run-ends (dueOf (c .before .loop .due)) s (c .before .loop .i) (c .loop-test .left)) ∙ (c .before .loop .inv))
+μ-loop s i₀ i = length s - i
 
 loop-holds : tie.Need-loop-holds Inv-loop μ-loop
-loop-holds c = refl
+loop-holds c = (omega arith, refl)
 
-shared-slice-read-step : tie.Need-shared-slice-read-step Inv-loop μ-loop
-shared-slice-read-step c = search needs
+ascii-end-requires : tie.Need-ascii-end-requires Inv-loop μ-loop
+ascii-end-requires c κs = search needs
 
-step-requires : tie.Need-step-requires Inv-loop μ-loop
-step-requires c κs = search needs
+returns : tie.Need-returns Inv-loop μ-loop
+returns c = utf8-all (now (c .before .before .before .before .args .s)) _ (c .before .before .loop .inv .1 ∙ (c .before .ascii-end .ensures .2)) (c .if1 .taken)
 
-add-i : tie.Need-add-i Inv-loop μ-loop
-add-i c = search needs
+character-end-requires : tie.Need-character-end-requires Inv-loop μ-loop
+character-end-requires c κs = search needs
+
+enum-known-e : tie.Need-enum-known-e Inv-loop μ-loop
+enum-known-e c = search needs
 
 loop-less : tie.Need-loop-less Inv-loop μ-loop
-loop-less c = search needs
+loop-less c = let o = one-as (now (c .before .before .before .before .before .before .before .before .args .s)) (c .before .before .before .before .before .ascii-end .result) (c .before .before .before .character-end .ensures) (c .before .e .given .1) in omega (arith, c .before .before .before .before .before .ascii-end .ensures .0)
 
 loop-again : tie.Need-loop-again Inv-loop μ-loop
-loop-again c =
-    let s = now (c .before .before .before .before .before .args .s) in
-    ap (λ d. run d (drop (c .before .before .before .loop .i + 1) s)) (c .step .ensures) ∙ sym (run-step (dueOf (c .before .before .before .loop .due)) s (c .before .before .before .loop .i) (c .before .before .loop-test .taken)) ∙ (c .before .before .before .loop .inv)
+loop-again c = let o = one-as (now (c .before .before .before .before .before .before .before .before .args .s)) (c .before .before .before .before .before .ascii-end .result) (c .before .before .before .character-end .ensures) (c .before .e .given .1) in (o .1, c .before .before .before .before .before .before .loop .inv .1 ∙ (c .before .before .before .before .before .ascii-end .ensures .2) ∙ o .2)
 
 enum-told : tie.Need-enum-told Inv-loop μ-loop
 enum-told c = search needs
 
-enum-told-2 : tie.Need-enum-told-2 Inv-loop μ-loop
-enum-told-2 c = search needs
-
-enum-told-3 : tie.Need-enum-told-3 Inv-loop μ-loop
-enum-told-3 c = search needs
-
-returns : tie.Need-returns Inv-loop μ-loop
-returns c = sym (ap (λ d. atStart (dueOf d)) (c .enum-told .given .1)) ∙ ended (c .before .before)
-
 returns-2 : tie.Need-returns-2 Inv-loop μ-loop
-returns-2 c = sym (ap (λ d. atStart (dueOf d)) (c .enum-told2 .given .1)) ∙ ended (c .before .before)
-
-returns-3 : tie.Need-returns-3 Inv-loop μ-loop
-returns-3 c = sym (ap (λ d. atStart (dueOf d)) (c .enum-told3 .given .1)) ∙ ended (c .before .before)
+returns-2 c = utf8-not (now (c .before .before .before .before .before .before .before .args .s)) (c .before .before .before .before .ascii-end .result) (c .before .before .before .before .before .loop .inv .1 ∙ (c .before .before .before .before .ascii-end .ensures .2)) (one-as (now (c .before .before .before .before .before .before .before .args .s)) (c .before .before .before .before .ascii-end .result) (c .before .before .character-end .ensures) (c .enum-told .given .1))
 
 pub is-utf8-spec : {M : Type 1} → statement M
 is-utf8-spec =
@@ -66,14 +49,11 @@ is-utf8-spec =
     Inv-loop
     μ-loop
     loop-holds
-    shared-slice-read-step
-    step-requires
-    add-i
+    ascii-end-requires
+    returns
+    character-end-requires
+    enum-known-e
     loop-less
     loop-again
     enum-told
-    enum-told-2
-    enum-told-3
-    returns
-    returns-2
-    returns-3)
+    returns-2)
