@@ -4,7 +4,7 @@ use mathlib.Core.List.{[]}
 use mathlib.Core.Option.{Option, none, some}
 use Prim.Native.Nat.{ℕ, _≤_, _<_}
 use lib.ListN.{length, drop}
-use Rattle.text.specs.Choice.{with-some}
+use Rattle.text.specs.Choice.{is-some, with-some}
 use Rattle.text.specs.Bytes.{Bytes}
 use Rattle.line.specs.Text.{push, readText}
 use Rattle.line_text.specs.declared.Char.{Char}
@@ -13,6 +13,10 @@ use Rattle.line_text.specs.declared.Char.the-variants.{Byte, Bad, End}
 -- what TEXT stands for, and nothing where an escape is bad
 unfoldable pub plainText : Bytes → Bytes
 plainText s = with-some (readText s) (λ t. t) []
+
+-- from a on there is TEXT where there is from b on
+abbrev pub SameText : Bytes → ℕ → ℕ → Type 0
+SameText s a b = is-some (readText (drop a s)) ≡ is-some (readText (drop b s))
 
 -- one byte, and what is read from the next place on
 abbrev pub charOf : Bytes → Char → Option Bytes

@@ -2,11 +2,11 @@
 ghost use Rattle.output.specs.Put.{Puts};
 ghost use mathlib.Core.Path.{_≡_};
 ghost use mathlib.Core.Bool.{true};
-ghost use Prim.Native.Nat.{_<_};
+ghost use Prim.Native.Nat.{_≤_, _<_};
 ghost use lib.ListN.{length, drop};
 ghost use Rattle.text.specs.Choice.{is-some};
 ghost use Rattle.line.specs.Text.{readText, textFrom, escape, writeText};
-ghost use Rattle.line_text.specs.Read.{OneChar, plainText};
+ghost use Rattle.line_text.specs.Read.{OneChar, SameText, plainText};
 ghost use Rattle.line_text.specs.Split.{PartEnds, charEnd};
 use output::Wrote;
 use output::put_byte;
@@ -60,13 +60,30 @@ pub fn next_char(s: &[u8], at: usize) -> Char
     Char::Byte(c, e)
 }
 
+// The first backslash from `at` on, or where the bytes end.
+fn plain_end(s: &[u8], at: usize) -> usize
+    requires { ⌜ at ≤ length (now s) ⌝ }
+    ensures { λ r. ⌜ (at ≤ r) × (r ≤ length (now (s .entry))) × SameText (now (s .entry)) at r ⌝ }
+{
+    let mut i = at;
+    while i < s.len() {
+        let c = s[i];
+        if c == b'\\' {
+            return i;
+        }
+        i += 1;
+    }
+    i
+}
+
 // Whether every escape is good.
 pub fn is_text(s: &[u8]) -> bool
     ensures { λ r. ⌜ r ≡ is-some (readText (now (s .entry))) ⌝ }
 {
     let mut i = 0;
     loop {
-        match next_char(s, i) {
+        let j = plain_end(s, i);
+        match next_char(s, j) {
             Char::Byte(_, e) => {
                 i = e;
             }

@@ -1,15 +1,16 @@
 -- One byte more, for the readers of characters.
 use mathlib.Core.Path.{_≡_, refl, sym, ap, subst, _∙_}
-use mathlib.Core.Bool.{Bool, true, false}
+use mathlib.Core.Bool.{Bool, true, false, _||_}
 use mathlib.Core.List.{[], _∷_, map}
 use Prim.Native.Nat.{ℕ, zero, suc, _+_, _-_, _≤_, _<_}
 use native.Mathlib.Omega.{arith}
 use native.Mathlib.Numerals.{add-one}
+use lib.Dec.{leb}
 use lib.ListN.{length, drop, getD, drop-of-length-le}
 use lib.Seq.{drop-cons}
-use borrow.Author.Tests.{le-leb, lt-leb, lt-ltb}
+use borrow.Author.Tests.{le-leb, lt-leb, lt-ltb, leb-false}
 use Rattle.text.specs.Bytes.{Bytes, between}
-use Rattle.text.proofs.Cases.{range, inRange}
+use Rattle.text.proofs.Cases.{range, inRange, or-left, or-right}
 use Rattle.text.specs.declared.Read.{Read}
 use Rattle.text.specs.declared.Read.the-variants.{Next, Bad}
 use Rattle.utf8.specs.Met.{Alike, NextIs, Met, OneMore}
@@ -102,6 +103,13 @@ module _ (s : Bytes) (i left : ℕ) {r : Bool} (some : 0 < left) (n : NextIs s i
 
   pub tail-bad : r ≡ false → atStart (run (tails left) (drop i s)) ≡ false
   tail-bad e = ap (λ d. atStart (run d (drop i s))) (sym (one-tail left some)) ∙ next-as s i 0x80 0xbf n e (left - 1)
+
+-- one byte more that is ASCII
+pub ascii-more : (s : Bytes) (a k : ℕ) (found : Bool) → a + k < length s → (found ≡ false → Alike s a (a + k))
+    → found || leb 128 (getD s (a + k) 0) ≡ false → Alike s a (a + (k + 1))
+ascii-more s a k found h so e =
+    let n : (a + k) + 1 ≡ a + (k + 1) = omega arith in
+    subst (λ m. Alike s a m) n (so (or-left found _ e) ∙ first-step s (a + k) h (ascii _ (leb-false 128 (getD s (a + k) 0) (or-right found _ e))))
 
 pub utf8-all : (s : Bytes) (i : ℕ) → Alike s 0 i → length s ≤ i → true ≡ utf8 s
 unfolding utf8

@@ -1,6 +1,7 @@
 // UTF-8, by the rows of RFC 3629.
 ghost use mathlib.Core.Path.{_≡_};
-ghost use Prim.Native.Nat.{_≤_, _<_};
+ghost use mathlib.Core.Bool.{true, false};
+ghost use Prim.Native.Nat.{_+_, _≤_, _<_};
 ghost use lib.ListN.{length};
 ghost use Rattle.text.specs.Utf8.{utf8, lead, tails};
 ghost use Rattle.utf8.specs.Due.{dueOf};
@@ -106,8 +107,8 @@ fn character_end(s: &[u8], at: usize) -> Read
     }
 }
 
-// Where the ASCII from `at` on ends.
-fn ascii_end(s: &[u8], at: usize) -> usize
+// Where the ASCII from `at` on ends, byte by byte.
+fn ascii_from(s: &[u8], at: usize) -> usize
     requires { ⌜ at ≤ length (now s) ⌝ }
     ensures { λ r. ⌜ (at ≤ r) × (r ≤ length (now (s .entry))) × Alike (now (s .entry)) at r ⌝ }
 {
@@ -119,6 +120,45 @@ fn ascii_end(s: &[u8], at: usize) -> usize
         i += 1;
     }
     i
+}
+
+// Whether one of sixteen bytes is no ASCII. No early way out: one test of a vector.
+fn has_wide(s: &[u8], at: usize) -> bool
+    requires { ⌜ at + 16 ≤ length (now s) ⌝ }
+    ensures { λ r. ⌜ (r ≡ false → Alike (now (s .entry)) at (at + 16)) ⌝ }
+{
+    let mut found = false;
+    let mut k = 0;
+    while k < 16 {
+        found = found | (s[at + k] >= 128);
+        k += 1;
+    }
+    found
+}
+
+// Whether sixteen bytes stand there, all ASCII.
+fn skips(s: &[u8], at: usize) -> bool
+    ensures { λ r. ⌜ (r ≡ true → (at + 16 ≤ length (now (s .entry))) × Alike (now (s .entry)) at (at + 16)) ⌝ }
+{
+    if s.len() <= at {
+        return false;
+    }
+    if s.len() - at < 16 {
+        return false;
+    }
+    !has_wide(s, at)
+}
+
+// Where the ASCII from `at` on ends.
+fn ascii_end(s: &[u8], at: usize) -> usize
+    requires { ⌜ at ≤ length (now s) ⌝ }
+    ensures { λ r. ⌜ (at ≤ r) × (r ≤ length (now (s .entry))) × Alike (now (s .entry)) at r ⌝ }
+{
+    let mut i = at;
+    while skips(s, i) {
+        i += 16;
+    }
+    ascii_from(s, i)
 }
 
 // Whole characters, each by a row.

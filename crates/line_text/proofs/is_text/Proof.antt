@@ -18,6 +18,9 @@ abbrev μ-loop : tie.MeasureT-loop
 loop-holds : tie.Need-loop-holds Inv-loop μ-loop
 loop-holds c = (omega arith, refl)
 
+plain-end-requires : tie.Need-plain-end-requires Inv-loop μ-loop
+plain-end-requires c κs = c .loop .inv .0
+
 next-char-requires : tie.Need-next-char-requires Inv-loop μ-loop
 next-char-requires c κs = search needs
 
@@ -25,22 +28,22 @@ enum-known-e : tie.Need-enum-known-e Inv-loop μ-loop
 enum-known-e c = search needs
 
 loop-less : tie.Need-loop-less Inv-loop μ-loop
-loop-less c = omega (arith, onward _ _ _ (c .before .before .before .next-char .ensures) _ _ (c .before .e .given .1))
+loop-less c = omega (arith, onward _ _ _ (c .before .before .before .next-char .ensures) _ _ (c .before .e .given .1), c .before .before .before .before .plain-end .ensures .0)
 
 loop-again : tie.Need-loop-again Inv-loop μ-loop
-loop-again c = (onward _ _ _ (c .before .before .before .next-char .ensures) _ _ (c .before .e .given .1) .1, sym (byte-good _ _ _ (c .before .before .before .next-char .ensures) _ _ (c .before .e .given .1)) ∙ (c .before .before .before .before .loop .inv .1))
+loop-again c = (onward _ _ _ (c .before .before .before .next-char .ensures) _ _ (c .before .e .given .1) .1, sym (byte-good _ _ _ (c .before .before .before .next-char .ensures) _ _ (c .before .e .given .1)) ∙ sym (c .before .before .before .before .plain-end .ensures .2) ∙ (c .before .before .before .before .before .loop .inv .1))
 
 enum-told : tie.Need-enum-told Inv-loop μ-loop
 enum-told c = search needs
 
 returns : tie.Need-returns Inv-loop μ-loop
-returns c = sym (bad-good _ _ _ (c .before .before .next-char .ensures) (c .enum-told .given .1)) ∙ (c .before .before .before .loop .inv .1)
+returns c = sym (bad-good _ _ _ (c .before .before .next-char .ensures) (c .enum-told .given .1)) ∙ sym (c .before .before .before .plain-end .ensures .2) ∙ (c .before .before .before .before .loop .inv .1)
 
 enum-told-2 : tie.Need-enum-told-2 Inv-loop μ-loop
 enum-told-2 c = search needs
 
 returns-2 : tie.Need-returns-2 Inv-loop μ-loop
-returns-2 c = sym (end-good _ _ _ (c .before .before .next-char .ensures) (c .enum-told2 .given .1)) ∙ (c .before .before .before .loop .inv .1)
+returns-2 c = sym (end-good _ _ _ (c .before .before .next-char .ensures) (c .enum-told2 .given .1)) ∙ sym (c .before .before .before .plain-end .ensures .2) ∙ (c .before .before .before .before .loop .inv .1)
 
 pub is-text-spec : {M : Type 1} → statement M
 is-text-spec =
@@ -49,6 +52,7 @@ is-text-spec =
     Inv-loop
     μ-loop
     loop-holds
+    plain-end-requires
     next-char-requires
     enum-known-e
     loop-less

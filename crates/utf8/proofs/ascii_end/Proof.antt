@@ -1,11 +1,9 @@
-use Prim.Native.Nat.{_+_, _-_, _≤_}
+use Prim.Native.Nat.{_-_, _≤_}
+use mathlib.Core.Path.{_≡_, refl, _∙_}
 use native.Mathlib.Omega.{arith}
-use mathlib.Core.Path.{_≡_, refl, sym, ap, _∙_}
 use borrow.Author.Needs.{needs}
-use denote.Ref.{now}
 use lib.ListN.{length}
 use Rattle.utf8.specs.Met.{Alike}
-use Rattle.utf8.proofs.Steps.{first-step, ascii}
 use Rattle.utf8.proofs.ascii_end.Statement.{statement}
 use Rattle.utf8.proofs.ascii_end.Tie as tie
 
@@ -16,25 +14,30 @@ abbrev μ-loop : tie.MeasureT-loop
 μ-loop s at i₀ i = length s - i
 
 loop-holds : tie.Need-loop-holds Inv-loop μ-loop
-loop-holds c = (search needs, c .pre, refl)
+loop-holds c = (search needs, search needs, refl)
 
-shared-slice-read-if1 : tie.Need-shared-slice-read-if1 Inv-loop μ-loop
-shared-slice-read-if1 c = search needs
-
-returns : tie.Need-returns Inv-loop μ-loop
-returns c = c .before .before .before .loop .inv
+skips-requires : tie.Need-skips-requires Inv-loop μ-loop
+skips-requires c κs = search needs
 
 add-i : tie.Need-add-i Inv-loop μ-loop
-add-i c = search needs
+add-i c = omega (arith, c .before .skips .ensures (c .if1 .taken) .0)
 
 loop-less : tie.Need-loop-less Inv-loop μ-loop
-loop-less c = search needs
+loop-less c = omega (arith, c .before .skips .ensures (c .if1 .taken) .0)
 
 loop-again : tie.Need-loop-again Inv-loop μ-loop
-loop-again c = (omega arith, omega arith, c .before .before .before .loop .inv .2 ∙ first-step (now (c .before .before .before .before .args .s)) (c .before .before .before .loop .i) (c .before .before .loop-test .taken) (ascii _ (c .if1 .left)))
+loop-again c =
+    let k = c .before .skips .ensures (c .if1 .taken) in
+    (omega (arith, c .before .before .loop .inv .0), k .0, c .before .before .loop .inv .2 ∙ k .1)
 
-returns-2 : tie.Need-returns-2 Inv-loop μ-loop
-returns-2 c = c .before .loop .inv
+ascii-from-requires : tie.Need-ascii-from-requires Inv-loop μ-loop
+ascii-from-requires c κs = c .before .before .loop .inv .1
+
+returns : tie.Need-returns Inv-loop μ-loop
+returns c =
+    let l = c .before .before .before .loop .inv in
+    let f = c .ascii-from .ensures in
+    (omega (arith, l .0, f .0), f .1, l .2 ∙ f .2)
 
 pub ascii-end-spec : {M : Type 1} → statement M
 ascii-end-spec =
@@ -43,9 +46,9 @@ ascii-end-spec =
     Inv-loop
     μ-loop
     loop-holds
-    shared-slice-read-if1
-    returns
+    skips-requires
     add-i
     loop-less
     loop-again
-    returns-2)
+    ascii-from-requires
+    returns)

@@ -11,7 +11,11 @@ use Rattle.utf8.proofs.character_end.Tie as tie
 
 -- the second byte stands there
 two : (c : tie.Else1) → Two (now (c .before .before .before .before .before .before .before .before .args .s)) (c .before .before .before .before .before .before .before .before .args .at) (c .before .before .before .low .given .0 .1 .1 .0)
-two c = first-met (now (c .before .before .before .before .before .before .before .before .args .s)) (c .before .before .before .before .before .before .before .before .args .at) (c .before .before .before .before .before .before .before .before .pre) (sym (ap dueOf (c .before .before .before .low .given .1)) ∙ (c .before .before .before .before .before .due-after .ensures)) (c .before .is-next .ensures) (not-false (c .before .is-next .result) (c .if1 .left))
+two c =
+    let d = c .before .before .before .before .before in
+    let b = d .before .before .before in
+    first-met (now (b .args .s)) (b .args .at) (b .pre) (sym (ap dueOf (c .before .before .before .low .given .1)) ∙ (d .due-after .ensures)) (c .before .is-next .ensures)
+    (not-false (c .before .is-next .result) (c .if1 .left))
 
 shared-slice-read-due-after : tie.Need-shared-slice-read-due-after
 shared-slice-read-due-after c = search needs
@@ -38,7 +42,11 @@ is-next-requires : tie.Need-is-next-requires
 is-next-requires c κs = search needs
 
 returns-2 : tie.Need-returns-2
-returns-2 c = first-cut (now (c .before .before .before .before .before .before .before .before .args .s)) (c .before .before .before .before .before .before .before .before .args .at) (c .before .before .before .before .before .before .before .before .pre) (sym (ap dueOf (c .before .before .before .low .given .1)) ∙ (c .before .before .before .before .before .due-after .ensures)) (c .before .is-next .ensures) (not-true (c .before .is-next .result) (c .if1 .taken))
+returns-2 c =
+    let d = c .before .before .before .before .before in
+    let b = d .before .before .before in
+    first-cut (now (b .args .s)) (b .args .at) (b .pre) (sym (ap dueOf (c .before .before .before .low .given .1)) ∙ (d .due-after .ensures)) (c .before .is-next .ensures)
+    (not-true (c .before .is-next .result) (c .if1 .taken))
 
 add-tails-end : tie.Need-add-tails-end
 add-tails-end c = omega (arith, two c .0)

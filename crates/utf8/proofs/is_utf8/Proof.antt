@@ -34,13 +34,21 @@ loop-less : tie.Need-loop-less Inv-loop μ-loop
 loop-less c = let o = one-as (now (c .before .before .before .before .before .before .before .before .args .s)) (c .before .before .before .before .before .ascii-end .result) (c .before .before .before .character-end .ensures) (c .before .e .given .1) in omega (arith, c .before .before .before .before .before .ascii-end .ensures .0)
 
 loop-again : tie.Need-loop-again Inv-loop μ-loop
-loop-again c = let o = one-as (now (c .before .before .before .before .before .before .before .before .args .s)) (c .before .before .before .before .before .ascii-end .result) (c .before .before .before .character-end .ensures) (c .before .e .given .1) in (o .1, c .before .before .before .before .before .before .loop .inv .1 ∙ (c .before .before .before .before .before .ascii-end .ensures .2) ∙ o .2)
+loop-again c =
+    let b = c .before .before .before .before .before in
+    let s = now (b .before .before .before .args .s) in
+    let o = one-as s (b .ascii-end .result) (c .before .before .before .character-end .ensures) (c .before .e .given .1) in
+    (o .1, b .before .loop .inv .1 ∙ (b .ascii-end .ensures .2) ∙ o .2)
 
 enum-told : tie.Need-enum-told Inv-loop μ-loop
 enum-told c = search needs
 
 returns-2 : tie.Need-returns-2 Inv-loop μ-loop
-returns-2 c = utf8-not (now (c .before .before .before .before .before .before .before .args .s)) (c .before .before .before .before .ascii-end .result) (c .before .before .before .before .before .loop .inv .1 ∙ (c .before .before .before .before .ascii-end .ensures .2)) (one-as (now (c .before .before .before .before .before .before .before .args .s)) (c .before .before .before .before .ascii-end .result) (c .before .before .character-end .ensures) (c .enum-told .given .1))
+returns-2 c =
+    let b = c .before .before .before .before in
+    let s = now (b .before .before .before .args .s) in
+    utf8-not s (b .ascii-end .result) (b .before .loop .inv .1 ∙ (b .ascii-end .ensures .2))
+    (one-as s (b .ascii-end .result) (c .before .before .character-end .ensures) (c .enum-told .given .1))
 
 pub is-utf8-spec : {M : Type 1} → statement M
 is-utf8-spec =
