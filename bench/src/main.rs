@@ -38,6 +38,10 @@ fn main() {
     for (name, text) in &texts {
         measure(look_up(name, text));
     }
+    let cards = workloads::ordinary_cards();
+    measure(stream("stream of ordinary cards, 64 KiB pieces", &cards, 65_536));
+    measure(stream("stream of ordinary cards, one piece", &cards, cards.len()));
+    measure(stream("stream of ordinary cards, 1-byte pieces", &cards, 1));
 }
 
 /// The JSON of a card, by the baseline.
@@ -72,6 +76,53 @@ fn look_up<'a>(name: &'static str, text: &'a [u8]) -> Workload<'a> {
     Workload { name, bytes: text.len(), ours: Box::new(ours), theirs: Box::new(theirs) }
 }
 
+/// A whole stream in pieces of that size: how many cards give JSON.
+fn stream<'a>(name: &'static str, text: &'a [u8], size: usize) -> Workload<'a> {
+    let mut buffer = vec![0u8; thymebarrel::CARD_BYTES];
+    let mut out = vec![0u8; thymebarrel::JSON_BYTES];
+    let mut ours = move || ours_reads(text, size, &mut buffer, &mut out);
+    let theirs = move || theirs_reads(text, size);
+    assert_eq!(ours(), theirs(), "{name}");
+    let ours = move || {
+        black_box(ours());
+    };
+    let theirs = move || {
+        black_box(theirs());
+    };
+    Workload { name, bytes: text.len(), ours: Box::new(ours), theirs: Box::new(theirs) }
+}
+
+fn ours_reads(text: &[u8], size: usize, buffer: &mut [u8], out: &mut [u8]) -> usize {
+    let mut lent = thymebarrel::Lent { buffer, out };
+    let mut stream = thymebarrel::Stream::fresh();
+    let mut cards = 0;
+    for piece in text.chunks(size) {
+        let mut at = 0;
+        while at < piece.len() {
+            let (said, used) = stream.step(b"reg", &piece[at..], &mut lent);
+            cards += usize::from(matches!(said, thymebarrel::Said::Json(_)));
+            at += used;
+        }
+    }
+    stream.end(b"reg", &mut lent);
+    cards
+}
+
+fn theirs_reads(text: &[u8], size: usize) -> usize {
+    let mut reader = baseline::Reader::fresh();
+    let mut cards = 0;
+    for piece in text.chunks(size) {
+        let mut at = 0;
+        while at < piece.len() {
+            let told = reader.piece(b"reg", &piece[at..]);
+            cards += usize::from(matches!(told.what, baseline::What::Json(_)));
+            at += told.consumed;
+        }
+    }
+    reader.end(b"reg");
+    cards
+}
+
 /// Microseconds a call, the best of many short batches; the sides take turns.
 fn measure(mut workload: Workload) {
     let batch = batch_size(&mut workload.theirs);
@@ -94,6 +145,10 @@ fn measure(mut workload: Workload) {
 
 /// So many calls that a batch takes about a millisecond.
 fn batch_size(call: &mut dyn FnMut()) -> u32 {
+    let first = time(call, 1);
+    if first > 1000.0 {
+        return 1;
+    }
     let once = time(call, 16).max(0.01);
     (1000.0 / once).ceil() as u32
 }

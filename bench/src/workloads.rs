@@ -18,6 +18,12 @@ pub fn ordinary() -> Vec<u8> {
     ])
 }
 
+/// 10 MB of ordinary cards, one after the other.
+pub fn ordinary_cards() -> Vec<u8> {
+    let card = ordinary();
+    card.repeat(10_000_000 / card.len())
+}
+
 /// Letters beyond ASCII, escapes, kept lines and folds.
 pub fn international() -> Vec<u8> {
     let note = "Der Sekundenzeiger bleibt bei 40 stehen\\, Gehäuse zerkratzt\\; Kundin wünscht Rückruf. ".repeat(4);

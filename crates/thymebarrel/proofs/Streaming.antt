@@ -16,7 +16,8 @@ use Rattle.stream_reader.specs.Machine.{cap, freshOf, inRange}
 use Rattle.stream_machine.specs.Turn.{Given, unfit, called}
 use Rattle.stream_cards.specs.declared.Answered.{Answered}
 use Rattle.stream_cards.specs.Promise.{Gives, saidOf}
-use Rattle.thymebarrel.specs.Streamed.{bit, rowOf, noState, stateOf, rowAfter, Told, toldBy, toldOf, Called, callGiven, calledOf}
+use Rattle.thymebarrel.specs.Given.{Told}
+use Rattle.thymebarrel.specs.Streamed.{bit, rowOf, noState, stateOf, rowAfter, toldBy, toldOf, Called, callGiven, calledOf}
 
 -- ---- seven numbers
 

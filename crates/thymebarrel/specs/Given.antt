@@ -14,7 +14,16 @@ given n p w out = record { number = n; place = p; written = w; output = out }
 abbrev pub partFrom : (start length : ℕ) → Part
 partFrom a n = record { start = a; end = a + n }
 
--- what the code's outcome and the lent output afterwards come to
-abbrev pub shownBy : Outcome → (output : Bytes) → Served
-shownBy (Written n) out = given 0 0 n out
-shownBy (Refused n p) out = given n p 0 out
+-- the number returned, and what stands behind the two pointers
+pub record Told : Type 0 where
+  pub number : ℕ
+  pub place : ℕ
+  pub written : ℕ
+
+abbrev pub told : (number place written : ℕ) → Told
+told n p w = record { number = n; place = p; written = w }
+
+-- what the code's outcome comes to
+abbrev pub outcomeTold : Outcome → Told
+outcomeTold (Written n) = told 0 0 n
+outcomeTold (Refused n p) = told n p 0

@@ -7,13 +7,12 @@ use lib.Dec.{eqb}
 use Rattle.text.specs.Choice.{pick}
 use Rattle.text.specs.Bytes.{Bytes}
 use Rattle.convert.specs.Answers.{no, yes}
-use Rattle.served.specs.declared.Outcome.{Outcome}
-use Rattle.served.specs.declared.Outcome.the-variants.{Written, Refused}
 use Rattle.stream.specs.Calls.{Shown, shows-more, shows}
 use Rattle.stream_reader.specs.declared.State.{State}
 use Rattle.stream_machine.specs.Turn.{Given}
 use Rattle.stream_cards.specs.declared.Said.{Said}
 use Rattle.stream_cards.specs.declared.Said.the-variants.{More, Answer}
+use Rattle.thymebarrel.specs.Given.{Told, told, outcomeTold}
 
 -- a flag as a number
 abbrev pub bit : Bool → ℕ
@@ -47,19 +46,7 @@ stateOf row =
 unfoldable pub rowAfter : List ℕ → State → List ℕ
 rowAfter row s = pick (eqb (length row) 7) (rowOf s) row
 
--- the number returned, and what stands behind the two pointers: 255 is more, 0 a JSON of that length, else a refusal with its place
-pub record Told : Type 0 where
-  pub number : ℕ
-  pub place : ℕ
-  pub written : ℕ
-
-abbrev pub told : (number place written : ℕ) → Told
-told n p w = record { number = n; place = p; written = w }
-
-abbrev pub outcomeTold : Outcome → Told
-outcomeTold (Written n) = told 0 0 n
-outcomeTold (Refused n p) = told n p 0
-
+-- 255 is more, 0 a JSON of that length, else a refusal with its place
 abbrev pub toldBy : Said → Told
 toldBy More = told 255 0 0
 toldBy (Answer r) = outcomeTold r

@@ -8,8 +8,8 @@ ghost use Rattle.json.specs.Lookup.{lookUp};
 ghost use Rattle.json_lookup.specs.Finds.{placeOf};
 ghost use Rattle.stream.specs.Calls.{piece as piece-call, end as end-call};
 ghost use Rattle.stream_machine.specs.Turn.{called};
-ghost use Rattle.thymebarrel.specs.Given.{partFrom, given};
-ghost use Rattle.thymebarrel.specs.Streamed.{bit, stateOf, rowAfter, told, outcomeTold, toldBy, callGiven, calledOf};
+ghost use Rattle.thymebarrel.specs.Given.{partFrom, given, told, outcomeTold};
+ghost use Rattle.thymebarrel.specs.Streamed.{bit, stateOf, rowAfter, toldBy, callGiven, calledOf};
 use card_to_json::card_to_json;
 use json_lookup::locate;
 use served::Outcome;
@@ -18,20 +18,11 @@ use stream_cards::Said;
 use stream_cards::Stream;
 use stream_reader::State;
 
-// Card to JSON: answers the refusal number, 0 where the JSON stands at the front of `out`; the refusal's place and the JSON's length stand behind the last
-// two pointers.
-#[no_mangle]
-pub extern "C" fn thymebarrel_card_to_json(
-    stem: &[u8],
-    number: usize,
-    card: &[u8],
-    out: &mut [u8],
-    place: &mut usize,
-    written: &mut usize,
-) -> u8
-    ensures { λ r. ⌜ given r (now (place .exit)) (now (written .exit)) (now (out .exit)) ≡ served (now (out .entry)) (cardToJson (now (stem .entry)) number (length (now (out .entry))) (now (card .entry))) ⌝ }
+// The number to answer; the refusal's place and the result's length stand behind the two pointers.
+fn tell_outcome(r: Outcome, place: &mut usize, written: &mut usize) -> u8
+    ensures { λ n. ⌜ told n (now (place .exit)) (now (written .exit)) ≡ outcomeTold r ⌝ }
 {
-    match card_to_json(stem, number, card, out) {
+    match r {
         Outcome::Written(n) => {
             *place = 0;
             *written = n;
@@ -46,6 +37,23 @@ pub extern "C" fn thymebarrel_card_to_json(
             return k;
         }
     }
+}
+
+// Card to JSON: answers the refusal number, 0 where the JSON stands at the front of `out`; the refusal's place and the JSON's length stand behind the last
+// two pointers.
+#[no_mangle]
+pub extern "C" fn thymebarrel_card_to_json(
+    stem: &[u8],
+    number: usize,
+    card: &[u8],
+    out: &mut [u8],
+    place: &mut usize,
+    written: &mut usize,
+) -> u8
+    ensures { λ r. ⌜ given r (now (place .exit)) (now (written .exit)) (now (out .exit)) ≡ served (now (out .entry)) (cardToJson (now (stem .entry)) number (length (now (out .entry))) (now (card .entry))) ⌝ }
+{
+    let r = card_to_json(stem, number, card, out);
+    tell_outcome(r, place, written)
 }
 
 // The look-up: answers where the value of that top-level member begins in the JSON, with its length behind the last pointer; length 0 where there is none.
@@ -108,26 +116,7 @@ fn put_state(row: &mut [usize], s: State)
     row[6] = bit_of(!s.blank);
 }
 
-fn tell_outcome(r: Outcome, place: &mut usize, written: &mut usize) -> u8
-    ensures { λ n. ⌜ told n (now (place .exit)) (now (written .exit)) ≡ outcomeTold r ⌝ }
-{
-    match r {
-        Outcome::Written(n) => {
-            *place = 0;
-            *written = n;
-            return 0;
-        }
-        Outcome::Refused {
-            number: k,
-            place: p,
-        } => {
-            *place = p;
-            *written = 0;
-            return k;
-        }
-    }
-}
-
+// The same of what a call of the stream says; 255 is more.
 fn tell(said: Said, place: &mut usize, written: &mut usize) -> u8
     ensures { λ n. ⌜ told n (now (place .exit)) (now (written .exit)) ≡ toldBy said ⌝ }
 {
