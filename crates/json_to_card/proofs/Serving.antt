@@ -1,0 +1,89 @@
+-- What the caller sees: the room of the card, then the order of 3 (bytes), 11 and the rest.
+use mathlib.Core.Path.{_≡_, refl, sym, ap, subst, _∙_}
+use Prim.Native.Nat.{ℕ, _-_, _≤_, _<_}
+use native.Mathlib.Omega.{arith}
+use lib.ListN.{length, take, length-take}
+use borrow.Author.Tests.{le-leb}
+use Rattle.text.specs.Choice.{pick}
+use Rattle.text.specs.Bytes.{Bytes}
+use Rattle.json.specs.Tree.{Json}
+use Rattle.json.specs.Read.{Reading, tree, refused, reading}
+use Rattle.json_read.specs.Verdict.{verdict, verdictOf, number, InWords}
+use Rattle.json_read.specs.declared.Verdict.{Verdict}
+use Rattle.json_read.specs.declared.Verdict.the-variants.{Sound, Large, NotJson}
+use Rattle.convert.specs.Answers.{Answer, no, yes, cardRoom, jsonRoom, jsonToCard}
+use Rattle.convert.specs.Served.{leftBy}
+use Rattle.served.specs.declared.Outcome.{Outcome}
+use Rattle.served.specs.declared.Outcome.the-variants.{Refused as Outcome-Refused}
+use Rattle.served.specs.Served.{outcomeOf}
+use Rattle.served_put.specs.Lent.{fitLent, Serves}
+use Rattle.served_put.proofs.Serving.{serves-refused, serves-as}
+use Rattle.json_to_card.specs.Inner.{Reads, inner, fit}
+use Rattle.json_to_card.specs.Making.{Makes}
+use Rattle.json_to_card.specs.declared.Made.{Made}
+use Rattle.json_to_card.specs.declared.Made.the-variants.{Card, Refused, Full}
+use Rattle.json_to_card.proofs.Inner.{too-long, the-rest, fit-large, fit-lent}
+
+-- ---- the result
+
+module _ (out : Bytes) (a : Answer) (room : Bytes) (m : Made) (after : Bytes) (made : Makes a room m after) where
+  pub of-refused : (n p : ℕ) → m ≡ Refused n p → Serves out (fit (length out) a) (Outcome-Refused n p) out
+  of-refused n p e = serves-refused out _ n p (ap (fit (length out)) (subst (λ x. Makes a room x after) e made))
+
+  pub of-full : m ≡ Full → cardRoom < length room → Serves out (fit (length out) a) (Outcome-Refused 3 0) out
+  of-full e h =
+      let f : Makes a room Full after = subst (λ x. Makes a room x after) e made in
+      serves-refused out _ 3 0 (ap (fit (length out)) (f .1) ∙ fit-large (length out) (f .0) (omega (arith, f .2, h)))
+
+  module _ (k : ℕ) (e : m ≡ Card k) where
+    is-card : Makes a room (Card k) after
+    is-card = subst (λ x. Makes a room x after) e made
+
+    pub card-fits : k ≤ length after
+    card-fits = omega (arith, is-card .3, is-card .4)
+
+    pub of-card : (r : Outcome) (out′ : Bytes) → length room ≤ 32769 → Serves out (fitLent (length out) (take (k - 0) after)) r out′ → Serves out (fit (length out) a) r out′
+    of-card r out′ h s =
+        let t : Bytes = take (k - 0) after in
+        let l : length t ≤ cardRoom = simp (length-take) (omega (arith, is-card .3, h)) in
+        serves-as out _ _ r out′ (sym (fit-lent (length out) t l) ∙ ap (λ x. fit (length out) (yes x)) (is-card .2) ∙ sym (ap (fit (length out)) (is-card .1))) s
+
+-- ---- the order
+
+module _ (s : Bytes) (r : Verdict) (said : r ≡ verdict 16 s) (words : InWords 16 s r) where
+  judged : length s ≤ jsonRoom → r ≡ verdictOf (reading 16 s)
+  unfolding verdict
+  judged h = said ∙ ap (λ b. pick b (verdictOf (reading 16 s)) Large) (le-leb (length s) jsonRoom h)
+
+  -- 3
+  pub read-large : r ≡ Large → (lent : ℕ) → jsonToCard lent s ≡ no 3 0
+  read-large e lent = too-long lent s (words .over-room .0 (ap number e))
+
+  -- 11
+  no-json : (p : ℕ) (x : Reading) → verdictOf x ≡ NotJson p → inner x ≡ no 11 p
+  no-json p (tree j) q = let z : _≡_ {A = ℕ} 0 1 = cc in absurd (omega (arith, z))
+  no-json p (refused n) q = let z : n ≡ p = cc in ap (no 11) z
+
+  pub read-not-json : (p : ℕ) → r ≡ NotJson p → (lent : ℕ) → jsonToCard lent s ≡ no 11 p
+  read-not-json p e lent =
+      let h : length s ≤ jsonRoom = words .no-json .0 (ap number e) .0 in
+      the-rest lent s h ∙ ap (fit lent) (no-json p (reading 16 s) (sym (judged h) ∙ e))
+
+  is-tree : (x : Reading) → verdictOf x ≡ Sound → (j : Json) × (x ≡ tree j)
+  is-tree (tree j) q = (j, refl)
+  is-tree (refused n) q = let z : _≡_ {A = ℕ} 0 1 = cc in absurd (omega (arith, z))
+
+  module _ (e : r ≡ Sound) where
+    pub read-short : length s ≤ jsonRoom
+    read-short = words .json .0 (ap number e) .0
+
+    pub read-sound : Reads s
+    read-sound = let t = is-tree (reading 16 s) (sym (judged read-short) ∙ e) in record { value = t .0; is = t .1 }
+
+    -- then the rest: both promises
+    pub seen : (out : Bytes) (o : Outcome) (after : Bytes) → Serves out (fit (length out) (inner (reading 16 s))) o after
+        → (o ≡ outcomeOf (jsonToCard (length out) s)) × (after ≡ leftBy out (jsonToCard (length out) s))
+    seen out o after v = let w = serves-as out _ _ o after (sym (the-rest (length out) s read-short)) v in (w .said, w .left)
+
+pub seen-refused : (out : Bytes) (a : Answer) (n p : ℕ) → a ≡ no n p → (Outcome-Refused n p ≡ outcomeOf a) × (out ≡ leftBy out a)
+seen-refused out a n p e = let w = serves-refused out a n p e in (w .said, w .left)

@@ -1,0 +1,107 @@
+use borrow.Author.Needs.{needs}
+use native.Mathlib.Omega.{arith}
+use denote.Ref.{now}
+use lib.ListN.{length-take, length-drop}
+use Rattle.json.specs.Read.{reading}
+use Rattle.json_to_card.specs.Inner.{inner}
+use Rattle.json_to_card.proofs.Serving.{of-refused, of-full, of-card, card-fits}
+use Rattle.json_to_card.proofs.large.Statement.{statement}
+use Rattle.json_to_card.proofs.large.Tie as tie
+
+slice-aggregate-convert : tie.Need-slice-aggregate-convert
+slice-aggregate-convert c = search needs
+
+slice-aggregate-convert-2 : tie.Need-slice-aggregate-convert-2
+slice-aggregate-convert-2 c = search needs
+
+sub-convert : tie.Need-sub-convert
+sub-convert c = search needs
+
+part-b-start : tie.Need-part-b-start
+part-b-start c = search needs
+
+part-b-end : tie.Need-part-b-end
+part-b-end c = search needs
+
+slice-aggregate-convert-3 : tie.Need-slice-aggregate-convert-3
+slice-aggregate-convert-3 c = search needs
+
+slice-aggregate-convert-4 : tie.Need-slice-aggregate-convert-4
+slice-aggregate-convert-4 c = search needs
+
+convert-requires : tie.Need-convert-requires
+convert-requires c κs =
+    let start = c .before .before .before .before .before .before .before in
+    (start .pre .0, (search needs, record { small = omega (arith, start .pre .1); buffer = simp (length-take, length-drop) (omega arith); table = search needs; text = search needs }))
+
+enum-known-k : tie.Need-enum-known-k
+enum-known-k c = search needs
+
+returns : tie.Need-returns
+returns c =
+    let at-convert = c .before .before .before .before .before .before .before .before in
+    let start = at-convert .before .before .before .before .before .before .before .before in
+    of-refused (now (start .args .out)) (inner (reading 16 (now (start .args .json)))) _ (at-convert .convert .result) (at-convert .convert .last .0) (at-convert .convert .ensures) _ _ (c .before .k .given .1)
+
+enum-told : tie.Need-enum-told
+enum-told c = search needs
+
+returns-2 : tie.Need-returns-2
+returns-2 c =
+    let at-convert = c .before .before .before .before .before .before .before in
+    let start = at-convert .before .before .before .before .before .before .before .before in
+    of-full (now (start .args .out)) (inner (reading 16 (now (start .args .json)))) _ (at-convert .convert .result) (at-convert .convert .last .0) (at-convert .convert .ensures) (c .enum-told .given .1) (search needs)
+
+enum-known-k-2 : tie.Need-enum-known-k-2
+enum-known-k-2 c = search needs
+
+sub-put-served : tie.Need-sub-put-served
+sub-put-served c = search needs
+
+part-put-served-start : tie.Need-part-put-served-start
+part-put-served-start c = search needs
+
+part-put-served-end : tie.Need-part-put-served-end
+part-put-served-end c =
+    let at-k2 = c .before .before .before in
+    let at-convert = at-k2 .before .before .before .before .before .before .before in
+    let start = at-convert .before .before .before .before .before .before .before .before in
+    card-fits (now (start .args .out)) (inner (reading 16 (now (start .args .json)))) _ (at-convert .convert .result) (at-convert .convert .last .0) (at-convert .convert .ensures) _ (at-k2 .k2 .given .1)
+
+put-served-requires : tie.Need-put-served-requires
+put-served-requires c κs = search needs
+
+same-length : tie.Need-same-length
+same-length c = search needs
+
+returns-3 : tie.Need-returns-3
+returns-3 c =
+    let at-put-served = c .before .before in
+    let at-k2 = at-put-served .before .before .before .before .before in
+    let at-convert = at-k2 .before .before .before .before .before .before .before in
+    let start = at-convert .before .before .before .before .before .before .before .before in
+    of-card (now (start .args .out)) (inner (reading 16 (now (start .args .json)))) _ (at-convert .convert .result) (at-convert .convert .last .0) (at-convert .convert .ensures) _ (at-k2 .k2 .given .1) (at-put-served .put-served .result) _ (search needs) (at-put-served .put-served .ensures)
+
+pub large-spec : {M : Type 1} → statement M
+large-spec =
+    tie.close
+    (tie.spec
+    slice-aggregate-convert
+    slice-aggregate-convert-2
+    sub-convert
+    part-b-start
+    part-b-end
+    slice-aggregate-convert-3
+    slice-aggregate-convert-4
+    convert-requires
+    enum-known-k
+    returns
+    enum-told
+    returns-2
+    enum-known-k-2
+    sub-put-served
+    part-put-served-start
+    part-put-served-end
+    put-served-requires
+    same-length
+    returns-3)
