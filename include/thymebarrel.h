@@ -25,7 +25,7 @@ extern "C" {
  * and 9, else 0. */
 #define THYMEBARREL_CONVERTED 0
 #define THYMEBARREL_NOT_ONE_CARD 1 /* BEGIN first, END last, no other such line */
-#define THYMEBARREL_OVER_ROOM 3 /* over 32,768 bytes or 512 lines, or JSON over 65,536 bytes */
+#define THYMEBARREL_OVER_ROOM 3 /* a card over 32,768 bytes or 512 lines, or JSON over 65,536 bytes, given or made */
 #define THYMEBARREL_NOT_TEXT 4 /* a line is not UTF-8, or has a control character */
 #define THYMEBARREL_OFF_GRAMMAR 5
 #define THYMEBARREL_NOT_VERSION_4 6
@@ -35,6 +35,11 @@ extern "C" {
 #define THYMEBARREL_NO_FN 10
 #define THYMEBARREL_OUTPUT_TOO_SHORT 14
 #define THYMEBARREL_BAD_STEM_OR_NUMBER 15 /* stem: 1 to 200 of A-Z a-z 0-9 : - _; number: 1 to 999,999 */
+/* Refusals of JSON are sought in the order 3, 11, 12, 13, 3, 14. The place of 11 is the offset of the first byte at which no JSON of depth 16 can still follow, 0
+ * for a surrogate alone or equal names in one object; of the others it is 0. */
+#define THYMEBARREL_NOT_JSON 11
+#define THYMEBARREL_NOT_A_CARD 12 /* JSON, but no JSContact card within the rules */
+#define THYMEBARREL_NOT_CARRIED 13 /* a card that lines of vCard cannot carry */
 /* Of a stream besides: */
 #define THYMEBARREL_MORE 255 /* no line answered */
 #define THYMEBARREL_CARD_LEFT_OPEN 2 /* a card met BEGIN or the end before END */
@@ -51,6 +56,13 @@ extern "C" {
  */
 uint8_t thymebarrel_card_to_json(const uint8_t *stem, size_t stem_length, size_t number, const uint8_t *card, size_t card_length, uint8_t *out,
                                  size_t out_length, size_t *place, size_t *written);
+
+/* JSON to card, likewise: the card is written to the front of `out`, and THYMEBARREL_CARD_BYTES of output are always enough. The arrays of a call add up to about
+ * 330 KiB of stack (reckoned from the source, not measured).
+ *
+ *     uint8_t number = thymebarrel_json_to_card(json, json_length, out, sizeof out, &place, &written);
+ */
+uint8_t thymebarrel_json_to_card(const uint8_t *json, size_t json_length, uint8_t *out, size_t out_length, size_t *place, size_t *written);
 
 /* A call of a stream of cards with a piece, which may be cut anywhere. It is read until a line answers, else all of it; how many bytes were consumed is put behind
  * `consumed`, and the rest is handed in again. Answered are THYMEBARREL_MORE, THYMEBARREL_CONVERTED with the JSON at the front of `out` and its length behind `written`, or a

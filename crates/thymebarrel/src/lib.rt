@@ -2,7 +2,7 @@
 // every other function.
 ghost use mathlib.Core.Path.{_≡_};
 ghost use lib.ListN.{length};
-ghost use Rattle.convert.specs.Answers.{cardToJson};
+ghost use Rattle.convert.specs.Answers.{cardToJson, jsonToCard};
 ghost use Rattle.convert.specs.Served.{served};
 ghost use Rattle.json.specs.Lookup.{lookUp};
 ghost use Rattle.json_lookup.specs.Finds.{placeOf};
@@ -12,6 +12,7 @@ ghost use Rattle.thymebarrel.specs.Given.{partFrom, given, told, outcome
 ghost use Rattle.thymebarrel.specs.Streamed.{bit, stateOf, rowAfter, toldBy, callGiven, calledOf};
 use card_to_json::card_to_json;
 use json_lookup::locate;
+use json_to_card::json_to_card;
 use served::Outcome;
 use stream_cards::Answered;
 use stream_cards::Said;
@@ -53,6 +54,20 @@ pub extern "C" fn thymebarrel_card_to_json(
     ensures { λ r. ⌜ given r (now (place .exit)) (now (written .exit)) (now (out .exit)) ≡ served (now (out .entry)) (cardToJson (now (stem .entry)) number (length (now (out .entry))) (now (card .entry))) ⌝ }
 {
     let r = card_to_json(stem, number, card, out);
+    tell_outcome(r, place, written)
+}
+
+// JSON to card, likewise: the card at the front of `out`.
+#[no_mangle]
+pub extern "C" fn thymebarrel_json_to_card(
+    json: &[u8],
+    out: &mut [u8],
+    place: &mut usize,
+    written: &mut usize,
+) -> u8
+    ensures { λ r. ⌜ given r (now (place .exit)) (now (written .exit)) (now (out .exit)) ≡ served (now (out .entry)) (jsonToCard (length (now (out .entry))) (now (json .entry))) ⌝ }
+{
+    let r = json_to_card(json, out);
     tell_outcome(r, place, written)
 }
 
