@@ -58,7 +58,7 @@ uint8_t thymebarrel_card_to_json(const uint8_t *stem, size_t stem_length, size_t
                                  size_t out_length, size_t *place, size_t *written);
 
 /* JSON to card, likewise: the card is written to the front of `out`, and THYMEBARREL_CARD_BYTES of output are always enough. The arrays of a call add up to about
- * 330 KiB of stack (reckoned from the source, not measured).
+ * 215 KiB of stack, and an entry "jsprop" of vCardProps takes about 64 KiB more (reckoned from the source, not measured).
  *
  *     uint8_t number = thymebarrel_json_to_card(json, json_length, out, sizeof out, &place, &written);
  */

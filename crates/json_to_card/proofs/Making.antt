@@ -2,14 +2,13 @@
 use mathlib.Core.Path.{_≡_, refl, sym, ap, subst, _∙_}
 use mathlib.Core.Bool.{Bool, true, false}
 use mathlib.Core.Option.{Option, none, some}
-use Prim.Native.Nat.{ℕ, _-_, min, _≤_, _<_}
+use Prim.Native.Nat.{ℕ, _-_, _≤_, _<_}
 use native.Mathlib.Omega.{arith}
 use lib.ListN.{length, take, drop}
 use lib.Seq.{take-at}
 use Rattle.text.specs.Choice.{with-some}
 use Rattle.text.specs.Bytes.{Bytes}
-use Rattle.json.specs.Tree.{Json}
-use Rattle.json.specs.Read.{reading, tree}
+use Rattle.json.specs.Read.{reading}
 use Rattle.json.proofs.Given.{reading-sound}
 use Rattle.json.proofs.Sound.{sound-names}
 use Rattle.json_index.proofs.Readings.{tree-at}
@@ -99,8 +98,7 @@ module _ (s room : Bytes) (r : Lines) (after : Bytes) (reads : Reads s) (puts : 
           let x : Bytes = printCard (has .card) in
           let i : n ≡ length x = omega (arith, has .fills .said, f) in
           let l : length x ≤ length room = omega (arith, i, f) in
-          let z : n - 0 ≡ length x = omega (arith, i) in
-          (
+          let z : n - 0 ≡ length x = omega (arith, i) in (
             x,
             is-card,
             ap (λ m. take m after) z ∙ ap (take (length x)) (has .fills .left ∙ put-fits room x l) ∙ take-at x (drop (length x) room) (length x) refl,

@@ -1,11 +1,11 @@
 -- Demands 1 and 2 hold of any two functions that keep the services' promises: so of the code.
 use mathlib.Core.Path.{_≡_, refl, sym, ap, subst, _∙_, fun-ext}
 use Prim.Native.Nat.{ℕ}
-use lib.ListN.{length, take, drop}
+use lib.ListN.{length, drop}
 use lib.Seq.{take-at}
 use Rattle.text.specs.Bytes.{Bytes}
 use Rattle.convert.specs.Answers.{Answer, no, yes, cardToJson, jsonToCard}
-use Rattle.convert.specs.Served.{Served, leftBy, served}
+use Rattle.convert.specs.Served.{leftBy, served}
 use Rattle.convert.specs.Demand1.{Demand1}
 use Rattle.convert.proofs.Demand1.{demand-1}
 use Rattle.served.specs.declared.Outcome.{Outcome}

@@ -18,7 +18,7 @@ same-length c = search needs
 
 returns : tie.Need-returns
 returns c =
-    let a = c .before .before .before .before .before .before .before .before .args in
+    let a = c .before .before .before .before .before .before .before .before .before .args in
     let card = c .before .before .before .before .before .json-to-card in
     shown-served (now (a .out)) _ (jsonToCard (length (now (a .out))) (now (a .json))) _ (told _ _ _) (c .tell-outcome .ensures) (card .ensures .0) (card .ensures .1)
 
