@@ -47,8 +47,8 @@ extern "C" {
 
 /* Card to JSON. The JSON is written to the front of `out`; its length is put behind `written` and 0 is answered. A refused card is answered with its number, its
  * place behind `place`, and every byte of `out` is as it was. The stem and the number make the UID of a card that has none. THYMEBARREL_JSON_BYTES of
- * output are always enough. `place` and `written` must not be null. The arrays of a call add up to about 150 KiB of
- * stack, and a card with JSPROP lines takes about 64 KiB more (reckoned from the source, not measured).
+ * output are always enough. `place` and `written` must not be null. A call took 36 KiB of
+ * stack for a small card and 252 KiB for the largest one tried (docs/USE.md).
  *
  *     size_t place, written;
  *     uint8_t number = thymebarrel_card_to_json((const uint8_t *)"reg", 3, 1, card, card_length, out, sizeof out, &place, &written);

@@ -1,4 +1,6 @@
-//! READINGS.md: for each point the inputs that tell its readings apart.
+//! Points where the rules (docs/RULES.md) can be read in two ways, by a number of
+//! their own, with the inputs that tell the readings apart. docs/DECISIONS.md says
+//! why the open ones are read so.
 
 mod common;
 use common::*;

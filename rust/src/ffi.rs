@@ -1,10 +1,12 @@
 //! The C functions of the proved library, each behind a safe function. The only
-//! `unsafe` of this crate stands here, and holds for one reason: every pointer
-//! comes from a slice or a reference that lives through the call, with the
-//! length of that slice beside it, and no two of them overlap where one is
-//! written.
+//! `unsafe` of this crate stands here. What include/thymebarrel.h asks of a
+//! caller holds at each call for one reason: every pointer comes from a slice or
+//! a reference that lives through the call, the length beside it is that slice's,
+//! and what is written is borrowed mutably, so that nothing else overlaps it.
+//! `tests/header.rs` holds these declarations to the header.
 
-use crate::{Lent, Refusal, Said, Words};
+use crate::stream::Words;
+use crate::{Lent, Refusal, Said, Stream};
 
 extern "C" {
     fn thymebarrel_card_to_json(
@@ -13,6 +15,15 @@ extern "C" {
         number: usize,
         card: *const u8,
         card_length: usize,
+        out: *mut u8,
+        out_length: usize,
+        place: *mut usize,
+        written: *mut usize,
+    ) -> u8;
+
+    fn thymebarrel_json_to_card(
+        json: *const u8,
+        json_length: usize,
         out: *mut u8,
         out_length: usize,
         place: *mut usize,
@@ -61,6 +72,7 @@ extern "C" {
 /// Where the member's value begins, and its length; length 0 where there is none.
 pub fn member(json: &[u8], name: &[u8]) -> (usize, usize) {
     let mut length = 0;
+    // SAFETY: two slices that are only read, and a number of our own to write to.
     let start = unsafe {
         thymebarrel_member(
             json.as_ptr(),
@@ -74,8 +86,15 @@ pub fn member(json: &[u8], name: &[u8]) -> (usize, usize) {
 }
 
 /// The length of the JSON at the front of `out`, or the refusal.
-pub fn card_to_json(stem: &[u8], number: usize, card: &[u8], out: &mut [u8]) -> Result<usize, Refusal> {
+pub fn card_to_json(
+    stem: &[u8],
+    number: usize,
+    card: &[u8],
+    out: &mut [u8],
+) -> Result<usize, Refusal> {
     let (mut place, mut written) = (0, 0);
+    // SAFETY: two slices that are only read; a slice and two numbers, each borrowed
+    // mutably, to write to.
     let number = unsafe {
         thymebarrel_card_to_json(
             stem.as_ptr(),
@@ -89,6 +108,27 @@ pub fn card_to_json(stem: &[u8], number: usize, card: &[u8], out: &mut [u8]) -> 
             &mut written,
         )
     };
+    answer(number, place, written)
+}
+
+/// The length of the card at the front of `out`, or the refusal.
+pub fn json_to_card(json: &[u8], out: &mut [u8]) -> Result<usize, Refusal> {
+    let (mut place, mut written) = (0, 0);
+    // SAFETY: as in `card_to_json`.
+    let number = unsafe {
+        thymebarrel_json_to_card(
+            json.as_ptr(),
+            json.len(),
+            out.as_mut_ptr(),
+            out.len(),
+            &mut place,
+            &mut written,
+        )
+    };
+    answer(number, place, written)
+}
+
+fn answer(number: u8, place: usize, written: usize) -> Result<usize, Refusal> {
     match number {
         0 => Ok(written),
         number => Err(Refusal { number, place }),
@@ -98,6 +138,8 @@ pub fn card_to_json(stem: &[u8], number: usize, card: &[u8], out: &mut [u8]) -> 
 /// What is said, and the bytes consumed.
 pub fn stream_step(state: &mut Words, stem: &[u8], piece: &[u8], lent: &mut Lent) -> (Said, usize) {
     let (mut consumed, mut place, mut written) = (0, 0, 0);
+    // SAFETY: as in `card_to_json`; the state, the card buffer and the output are
+    // three slices borrowed mutably.
     let number = unsafe {
         thymebarrel_stream_step(
             state.as_mut_ptr(),
@@ -121,6 +163,7 @@ pub fn stream_step(state: &mut Words, stem: &[u8], piece: &[u8], lent: &mut Lent
 /// What an end call says.
 pub fn stream_end(state: &mut Words, stem: &[u8], lent: &mut Lent) -> (Said, usize) {
     let (mut consumed, mut place, mut written) = (0, 0, 0);
+    // SAFETY: as in `stream_step`.
     let number = unsafe {
         thymebarrel_stream_end(
             state.as_mut_ptr(),
@@ -141,7 +184,7 @@ pub fn stream_end(state: &mut Words, stem: &[u8], lent: &mut Lent) -> (Said, usi
 
 fn said(number: u8, place: usize, written: usize) -> Said {
     match number {
-        255 => Said::More,
+        Stream::MORE => Said::More,
         0 => Said::Json(written),
         number => Said::Refused(Refusal { number, place }),
     }

@@ -1,25 +1,55 @@
 //! The proved library that `rt staticlib thymebarrel` builds from the Rattle
-//! sources, for Rust. So far it has card to JSON, the stream and the look-up.
+//! sources, for Rust: card to JSON, JSON to card, a stream of cards, and the
+//! look-up of a top-level member.
+//!
+//! ```
+//! let card = b"BEGIN:VCARD\nVERSION:4.0\nFN:Ada Moss\nEND:VCARD\n";
+//! let json = thymebarrel::card_to_json(b"reg", 1, card).unwrap();
+//! assert_eq!(thymebarrel::member(&json, b"uid"), b"\"reg-1\"");
+//! let home = thymebarrel::json_to_card(&json).unwrap();
+//! assert_eq!(home, b"BEGIN:VCARD\r\nVERSION:4.0\r\nUID:reg-1\r\nFN:Ada Moss\r\nEND:VCARD\r\n");
+//!
+//! let refusal = thymebarrel::card_to_json(b"reg", 1, b"no card").unwrap_err();
+//! assert_eq!((refusal.number, refusal.place), (1, 0));
+//! println!("{refusal}");
+//!
+//! for answer in thymebarrel::Cards::new(b"reg", &card[..]) {
+//!     let answer = answer.expect("a slice can be read");
+//!     println!("{} at byte {}: {}", answer.number, answer.offset, answer.result.is_ok());
+//! }
+//! ```
 
+#![deny(unsafe_code)]
+
+mod cards;
+#[allow(unsafe_code)]
 mod ffi;
+mod lines;
+mod reason;
+mod refusal;
+mod stream;
+
+pub use cards::{Answer, Cards};
+pub use reason::{PlaceOf, Reason};
+pub use refusal::Refusal;
+pub use stream::{Lent, Said, Stream};
 
 /// Bytes of JSON at the most.
 pub const JSON_BYTES: usize = 65_536;
 /// Bytes of a card at the most.
 pub const CARD_BYTES: usize = 32_768;
-
-/// Why an input is refused: the number of the rules' table, and the place (a
-/// line's number, or a byte's offset for 11; else 0).
-#[derive(Debug, Clone, Copy, PartialEq, Eq)]
-pub struct Refusal {
-    pub number: u8,
-    pub place: usize,
-}
+/// Unfolded lines between BEGIN and END at the most.
+pub const CARD_LINES: usize = 512;
 
 /// Converts one card into `out`, and answers the length of the JSON there. `stem`
 /// and `number` make the UID of a card without one. A refused card leaves every
-/// byte of `out` as it was.
-pub fn card_to_json_into(stem: &[u8], number: usize, card: &[u8], out: &mut [u8]) -> Result<usize, Refusal> {
+/// byte of `out` as it was; [`JSON_BYTES`] of output are always enough.
+pub fn card_to_json_into(
+    stem: &[u8],
+    number: usize,
+    card: &[u8],
+    out: &mut [u8],
+) -> Result<usize, Refusal> {
     ffi::card_to_json(stem, number, card, out)
 }
 
@@ -31,49 +61,22 @@ pub fn card_to_json(stem: &[u8], number: usize, card: &[u8]) -> Result<Vec<u8>, 
     Ok(out)
 }
 
-/// A stream's state as numbers.
-type Words = [usize; 7];
-
-/// What a call of a stream says: nothing yet, the length of the JSON at the front
-/// of the output, or a refusal.
-#[derive(Debug, Clone, Copy, PartialEq, Eq)]
-pub enum Said {
-    More,
-    Json(usize),
-    Refused(Refusal),
+/// Converts JSON into `out`, and answers the length of the card there. Refused JSON
+/// leaves every byte of `out` as it was; [`CARD_BYTES`] of output are always enough.
+pub fn json_to_card_into(json: &[u8], out: &mut [u8]) -> Result<usize, Refusal> {
+    ffi::json_to_card(json, out)
 }
 
-/// What a stream is lent by each call: the card buffer, at least `CARD_BYTES`, which
-/// holds the open card from call to call, and the output, at least `JSON_BYTES`.
-pub struct Lent<'a> {
-    pub buffer: &'a mut [u8],
-    pub out: &'a mut [u8],
-}
-
-/// A stream of cards, each to JSON, in pieces cut anywhere.
-#[derive(Debug, Clone, Default, PartialEq, Eq)]
-pub struct Stream(Words);
-
-impl Stream {
-    /// No card yet, no line begun.
-    pub fn fresh() -> Stream {
-        Stream::default()
-    }
-
-    /// Reads a piece until a line answers, else all of it: what is said, and the
-    /// bytes consumed. 15 and 16 consume nothing.
-    pub fn step(&mut self, stem: &[u8], piece: &[u8], lent: &mut Lent) -> (Said, usize) {
-        ffi::stream_step(&mut self.0, stem, piece, lent)
-    }
-
-    /// Supposes one LF. At most two such calls make the stream fresh.
-    pub fn end(&mut self, stem: &[u8], lent: &mut Lent) -> Said {
-        ffi::stream_end(&mut self.0, stem, lent).0
-    }
+/// Converts JSON to a card.
+pub fn json_to_card(json: &[u8]) -> Result<Vec<u8>, Refusal> {
+    let mut out = vec![0; CARD_BYTES];
+    let length = json_to_card_into(json, &mut out)?;
+    out.truncate(length);
+    Ok(out)
 }
 
 /// The value of the top-level member of that name, as that very part of `json`;
-/// empty where the text is over 65,536 bytes, is no JSON or no object, or has no
+/// empty where the text is over [`JSON_BYTES`], is no JSON or no object, or has no
 /// such member.
 pub fn member<'a>(json: &'a [u8], name: &[u8]) -> &'a [u8] {
     let (start, length) = ffi::member(json, name);

@@ -1,4 +1,4 @@
-//! The short spellings of READINGS.md: in cards `|` is LF and a line `V` is
+//! Short spellings: in cards `|` is LF and a line `V` is
 //! VERSION:4.0, BEGIN and END left out; in JSON `{..` is the start of a card.
 
 #![allow(dead_code)]

@@ -1,0 +1,14 @@
+//! Converts the card on standard input to JSON on standard output:
+//!
+//!     cargo run --release --offline --example convert < ../examples/ada.vcf
+
+use std::io::{Read, Write};
+
+fn main() -> Result<(), Box<dyn std::error::Error>> {
+    let mut card = Vec::new();
+    std::io::stdin().read_to_end(&mut card)?;
+    let json = thymebarrel::card_to_json(b"reg", 1, &card)?;
+    std::io::stdout().write_all(&json)?;
+    println!();
+    Ok(())
+}
