@@ -11,7 +11,7 @@ ghost use lib.ListN.{length, drop};
 ghost use Rattle.json_skip.specs.Skip.{quoted, opens, shuts, outside, closed, Leaves, Skips};
 
 // The place after a string, from after its first quote.
-pub fn string_stop(s: &[u8], at: usize) -> usize
+fn string_stop(s: &[u8], at: usize) -> usize
     requires { ⌜ at ≤ length (now s) ⌝ }
     ensures { λ r. ⌜ Leaves (now (s .entry)) at (quoted false (drop at (now (s .entry)))) r ⌝ }
 {
@@ -112,7 +112,7 @@ pub fn skip_value(s: &[u8], at: usize) -> usize
     if b == 123 {
         return bracket_stop(s, i + 1);
     }
-    // A number or a literal: a few bytes.
+    // A number or a literal: a few bytes, and they end by the grammar (in 1x the value is 1).
     match scalar_end(s, i) {
         Read::Next(e) => e,
         Read::Bad(x) => x,
