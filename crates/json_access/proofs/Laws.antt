@@ -11,14 +11,15 @@ use Rattle.text.specs.declared.Read.the-variants.{Next, Bad}
 use Rattle.text.specs.Bytes.{Bytes}
 use Rattle.text.specs.Reader.{Got, got, past}
 use Rattle.text.specs.Places.{Gives, Passes}
-use Rattle.text.proofs.Places.{byBool, at-next, at-bad}
-use Rattle.text.proofs.Fine.{not-bad, got-rest, bind-inv}
+use Rattle.text.proofs.Places.{byBool, at-bad}
+use Rattle.text.proofs.Fine.{not-bad, bind-inv}
 use Rattle.json.specs.Grammar.{isSpace}
 use Rattle.json.specs.Tree.{Json, jnum}
 use Rattle.json.specs.Syntax.{skip, token, name, scalar, value}
 use Rattle.json.specs.Strings.{decode}
 use Rattle.json.proofs.AsSpelled.{number-spelled}
 use Rattle.json_marks.proofs.Laws.{skip-to}
+use Rattle.json_skip.specs.Skip.{Skips}
 use Rattle.json_strings.specs.Spelled.{spelled}
 use Rattle.json_strings.proofs.Names.{name-string, name-rest}
 use Rattle.json_access.specs.Access.{placeOf, Stands}
@@ -43,23 +44,21 @@ as-next s at want (Bad b) g q = absurd (not-bad (sym (at-bad want g) ∙ q))
 
 -- ---- where a value stands
 
-module _ (d : ℕ) (s t : Bytes) {r : Read} {a x : ℕ} (b : skip t ≡ drop a s) (l : a ≤ length s) (g : Gives s a (value d (drop a s)) r) (ex : x ≡ placeOf r) where
+module _ (d : ℕ) (s t : Bytes) {a x : ℕ} (b : skip t ≡ drop a s) (l : a ≤ length s) (h : x ≤ length s) (g : Skips s a x) where
   -- a number takes as many bytes as its spelling has
-  spelling : (u y : Bytes) → value d t ≡ got (jnum y) u → u ≡ drop x s → x ≤ length s → take (x - a) (drop a s) ≡ y
-  spelling u y w q h =
+  spelling : (u y : Bytes) → value d t ≡ got (jnum y) u → u ≡ drop x s → take (x - a) (drop a s) ≡ y
+  spelling u y w q =
       let c : drop a s ≡ y ++ u = sym b ∙ number-spelled y u d t w in
       let n : length y ≡ x - a = omega (arith, ap length c, length-append y u, ap length q, length-drop a s, length-drop x s) in
       ap (λ (i : ℕ). take i (drop a s)) (sym n) ∙ ap (take (length y)) c ∙ take-append-seam y u
 
   pub stands : (j : Json) (u : Bytes) → value d t ≡ got j u → Stands s t j u a x
   stands j u w =
-      let z : value d (drop a s) ≡ got j u = ap (value d) (sym b) ∙ value-skip d t ∙ w in
-      let n = as-next s a (value d (drop a s)) r g z in
-      let q : u ≡ drop x s = got-rest (sym z ∙ at-next (value d (drop a s)) n .1) ∙ ap (λ (i : ℕ). drop i s) (sym ex) in
+      let q : u ≡ drop x s = g d j u (ap (value d) (sym b) ∙ value-skip d t ∙ w) in
       record {
         begins = b;
         ends = q;
-        as-spelled = λ y e. spelling u y (w ∙ ap (λ (k : Json). got k u) e) q (omega (arith, n .within .1, ex));
+        as-spelled = λ y e. spelling u y (w ∙ ap (λ (k : Json). got k u) e) q;
       }
 
 -- the name of a member, and where its value begins

@@ -1,13 +1,14 @@
 -- Past the end of a text nothing is read, so nothing is to be told.
 use mathlib.Core.Path.{_≡_, refl, sym, ap, _∙_}
 use mathlib.Core.List.{[]}
-use Prim.Native.Nat.{ℕ, zero, suc, _<_}
+use Prim.Native.Nat.{ℕ, suc, _<_}
 use native.Mathlib.Omega.{arith}
 use lib.ListN.{length, drop, drop-of-length-le}
-use Rattle.text.specs.Bytes.{Bytes, between}
-use Rattle.text.specs.Reader.{bad, on, when, past, one, some-of}
+use Rattle.text.specs.Bytes.{Bytes}
+use Rattle.text.specs.Reader.{bad, on, past, one}
 use Rattle.text.proofs.Fine.{not-bad}
-use Rattle.json.specs.Syntax.{skip, token, opt, digits, int, number, scalar, name, value}
+use Rattle.json.specs.Syntax.{skip, token, name, value}
+use Rattle.json_skip.proofs.Ends.{no-value}
 use Rattle.json_access.specs.declared.Part.{Part}
 use Rattle.json_access.specs.declared.Places.{Places}
 use Rattle.json_access.specs.declared.Kind.{Kind}
@@ -16,11 +17,6 @@ use Rattle.json_access.specs.Access.{TellsMember, TellsElement, TellsKin
 no-name : name [] ≡ bad []
 unfolding name token one skip past on
 no-name = refl
-
-no-value : (d : ℕ) → value d [] ≡ bad []
-unfolding value scalar number opt int digits some-of skip past on when between
-no-value zero = refl
-no-value (suc d) = refl
 
 module _ (s : Bytes) (at : ℕ) (h : length s < at) where
   nothing : drop at s ≡ []

@@ -3,7 +3,7 @@
 use json_marks::mark;
 use json_marks::skip_space;
 use json_scan::name_end;
-use json_scan::value_end;
+use json_skip::skip_value;
 use text::Read;
 use text::look;
 ghost use mathlib.Core.Path.{_≡_};
@@ -49,7 +49,7 @@ pub fn member_at(s: &[u8], at: usize, depth: usize) -> Places
     let q = place(mark(s, at, 34));
     let v = place(name_end(s, at));
     let a = skip_space(s, v);
-    let e = place(value_end(s, a, depth));
+    let e = skip_value(s, a);
     Places {
         name: q,
         start: a,
@@ -66,7 +66,7 @@ pub fn element_at(s: &[u8], at: usize, depth: usize) -> Part
         return Part { start: 0, end: 0 };
     }
     let a = skip_space(s, at);
-    let e = place(value_end(s, a, depth));
+    let e = skip_value(s, a);
     Part { start: a, end: e }
 }
 

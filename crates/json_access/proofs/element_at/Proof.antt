@@ -2,7 +2,7 @@ use native.Mathlib.Omega.{arith}
 use denote.Ref.{now}
 use lib.ListN.{drop}
 use Rattle.json_marks.proofs.Laws.{skip-to}
-use Rattle.json_access.proofs.Laws.{place-in, stands}
+use Rattle.json_access.proofs.Laws.{stands}
 use Rattle.json_access.proofs.Past.{element-past}
 use borrow.Author.Needs.{needs}
 use Rattle.json_access.proofs.element_at.Statement.{statement}
@@ -14,18 +14,15 @@ returns c = (record { from = λ l. absurd (omega (arith, c .if1 .taken)); ordere
 skip-space-requires : tie.Need-skip-space-requires
 skip-space-requires c κs = search needs
 
-value-end-requires : tie.Need-value-end-requires
-value-end-requires c κs = search needs
-
-place-requires : tie.Need-place-requires
-place-requires c κs = search needs
+skip-value-requires : tie.Need-skip-value-requires
+skip-value-requires c κs = search needs
 
 returns-2 : tie.Need-returns-2
-returns-2 c = let r = place-in (now (c .before .before .before .before .before .args .s)) (c .before .before .skip-space .result) _ _ (c .before .value-end .ensures) in (
-  record { from = λ l. c .before .before .skip-space .ensures .from; ordered = omega (arith, r .0, c .place .ensures); end-in = omega (arith, r .1, c .place .ensures) },
-  stands (c .before .before .before .before .before .args .depth) (now (c .before .before .before .before .before .args .s)) (drop (c .before .before .before .before .before .args .at) (now (c .before .before .before .before .before .args .s))) (skip-to (c .before .before .skip-space .ensures)) (c .before .before .skip-space .ensures .to) (c .before .value-end .ensures) (c .place .ensures),
+returns-2 c = (
+  record { from = λ l. c .before .skip-space .ensures .from; ordered = c .skip-value .ensures .0 .0 (c .before .skip-space .ensures .to); end-in = c .skip-value .ensures .0 .1 },
+  stands (c .before .before .before .before .args .depth) (now (c .before .before .before .before .args .s)) (drop (c .before .before .before .before .args .at) (now (c .before .before .before .before .args .s))) (skip-to (c .before .skip-space .ensures)) (c .before .skip-space .ensures .to) (c .skip-value .ensures .0 .1) (c .skip-value .ensures .1),
 )
 
 pub element-at-spec : {M : Type 1} → statement M
 element-at-spec =
-    tie.close (tie.spec returns skip-space-requires value-end-requires place-requires returns-2)
+    tie.close (tie.spec returns skip-space-requires skip-value-requires returns-2)

@@ -24,26 +24,23 @@ place-requires-2 c κs = search needs
 skip-space-requires : tie.Need-skip-space-requires
 skip-space-requires c κs = let q = place-in (now (c .before .before .before .before .before .before .args .s)) (c .before .before .before .before .before .before .args .at) _ _ (c .before .name-end .ensures) in omega (arith, q .1, c .place2 .ensures)
 
-value-end-requires : tie.Need-value-end-requires
-value-end-requires c κs = search needs
-
-place-requires-3 : tie.Need-place-requires-3
-place-requires-3 c κs = search needs
+skip-value-requires : tie.Need-skip-value-requires
+skip-value-requires c κs = search needs
 
 returns-2 : tie.Need-returns-2
-returns-2 c = let p = place-in (now (c .before .before .before .before .before .before .before .before .before .args .s)) (c .before .before .before .before .before .before .before .before .before .args .at) _ _ (c .before .before .before .before .before .before .mark .ensures) in
-    let q = place-in (now (c .before .before .before .before .before .before .before .before .before .args .s)) (c .before .before .before .before .before .before .before .before .before .args .at) _ _ (c .before .before .before .before .name-end .ensures) in
-    let r = place-in (now (c .before .before .before .before .before .before .before .before .before .args .s)) (c .before .before .skip-space .result) _ _ (c .before .value-end .ensures) in (
-      omega (arith, p .1, c .before .before .before .before .before .place .ensures),
+returns-2 c =
+    let p = place-in (now (c .before .before .before .before .before .before .before .before .args .s)) (c .before .before .before .before .before .before .before .before .args .at) _ _ (c .before .before .before .before .before .mark .ensures) in
+    let q = place-in (now (c .before .before .before .before .before .before .before .before .args .s)) (c .before .before .before .before .before .before .before .before .args .at) _ _ (c .before .before .before .name-end .ensures) in (
+      omega (arith, p .1, c .before .before .before .before .place .ensures),
       (
         record {
-          from = λ l. omega (arith, q .0, c .before .before .before .place2 .ensures, c .before .before .skip-space .ensures .from);
-          ordered = omega (arith, r .0, c .place3 .ensures);
-          end-in = omega (arith, r .1, c .place3 .ensures);
+          from = λ l. omega (arith, q .0, c .before .before .place2 .ensures, c .before .skip-space .ensures .from);
+          ordered = c .skip-value .ensures .0 .0 (c .before .skip-space .ensures .to);
+          end-in = c .skip-value .ensures .0 .1;
         },
         λ k t e j u w. (
-          name-is (now (c .before .before .before .before .before .before .before .before .before .args .s)) (c .before .before .before .before .before .before .before .before .before .args .at) (c .before .before .before .before .before .before .mark .ensures) (c .before .before .before .before .name-end .ensures) k t e (c .before .before .before .before .before .place .ensures),
-          stands (c .before .before .before .before .before .before .before .before .before .args .depth) (now (c .before .before .before .before .before .before .before .before .before .args .s)) t (value-begins (now (c .before .before .before .before .before .before .before .before .before .args .s)) (c .before .before .before .before .before .before .before .before .before .args .at) (c .before .before .before .before .before .before .mark .ensures) (c .before .before .before .before .name-end .ensures) k t e (c .before .before .before .place2 .ensures) (c .before .before .skip-space .ensures)) (c .before .before .skip-space .ensures .to) (c .before .value-end .ensures) (c .place3 .ensures) j u w,
+          name-is _ _ (c .before .before .before .before .before .mark .ensures) (c .before .before .before .name-end .ensures) k t e (c .before .before .before .before .place .ensures),
+          stands (c .before .before .before .before .before .before .before .before .args .depth) _ t (value-begins _ _ (c .before .before .before .before .before .mark .ensures) (c .before .before .before .name-end .ensures) k t e (c .before .before .place2 .ensures) (c .before .skip-space .ensures)) (c .before .skip-space .ensures .to) (c .skip-value .ensures .0 .1) (c .skip-value .ensures .1) j u w,
         ),
       ),
     )
@@ -58,6 +55,5 @@ member-at-spec =
     name-end-requires
     place-requires-2
     skip-space-requires
-    value-end-requires
-    place-requires-3
+    skip-value-requires
     returns-2)

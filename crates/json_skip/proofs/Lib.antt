@@ -1,0 +1,5 @@
+pub mod Leads
+pub mod Steps
+pub mod Strings
+pub mod Values
+pub mod Ends
