@@ -120,6 +120,26 @@ fn json_comes_back_in_its_normal_form() {
     ways_back.assert_reached([0, 3]);
 }
 
+/// Each cause of 11, 12 and 13, each room and what is just accepted gives the
+/// number that 01 has for it, however the text is spelled.
+#[test]
+fn each_cause_has_its_number() {
+    let mut rng = Rng::new(0x5eed_0005);
+    for cause in generate::causes() {
+        for _ in 0..50 {
+            let json = cause.text(&mut rng);
+            let answer = json_to_card(&json, CARD_BYTES);
+            assert_eq!(
+                answer.number,
+                cause.number,
+                "{}: {}",
+                cause.name,
+                show(&json)
+            );
+        }
+    }
+}
+
 /// With less room than the result has bytes, and no earlier refusal, 14.
 #[test]
 fn an_output_too_short_is_14() {

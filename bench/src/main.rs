@@ -23,6 +23,14 @@ fn main() {
         ("509 lines with PROP-ID to JSON", workloads::prop_ids()),
         ("card to JSON, refused at the first line", b"no card".to_vec()),
     ];
+    let homes = [
+        ("ordinary card's JSON to card (12 lines)", json_of(&workloads::ordinary())),
+        ("international card's JSON to card", json_of(&workloads::international())),
+        ("full card's JSON to card (512 lines)", json_of(&workloads::full_home())),
+        ("509 entries of one map to a card", json_of(&workloads::prop_ids())),
+        ("9,000 names to a card, refused (12)", workloads::names()),
+        ("JSON to card, refused at the first byte", b"no JSON".to_vec()),
+    ];
     let texts = [
         ("look-up, an ordinary card's JSON", json_of(&workloads::ordinary())),
         ("look-up, an international card's JSON", json_of(&workloads::international())),
@@ -35,6 +43,9 @@ fn main() {
     for (name, card) in &cards {
         measure(card_to_json(name, card));
     }
+    for (name, text) in &homes {
+        measure(json_to_card(name, text));
+    }
     for (name, text) in &texts {
         measure(look_up(name, text));
     }
@@ -44,7 +55,7 @@ fn main() {
     measure(stream("stream of ordinary cards, 1-byte pieces", &cards, 1));
 }
 
-/// The JSON of a card, by the baseline.
+/// The JSON of a card, by the baseline; the card is one that converts.
 fn json_of(card: &[u8]) -> Vec<u8> {
     baseline::card_to_json(card, b"reg", 1, 65_536).bytes
 }
@@ -63,6 +74,22 @@ fn card_to_json<'a>(name: &'static str, card: &'a [u8]) -> Workload<'a> {
         let _ = black_box(thymebarrel::card_to_json_into(b"reg", 1, black_box(card), &mut out));
     };
     Workload { name, bytes: card.len(), ours: Box::new(ours), theirs: Box::new(theirs) }
+}
+
+fn json_to_card<'a>(name: &'static str, json: &'a [u8]) -> Workload<'a> {
+    let mut out = vec![0u8; thymebarrel::CARD_BYTES];
+    let want = baseline::json_to_card(json, thymebarrel::CARD_BYTES);
+    match thymebarrel::json_to_card_into(json, &mut out) {
+        Ok(length) => assert_eq!(out[..length], want.bytes, "{name}"),
+        Err(refusal) => assert_eq!((u32::from(refusal.number), refusal.place), (want.number, want.place), "{name}"),
+    }
+    let theirs = move || {
+        black_box(baseline::json_to_card(black_box(json), thymebarrel::CARD_BYTES));
+    };
+    let ours = move || {
+        let _ = black_box(thymebarrel::json_to_card_into(black_box(json), &mut out));
+    };
+    Workload { name, bytes: json.len(), ours: Box::new(ours), theirs: Box::new(theirs) }
 }
 
 fn look_up<'a>(name: &'static str, text: &'a [u8]) -> Workload<'a> {

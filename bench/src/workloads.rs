@@ -1,6 +1,8 @@
 //! The inputs that are measured: cards from small to full room, made without
 //! chance, so that every run measures the same bytes.
 
+use thymebarrel_baseline::normal_card;
+
 /// A card of 12 lines, ASCII, nothing folded: what a telephone sends.
 pub fn ordinary() -> Vec<u8> {
     card(&[
@@ -45,13 +47,33 @@ pub fn international() -> Vec<u8> {
         "X-WATCH;X-MOVEMENT=automatic;X-YEAR=1968:Omega Seamaster".to_string(),
     ];
     let folded: Vec<String> = lines.iter().map(|line| fold(line)).collect();
-    let lines: Vec<&str> = folded.iter().map(String::as_str).collect();
-    card(&lines)
+    card(&folded)
 }
 
 /// 512 lines of many kinds, filled up to 32,768 bytes.
 pub fn full() -> Vec<u8> {
-    let mut lines = vec!["FN:Full Card".to_string(), "N:Card;Full;;;".to_string()];
+    let mut lines = many_lines(&["FN:Full Card", "N:Card;Full;;;"]);
+    let short = 32_768 - card(&lines).len();
+    fill(&mut lines, "NOTE:", short);
+    card(&lines)
+}
+
+/// 512 lines of many kinds that come home as a card of 32,768 bytes, keys and folds
+/// counted.
+pub fn full_home() -> Vec<u8> {
+    let mut lines = many_lines(&["UID:full", "FN:Full Card", "N:Card;Full;;;"]);
+    let short = |lines: &[String]| 32_768 - normal_card(&card(lines), b"reg", 1).len();
+    // the notes are folded; the titles, which are not, take the rest
+    let notes = short(&lines) * 9 / 10;
+    fill(&mut lines, "NOTE:", notes);
+    let titles = short(&lines);
+    fill(&mut lines, "TITLE:", titles);
+    card(&lines)
+}
+
+/// These, and as many others as make 512 with VERSION.
+fn many_lines(first: &[&str]) -> Vec<String> {
+    let mut lines: Vec<String> = first.iter().map(|line| line.to_string()).collect();
     while lines.len() < 511 {
         let k = lines.len();
         lines.push(match k % 8 {
@@ -65,24 +87,24 @@ pub fn full() -> Vec<u8> {
             _ => format!("TITLE:Keeper of watch {k}"),
         });
     }
-    let texts: Vec<&str> = lines.iter().map(String::as_str).collect();
-    let short = 32_768 - card(&texts).len();
-    // filler spread over the notes
-    let notes: Vec<usize> = (0..lines.len()).filter(|&k| lines[k].starts_with("NOTE:")).collect();
-    for (index, &k) in notes.iter().enumerate() {
-        let filler = short / notes.len() + usize::from(index < short % notes.len());
-        lines[k].push_str(&"x".repeat(filler));
+    lines
+}
+
+/// So many bytes, spread over the lines that begin so.
+fn fill(lines: &mut [String], start: &str, bytes: usize) {
+    let count = lines.iter().filter(|line| line.starts_with(start)).count();
+    let chosen = lines.iter_mut().filter(|line| line.starts_with(start));
+    for (index, line) in chosen.enumerate() {
+        let filler = bytes / count + usize::from(index < bytes % count);
+        line.push_str(&"x".repeat(filler));
     }
-    let texts: Vec<&str> = lines.iter().map(String::as_str).collect();
-    card(&texts)
 }
 
 /// 509 telephone lines, each with a PROP-ID.
 pub fn prop_ids() -> Vec<u8> {
     let mut lines = vec!["FN:Many lines".to_string()];
     lines.extend((0..509).map(|k| format!("TEL;PROP-ID=line-{k}:+41 44 {k:07}")));
-    let texts: Vec<&str> = lines.iter().map(String::as_str).collect();
-    card(&texts)
+    card(&lines)
 }
 
 /// An object of 9,000 names, as short as they can be: 65,000 bytes.
@@ -95,11 +117,10 @@ pub fn names() -> Vec<u8> {
     format!("{{{}}}", members.join(",")).into_bytes()
 }
 
-
-fn card(lines: &[&str]) -> Vec<u8> {
+fn card(lines: &[impl AsRef<str>]) -> Vec<u8> {
     let mut text = String::from("BEGIN:VCARD\r\nVERSION:4.0\r\n");
     for line in lines {
-        text.push_str(line);
+        text.push_str(line.as_ref());
         text.push_str("\r\n");
     }
     text.push_str("END:VCARD\r\n");

@@ -2,22 +2,27 @@
 //! accepted, so that the interesting paths are reached; a good share is odd or
 //! damaged.
 
+mod causes;
 mod damage;
 mod json_cards;
 mod json_entries;
 mod json_text;
 mod kept_entries;
+mod known;
 mod large;
 mod layout;
 mod lines;
 mod offences;
 mod params;
 mod rng;
+mod rooms;
 mod spoil;
 mod streams;
 mod tree;
 mod values;
 
+pub use causes::causes;
+pub use known::Cause;
 pub use large::{large_card, large_json};
 pub use rng::Rng;
 pub use streams::{stream, Step};
