@@ -42,7 +42,17 @@ add-result : tie.Need-add-result Inv-loop μ-loop
 add-result c = omega (arith, c .before .before .before .before .before .before .before .before .before .before .before .fits, c .before .before .before .loop-test .taken)
 
 returns-2 : tie.Need-returns-2 Inv-loop μ-loop
-returns-2 c = sought-here (c .before .before .before .before .loop .inv .1) (now (c .before .before .before .before .before .before .before .before .all-lines .result)) (c .before .before .before .before .before .before .before .before .all-lines .ensures) (c .before .before .before .loop-test .taken) (c .before .is-garbled-in .result) (c .before .is-garbled-in .ensures ∙ ap (λ x. garbledIn (not x) (now (c .before .before .line-at .result))) (c .before .before .before .before .before .has-control .ensures) ∙ ap (garbledIn (not (any isControl (now (c .before .before .before .before .before .before .before .before .all-lines .result))))) (c .before .before .line-at .ensures)) (c .if2 .taken)
+returns-2 c =
+    let all-lines = c .before .before .before .before .before .before .before .before .all-lines in
+    let has-control = c .before .before .before .before .before .has-control in
+    let loop = c .before .before .before .before .loop in
+    let loop-test = c .before .before .before .loop-test in
+    let line-at = c .before .before .line-at in
+    let is-garbled-in = c .before .is-garbled-in in
+    sought-here (loop .inv .1) (now (all-lines .result)) (all-lines .ensures) (loop-test .taken) (is-garbled-in .result)
+    (is-garbled-in .ensures ∙ ap (λ x. garbledIn (not x) (now (line-at .result))) (has-control .ensures) ∙ ap
+    (garbledIn (not (any isControl (now (all-lines .result))))) (line-at .ensures))
+    (c .if2 .taken)
 
 add-k : tie.Need-add-k Inv-loop μ-loop
 add-k c = search needs
@@ -51,7 +61,16 @@ loop-less : tie.Need-loop-less Inv-loop μ-loop
 loop-less c = search needs
 
 loop-again : tie.Need-loop-again Inv-loop μ-loop
-loop-again c = (search needs, sought-on (c .before .before .before .before .loop .inv .1) (now (c .before .before .before .before .before .before .before .before .all-lines .result)) (c .before .before .before .before .before .before .before .before .all-lines .ensures) (c .before .before .before .loop-test .taken) (c .before .is-garbled-in .result) (c .before .is-garbled-in .ensures ∙ ap (λ x. garbledIn (not x) (now (c .before .before .line-at .result))) (c .before .before .before .before .before .has-control .ensures) ∙ ap (garbledIn (not (any isControl (now (c .before .before .before .before .before .before .before .before .all-lines .result))))) (c .before .before .line-at .ensures)) (c .if2 .left))
+loop-again c =
+    let all-lines = c .before .before .before .before .before .before .before .before .all-lines in
+    let has-control = c .before .before .before .before .before .has-control in
+    let loop = c .before .before .before .before .loop in
+    let loop-test = c .before .before .before .loop-test in
+    let line-at = c .before .before .line-at in
+    let is-garbled-in = c .before .is-garbled-in in (
+      search needs,
+      sought-on (loop .inv .1) (now (all-lines .result)) (all-lines .ensures) (loop-test .taken) (is-garbled-in .result) (is-garbled-in .ensures ∙ ap (λ x. garbledIn (not x) (now (line-at .result))) (has-control .ensures) ∙ ap (garbledIn (not (any isControl (now (all-lines .result))))) (line-at .ensures)) (c .if2 .left),
+    )
 
 returns-3 : tie.Need-returns-3 Inv-loop μ-loop
 returns-3 c = sought-end (c .before .loop .inv .1) (omega (arith, c .loop-test .left))

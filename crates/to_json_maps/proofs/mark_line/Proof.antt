@@ -17,7 +17,9 @@ has-dash-requires : tie.Need-has-dash-requires
 has-dash-requires c κs = search needs
 
 returns : tie.Need-returns
-returns c = line-dashless (now (c .before .before .before .before .before .before .args .prefix)) (now (c .before .before .before .before .before .before .args .s)) (now (c .before .before .before .before .before .before .args .row)) (c .before .has-dash .ensures (not-true _ (c .if1 .taken)))
+returns c =
+    let args = c .before .before .before .before .before .before .args in
+    line-dashless (now (args .prefix)) (now (args .s)) (now (args .row)) (c .before .has-dash .ensures (not-true _ (c .if1 .taken)))
 
 fill-requires : tie.Need-fill-requires
 fill-requires c κs = search needs
@@ -26,7 +28,10 @@ same-length : tie.Need-same-length
 same-length c = search needs
 
 returns-2 : tie.Need-returns-2
-returns-2 c = unread (now (c .before .before .before .before .before .before .before .before .before .before .before .args .prefix)) (now (c .before .before .before .before .before .before .before .before .before .before .before .args .s)) (now (c .before .before .before .before .before .before .before .before .before .before .before .args .row)) (filled-none _ _ (c .before .before .before .fill .result) (c .before .before .before .fill .ensures) (not-true _ (c .if2 .taken)))
+returns-2 c =
+    let args = c .before .before .before .before .before .before .before .before .before .before .before .args in
+    let fill = c .before .before .before .fill in
+    unread (now (args .prefix)) (now (args .s)) (now (args .row)) (filled-none _ _ (fill .result) (fill .ensures) (not-true _ (c .if2 .taken)))
 
 slice-aggregate-scan-rows : tie.Need-slice-aggregate-scan-rows
 slice-aggregate-scan-rows c = search needs
@@ -38,7 +43,10 @@ slice-aggregate-scan-rows-3 : tie.Need-slice-aggregate-scan-rows-3
 slice-aggregate-scan-rows-3 c = search needs
 
 scan-rows-requires : tie.Need-scan-rows-requires
-scan-rows-requires c κs = (clear-eight, (filled-holds (c .before .before .before .before .before .before .before .fill .result) (c .before .before .before .before .before .before .before .fill .ensures) (not-false _ (c .before .before .before .before .if2 .left))) .sound)
+scan-rows-requires c κs =
+    let fill = c .before .before .before .before .before .before .before .fill in
+    let if2 = c .before .before .before .before .if2 in
+    (clear-eight, (filled-holds (fill .result) (fill .ensures) (not-false _ (if2 .left))) .sound)
 
 array-read-k : tie.Need-array-read-k
 array-read-k c = search needs
@@ -47,7 +55,13 @@ same-length-2 : tie.Need-same-length-2
 same-length-2 c = search needs
 
 returns-3 : tie.Need-returns-3
-returns-3 c = line-free (now (c .before .before .before .before .before .before .before .before .before .before .before .before .before .before .before .before .before .before .before .before .args .prefix)) (now (c .before .before .before .before .before .before .before .before .before .before .before .before .before .before .before .before .before .before .before .before .args .s)) (c .before .before .before .before .before .before .before .before .before .before .before .before .fill .last .0) (c .before .before .before .before .scan-rows .last .0) (c .before .before .before .before .scan-rows .last .1 .0) (c .before .before .before .before .scan-rows .last .1 .1 .0) (now (c .before .before .before .before .before .before .before .before .before .before .before .before .before .before .before .before .before .before .before .before .args .row)) (filled-holds (c .before .before .before .before .before .before .before .before .before .before .before .before .fill .result) (c .before .before .before .before .before .before .before .before .before .before .before .before .fill .ensures) (not-false _ (c .before .before .before .before .before .before .before .before .before .if2 .left))) (c .before .before .before .before .scan-rows .ensures) (c .if3 .taken)
+returns-3 c =
+    let args = c .before .before .before .before .before .before .before .before .before .before .before .before .before .before .before .before .before .before .before .before .args in
+    let fill = c .before .before .before .before .before .before .before .before .before .before .before .before .fill in
+    let if2 = c .before .before .before .before .before .before .before .before .before .if2 in
+    let scan-rows = c .before .before .before .before .scan-rows in
+    line-free (now (args .prefix)) (now (args .s)) (fill .last .0) (scan-rows .last .0) (scan-rows .last .1 .0) (scan-rows .last .1 .1 .0)
+    (now (args .row)) (filled-holds (fill .result) (fill .ensures) (not-false _ (if2 .left))) (scan-rows .ensures) (c .if3 .taken)
 
 array-read-a : tie.Need-array-read-a
 array-read-a c = search needs
@@ -74,7 +88,16 @@ same-length-4 : tie.Need-same-length-4
 same-length-4 c = search needs
 
 returns-4 : tie.Need-returns-4
-returns-4 c = line-keyed (now (c .before .before .before .before .before .before .before .before .before .before .before .before .before .before .before .before .before .before .before .before .before .before .before .before .before .args .prefix)) (now (c .before .before .before .before .before .before .before .before .before .before .before .before .before .before .before .before .before .before .before .before .before .before .before .before .before .args .s)) (c .before .before .before .before .before .before .before .before .before .before .before .before .before .before .before .before .before .fill .last .0) (c .before .before .before .before .before .before .before .before .before .scan-rows .last .0) (c .before .before .before .before .before .before .before .before .before .scan-rows .last .1 .0) (c .before .before .before .before .before .before .before .before .before .scan-rows .last .1 .1 .0) (now (c .before .before .before .before .before .before .before .before .before .before .before .before .before .before .before .before .before .before .before .before .before .before .before .before .before .args .row)) (filled-holds (c .before .before .before .before .before .before .before .before .before .before .before .before .before .before .before .before .before .fill .result) (c .before .before .before .before .before .before .before .before .before .before .before .before .before .before .before .before .before .fill .ensures) (not-false _ (c .before .before .before .before .before .before .before .before .before .before .before .before .before .before .if2 .left))) (c .before .before .before .before .before .before .before .before .before .scan-rows .ensures) (c .before .before .mark-key .last .0) (c .before .before .before .before .before .if3 .left) (c .before .before .mark-key .ensures)
+returns-4 c =
+    let args = c .before .before .before .before .before .before .before .before .before .before .before .before .before .before .before .before .before .before .before .before .before .before .before .before .before .args in
+    let fill = c .before .before .before .before .before .before .before .before .before .before .before .before .before .before .before .before .before .fill in
+    let if2 = c .before .before .before .before .before .before .before .before .before .before .before .before .before .before .if2 in
+    let scan-rows = c .before .before .before .before .before .before .before .before .before .scan-rows in
+    let if3 = c .before .before .before .before .before .if3 in
+    let mark-key = c .before .before .mark-key in
+    line-keyed (now (args .prefix)) (now (args .s)) (fill .last .0) (scan-rows .last .0) (scan-rows .last .1 .0) (scan-rows .last .1 .1 .0)
+    (now (args .row)) (filled-holds (fill .result) (fill .ensures) (not-false _ (if2 .left))) (scan-rows .ensures) (mark-key .last .0) (if3 .left)
+    (mark-key .ensures)
 
 pub mark-line-spec : {M : Type 1} → statement M
 mark-line-spec =

@@ -19,7 +19,9 @@ part-put-items-start : tie.Need-part-put-items-start
 part-put-items-start c = search needs
 
 part-put-items-end : tie.Need-part-put-items-end
-part-put-items-end c = omega (arith, c .before .before .before .before .before .pre .2 .from, c .before .before .before .before .before .pre .2 .within (c .before .before .before .before .before .pre .1 .within))
+part-put-items-end c =
+    let pre = c .before .before .before .before .before .pre in
+    omega (arith, pre .2 .from, pre .2 .within (pre .1 .within))
 
 sub-put-items-2 : tie.Need-sub-put-items-2
 sub-put-items-2 c = search needs
@@ -31,13 +33,25 @@ part-put-items-end-2 : tie.Need-part-put-items-end-2
 part-put-items-end-2 c = search needs
 
 put-items-requires : tie.Need-put-items-requires
-put-items-requires c κs = (slice-good (now (c .before .before .before .before .before .before .before .args .v)) (c .before .before .before .before .before .before .before .args .k) (c .before .before .before .before .before .before .before .args .a) (c .before .before .before .before .before .before .before .args .b) (c .before .before .before .before .before .before .before .pre .0) (c .before .before .before .before .before .before .before .pre .1) (c .before .before .before .before .before .before .before .pre .2), nothing-readable)
+put-items-requires c κs =
+    let args = c .before .before .before .before .before .before .before .args in
+    let pre = c .before .before .before .before .before .before .before .pre in
+    (slice-good (now (args .v)) (args .k) (args .a) (args .b) (pre .0) (pre .1) (pre .2), nothing-readable)
 
 same-length : tie.Need-same-length
 same-length c = search needs
 
 returns : tie.Need-returns
-returns c = puts-as (ap (listed (c .before .before .before .before .before .before .before .before .before .before .args .k) (c .before .before .before .before .before .before .before .before .before .before .args .begun)) (values-alone (now (c .before .before .before .before .before .before .before .before .before .before .args .v)) (c .before .before .before .before .before .before .before .before .before .before .args .k) _ (c .before .before .before .before .before .before .before .other-part .ensures) _ (slice-is (now (c .before .before .before .before .before .before .before .before .before .before .args .v)) (c .before .before .before .before .before .before .before .before .before .before .args .k) (c .before .before .before .before .before .before .before .before .before .before .args .a) (c .before .before .before .before .before .before .before .before .before .before .args .b) (c .before .before .before .before .before .before .before .before .before .before .pre .1) (c .before .before .before .before .before .before .before .before .before .before .pre .2)) (c .before .before .before .before .before .before .if1 .taken))) (c .before .before .put-items .ensures)
+returns c =
+    let args = c .before .before .before .before .before .before .before .before .before .before .args in
+    let pre = c .before .before .before .before .before .before .before .before .before .before .pre in
+    let other-part = c .before .before .before .before .before .before .before .other-part in
+    let if1 = c .before .before .before .before .before .before .if1 in
+    puts-as
+    (ap (listed (args .k) (args .begun))
+    (values-alone (now (args .v)) (args .k) _ (other-part .ensures) _
+    (slice-is (now (args .v)) (args .k) (args .a) (args .b) (pre .1) (pre .2)) (if1 .taken)))
+    (c .before .before .put-items .ensures)
 
 part-from-requires : tie.Need-part-from-requires
 part-from-requires c κs = search needs
@@ -52,7 +66,9 @@ part-put-items-start-3 : tie.Need-part-put-items-start-3
 part-put-items-start-3 c = search needs
 
 part-put-items-end-3 : tie.Need-part-put-items-end-3
-part-put-items-end-3 c = omega (arith, c .before .before .before .before .before .before .before .pre .2 .from, c .before .before .before .before .before .before .before .pre .2 .within (c .before .before .before .before .before .before .before .pre .1 .within))
+part-put-items-end-3 c =
+    let pre = c .before .before .before .before .before .before .before .pre in
+    omega (arith, pre .2 .from, pre .2 .within (pre .1 .within))
 
 sub-put-items-4 : tie.Need-sub-put-items-4
 sub-put-items-4 c = search needs
@@ -61,16 +77,38 @@ part-put-items-start-4 : tie.Need-part-put-items-start-4
 part-put-items-start-4 c = search needs
 
 part-put-items-end-4 : tie.Need-part-put-items-end-4
-part-put-items-end-4 c = omega (arith, c .before .before .part-end .ensures .from, c .before .before .part-end .ensures .within (c .before .before .before .part-from .ensures .within))
+part-put-items-end-4 c =
+    let part-from = c .before .before .before .part-from in
+    let part-end = c .before .before .part-end in
+    omega (arith, part-end .ensures .from, part-end .ensures .within (part-from .ensures .within))
 
 put-items-requires-2 : tie.Need-put-items-requires-2
-put-items-requires-2 c κs = (slice-good (now (c .before .before .before .before .before .before .before .before .before .args .v)) (c .before .before .before .before .before .before .before .before .before .args .k) (c .before .before .before .before .before .before .before .before .before .args .a) (c .before .before .before .before .before .before .before .before .before .args .b) (c .before .before .before .before .before .before .before .before .before .pre .0) (c .before .before .before .before .before .before .before .before .before .pre .1) (c .before .before .before .before .before .before .before .before .before .pre .2), slice-good (now (c .before .before .before .before .before .before .before .before .before .args .v)) _ _ _ (c .before .before .before .before .before .before .before .before .before .pre .0) (c .before .before .before .before .part-from .ensures) (c .before .before .before .part-end .ensures))
+put-items-requires-2 c κs =
+    let args = c .before .before .before .before .before .before .before .before .before .args in
+    let pre = c .before .before .before .before .before .before .before .before .before .pre in
+    let part-from = c .before .before .before .before .part-from in
+    let part-end = c .before .before .before .part-end in (
+      slice-good (now (args .v)) (args .k) (args .a) (args .b) (pre .0) (pre .1) (pre .2),
+      slice-good (now (args .v)) _ _ _ (pre .0) (part-from .ensures) (part-end .ensures),
+    )
 
 same-length-2 : tie.Need-same-length-2
 same-length-2 c = search needs
 
 returns-2 : tie.Need-returns-2
-returns-2 c = puts-as (ap (listed (c .before .before .before .before .before .before .before .before .before .before .before .before .args .k) (c .before .before .before .before .before .before .before .before .before .before .before .before .args .begun)) (values-besides (now (c .before .before .before .before .before .before .before .before .before .before .before .before .args .v)) (c .before .before .before .before .before .before .before .before .before .before .before .before .args .k) _ (c .before .before .before .before .before .before .before .before .before .other-part .ensures) _ _ (slice-is (now (c .before .before .before .before .before .before .before .before .before .before .before .before .args .v)) (c .before .before .before .before .before .before .before .before .before .before .before .before .args .k) (c .before .before .before .before .before .before .before .before .before .before .before .before .args .a) (c .before .before .before .before .before .before .before .before .before .before .before .before .args .b) (c .before .before .before .before .before .before .before .before .before .before .before .before .pre .1) (c .before .before .before .before .before .before .before .before .before .before .before .before .pre .2)) (slice-is (now (c .before .before .before .before .before .before .before .before .before .before .before .before .args .v)) _ _ _ (c .before .before .before .before .before .before .before .part-from .ensures) (c .before .before .before .before .before .before .part-end .ensures)) (c .before .before .before .before .before .before .before .before .if1 .left))) (c .before .before .put-items2 .ensures)
+returns-2 c =
+    let args = c .before .before .before .before .before .before .before .before .before .before .before .before .args in
+    let pre = c .before .before .before .before .before .before .before .before .before .before .before .before .pre in
+    let other-part = c .before .before .before .before .before .before .before .before .before .other-part in
+    let if1 = c .before .before .before .before .before .before .before .before .if1 in
+    let part-from = c .before .before .before .before .before .before .before .part-from in
+    let part-end = c .before .before .before .before .before .before .part-end in
+    puts-as
+    (ap (listed (args .k) (args .begun))
+    (values-besides (now (args .v)) (args .k) _ (other-part .ensures) _ _
+    (slice-is (now (args .v)) (args .k) (args .a) (args .b) (pre .1) (pre .2))
+    (slice-is (now (args .v)) _ _ _ (part-from .ensures) (part-end .ensures)) (if1 .left)))
+    (c .before .before .put-items2 .ensures)
 
 pub put-part-spec : {M : Type 1} → statement M
 put-part-spec =

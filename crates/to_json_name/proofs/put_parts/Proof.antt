@@ -35,7 +35,11 @@ part-put-part-end : tie.Need-part-put-part-end Inv-loop μ-loop
 part-put-part-end c = le-refl _
 
 put-part-requires : tie.Need-put-part-requires Inv-loop μ-loop
-put-part-requires c κs = (c .before .before .before .before .before .before .pre, passing-here (now (c .before .before .before .before .before .before .args .v)) (c .before .before .before .loop .from) (c .before .before .before .loop .k) (c .before .before .before .loop .k) (c .before .before .before .loop .inv .1) refl, c .before .part-end .ensures)
+put-part-requires c κs =
+    let args = c .before .before .before .before .before .before .args in
+    let pre = c .before .before .before .before .before .before .pre in
+    let loop = c .before .before .before .loop in
+    (pre, passing-here (now (args .v)) (loop .from) (loop .k) (loop .k) (loop .inv .1) refl, c .before .part-end .ensures)
 
 enum-known-n : tie.Need-enum-known-n Inv-loop μ-loop
 enum-known-n c = c .match .keys1
@@ -47,10 +51,22 @@ same-length : tie.Need-same-length Inv-loop μ-loop
 same-length c = search needs
 
 returns : tie.Need-returns Inv-loop μ-loop
-returns c = parts-full (now (c .before .before .before .before .before .before .before .before .before .before .before .args .v)) (c .before .before .before .before .before .before .before .before .loop .k) (c .before .before .before .before .before .before .before .before .loop .begun) (c .before .before .before .before .before .before .before .loop-test .taken) (c .before .before .before .before .before .before .before .before .loop .inv .2) (c .before .before .before .before .put-part .ensures) (c .enum-told .given .1)
+returns c =
+    let args = c .before .before .before .before .before .before .before .before .before .before .before .args in
+    let loop = c .before .before .before .before .before .before .before .before .loop in
+    let loop-test = c .before .before .before .before .before .before .before .loop-test in
+    let put-part = c .before .before .before .before .put-part in
+    parts-full (now (args .v)) (loop .k) (loop .begun) (loop-test .taken) (loop .inv .2) (put-part .ensures) (c .enum-told .given .1)
 
 add-at : tie.Need-add-at Inv-loop μ-loop
-add-at c = rest-fit (parts-on (now (c .before .before .before .before .before .before .before .before .before .before .before .before .args .v)) (c .before .before .before .before .before .before .before .before .before .loop .k) (c .before .before .before .before .before .before .before .before .before .loop .begun) (c .before .before .before .before .before .before .before .before .loop-test .taken) (c .before .before .before .before .before .before .before .before .before .loop .inv .2) (c .before .before .before .before .before .put-part .ensures) _ (c .before .n .given .1)) (c .before .before .before .before .before .before .before .before .before .before .before .before .good .0 .0)
+add-at c =
+    let args = c .before .before .before .before .before .before .before .before .before .before .before .before .args in
+    let good = c .before .before .before .before .before .before .before .before .before .before .before .before .good in
+    let loop = c .before .before .before .before .before .before .before .before .before .loop in
+    let loop-test = c .before .before .before .before .before .before .before .before .loop-test in
+    let put-part = c .before .before .before .before .before .put-part in
+    rest-fit (parts-on (now (args .v)) (loop .k) (loop .begun) (loop-test .taken) (loop .inv .2) (put-part .ensures) _ (c .before .n .given .1))
+    (good .0 .0)
 
 part-after-requires : tie.Need-part-after-requires Inv-loop μ-loop
 part-after-requires c κs = search needs
@@ -62,13 +78,25 @@ loop-less : tie.Need-loop-less Inv-loop μ-loop
 loop-less c = omega (arith, c .before .before .before .before .before .before .before .before .before .loop-test .taken)
 
 loop-again : tie.Need-loop-again Inv-loop μ-loop
-loop-again c = (omega (arith, c .before .before .before .before .before .before .before .before .before .loop-test .taken), passing-next (now (c .before .before .before .before .before .before .before .before .before .before .before .before .before .args .v)) (c .before .before .before .before .before .before .before .before .before .before .loop .from) (c .before .before .before .before .before .before .before .before .before .before .loop .k) _ (c .before .before .before .before .before .before .before .before .before .before .loop .inv .1) (c .before .before .before .before .before .before .before .before .part-end .ensures) _ (c .part-after .ensures .0) (c .part-after .ensures .1), parts-on (now (c .before .before .before .before .before .before .before .before .before .before .before .before .before .args .v)) (c .before .before .before .before .before .before .before .before .before .before .loop .k) (c .before .before .before .before .before .before .before .before .before .before .loop .begun) (c .before .before .before .before .before .before .before .before .before .loop-test .taken) (c .before .before .before .before .before .before .before .before .before .before .loop .inv .2) (c .before .before .before .before .before .before .put-part .ensures) _ (c .before .before .n .given .1))
+loop-again c =
+    let args = c .before .before .before .before .before .before .before .before .before .before .before .before .before .args in
+    let loop = c .before .before .before .before .before .before .before .before .before .before .loop in
+    let loop-test = c .before .before .before .before .before .before .before .before .before .loop-test in
+    let part-end = c .before .before .before .before .before .before .before .before .part-end in
+    let put-part = c .before .before .before .before .before .before .put-part in (
+      omega (arith, loop-test .taken),
+      passing-next (now (args .v)) (loop .from) (loop .k) _ (loop .inv .1) (part-end .ensures) _ (c .part-after .ensures .0) (c .part-after .ensures .1),
+      parts-on (now (args .v)) (loop .k) (loop .begun) (loop-test .taken) (loop .inv .2) (put-part .ensures) _ (c .before .before .n .given .1),
+    )
 
 same-length-2 : tie.Need-same-length-2 Inv-loop μ-loop
 same-length-2 c = rest-same (c .before .loop .inv .2)
 
 returns-2 : tie.Need-returns-2 Inv-loop μ-loop
-returns-2 c = rest-done (no-parts (now (c .before .before .before .before .args .v)) (c .before .loop .k) (c .before .loop .begun) (omega (arith, c .loop-test .left))) (c .before .loop .inv .2)
+returns-2 c =
+    let args = c .before .before .before .before .args in
+    let loop = c .before .loop in
+    rest-done (no-parts (now (args .v)) (loop .k) (loop .begun) (omega (arith, c .loop-test .left))) (loop .inv .2)
 
 pub put-parts-spec : {M : Type 1} → statement M
 put-parts-spec =
