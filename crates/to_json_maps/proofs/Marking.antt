@@ -27,7 +27,8 @@ use Rattle.card_lines.proofs.Lines.{LineOf, line-of, count-is}
 use Rattle.to_json_keys.specs.Taken.{Taken, Marks, Blocked}
 use Rattle.to_json_maps.specs.Maps.{entriesOf, idsOf, Enters, Entering, MarksLine, Unmarked}
 use Rattle.to_json_maps.proofs.Whole.{entry-line, other-line, entry-code}
-use Rattle.to_json_maps.proofs.Rows.{enters, held-entry, no-key, own-key}
+use Rattle.to_json_maps.proofs.Dashes.{Dashless}
+use Rattle.to_json_maps.proofs.Rows.{enters, held-entry, dashless-key, no-key, own-key}
 use Rattle.to_json_maps.proofs.Ids.{entries-append, ids-append, ids-none, entries-none}
 
 -- ---- filling
@@ -60,13 +61,20 @@ nothing-more p ids xs row e t = subst (λ l. Taken p l row) (sym (ap (λ x. ids 
 pub unread : (p s : Bytes) (row : List ℕ) → readLine s ≡ none → MarksLine p s row row false
 unread p s row h = record { same = refl; has = λ i e x. none-some (sym h ∙ x .read); marks = λ i e x. none-some (sym h ∙ x .read) }
 
+-- the key is none, whichever entry the line is
+unkeyed : (p s : Bytes) (row : List ℕ) → ((i : ℕ) (e : Entry) → Enters s i e → e .key ≡ []) → MarksLine p s row row false
+unkeyed p s row h = record {
+  same = refl;
+  has = λ i e x. sym (ap (λ k. not (empty k)) (h i e x));
+  marks = λ i e x ids k. nothing-more p ids (idsOf (e ∷ [])) row (no-ids e (h i e x)) k;
+}
+
+pub line-dashless : (p s : Bytes) (row : List ℕ) → Dashless s → MarksLine p s row row false
+line-dashless p s row d = unkeyed p s row (λ i e x. dashless-key s i e x d)
+
 module _ (p s : Bytes) (t C F T row : List ℕ) (h : Holds s t) (r : Row s C F T (lineIn s t .params)) where
   pub line-free : getD C 0 0 ≡ 0 → MarksLine p s row row false
-  line-free z = record {
-    same = refl;
-    has = λ i e x. sym (ap (λ k. not (empty k)) (no-key (x .seen) (x .slot) s t (held-entry h x) r z));
-    marks = λ i e x ids k. nothing-more p ids (idsOf (e ∷ [])) row (no-ids e (no-key (x .seen) (x .slot) s t (held-entry h x) r z)) k;
-  }
+  line-free z = unkeyed p s row (λ i e x. no-key (x .seen) (x .slot) s t (held-entry h x) r z)
 
   pub line-keyed : (after : List ℕ) → (getD C 0 0 ≡ 0 → ⊥) → Marks p (take (getD T 0 0 - getD F 0 0) (drop (getD F 0 0) s)) row after → MarksLine p s row after true
   line-keyed after n m = record {

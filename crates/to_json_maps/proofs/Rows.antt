@@ -32,6 +32,7 @@ use Rattle.home.proofs.Classes.{Fact, class-fact}
 use Rattle.home.proofs.Slots.{at, slot-row}
 use Rattle.to_json_maps.specs.Maps.{noMap, mapAt, Enters, Converts}
 use Rattle.to_json_maps.proofs.Whole.{entry-code}
+use Rattle.to_json_maps.proofs.Dashes.{Dashless, no-prop-id}
 
 -- ---- from the number of a line's class to its entry
 
@@ -129,6 +130,12 @@ one-key s i k [] x h =
     let z : x ≡ k = sym (some-same (q .1)) in
     (z, ap empty z ∙ key-text k (and-left (isKeyText k) _ (q .0)))
 one-key s i k (j ∷ ks) x h = none-some h
+
+-- no PROP-ID, where there is no dash
+pub dashless-key : (s : Bytes) (i : ℕ) (e : Entry) → Enters s i e → Dashless s → e .key ≡ []
+dashless-key s i e x d =
+    let l : Line = x .line in
+    sym (some-same (ap (keyFrom (x .seen) (x .slot .index)) (sym (no-prop-id s l (x .read) d)) ∙ entry-key (x .seen) (x .slot) l e (x .entry)))
 
 module _ (seen : Seen) (w : Slot) (s : Bytes) (t : List ℕ) {C F T : List ℕ} {e : Entry} (h : entryOf seen w (lineIn s t) ≡ some e) (r : Row s C F T (lineIn s t .params)) where
   from : keyFrom seen (w .index) (valuesKind 0 (lineIn s t .params)) ≡ some (e .key)

@@ -1,9 +1,11 @@
 // The maps of a card's JSON, from its classified lines. A map's row is its member's name, its keys' prefix, and the rows of `class_names`.
 ghost use mathlib.Core.Path.{_≡_};
+ghost use mathlib.Core.Bool.{false};
 ghost use mathlib.Core.List.{_∷_, []};
 ghost use Prim.Native.Nat.{_+_, _≤_, _<_};
 ghost use lib.Dec.{eqb};
 ghost use lib.ListN.{length};
+ghost use Rattle.text.specs.Bytes.{is, any};
 ghost use Rattle.output.specs.Put.{Puts};
 ghost use Rattle.convert.specs.Keys.{numbered};
 ghost use Rattle.to_json_maps.specs.Maps.{mapAt, prefixOf, headPiece, Entering, MarksLine, Unmarked, HasLines, MarksIds, HasEntry, PutsKeyed, HasTurn, PutsTurn, HasMap, PutsMap, PutsMaps};
@@ -80,11 +82,27 @@ fn put_prefix(out: &mut [u8], i: usize) -> Wrote
     Wrote::Bytes(0)
 }
 
+// Whether a line has a dash, as PROP-ID has: most lines have none, and so no PROP-ID. No early way out: the loop is a vector loop.
+fn has_dash(line: &[u8]) -> bool
+    ensures { λ r. ⌜ (r ≡ false → any (is 45) (now (line .entry)) ≡ false) ⌝ }
+{
+    let mut found = false;
+    let mut i = 0;
+    while i < line.len() {
+        found = found | (line[i] == b'-');
+        i += 1;
+    }
+    found
+}
+
 // Marks the number that the line's PROP-ID takes, and answers whether it has one.
 fn mark_line(row: &mut [u8], t: &mut [usize], s: &[u8], prefix: &[u8]) -> bool
     requires { ⌜ (1025 ≤ length (now row)) × (264 ≤ length (now t)) × Entering (now s) ⌝ }
     ensures { λ r. ⌜ MarksLine (now (prefix .entry)) (now (s .entry)) (now (row .entry)) (now (row .exit)) r ⌝ }
 {
+    if !has_dash(s) {
+        return false;
+    }
     let mut counts = [0usize; 8];
     let mut froms = [0usize; 8];
     let mut tos = [0usize; 8];

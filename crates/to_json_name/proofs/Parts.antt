@@ -1,5 +1,5 @@
 -- N's parts: where they begin, and their own values.
-use mathlib.Core.Path.{_≡_, refl, sym, ap, _∙_}
+use mathlib.Core.Path.{_≡_, refl, sym, ap, subst, _∙_}
 use mathlib.Core.Bool.{Bool, true, false, _&&_, _||_, not}
 use mathlib.Core.List.{List, [], _∷_, _++_, map}
 use mathlib.Core.Option.{Option, none, some, Option·map}
@@ -8,7 +8,7 @@ use native.Mathlib.Nat.{le-refl}
 use native.Mathlib.Omega.{arith}
 use lib.Dec.{eqb, ltb, leb}
 use lib.ListN.{length, take, drop, getD, drop-of-length-le}
-use borrow.Author.Tests.{ne-eqb, lt-ltb, le-ltb}
+use borrow.Author.Tests.{ne-eqb, lt-ltb, le-ltb, ltb-true, ltb-false}
 use Rattle.text.specs.Choice.{pick, is-some, both, chain, provided}
 use Rattle.text.specs.Bytes.{Bytes, empty, any, same, among, keep, each}
 use Rattle.text.proofs.Cases.{byBool}
@@ -28,9 +28,11 @@ pub record Passing (v : Bytes) (at j : ℕ) : Type 0 where
   pub within : at ≤ length v
   pub is : (n : ℕ) → getD (splitText 59 (drop at v)) n [] ≡ partOf v (n + j)
 
-nothing : (v : Bytes) → headOr [] (splitText 59 (drop (length v) v)) ≡ []
+-- no part is filled where nothing stands
+none-filled : (n : ℕ) → getD (splitText 59 []) n [] ≡ []
 unfolding splitText splitFrom
-nothing v = ap (λ x. headOr [] (splitText 59 x)) (drop-of-length-le v (le-refl _))
+none-filled zero = refl
+none-filled (suc n) = refl
 
 pub passing-start : (v : Bytes) → Passing v 0 0
 passing-start v = record { within = omega arith; is = λ n. let z : n ≡ n + 0 = omega arith in ap (partOf v) z }
@@ -56,18 +58,30 @@ module _ (v : Bytes) (at j e : ℕ) (h : Passing v at j) (p : PartEnds 59 v at e
         ∙ ap (partOf v) z;
   }
 
-  pub passing-out : (k : ℕ) → j < k → length v ≤ e → PartFrom v k (length v)
-  passing-out k l o = record {
-    within = omega arith;
-    is =
-        nothing v
-        ∙ sym (later (k - (j + 1)))
-        ∙ h .is (suc (k - (j + 1)))
-        ∙ (let z : suc (k - (j + 1)) + j ≡ k = omega arith in ap (partOf v) z);
+  no-more : length v ≤ e → (n : ℕ) → partOf v (suc n + j) ≡ []
+  no-more o n =
+      sym (h .is (suc n))
+      ∙ ap (λ us. getD us (suc n) []) (p .parts ∙ ap (λ b. take (e - at) (drop at v) ∷ pick b (splitText 59 (drop (e + 1) v)) []) (le-ltb e (length v) o))
+
+  passing-end : (k : ℕ) → j < k → length v ≤ e → Passing v (length v) k
+  passing-end k l o = record {
+    within = le-refl _;
+    is = λ n.
+        let z : suc (n + (k - (j + 1))) + j ≡ n + k = omega arith in
+        ap (λ x. getD (splitText 59 x) n []) (drop-of-length-le v (le-refl _))
+        ∙ none-filled n
+        ∙ sym (no-more o (n + (k - (j + 1))))
+        ∙ ap (partOf v) z;
   }
-    where
-      later : (n : ℕ) → getD (splitText 59 (drop at v)) (suc n) [] ≡ []
-      later n = ap (λ us. getD us (suc n) []) (p .parts ∙ ap (λ b. take (e - at) (drop at v) ∷ pick b (splitText 59 (drop (e + 1) v)) []) (le-ltb e (length v) o))
+
+  pub passing-out : (k : ℕ) → j < k → length v ≤ e → PartFrom v k (length v)
+  passing-out k l o = passing-here v (length v) k k (passing-end k l o) refl
+
+  pub passing-next : (r : ℕ) → (e < length v → r ≡ e + 1) → (length v ≤ e → r ≡ length v) → Passing v r (j + 1)
+  passing-next r on out =
+      byBool (ltb e (length v))
+      (λ q. let l : e < length v = ltb-true e (length v) q in subst (λ x. Passing v x (j + 1)) (sym (on l)) (passing-on l))
+      (λ q. let l : length v ≤ e = ltb-false e (length v) q in subst (λ x. Passing v x (j + 1)) (sym (out l)) (passing-end (j + 1) (omega arith) l))
 
 -- the slice from there to its end
 pub slice-is : (v : Bytes) (k a b : ℕ) → PartFrom v k a → PartEnds 59 v a b → take (b - a) (drop a v) ≡ partOf v k

@@ -2,13 +2,15 @@
 ghost use mathlib.Core.Path.{_≡_};
 ghost use mathlib.Core.Bool.{true, false};
 ghost use mathlib.Core.List.{_∷_, []};
-ghost use Prim.Native.Nat.{_≤_};
+ghost use Prim.Native.Nat.{_+_, _≤_, _<_};
+ghost use lib.ListN.{length};
 ghost use Rattle.text.specs.Choice.{is-some, pick};
 ghost use Rattle.text.specs.Bytes.{ascii, flat};
 ghost use Rattle.line.specs.Text.{readText};
 ghost use Rattle.json.specs.Compact.{quoted};
 ghost use Rattle.output.specs.Put.{Puts};
 ghost use Rattle.line_text.specs.Read.{plainText};
+ghost use Rattle.line_text.specs.Split.{PartEnds};
 ghost use Rattle.to_json_items.specs.Items.{listed};
 ghost use Rattle.to_json_name.specs.Name.{PartFrom, otherPart, valuesOf, componentsFrom, NameGood, fullPiece, partsPiece, NamesGood, nameBytes};
 use convert_put::put_plain;
@@ -48,13 +50,11 @@ fn other_part(k: usize) -> usize
     7
 }
 
-// The components of part k.
-fn put_part(out: &mut [u8], v: &[u8], k: usize, begun: bool) -> Wrote
-    requires { ⌜ NameGood (now v) ⌝ }
+// The components of part k, which stands from a to b.
+fn put_part(out: &mut [u8], v: &[u8], k: usize, a: usize, b: usize, begun: bool) -> Wrote
+    requires { ⌜ NameGood (now v) × PartFrom (now v) k a × PartEnds 59 (now v) a b ⌝ }
     ensures { λ r. ⌜ Puts (now (out .entry)) (listed k begun (valuesOf (now (v .entry)) k)) r (now (out .exit)) ⌝ }
 {
-    let a = part_from(v, k);
-    let b = part_end(v, a, b';');
     let q = other_part(k);
     if q == 7 {
         return put_items(out, &v[a..b], b',', &v[0..0], k, begun);
@@ -64,6 +64,16 @@ fn put_part(out: &mut [u8], v: &[u8], k: usize, begun: bool) -> Wrote
     put_items(out, &v[a..b], b',', &v[c..d], k, begun)
 }
 
+// Where the part after the one that ends at e begins; a missing one at the end.
+fn part_after(v: &[u8], e: usize) -> usize
+    ensures { λ r. ⌜ (e < length (now (v .entry)) → r ≡ e + 1) × (length (now (v .entry)) ≤ e → r ≡ length (now (v .entry))) ⌝ }
+{
+    if e >= v.len() {
+        return v.len();
+    }
+    e + 1
+}
+
 // The components of all seven parts.
 fn put_parts(out: &mut [u8], v: &[u8]) -> Wrote
     requires { ⌜ NameGood (now v) ⌝ }
@@ -71,13 +81,16 @@ fn put_parts(out: &mut [u8], v: &[u8]) -> Wrote
 {
     let mut at = 0;
     let mut k: usize = 0;
+    let mut from = 0;
     let mut begun = false;
     while k < 7 {
-        let Wrote::Bytes(n) = put_part(&mut out[at..], v, k, begun) else {
+        let end = part_end(v, from, b';');
+        let Wrote::Bytes(n) = put_part(&mut out[at..], v, k, from, end, begun) else {
             return Wrote::Full;
         };
         at += n;
         begun = begun | (0 < n);
+        from = part_after(v, end);
         k += 1;
     }
     Wrote::Bytes(at)
