@@ -1,6 +1,6 @@
 -- Laws of members and elements, over plain values.
 use mathlib.Core.Path.{_≡_, refl, sym, ap, _∙_}
-use mathlib.Core.Bool.{Bool}
+use mathlib.Core.Bool.{Bool, false}
 use mathlib.Core.List.{[], _∷_, _++_}
 use Prim.Native.Nat.{ℕ, zero, suc, _-_, _≤_}
 use native.Mathlib.Omega.{arith}
@@ -11,17 +11,18 @@ use Rattle.text.specs.declared.Read.the-variants.{Next, Bad}
 use Rattle.text.specs.Bytes.{Bytes}
 use Rattle.text.specs.Reader.{Got, got, past}
 use Rattle.text.specs.Places.{Gives, Passes}
-use Rattle.text.proofs.Places.{byBool, at-bad}
-use Rattle.text.proofs.Fine.{not-bad, bind-inv}
+use Rattle.text.proofs.Places.{byBool, at-bad, at-next}
+use Rattle.text.proofs.Fine.{not-bad, got-rest, bind-inv}
 use Rattle.json.specs.Grammar.{isSpace}
 use Rattle.json.specs.Tree.{Json, jnum}
-use Rattle.json.specs.Syntax.{skip, token, name, scalar, value}
+use Rattle.json.specs.Syntax.{skip, token, characters, name, scalar, value}
 use Rattle.json.specs.Strings.{decode}
 use Rattle.json.proofs.AsSpelled.{number-spelled}
 use Rattle.json_marks.proofs.Laws.{skip-to}
-use Rattle.json_skip.specs.Skip.{Skips}
+use Rattle.json_skip.specs.Skip.{quoted, Leaves, Skips}
+use Rattle.json_skip.proofs.Strings.{characters-leads}
 use Rattle.json_strings.specs.Spelled.{spelled}
-use Rattle.json_strings.proofs.Names.{name-string, name-rest}
+use Rattle.json_strings.proofs.Names.{name-string}
 use Rattle.json_access.specs.Access.{placeOf, Stands}
 
 past-past : (p : ℕ → Bool) (t : Bytes) → past p (past p t) ≡ past p t
@@ -62,10 +63,25 @@ module _ (d : ℕ) (s t : Bytes) {a x : ℕ} (b : skip t ≡ drop a s) (l : a �
       }
 
 -- the name of a member, and where its value begins
-module _ (s : Bytes) (at : ℕ) {r₁ r₂ : Read} (g₁ : Gives s at (token 34 (drop at s)) r₁) (g₂ : Gives s at (name (drop at s)) r₂) (k t : Bytes) (e : name (drop at s) ≡ got k t) where
-  pub name-is : {q : ℕ} → q ≡ placeOf r₁ → spelled s q ≡ decode k
+module _ (s : Bytes) (at : ℕ) {r : Read} (g : Gives s at (token 34 (drop at s)) r) (k t : Bytes) (e : name (drop at s) ≡ got k t) {q : ℕ} (eq : q ≡ placeOf r) where
+  opened : Gives s at (token 34 (drop at s)) (Next (placeOf r))
   unfolding name
-  name-is eq = ap (spelled s) eq ∙ name-string s at k t e (placeOf r₁) (as-next s at (token 34 (drop at s)) r₁ g₁ (bind-inv (token 34 (drop at s)) _ e .2))
+  opened = as-next s at (token 34 (drop at s)) r g (bind-inv (token 34 (drop at s)) _ e .2)
 
-  pub value-begins : {v a : ℕ} → v ≡ placeOf r₂ → Passes isSpace s v a → skip t ≡ drop a s
-  value-begins ev h = ap skip (name-rest s at k t e (placeOf r₂) (as-next s at (name (drop at s)) r₂ g₂ e) ∙ ap (λ (i : ℕ). drop i s) (sym ev)) ∙ skip-to h
+  pub name-is : spelled s q ≡ decode k
+  name-is = ap (spelled s) eq ∙ name-string s at k t e (placeOf r) opened
+
+  -- what is left after the colon
+  after-colon : (z : ℕ) → Leaves s q (quoted false (drop q s)) z → (r′ : Read) → Gives s z (token 58 (drop z s)) r′ → t ≡ drop (placeOf r′) s
+  unfolding name
+  after-colon z l r′ g′ =
+      let i = bind-inv (token 34 (drop at s)) _ e in
+      let j = bind-inv (characters (i .1)) _ (i .3) in
+      let m = bind-inv (token 58 (j .1)) _ (j .3) in
+      let first : i .1 ≡ drop q s = got-rest (sym (i .2) ∙ at-next (token 34 (drop at s)) opened .1) ∙ ap (λ (x : ℕ). drop x s) (sym eq) in
+      let past-string : j .1 ≡ drop z s = sym (characters-leads (i .1) (j .0) (j .1) (j .2)) ∙ ap (quoted false) first ∙ l .is in
+      let colon : token 58 (drop z s) ≡ got (m .0) (m .1) = ap (token 58) (sym past-string) ∙ m .2 in
+      sym (got-rest (m .3)) ∙ got-rest (sym colon ∙ at-next (token 58 (drop z s)) (as-next s z (token 58 (drop z s)) r′ g′ colon) .1)
+
+  pub value-begins : (z : ℕ) → Leaves s q (quoted false (drop q s)) z → (r′ : Read) → Gives s z (token 58 (drop z s)) r′ → {v a : ℕ} → v ≡ placeOf r′ → Passes isSpace s v a → skip t ≡ drop a s
+  value-begins z l r′ g′ ev h = ap skip (after-colon z l r′ g′ ∙ ap (λ (i : ℕ). drop i s) (sym ev)) ∙ skip-to h

@@ -2,8 +2,8 @@
 // tells whether another one follows. Where the grammar does not hold, as past the end, the places are of no use, and within the text.
 use json_marks::mark;
 use json_marks::skip_space;
-use json_scan::name_end;
 use json_skip::skip_value;
+use json_skip::string_stop;
 use text::Read;
 use text::look;
 ghost use mathlib.Core.Path.{_≡_};
@@ -47,7 +47,8 @@ pub fn member_at(s: &[u8], at: usize, depth: usize) -> Places
         };
     }
     let q = place(mark(s, at, 34));
-    let v = place(name_end(s, at));
+    let z = string_stop(s, q);
+    let v = place(mark(s, z, 58));
     let a = skip_space(s, v);
     let e = skip_value(s, a);
     Places {

@@ -11,7 +11,7 @@ ghost use lib.ListN.{length, drop};
 ghost use Rattle.json_skip.specs.Skip.{quoted, opens, shuts, outside, closed, Leaves, Skips};
 
 // The place after a string, from after its first quote.
-fn string_stop(s: &[u8], at: usize) -> usize
+pub fn string_stop(s: &[u8], at: usize) -> usize
     requires { ⌜ at ≤ length (now s) ⌝ }
     ensures { λ r. ⌜ Leaves (now (s .entry)) at (quoted false (drop at (now (s .entry)))) r ⌝ }
 {

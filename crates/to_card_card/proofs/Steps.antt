@@ -10,7 +10,7 @@ use lib.Dec.{eqb}
 use lib.ListN.{length, getD}
 use Rattle.text.specs.Choice.{both, chain}
 use Rattle.text.specs.Bytes.{Bytes, ascii, each}
-use Rattle.json.specs.Tree.{jobj, Members, membersOf, field}
+use Rattle.json.specs.Tree.{Members, membersOf, field}
 use Rattle.json_index.specs.Index.{Slot}
 use Rattle.convert.specs.Table.{maps, reserved}
 use Rattle.convert.specs.Model.{Entry, hasParts}
@@ -20,19 +20,19 @@ use Rattle.card_maps.specs.Seven.{MapsAs, PutsMaps}
 use Rattle.to_card_lines.specs.declared.Lines.{Lines}
 use Rattle.to_card_lines.specs.declared.Lines.the-variants.{All, Wrong}
 use Rattle.to_card_lines.specs.Lines.{Part, PartAs, joinParts}
-use Rattle.to_card_members.specs.Members.{membersPart, PutsMembers}
+use Rattle.to_card_members.specs.Members.{membersPart}
 use Rattle.to_card_name.specs.Name.{nameLines, nLine, PutsName}
 use Rattle.to_card_kept.specs.Kept.{Known, seenOf, keptParts, PutsKept}
 use Rattle.to_card_sections.specs.Sections.{nameIn, mapsPart, lastParts, restParts, bodyParts}
-use Rattle.to_card_card.specs.Whole.{few, FewAs, TellsFull, Object, PutsLast, PutsRest, PutsBody}
+use Rattle.to_card_card.specs.Whole.{few, FewAs, TellsFull, Object, PutsOthers, PutsLast, PutsRest, PutsBody}
 use Rattle.to_card_card.proofs.Joining.{Has, has-few, has-as, has-said, has-both, few-wrong, as-wrong, few-none, both-first, both-second}
 
 -- ---- other members, then kept lines
 
-module _ (s : Bytes) (slots : List ℕ) (full parts : Bool) (room : Bytes) (r : Lines) (out : Bytes) (members : PutsMembers s room r out) where
+module _ (s : Bytes) (slots : List ℕ) (full parts : Bool) (room : Bytes) (r : Lines) (out : Bytes) (members : PutsOthers s slots room r out) where
   module _ (mm : Members) (ess : List (List Entry)) (known : Known s slots mm ess) where
     members-put : PartAs room r out (membersPart (membersOf mm))
-    members-put = members (jobj mm) (known .object)
+    members-put = members mm (known .object) (known .indexed)
 
   pub last-first : r ≡ Wrong → (after : Bytes) → PutsLast s slots full parts room Wrong after
   unfolding lastParts

@@ -18,7 +18,8 @@ use Rattle.convert.specs.Carry.{carried}
 use Rattle.convert.specs.ToCard.{cardLines, printCard}
 use Rattle.to_card_lines.specs.declared.Lines.{Lines}
 use Rattle.to_card_lines.specs.declared.Lines.the-variants.{All, Wrong}
-use Rattle.to_card_lines.specs.Lines.{linesBytes, Part}
+use Rattle.to_card_lines.specs.Lines.{linesBytes, Part, PartAs}
+use Rattle.to_card_members.specs.Members.{membersPart}
 use Rattle.to_card_kept.specs.Kept.{Known, seenOf}
 use Rattle.to_card_name.specs.Name.{nameGiven}
 use Rattle.to_card_sections.specs.Sections.{restParts, lastParts, bodyParts, sections}
@@ -46,6 +47,11 @@ pub record Object (s : Bytes) (slots : List ℕ) (mm : Members) : Type 0 where
   pub object : jsonAt 16 s 0 ≡ some (jobj mm)
   pub distinct : distinctNames (jobj mm) ≡ true
   pub indexed : Indexed 15 s reserved slots (membersOf mm)
+
+-- the members that no other part of the card says
+abbrev pub PutsOthers : Bytes → List ℕ → Bytes → Lines → Bytes → Type 0
+PutsOthers s slots room r after = (mm : Members) → jsonAt 16 s 0 ≡ some (jobj mm) → Indexed 15 s reserved slots (membersOf mm)
+    → PartAs room r after (membersPart (membersOf mm))
 
 abbrev pub PutsLast : Bytes → List ℕ → Bool → Bool → Bytes → Lines → Bytes → Type 0
 PutsLast s slots full parts room r after = (mm : Members) (ess : List (List Entry)) → Known s slots mm ess → (n : Name) → is-some (n .full) ≡ full → hasParts (n .parts) ≡ parts

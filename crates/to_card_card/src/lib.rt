@@ -10,8 +10,9 @@ use to_card_name::put_name;
 ghost use mathlib.Core.Path.{_≡_};
 ghost use Prim.Native.Nat.{_≤_};
 ghost use lib.ListN.{length};
+ghost use Rattle.to_card_lines.specs.Lines.{LinesIn};
 ghost use Rattle.to_card_kept.specs.Kept.{Lent, LentText};
-ghost use Rattle.to_card_card.specs.Whole.{few, FewIn, TellsFull, PutsLast, PutsRest, PutsBody, PutsWhole, PutsCard};
+ghost use Rattle.to_card_card.specs.Whole.{few, FewIn, TellsFull, PutsOthers, PutsLast, PutsRest, PutsBody, PutsWhole, PutsCard};
 
 // 513 for every number over 512.
 fn up_to(n: usize) -> usize
@@ -40,6 +41,25 @@ fn has_full(s: &[u8], slot: usize) -> bool
     full[0] != 0
 }
 
+// The other members: none where their slot, after those of the reserved names, is empty, and then the text is not gone through again.
+fn put_others<'a, 'b, 'c, 'd>(
+    out: &'a mut [u8],
+    buffer: &'b mut [u8],
+    s: &'c [u8],
+    slots: &'d [usize],
+) -> Lines
+    requires { ⌜ length (now out) ≤ length (now buffer) ⌝ }
+    requires { ⌜ 14 ≤ length (now slots) ⌝ }
+    ensures { λ r. ⌜ LinesIn (length (now (out .entry))) r ⌝ }
+    ensures { λ r. ⌜ length (now (out .exit)) ≡ length (now (out .entry)) ⌝ }
+    ensures { λ r. ⌜ PutsOthers (now (s .entry)) (now (slots .entry)) (now (out .entry)) r (now (out .exit)) ⌝ }
+{
+    if slots[13] == 0 {
+        return Lines::All(0, 0, true);
+    }
+    put_members(out, buffer, s)
+}
+
 // Other members, then the kept lines.
 fn put_last<'a, 'b, 'c, 'd, 'e, 'f, 'g>(
     out: &'a mut [u8],
@@ -58,7 +78,7 @@ fn put_last<'a, 'b, 'c, 'd, 'e, 'f, 'g>(
     ensures { λ r. ⌜ length (now (out .exit)) ≡ length (now (out .entry)) ⌝ }
     ensures { λ r. ⌜ PutsLast (now (s .entry)) (now (slots .entry)) full parts (now (out .entry)) r (now (out .exit)) ⌝ }
 {
-    let Lines::All(n, l, c) = put_members(out, buffer, s) else {
+    let Lines::All(n, l, c) = put_others(out, buffer, s, slots) else {
         return Lines::Wrong;
     };
     let Lines::All(m, k, d) = put_kept(&mut out[n..], b, t, scratch, s, slots, full, parts) else {

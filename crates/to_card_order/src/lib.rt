@@ -9,16 +9,18 @@ use to_card_head::is_filled;
 use to_card_parts::Found;
 use to_card_parts::Inked;
 use to_card_parts::component_at;
-use to_card_parts::pen_kind;
+use to_card_parts::list_rows;
+use to_card_parts::pen_listed;
 ghost use mathlib.Core.Path.{_≡_};
 ghost use mathlib.Core.Bool.{_&&_};
 ghost use Prim.Native.Nat.{_≤_};
 ghost use lib.ListN.{length};
 ghost use Rattle.json_strings.specs.Spelled.{spelled, agree};
+ghost use Rattle.to_card_parts.specs.Parts.{RowsFrom};
 ghost use Rattle.to_card_order.specs.Order.{InksPlace, InksOrder, FindsAmong, Clashes, TellsApart};
 
-// One place of an order: a semicolon, or the values of the kind that a digit names. Kinds without a mark have no values.
-fn pen_place<'a, 'b, 'c>(
+// One place of an order: a semicolon, or the values of the kind that a digit names, by the rows of the components. Kinds without a mark have no values.
+fn pen_place<'a, 'b, 'c, 'd, 'e>(
     out: &'a mut [u8],
     column: usize,
     style: u8,
@@ -26,11 +28,17 @@ fn pen_place<'a, 'b, 'c>(
     s: &'b [u8],
     at: usize,
     marks: &'c [usize],
+    kinds: &'d [usize],
+    values: &'e [usize],
+    rows: usize,
     place: u8,
     begun: bool,
 ) -> Inked
     requires { ⌜ at ≤ length (now s) ⌝ }
     requires { ⌜ 7 ≤ length (now marks) ⌝ }
+    requires { ⌜ 16 ≤ length (now kinds) ⌝ }
+    requires { ⌜ 16 ≤ length (now values) ⌝ }
+    requires { ⌜ RowsFrom (now s) at (now kinds) (now values) rows ⌝ }
     ensures { λ r. ⌜ InksPlace (now (s .entry)) at (now (marks .entry)) style mark place begun (now (out .entry)) column r (now (out .exit)) ⌝ }
 {
     if place == b';' {
@@ -69,7 +77,19 @@ fn pen_place<'a, 'b, 'c>(
             carried: true,
         };
     }
-    pen_kind(out, column, style, mark, s, at, kind, begun)
+    pen_listed(
+        out,
+        column,
+        style,
+        mark,
+        s,
+        at,
+        kinds,
+        values,
+        rows,
+        kind,
+        begun,
+    )
 }
 
 // The values of the components from a place on, in an order of kinds: a digit is a kind, a semicolon itself.
@@ -87,13 +107,29 @@ pub fn pen_order<'a, 'b, 'c, 'd>(
     requires { ⌜ 7 ≤ length (now marks) ⌝ }
     ensures { λ r. ⌜ InksOrder (now (s .entry)) at (now (marks .entry)) style mark (now (order .entry)) (now (out .entry)) column r (now (out .exit)) ⌝ }
 {
+    let mut kinds = [0usize; 16];
+    let mut values = [0usize; 16];
+    let rows = list_rows(&mut kinds, &mut values, s, at);
     let mut n = 0;
     let mut c = column;
     let mut b = false;
     let mut ok = true;
     let mut i = 0;
     while i < order.len() {
-        let t = pen_place(&mut out[n..], c, style, mark, s, at, marks, order[i], b);
+        let t = pen_place(
+            &mut out[n..],
+            c,
+            style,
+            mark,
+            s,
+            at,
+            marks,
+            &kinds,
+            &values,
+            rows,
+            order[i],
+            b,
+        );
         n += t.bytes;
         c = t.column;
         b = t.begun;

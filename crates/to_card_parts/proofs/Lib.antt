@@ -2,3 +2,4 @@ pub mod Elements
 pub mod Components
 pub mod Values
 pub mod Passes
+pub mod Rows

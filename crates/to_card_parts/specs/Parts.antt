@@ -131,3 +131,13 @@ pub record InksKind (s : Bytes) (at style mark kind : ℕ) (begun : Bool) (room 
   pub text : Bytes
   pub pens : Pens room column text (record { bytes = r .bytes; column = r .column }) after
   pub says : (cs : List Component) → Lists s at cs → Says style mark begun (valuesOf kind cs) text (r .begun) (r .carried)
+
+-- ---- rows: the kind of a component and the place of its value
+
+pub record Rows (s : Bytes) (kinds values : List ℕ) (n : ℕ) (cs : List Component) : Type 0 where
+  pub count : length cs ≡ n
+  pub row : (i : ℕ) → i < n → (x : Bytes) × (getD cs i (component 0 []) ≡ component (getD kinds i 0) x) × (spelled s (getD values i 0) ≡ some x)
+
+-- n rows, where n is not over 16, are the components that stand there
+abbrev pub RowsFrom : Bytes → ℕ → List ℕ → List ℕ → ℕ → Type 0
+RowsFrom s at kinds values n = n ≤ 16 → (cs : List Component) → Lists s at cs → Rows s kinds values n cs

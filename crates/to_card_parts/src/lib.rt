@@ -14,7 +14,7 @@ ghost use mathlib.Core.Path.{_≡_};
 ghost use Prim.Native.Nat.{_≤_, _<_};
 ghost use lib.ListN.{length};
 ghost use Rattle.json_index.specs.Index.{Clear};
-ghost use Rattle.to_card_parts.specs.Parts.{KindIn, TellsSlots, TellsComponent, ArrayIn, OpensAs, Marks, ChecksFrom, InksOne, InksKind};
+ghost use Rattle.to_card_parts.specs.Parts.{KindIn, TellsSlots, TellsComponent, ArrayIn, OpensAs, Marks, ChecksFrom, InksOne, InksKind, RowsFrom};
 
 // A component: the place of its kind among the kinds, and the place of its value; or 12.
 pub enum Found {
@@ -246,5 +246,96 @@ pub fn pen_kind<'a, 'b>(
                 };
             }
         }
+    }
+}
+
+// A row for each component from a place on: its kind, and the place of its value. How many there are; 17 where they are more than 16.
+pub fn list_rows<'a, 'b, 'c>(
+    kinds: &'a mut [usize],
+    values: &'b mut [usize],
+    s: &'c [u8],
+    at: usize,
+) -> usize
+    requires { ⌜ at ≤ length (now s) ⌝ }
+    requires { ⌜ 16 ≤ length (now kinds) ⌝ }
+    requires { ⌜ 16 ≤ length (now values) ⌝ }
+    ensures { λ r. ⌜ RowsFrom (now (s .entry)) at (now (kinds .exit)) (now (values .exit)) r ⌝ }
+{
+    let mut i = at;
+    let mut n = 0;
+    loop {
+        let p = element_at(s, i, 13);
+        let a = p.start;
+        let e = p.end;
+        let Found::Of(k, v) = component_at(s, a) else {
+            return 17;
+        };
+        if n >= 16 {
+            return 17;
+        }
+        kinds[n] = k;
+        values[n] = v;
+        n += 1;
+        match separator(s, e, 93) {
+            Turn::Go(j) => {
+                i = j;
+            }
+            Turn::Stop(r) => {
+                return n;
+            }
+        }
+    }
+}
+
+// The values of one kind, by the rows of the components from a place on.
+pub fn pen_listed<'a, 'b, 'c, 'd>(
+    out: &'a mut [u8],
+    column: usize,
+    style: u8,
+    mark: u8,
+    s: &'b [u8],
+    at: usize,
+    kinds: &'c [usize],
+    values: &'d [usize],
+    rows: usize,
+    kind: usize,
+    begun: bool,
+) -> Inked
+    requires { ⌜ at ≤ length (now s) ⌝ }
+    requires { ⌜ 16 ≤ length (now kinds) ⌝ }
+    requires { ⌜ 16 ≤ length (now values) ⌝ }
+    requires { ⌜ RowsFrom (now s) at (now kinds) (now values) rows ⌝ }
+    ensures { λ r. ⌜ InksKind (now (s .entry)) at style mark kind begun (now (out .entry)) column r (now (out .exit)) ⌝ }
+{
+    if rows > 16 {
+        return pen_kind(out, column, style, mark, s, at, kind, begun);
+    }
+    let mut i = 0;
+    let mut n = 0;
+    let mut c = column;
+    let mut b = begun;
+    let mut ok = true;
+    while i < rows {
+        let t = pen_value(
+            &mut out[n..],
+            c,
+            style,
+            mark,
+            s,
+            values[i],
+            kind == kinds[i],
+            b,
+        );
+        n += t.bytes;
+        c = t.column;
+        b = t.begun;
+        ok = ok & t.carried;
+        i += 1;
+    }
+    Inked {
+        bytes: n,
+        column: c,
+        begun: b,
+        carried: ok,
     }
 }

@@ -16,11 +16,11 @@ use Rattle.to_card_card.proofs.put_last.Reads as reads
 use Rattle.to_card_card.proofs.put_last.Lts as lts
 use Rattle.to_card_card.proofs.up_to.Reads as up-to-reads
 use Rattle.to_card_kept.proofs.put_kept.Reads as put-kept-reads
-use Rattle.to_card_members.proofs.put_members.Reads as put-members-reads
+use Rattle.to_card_card.proofs.put_others.Reads as put-others-reads
 
 -- src/lib.rt:61:31
-put-members-requires : tie.Need-put-members-requires
-put-members-requires c κs = search needs
+put-others-requires : tie.Need-put-others-requires
+put-others-requires c κs = search needs
 
 -- src/lib.rt:61:20
 enum-known-n : tie.Need-enum-known-n
@@ -42,22 +42,22 @@ same-length-2 c = search needs
 returns : tie.Need-returns
 returns c =
     let args = c .before .before .before .before .before .before .before .before .before .before .before .before .before .before .before .before .args in
-    let put-members = c .before .before .before .before .before .before .put-members in (
+    let put-others = c .before .before .before .before .before .before .put-others in (
       tt,
-      (put-members .ensures .1 .0, last-first (now (args .s)) (now (args .slots)) (args .full) (args .parts) (now (args .out)) (put-members .result) (put-members .last .0) (put-members .ensures .1 .1) (c .enum-told .given .1) (put-members .last .0)),
+      (put-others .ensures .1 .0, last-first (now (args .s)) (now (args .slots)) (args .full) (args .parts) (now (args .out)) (put-others .result) (put-others .last .0) (put-others .ensures .1 .1) (c .enum-told .given .1) (put-others .last .0)),
     )
 
 -- src/lib.rt:64:40
 sub-put-kept : tie.Need-sub-put-kept
 sub-put-kept c =
-    let put-members = c .before .before .before .before .before .before .before .put-members in
-    omega (arith, lines-in (put-members .ensures .0) (c .before .n .given .1), put-members .ensures .1 .0)
+    let put-others = c .before .before .before .before .before .before .before .put-others in
+    omega (arith, lines-in (put-others .ensures .0) (c .before .n .given .1), put-others .ensures .1 .0)
 
 -- src/lib.rt:64:40
 part-put-kept-start : tie.Need-part-put-kept-start
 part-put-kept-start c =
-    let put-members = c .before .before .before .before .before .before .before .put-members in
-    omega (arith, lines-in (put-members .ensures .0) (c .before .n .given .1), put-members .ensures .1 .0)
+    let put-others = c .before .before .before .before .before .before .before .put-others in
+    omega (arith, lines-in (put-others .ensures .0) (c .before .n .given .1), put-others .ensures .1 .0)
 
 -- src/lib.rt:64:40
 part-put-kept-end : tie.Need-part-put-kept-end
@@ -99,25 +99,25 @@ same-length-7 c = search needs
 returns-2 : tie.Need-returns-2
 returns-2 c =
     let args = c .before .before .before .before .before .before .before .before .before .before .before .before .before .before .before .before .before .before .before .before .before .before .before .before .before .before .before .before .before .before .before .before .args in
-    let put-members = c .before .before .before .before .before .before .before .before .before .before .before .before .before .before .before .before .before .before .before .before .before .before .put-members in
+    let put-others = c .before .before .before .before .before .before .before .before .before .before .before .before .before .before .before .before .before .before .before .before .before .before .put-others in
     let n = c .before .before .before .before .before .before .before .before .before .before .before .before .before .before .before .before .n in
     let put-kept = c .before .before .before .before .before .before .before .before .before .before .put-kept in (
       tt,
-      (part-length (n .given .0 .0) (put-members .last .0) (put-kept .last .0) (omega (arith, lines-in (put-members .ensures .0) (n .given .1), put-members .ensures .1 .0)) (put-kept .ensures .1 .0) ∙ (put-members .ensures .1 .0), last-second (now (args .s)) (now (args .slots)) (args .full) (args .parts) (now (args .out)) (put-members .result) (put-members .last .0) (put-members .ensures .1 .1) (n .given .0 .0) (n .given .0 .1 .0) (n .given .0 .1 .1 .0) (n .given .1) (put-kept .result) (put-kept .last .0) (put-kept .ensures .1 .1) (c .enum-told2 .given .1) _),
+      (part-length (n .given .0 .0) (put-others .last .0) (put-kept .last .0) (omega (arith, lines-in (put-others .ensures .0) (n .given .1), put-others .ensures .1 .0)) (put-kept .ensures .1 .0) ∙ (put-others .ensures .1 .0), last-second (now (args .s)) (now (args .slots)) (args .full) (args .parts) (now (args .out)) (put-others .result) (put-others .last .0) (put-others .ensures .1 .1) (n .given .0 .0) (n .given .0 .1 .0) (n .given .0 .1 .1 .0) (n .given .1) (put-kept .result) (put-kept .last .0) (put-kept .ensures .1 .1) (c .enum-told2 .given .1) _),
     )
 
 -- src/lib.rt:67:17
 add-bytes : tie.Need-add-bytes
 add-bytes c =
     let good = c .before .before .before .before .before .before .before .before .before .before .before .before .before .before .before .before .before .before .before .before .before .before .before .before .before .before .before .before .before .before .before .before .before .good in
-    let put-members = c .before .before .before .before .before .before .before .before .before .before .before .before .before .before .before .before .before .before .before .before .before .before .before .put-members in
+    let put-others = c .before .before .before .before .before .before .before .before .before .before .before .before .before .before .before .before .before .before .before .before .before .before .before .put-others in
     let n = c .before .before .before .before .before .before .before .before .before .before .before .before .before .before .before .before .before .n in
     let put-kept = c .before .before .before .before .before .before .before .before .before .before .before .put-kept in
     record {
       fits = omega (
         arith,
-        part-in (n .given .0 .0) (put-members .last .0) (omega (arith, lines-in (put-members .ensures .0) (n .given .1), put-members .ensures .1 .0)) (lines-in (put-kept .ensures .0) (c .before .m .given .1)),
-        put-members .ensures .1 .0,
+        part-in (n .given .0 .0) (put-others .last .0) (omega (arith, lines-in (put-others .ensures .0) (n .given .1), put-others .ensures .1 .0)) (lines-in (put-kept .ensures .0) (c .before .m .given .1)),
+        put-others .ensures .1 .0,
         good .0 .0,
       );
     }
@@ -162,22 +162,22 @@ same-length-12 c = search needs
 returns-3 : tie.Need-returns-3
 returns-3 c =
     let args = c .before .before .before .before .before .before .before .before .before .before .before .before .before .before .before .before .before .before .before .before .before .before .before .before .before .before .before .before .before .before .before .before .before .before .before .before .args in
-    let put-members = c .before .before .before .before .before .before .before .before .before .before .before .before .before .before .before .before .before .before .before .before .before .before .before .before .before .before .put-members in
+    let put-others = c .before .before .before .before .before .before .before .before .before .before .before .before .before .before .before .before .before .before .before .before .before .before .before .before .before .before .put-others in
     let n = c .before .before .before .before .before .before .before .before .before .before .before .before .before .before .before .before .before .before .before .before .n in
     let put-kept = c .before .before .before .before .before .before .before .before .before .before .before .before .before .before .put-kept in
     let m = c .before .before .before .before .m in
     let up-to2 = c .before .up-to2 in
     let counted = c .up-to3 .ensures ∙ ap (λ (k : ℕ). few (k + (up-to2 .result))) (c .before .before .up-to .ensures) ∙ ap
     (λ (k : ℕ). few (few (n .given .0 .1 .0) + k)) (up-to2 .ensures) in (
-      (omega (arith, part-in (n .given .0 .0) (put-members .last .0) (omega (arith, lines-in (put-members .ensures .0) (n .given .1), put-members .ensures .1 .0)) (lines-in (put-kept .ensures .0) (m .given .1)), put-members .ensures .1 .0), omega (arith, c .up-to3 .ensures)),
-      (part-length (n .given .0 .0) (put-members .last .0) (put-kept .last .0) (omega (arith, lines-in (put-members .ensures .0) (n .given .1), put-members .ensures .1 .0)) (put-kept .ensures .1 .0) ∙ (put-members .ensures .1 .0), subst (λ (k : ℕ). PutsLast (now (args .s)) (now (args .slots)) (args .full) (args .parts) (now (args .out)) (All (n .given .0 .0 + (m .given .0 .0)) k (n .given .0 .1 .1 .0 && (m .given .0 .1 .1 .0))) (putMid (n .given .0 .0) (length (put-members .last .0) - (n .given .0 .0)) (put-members .last .0) (put-kept .last .0))) (sym counted) (last-all (now (args .s)) (now (args .slots)) (args .full) (args .parts) (now (args .out)) (put-members .result) (put-members .last .0) (put-members .ensures .1 .1) (n .given .0 .0) (n .given .0 .1 .0) (n .given .0 .1 .1 .0) (n .given .1) (put-kept .result) (put-kept .last .0) (put-kept .ensures .1 .1) (m .given .0 .0) (m .given .0 .1 .0) (m .given .0 .1 .1 .0) (m .given .1))),
+      (omega (arith, part-in (n .given .0 .0) (put-others .last .0) (omega (arith, lines-in (put-others .ensures .0) (n .given .1), put-others .ensures .1 .0)) (lines-in (put-kept .ensures .0) (m .given .1)), put-others .ensures .1 .0), omega (arith, c .up-to3 .ensures)),
+      (part-length (n .given .0 .0) (put-others .last .0) (put-kept .last .0) (omega (arith, lines-in (put-others .ensures .0) (n .given .1), put-others .ensures .1 .0)) (put-kept .ensures .1 .0) ∙ (put-others .ensures .1 .0), subst (λ (k : ℕ). PutsLast (now (args .s)) (now (args .slots)) (args .full) (args .parts) (now (args .out)) (All (n .given .0 .0 + (m .given .0 .0)) k (n .given .0 .1 .1 .0 && (m .given .0 .1 .1 .0))) (putMid (n .given .0 .0) (length (put-others .last .0) - (n .given .0 .0)) (put-others .last .0) (put-kept .last .0))) (sym counted) (last-all (now (args .s)) (now (args .slots)) (args .full) (args .parts) (now (args .out)) (put-others .result) (put-others .last .0) (put-others .ensures .1 .1) (n .given .0 .0) (n .given .0 .1 .0) (n .given .0 .1 .1 .0) (n .given .1) (put-kept .result) (put-kept .last .0) (put-kept .ensures .1 .1) (m .given .0 .0) (m .given .0 .1 .0) (m .given .0 .1 .1 .0) (m .given .1))),
     )
 
 pub put-last-spec : {M : Type 1} → statement M
 put-last-spec =
     tie.close
     (tie.spec
-    put-members-requires
+    put-others-requires
     enum-known-n
     enum-told
     same-length
