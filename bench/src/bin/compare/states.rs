@@ -51,8 +51,9 @@ impl Both {
         let mut at = 0;
         for _ in 0..4 {
             let bad = case.rng.chance(10);
-            let refused = self.call(case, if bad { b"a b" } else { &stem }, Some(&piece[at..]), &mut at)?;
-            if refused && !bad {
+            let number = self.call(case, if bad { b"a b" } else { &stem }, Some(&piece[at..]), &mut at)?;
+            // no call mends what is unfit
+            if number == 16 {
                 return Ok(());
             }
         }
@@ -66,8 +67,8 @@ impl Both {
         Ok(())
     }
 
-    /// One call by both; whether it was refused by 15 or 16.
-    fn call(&mut self, case: &mut Case, stem: &[u8], piece: Option<&[u8]>, at: &mut usize) -> Result<bool, String> {
+    /// One call by both: its number, and how much further `at` is for it.
+    fn call(&mut self, case: &mut Case, stem: &[u8], piece: Option<&[u8]>, at: &mut usize) -> Result<u32, String> {
         let want = self.machine(case, stem, piece);
         let (told, consumed) = raw::stream(&mut self.ours, stem, piece, &mut self.buffer, &mut self.out);
         let wanted = ((want.number, want.place, want.json.len()), want.consumed);
@@ -82,7 +83,7 @@ impl Both {
             return Err(format!("{}: another card buffer or output", want.number));
         }
         *at += consumed;
-        Ok(want.number == 15 || want.number == 16)
+        Ok(want.number)
     }
 
     /// What the machine gives, counted.
