@@ -6,15 +6,19 @@ use std::time::Instant;
 /// One side's work.
 pub type Work<'a> = Box<dyn FnMut() + 'a>;
 
+/// However slow the work is, each side has so many turns.
+const TURNS: usize = 5;
+
 /// Microseconds a call of each side, within about so many seconds in all.
 pub fn alternating(sides: &mut [Work], seconds: f64) -> Vec<f64> {
-    let batch = batch_size(&mut sides[0]);
+    let batches: Vec<u32> = sides.iter_mut().map(|side| batch_size(side)).collect();
     let mut best = vec![f64::MAX; sides.len()];
-    let start = Instant::now();
-    while start.elapsed().as_secs_f64() < seconds {
-        for (best, side) in best.iter_mut().zip(sides.iter_mut()) {
+    let (start, mut turns) = (Instant::now(), 0);
+    while turns < TURNS || start.elapsed().as_secs_f64() < seconds {
+        for ((best, side), &batch) in best.iter_mut().zip(sides.iter_mut()).zip(&batches) {
             *best = best.min(time(side, batch));
         }
+        turns += 1;
     }
     best
 }

@@ -66,7 +66,9 @@ fn drawn(panels: &[Panel]) -> String {
 
 fn draw(svg: &mut String, left: f64, panel: &Panel) -> std::fmt::Result {
     let most = |of: fn(&Point) -> f64| panel.points.iter().map(of).fold(0.0, f64::max);
-    let (x, y) = (Axis::to(most(|point| point.0)), Axis::to(most(|point| point.1[0].max(point.1[1]))));
+    let x = Axis::to(most(|point| point.0), 5.0);
+    // a little more than the greatest time, so that the names have room
+    let y = Axis::to(most(|point| point.1[0].max(point.1[1])) * 1.08, 8.0);
     let bottom = TOP + HEIGHT;
     writeln!(svg, r#"<text x="{}" y="{}" text-anchor="middle" font-size="15">{}</text>"#, left + WIDTH / 2.0, TOP - 18.0, panel.title)?;
     for step in 0..=x.steps {
@@ -112,10 +114,10 @@ struct Axis {
 }
 
 impl Axis {
-    /// Four to eight steps that reach past that number.
-    fn to(most: f64) -> Axis {
-        let tens = 10f64.powf((most / 8.0).log10().floor());
-        let step = [1.0, 2.0, 5.0, 10.0].map(|factor| factor * tens).into_iter().find(|step| most / step <= 8.0);
+    /// Steps that reach that number, about so many at the most.
+    fn to(most: f64, steps: f64) -> Axis {
+        let tens = 10f64.powf((most / steps).log10().floor());
+        let step = [1.0, 2.0, 5.0, 10.0].map(|factor| factor * tens).into_iter().find(|step| most / step <= steps);
         let step = step.unwrap_or(most.max(1.0));
         Axis { step, steps: (most / step).ceil() as usize }
     }

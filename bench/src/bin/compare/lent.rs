@@ -3,6 +3,8 @@
 
 use crate::raw::Told;
 use crate::Compared;
+use std::sync::OnceLock;
+use thymebarrel::JSON_BYTES;
 use thymebarrel_baseline as baseline;
 use thymebarrel_baseline::generate::Rng;
 
@@ -36,10 +38,13 @@ pub fn class(room: usize, length: usize, full: usize) -> &'static str {
 pub const CLASSES: [&str; 7] =
     ["room: none", "room: full", "room: any, and no result", "room: just fits", "room: one byte short", "room: shorter", "room: longer"];
 
-/// An output that is not clear, so that a byte written too many is seen.
+/// An output that is not clear, so that a byte written too many is seen. It is cut
+/// from one long run of noise, for the time's sake.
 pub fn noise(rng: &mut Rng, room: usize) -> Vec<u8> {
+    static LONG: OnceLock<Vec<u8>> = OnceLock::new();
+    let long = LONG.get_or_init(|| (0..JSON_BYTES + 1_024).map(|k| (31 * k % 256) as u8).collect());
     let first = rng.below(256);
-    (0..room).map(|k| ((first + 31 * k) % 256) as u8).collect()
+    long[first..first + room].to_vec()
 }
 
 /// Number, place, length and every byte of the output: the result at its front, and
