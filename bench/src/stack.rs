@@ -98,41 +98,55 @@ fn greatest(make: fn(&mut Rng) -> Vec<u8>, call: fn(&[u8]) -> usize) -> usize {
 }
 
 pub fn print() {
-    let (ordinary, full) = (workloads::ordinary(), workloads::full());
-    let (deep, home) = (workloads::deep_card(), json_of(&workloads::full_home()));
-    for json in [workloads::deep_json(), workloads::deep_kept()] {
-        assert!(thymebarrel::json_to_card(&json).is_ok());
-    }
-    assert!(thymebarrel::card_to_json(b"reg", 1, &deep).is_ok());
     let nothing = taken_by(&mut || {});
     println!("bytes of stack; a thread that makes no call is found with {nothing}\n");
-    println!("| Input | card to JSON | a stream of it |");
-    println!("|---|---|---|");
+    print_cards();
+    println!();
+    print_texts();
+}
+
+fn print_cards() {
+    let deep = workloads::deep_card();
+    assert!(thymebarrel::card_to_json(b"reg", 1, &deep).is_ok());
     let cards = [
         ("refused at the first line", b"no card\n".to_vec()),
-        ("ordinary card (12 lines)", ordinary.clone()),
+        ("ordinary card (12 lines)", workloads::ordinary()),
         ("509 lines with PROP-ID", workloads::prop_ids()),
-        ("full card (512 lines, 32,768 bytes)", full),
-        ("JSPROP of depth 15 in 32,768 bytes", deep.clone()),
+        ("full card (512 lines, 32,768 bytes)", workloads::full()),
+        ("JSPROP of depth 15 in 32,768 bytes", deep),
     ];
+    head(["card to JSON", "a stream of it"]);
     for (name, card) in &cards {
-        println!("| {name} | {} | {} |", grouped(card_to_json(card)), grouped(stream(card)));
+        row(name, [card_to_json(card), stream(card)].map(grouped));
     }
-    let (card, streamed) = (greatest(generate::card, card_to_json), greatest(generate::card, stream));
-    println!("| the greatest of {} generated cards | {} | {} |", grouped(GENERATED), grouped(card), grouped(streamed));
-    println!("\n| Input | JSON to card | look-up |");
-    println!("|---|---|---|");
+    let most = [greatest(generate::card, card_to_json), greatest(generate::card, stream)];
+    row(&format!("the greatest of {} generated cards", grouped(GENERATED)), most.map(grouped));
+}
+
+fn print_texts() {
+    let (deep, kept) = (workloads::deep_json(), workloads::deep_kept());
+    assert!(thymebarrel::json_to_card(&deep).is_ok() && thymebarrel::json_to_card(&kept).is_ok());
     let texts = [
         ("refused at the first byte", b"no JSON".to_vec()),
-        ("ordinary card's JSON (12 lines)", json_of(&ordinary)),
-        ("full card's JSON (512 lines)", home),
-        ("JSON of depth 16 in 65,536 bytes", workloads::deep_json()),
-        ("vCardProps with JSPROP of depth 15", workloads::deep_kept()),
+        ("ordinary card's JSON (12 lines)", json_of(&workloads::ordinary())),
+        ("full card's JSON (512 lines)", json_of(&workloads::full_home())),
+        ("JSON of depth 16 in 65,536 bytes", deep),
+        ("vCardProps with JSPROP of depth 15", kept),
         ("9,000 names in one object", workloads::names()),
     ];
+    head(["JSON to card", "look-up"]);
     for (name, text) in &texts {
-        println!("| {name} | {} | {} |", grouped(json_to_card(text)), grouped(look_up(text)));
+        row(name, [json_to_card(text), look_up(text)].map(grouped));
     }
-    let (text, looked) = (greatest(generate::json, json_to_card), greatest(generate::json, look_up));
-    println!("| the greatest of {} generated texts | {} | {} |", grouped(GENERATED), grouped(text), grouped(looked));
+    let most = [greatest(generate::json, json_to_card), greatest(generate::json, look_up)];
+    row(&format!("the greatest of {} generated texts", grouped(GENERATED)), most.map(grouped));
+}
+
+fn head(names: [&str; 2]) {
+    row("Input", names.map(str::to_string));
+    println!("|---|---|---|");
+}
+
+fn row(name: &str, [one, other]: [String; 2]) {
+    println!("| {name:<38} | {one:>14} | {other:>14} |");
 }

@@ -23,7 +23,7 @@ pub fn print() {
     let (home, map) = (json_of(&workloads::full_home()), json_of(&prop_ids));
     let (full_json, names) = (json_of(&full), workloads::names());
     let stream = workloads::ordinary_cards();
-    println!("| Workload | bytes | base us | ours us | MB/s | ratio | ours us, output cleared first |");
+    row(["Workload", "bytes", "base us", "ours us", "MB/s", "ratio", "cleared first us"].map(str::to_string));
     println!("|---|---|---|---|---|---|---|");
     measure(card_to_json("ordinary card to JSON (12 lines, ASCII)", &ordinary));
     measure(card_to_json("folded international card to JSON", &international));
@@ -56,15 +56,20 @@ fn measure(mut workload: Workload) {
     let times = alternating(&mut workload.sides, 2.0);
     let per_card: Vec<f64> = times.iter().map(|time| time / workload.cards as f64).collect();
     let cleared = per_card.get(2).map_or("-".to_string(), |&time| shown(time));
-    println!(
-        "| {} | {} | {} | {} | {:.0} | {:.2} | {cleared} |",
-        workload.name,
+    row([
+        workload.name.to_string(),
         grouped(workload.bytes),
         shown(per_card[0]),
         shown(per_card[1]),
-        workload.bytes as f64 / times[1],
-        times[0] / times[1],
-    );
+        format!("{:.0}", workload.bytes as f64 / times[1]),
+        format!("{:.2}", times[0] / times[1]),
+        cleared,
+    ]);
+}
+
+/// A row of a Markdown table that can be read on a terminal too.
+fn row([name, bytes, base, ours, speed, ratio, cleared]: [String; 7]) {
+    println!("| {name:<46} | {bytes:>9} | {base:>7} | {ours:>7} | {speed:>4} | {ratio:>5} | {cleared:>16} |");
 }
 
 /// Three digits or more of a time.
@@ -80,7 +85,7 @@ pub fn grouped(number: usize) -> String {
     let digits = number.to_string();
     let mut grouped = String::new();
     for (index, digit) in digits.chars().enumerate() {
-        if index > 0 && (digits.len() - index) % 3 == 0 {
+        if index > 0 && (digits.len() - index).is_multiple_of(3) {
             grouped.push(',');
         }
         grouped.push(digit);
