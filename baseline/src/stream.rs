@@ -34,6 +34,14 @@ impl Reader {
         Reader::default()
     }
 
+    /// One that has read so many cards and is at the start of a line.
+    pub fn after(number: u64) -> Reader {
+        Reader {
+            number,
+            ..Reader::default()
+        }
+    }
+
     /// Reads a piece until a line answers, else all of it.
     pub fn piece(&mut self, stem: &[u8], bytes: &[u8]) -> Told {
         if !is_stem(stem) {

@@ -52,15 +52,23 @@ pub fn international() -> Vec<u8> {
 
 /// 512 lines of many kinds, filled up to 32,768 bytes.
 pub fn full() -> Vec<u8> {
+    card(&full_lines())
+}
+
+fn full_lines() -> Vec<String> {
     let mut lines = many_lines(&["FN:Full Card", "N:Card;Full;;;"]);
     let short = 32_768 - card(&lines).len();
     fill(&mut lines, "NOTE:", short);
-    card(&lines)
+    lines
 }
 
 /// 512 lines of many kinds that come home as a card of 32,768 bytes, keys and folds
 /// counted.
 pub fn full_home() -> Vec<u8> {
+    card(&full_home_lines())
+}
+
+fn full_home_lines() -> Vec<String> {
     let mut lines = many_lines(&["UID:full", "FN:Full Card", "N:Card;Full;;;"]);
     let short = |lines: &[String]| 32_768 - normal_card(&card(lines), b"reg", 1).len();
     // the notes are folded; the titles, which are not, take the rest
@@ -68,8 +76,54 @@ pub fn full_home() -> Vec<u8> {
     fill(&mut lines, "NOTE:", notes);
     let titles = short(&lines);
     fill(&mut lines, "TITLE:", titles);
+    lines
+}
+
+/// From a card of 400 bytes to the full one, by whole lines.
+pub fn growing() -> Vec<Vec<u8>> {
+    grown(&full_lines())
+}
+
+/// The same of the card that comes home full.
+pub fn growing_home() -> Vec<Vec<u8>> {
+    grown(&full_home_lines())
+}
+
+fn grown(lines: &[String]) -> Vec<Vec<u8>> {
+    let counts = [6, 15, 30, 60, 100, 150, 200, 250, 300, 350, 400, 455];
+    counts.iter().map(|&count| card(&lines[..count])).chain([card(lines)]).collect()
+}
+
+/// JSPROP lines with arrays as deep as they may be, filled up to 32,768 bytes.
+pub fn deep_card() -> Vec<u8> {
+    let mut lines = vec!["FN:Deep".to_string(), "NOTE:".to_string()];
+    lines.extend((0..500).map(|k| format!("JSPROP;JSPTR=\"m{k}\":{}", nested("1"))));
+    let short = 32_768 - card(&lines).len();
+    fill(&mut lines, "NOTE:", short);
     card(&lines)
 }
+
+/// Arrays in each other, so deep that a member of an object may hold them.
+fn nested(inner: &str) -> String {
+    format!("{}{inner}{}", "[".repeat(15), "]".repeat(15))
+}
+
+/// A JSON card of depth 16 and 65,536 bytes; escapes make it longer than its lines.
+pub fn deep_json() -> Vec<u8> {
+    let value = nested(&format!("\"{}\"", "\\u0061".repeat(14)));
+    let members: Vec<String> = (0..400).map(|k| format!("\"m{k}\":{value}")).collect();
+    let json = format!("{CARD_START},{}", members.join(","));
+    format!("{json:<65535}}}").into_bytes()
+}
+
+/// Entries of vCardProps that are JSPROP lines, each kept for an error in its depths.
+pub fn deep_kept() -> Vec<u8> {
+    let value = format!("{}1,]", "[".repeat(15));
+    let entry = format!(r#"["jsprop",{{"jsptr":"m"}},"unknown","{value}"]"#);
+    format!(r#"{CARD_START},"vCardProps":[{}]}}"#, vec![entry; 500].join(",")).into_bytes()
+}
+
+const CARD_START: &str = r#"{"@type":"Card","version":"1.0","uid":"u""#;
 
 /// These, and as many others as make 512 with VERSION.
 fn many_lines(first: &[&str]) -> Vec<String> {

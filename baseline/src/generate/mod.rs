@@ -22,6 +22,7 @@ mod tree;
 mod values;
 
 pub use causes::causes;
+pub use damage::damage;
 pub use known::Cause;
 pub use large::{large_card, large_json};
 pub use rng::Rng;

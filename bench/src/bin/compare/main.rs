@@ -1,156 +1,148 @@
 //! Holds the proved library, as it was compiled, to the baseline on generated
-//! inputs: `compare KIND COUNT SEED`. Run it by `tools/compare-library`.
+//! inputs: `compare COUNT SEED [KIND..]`. Run it by `tools/compare-library`.
 
+mod cards;
+mod counts;
+mod lent;
+mod machine;
+mod members;
+mod orders;
 mod raw;
+mod rooms;
+mod states;
 mod streams;
 mod texts;
 
-use std::collections::BTreeMap;
+use counts::Counts;
 use std::process::ExitCode;
-use thymebarrel::JSON_BYTES;
-use thymebarrel_baseline as baseline;
-use thymebarrel_baseline::generate::{self, Rng};
+use std::sync::atomic::{AtomicUsize, Ordering};
+use std::sync::Mutex;
+use thymebarrel_baseline::generate::Rng;
+
+/// What a comparison is given: where its chances come from, which input of its
+/// kind it is and of how many, and where it counts what it met.
+pub struct Case {
+    pub rng: Rng,
+    pub index: usize,
+    pub count: usize,
+    pub counts: Counts,
+}
+
+/// How the two sides differ, where they do.
+pub type Compared = Result<(), String>;
+
+/// One kind of input.
+struct Kind {
+    name: &'static str,
+    /// How many of it, when a million are asked for of the plainest kinds.
+    count: fn(usize) -> usize,
+    compare: fn(&mut Case) -> Compared,
+    /// What a long run must have met.
+    must: fn() -> Vec<String>,
+}
+
+#[rustfmt::skip]
+const KINDS: [Kind; 10] = [
+    Kind { name: "card", count: |count| count, compare: cards::compare, must: cards::must },
+    Kind { name: "json", count: |count| count, compare: texts::compare, must: texts::must },
+    Kind { name: "cause", count: |count| count / 2, compare: texts::compare_cause, must: texts::all_causes },
+    Kind { name: "home", count: |count| count / 2, compare: texts::compare_home, must: texts::must_at_home },
+    Kind { name: "room", count: |count| count / 100, compare: rooms::compare, must: rooms::must },
+    Kind { name: "member", count: |count| count, compare: members::compare, must: members::must },
+    Kind { name: "stream", count: |count| count / 5, compare: streams::compare, must: streams::must },
+    Kind { name: "cut", count: |count| count / 500, compare: streams::compare_cuts, must: streams::must_of_cuts },
+    Kind { name: "order", count: orders::count, compare: orders::compare, must: orders::must },
+    Kind { name: "state", count: |count| count, compare: states::compare, must: states::must },
+];
 
 fn main() -> ExitCode {
     let arguments: Vec<String> = std::env::args().skip(1).collect();
-    let Some((kind, count, seed)) = read_arguments(&arguments) else {
-        eprintln!("usage: compare card|json|cause|home|member|stream COUNT SEED");
+    let Some((count, seed, names)) = read_arguments(&arguments) else {
+        eprintln!("usage: compare COUNT SEED [KIND..]; kinds: {}", KINDS.map(|kind| kind.name).join(" "));
         return ExitCode::FAILURE;
     };
-    let Some((compare, must)) = kinds(kind) else {
-        eprintln!("no kind {kind}");
-        return ExitCode::FAILURE;
-    };
-    let mut rng = Rng::new(seed);
-    let mut told: BTreeMap<String, usize> = BTreeMap::new();
-    for _ in 0..count {
-        match compare(&mut rng) {
-            Ok(what) => *told.entry(what).or_default() += 1,
-            Err(difference) => {
-                println!("{kind}: {difference}");
-                return ExitCode::FAILURE;
-            }
-        }
-    }
-    let missing: Vec<String> = must.into_iter().filter(|what| !told.contains_key(what)).collect();
-    println!("{kind}: {count} inputs, no difference ({})", summed(&told));
-    if count >= MANY && !missing.is_empty() {
-        println!("{kind}: never reached: {}", missing.join(", "));
+    let chosen = KINDS.iter().filter(|kind| names.is_empty() || names.iter().any(|name| name == kind.name));
+    // each kind is tried, whatever came of those before it
+    let failed = chosen.filter(|kind| !tried(kind, count, seed)).count();
+    if failed > 0 {
+        println!("{failed} kinds failed");
         return ExitCode::FAILURE;
     }
     ExitCode::SUCCESS
 }
 
-/// How often each was told; of very many, the least.
-fn summed(told: &BTreeMap<String, usize>) -> String {
-    if told.len() > 20 {
-        let least = told.values().min().copied().unwrap_or_default();
-        return format!("{} causes, each at least {least} times", told.len());
-    }
-    let told: Vec<String> = told.iter().map(|(what, times)| format!("{what} {times}")).collect();
-    told.join(", ")
-}
-
-/// A run of so many inputs must reach all that it is there for.
-const MANY: usize = 10_000;
-
-/// What both gave, or how they differ.
-type Compared = Result<String, String>;
-
-type Compare = fn(&mut Rng) -> Compared;
-
-fn read_arguments(arguments: &[String]) -> Option<(&str, usize, u64)> {
-    let [kind, count, seed] = arguments else {
+fn read_arguments(arguments: &[String]) -> Option<(usize, u64, &[String])> {
+    let [count, seed, names @ ..] = arguments else {
         return None;
     };
-    Some((kind, count.parse().ok()?, seed.parse().ok()?))
+    let known = |name: &String| KINDS.iter().any(|kind| kind.name == name);
+    names.iter().all(known).then_some(())?;
+    Some((count.parse().ok()?, seed.parse().ok()?, names))
 }
 
-/// How a kind is compared, and what must be told in a long run.
-fn kinds(kind: &str) -> Option<(Compare, Vec<String>)> {
-    Some(match kind {
-        "card" => (compare_card, numbers(&[0, 1, 3, 4, 5, 6, 7, 8, 9, 10, 14, 15])),
-        "json" => (texts::compare, numbers(&[0, 3, 11, 12, 13, 14])),
-        "cause" => (texts::compare_cause, texts::all_causes()),
-        "home" => (texts::compare_home, numbers(&[0, 3, 14])),
-        "member" => (compare_member, Vec::new()),
-        "stream" => (streams::compare, Vec::new()),
-        _ => return None,
-    })
-}
+/// A run of so many inputs must meet all that it is there for; a shorter one is a
+/// quick look.
+const MANY: usize = 100_000;
 
-fn numbers(numbers: &[u32]) -> Vec<String> {
-    numbers.iter().map(|number| format!("{number}:")).collect()
-}
-
-/// Card to JSON: number, place, length, and every byte of the lent output, those
-/// beyond the length too.
-fn compare_card(rng: &mut Rng) -> Compared {
-    let card = match rng.below(200) {
-        0 => generate::large_card(rng),
-        _ => generate::card(rng),
+/// Whether a kind shows no difference and meets all that it must; tells of it.
+fn tried(kind: &Kind, asked: usize, seed: u64) -> bool {
+    let start = std::time::Instant::now();
+    let count = (kind.count)(asked);
+    let counts = match compared(kind, count, seed) {
+        Ok(counts) => counts,
+        Err(difference) => {
+            println!("{}: {difference}", kind.name);
+            return false;
+        }
     };
-    let (stem, number) = (generate::stem(rng), generate::number(rng));
-    let full = baseline::card_to_json(&card, &stem, number, JSON_BYTES);
-    let room = room(rng, full.bytes.len(), JSON_BYTES);
-    let want = baseline::card_to_json(&card, &stem, number, room);
-    let lent = noise(rng, room);
-    let mut out = lent.clone();
-    let got = raw::card_to_json(&stem, number as usize, &card, &mut out);
-    same(&want, got, &lent, &out).map_err(|why| {
-        let (stem, card) = (stem.escape_ascii(), card.escape_ascii());
-        format!("stem {stem} number {number} room {room} card {card}: {why}")
-    })
+    println!("{}: {count} inputs, no difference, {:.0} s", kind.name, start.elapsed().as_secs_f64());
+    counts.print();
+    let missing = counts.missing((kind.must)());
+    if !missing.is_empty() {
+        println!("{}: never met: {}", kind.name, missing.join(", "));
+    }
+    missing.is_empty() || asked < MANY
 }
 
-/// Mostly a little more than is needed; now and then one that just fits, just does
-/// not, or is any from none to full.
-fn room(rng: &mut Rng, length: usize, full: usize) -> usize {
-    match rng.below(20) {
-        0 => length,
-        1 => length.saturating_sub(1),
-        2 => rng.below(length + 1),
-        3 => rng.below(full + 1),
-        4 => rng.pick(&[0, 1, full]),
-        _ => length + 40,
-    }
-}
+/// The inputs stand in so many blocks, each with a seed of its own, so that they do
+/// not depend on how many threads take them.
+const BLOCKS: usize = 64;
+const THREADS: usize = 2;
 
-/// An output that is not clear, so that a byte written too many is seen.
-fn noise(rng: &mut Rng, room: usize) -> Vec<u8> {
-    let first = rng.below(256);
-    (0..room).map(|k| ((first + 31 * k) % 256) as u8).collect()
-}
-
-/// The number, or how the two differ.
-fn same(want: &baseline::Answer, got: raw::Told, lent: &[u8], out: &[u8]) -> Compared {
-    let (number, _, length) = got;
-    let told = (want.number, want.place, want.bytes.len());
-    if got != told {
-        return Err(format!("number, place and length {told:?} against {got:?}"));
-    }
-    if out[..length] != want.bytes[..] {
-        return Err(format!("{} against {}", want.bytes.escape_ascii(), out[..length].escape_ascii()));
-    }
-    if out[length..] != lent[length..] {
-        return Err(format!("{number}: bytes beyond the length were written"));
-    }
-    Ok(format!("{number}:"))
-}
-
-/// The look-up: the same bytes, at the same place of the caller's text.
-fn compare_member(rng: &mut Rng) -> Compared {
-    let json = match rng.below(100) {
-        0 => generate::large_json(rng),
-        _ => generate::json(rng),
+/// What was met, or the first difference that a thread came to.
+fn compared(kind: &Kind, count: usize, seed: u64) -> Result<Counts, String> {
+    let next = AtomicUsize::new(0);
+    let whole = Mutex::new(Ok(Counts::default()));
+    let work = || loop {
+        let block = next.fetch_add(1, Ordering::Relaxed);
+        if block >= BLOCKS {
+            return;
+        }
+        let told = compared_block(kind, count, seed, block);
+        let mut whole = whole.lock().expect("no thread has panicked");
+        match (&mut *whole, told) {
+            (Ok(counts), Ok(more)) => counts.add(more),
+            (Ok(_), Err(difference)) => {
+                *whole = Err(difference);
+                next.store(BLOCKS, Ordering::Relaxed);
+            }
+            (Err(_), _) => {}
+        }
     };
-    let name = generate::member_name(rng, &json);
-    let want = baseline::look_up(&json, &name);
-    let got = thymebarrel::member(&json, &name);
-    let same_place = want.is_empty() || want.as_ptr() == got.as_ptr();
-    if want != got || !same_place {
-        let (name, json) = (name.escape_ascii(), json.escape_ascii());
-        return Err(format!("{name} in {json}: {} against {}", want.escape_ascii(), got.escape_ascii()));
+    std::thread::scope(|scope| {
+        for _ in 0..THREADS {
+            scope.spawn(work);
+        }
+    });
+    whole.into_inner().expect("no thread has panicked")
+}
+
+fn compared_block(kind: &Kind, count: usize, seed: u64, block: usize) -> Result<Counts, String> {
+    let rng = Rng::new(seed.wrapping_add((block as u64) << 32));
+    let mut case = Case { rng, index: 0, count, counts: Counts::default() };
+    for index in count * block / BLOCKS..count * (block + 1) / BLOCKS {
+        case.index = index;
+        (kind.compare)(&mut case)?;
     }
-    Ok(if got.is_empty() { "nothing" } else { "found" }.to_string())
+    Ok(case.counts)
 }
