@@ -30,7 +30,8 @@ pub struct Places {
     pub end: usize,
 }
 
-fn place(r: Read) -> usize
+// The place at which a reader ended, whether it read something or not.
+pub fn place(r: Read) -> usize
     ensures { λ x. ⌜ x ≡ placeOf r ⌝ }
 {
     match r {
