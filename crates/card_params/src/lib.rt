@@ -11,6 +11,8 @@ use json_marks::separator;
 use json_marks::skip_space;
 use line_pen::Pen;
 use line_pen::pen_bytes;
+use text::LEFT_BRACE;
+use text::RIGHT_BRACE;
 use text::Turn;
 use text::look;
 ghost use mathlib.Core.Path.{_≡_};
@@ -73,7 +75,7 @@ fn flags_from<'a, 'b, 'c>(
         }
         let c = base + k;
         row[c] = 1;
-        match separator(s, e, 125) {
+        match separator(s, e, RIGHT_BRACE) {
             Turn::Go(j) => {
                 i = j;
             }
@@ -105,11 +107,11 @@ pub fn flags_in<'a, 'b, 'c>(
         return false;
     }
     let i = skip_space(s, slot);
-    if look(s, i) != 123 {
+    if look(s, i) != LEFT_BRACE {
         return false;
     }
     let j = skip_space(s, i + 1);
-    if look(s, j) == 125 {
+    if look(s, j) == RIGHT_BRACE {
         return true;
     }
     flags_from(row, s, j, base, names, count)

@@ -10,6 +10,9 @@ use json_marks::skip_space;
 use json_strings::Byte;
 use json_strings::next_byte;
 use line_pen::pen_bytes;
+use text::LEFT_BRACKET;
+use text::QUOTE;
+use text::RIGHT_BRACKET;
 use text::Turn;
 use text::look;
 ghost use mathlib.Core.Path.{_≡_};
@@ -53,7 +56,7 @@ pub fn string_in(s: &[u8], at: usize) -> usize
         return 0;
     }
     let i = skip_space(s, at);
-    if look(s, i) == 34 {
+    if look(s, i) == QUOTE {
         return i + 1;
     }
     0
@@ -233,7 +236,7 @@ fn put_units_from<'a, 'b>(out: &'a mut [u8], column: usize, s: &'b [u8], at: usi
         k = t.column;
         ok = ok & t.carried;
         filled = filled | t.filled;
-        match separator(s, e, 93) {
+        match separator(s, e, RIGHT_BRACKET) {
             Turn::Go(j) => {
                 i = j;
             }
@@ -267,11 +270,11 @@ fn put_units<'a, 'b>(out: &'a mut [u8], column: usize, s: &'b [u8], slot: usize)
         return Ink::Wrong;
     }
     let i = skip_space(s, slot);
-    if look(s, i) != 91 {
+    if look(s, i) != LEFT_BRACKET {
         return Ink::Wrong;
     }
     let j = skip_space(s, i + 1);
-    if look(s, j) == 93 {
+    if look(s, j) == RIGHT_BRACKET {
         return Ink::Done {
             bytes: 0,
             column: column,

@@ -147,7 +147,7 @@ fn begins_tel(v: &[u8]) -> bool
     if v.len() < 4 {
         return false;
     }
-    (v[0] == 116) & ((v[1] == 101) & ((v[2] == 108) & (v[3] == 58)))
+    (v[0] == b't') & ((v[1] == b'e') & ((v[2] == b'l') & (v[3] == b':')))
 }
 
 // Whether the value can be read in that form. ORG: an escape is in one part as in the whole, and a part is filled.
@@ -161,7 +161,7 @@ pub fn reads_as(form: usize, kind: usize, v: &[u8]) -> bool
         return begins_tel(v);
     }
     if form == 1 {
-        if part_end(v, 0, 44) < v.len() {
+        if part_end(v, 0, b',') < v.len() {
             return false;
         }
         return is_text(v);

@@ -4,12 +4,23 @@ use json_marks::mark;
 use json_marks::skip_space;
 use json_skip::skip_value;
 use json_skip::string_stop;
+use text::COLON;
+use text::LEFT_BRACE;
+use text::LEFT_BRACKET;
+use text::QUOTE;
 use text::Read;
 use text::look;
 ghost use mathlib.Core.Path.{_≡_};
 ghost use Prim.Native.Nat.{_≤_};
 ghost use lib.ListN.{length};
 ghost use Rattle.json_access.specs.Access.{placeOf, Inside, TellsHead, TellsMember, TellsElement, TellsKind};
+
+// Letters, as `look` gives them.
+const LETTER_F: u16 = b'f' as u16;
+
+const LETTER_N: u16 = b'n' as u16;
+
+const LETTER_T: u16 = b't' as u16;
 
 // A part of a text: from `start` to just before `end`.
 pub struct Part {
@@ -49,9 +60,9 @@ pub fn head_at(s: &[u8], at: usize) -> Head
     if at > s.len() {
         return Head { name: 0, start: 0 };
     }
-    let q = place(mark(s, at, 34));
+    let q = place(mark(s, at, QUOTE));
     let z = string_stop(s, q);
-    let v = place(mark(s, z, 58));
+    let v = place(mark(s, z, COLON));
     let a = skip_space(s, v);
     Head { name: q, start: a }
 }
@@ -106,22 +117,22 @@ pub fn kind_at(s: &[u8], at: usize) -> Kind
     }
     let i = skip_space(s, at);
     let b = look(s, i);
-    if b == 91 {
+    if b == LEFT_BRACKET {
         return Kind::Array;
     }
-    if b == 123 {
+    if b == LEFT_BRACE {
         return Kind::Object;
     }
-    if b == 34 {
+    if b == QUOTE {
         return Kind::String;
     }
-    if b == 116 {
+    if b == LETTER_T {
         return Kind::True;
     }
-    if b == 102 {
+    if b == LETTER_F {
         return Kind::False;
     }
-    if b == 110 {
+    if b == LETTER_N {
         return Kind::Null;
     }
     Kind::Number

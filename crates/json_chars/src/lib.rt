@@ -1,6 +1,8 @@
 // Characters and strings of a JSON text, read by place.
 use json_escapes::Value;
 use json_escapes::escape_at;
+use text::BACKSLASH;
+use text::QUOTE;
 use text::Read;
 use text::Turn;
 use text::in_range;
@@ -49,10 +51,10 @@ fn next_character(s: &[u8], at: usize) -> Turn
     ensures { λ r. ⌜ GivesT (now (s .entry)) at (character (drop at (now (s .entry)))) r ⌝ }
 {
     let b = look(s, at);
-    if b == 34 {
+    if b == QUOTE {
         return Turn::Stop(Read::Next(at + 1));
     }
-    if b == 92 {
+    if b == BACKSLASH {
         return match escape_at(s, at + 1) {
             Value::Of(_, e) => Turn::Go(e),
             Value::Wrong(x) => Turn::Stop(Read::Bad(x)),
@@ -92,10 +94,10 @@ fn plain_end(s: &[u8], at: usize) -> usize
             i += 1;
             continue;
         }
-        if b == 34 {
+        if b == QUOTE {
             return i;
         }
-        if b == 92 {
+        if b == BACKSLASH {
             return i;
         }
         if b < 32 {

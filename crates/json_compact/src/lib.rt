@@ -4,6 +4,7 @@ use json_marks::is_space;
 use json_write::put_requoted;
 use output::Wrote;
 use output::put_byte;
+use text::QUOTE;
 use text::Read;
 use text::in_range;
 use text::look;
@@ -22,7 +23,7 @@ fn put_piece(out: &mut [u8], s: &[u8], at: usize) -> Wrote
     if is_space(b) {
         return Wrote::Bytes(0);
     }
-    if b == 34 {
+    if b == QUOTE {
         return put_requoted(out, s, at + 1);
     }
     put_byte(out, s[at])
@@ -37,7 +38,7 @@ fn piece_end(s: &[u8], at: usize) -> Read
     if is_space(b) {
         return Read::Next(at + 1);
     }
-    if b == 34 {
+    if b == QUOTE {
         return string_end(s, at + 1);
     }
     if in_range(b, 0, 255) {

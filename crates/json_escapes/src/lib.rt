@@ -1,4 +1,7 @@
 // What an escape of a JSON string stands for, and where it ends.
+use text::BACKSLASH;
+use text::QUOTE;
+use text::SLASH;
 use text::in_range;
 use text::look;
 ghost use mathlib.Core.Path.{_≡_};
@@ -8,6 +11,19 @@ ghost use lib.ListN.{length, drop};
 ghost use Rattle.json.specs.Grammar.{isHex, isShort};
 ghost use Rattle.json.specs.Syntax.{hexVal, hex, hex4, short, escape};
 ghost use Rattle.json_escapes.specs.Values.{Tells};
+
+// Letters, as `look` gives them.
+const LETTER_B: u16 = b'b' as u16;
+
+const LETTER_F: u16 = b'f' as u16;
+
+const LETTER_N: u16 = b'n' as u16;
+
+const LETTER_R: u16 = b'r' as u16;
+
+const LETTER_T: u16 = b't' as u16;
+
+const LETTER_U: u16 = b'u' as u16;
 
 // A number that a part of an escape stands for, and where it ends.
 pub enum Value {
@@ -31,28 +47,28 @@ fn is_hex(b: u16) -> bool
 fn is_short(b: u16) -> bool
     ensures { λ r. ⌜ r ≡ isShort b ⌝ }
 {
-    if b == 34 {
+    if b == QUOTE {
         return true;
     }
-    if b == 92 {
+    if b == BACKSLASH {
         return true;
     }
-    if b == 47 {
+    if b == SLASH {
         return true;
     }
-    if b == 98 {
+    if b == LETTER_B {
         return true;
     }
-    if b == 102 {
+    if b == LETTER_F {
         return true;
     }
-    if b == 110 {
+    if b == LETTER_N {
         return true;
     }
-    if b == 114 {
+    if b == LETTER_R {
         return true;
     }
-    b == 116
+    b == LETTER_T
 }
 
 fn hex_value(b: u16) -> u32
@@ -73,19 +89,19 @@ fn short_of(b: u16) -> u32
     requires { ⌜ b < 256 ⌝ }
     ensures { λ r. ⌜ (r ≡ short b) × (r < 256) ⌝ }
 {
-    if b == 98 {
+    if b == LETTER_B {
         return 8;
     }
-    if b == 102 {
+    if b == LETTER_F {
         return 12;
     }
-    if b == 110 {
+    if b == LETTER_N {
         return 10;
     }
-    if b == 114 {
+    if b == LETTER_R {
         return 13;
     }
-    if b == 116 {
+    if b == LETTER_T {
         return 9;
     }
     b as u32
@@ -129,7 +145,7 @@ pub fn escape_at(s: &[u8], at: usize) -> Value
     ensures { λ r. ⌜ Tells (now (s .entry)) at 65792 (escape (drop at (now (s .entry)))) r ⌝ }
 {
     let b = look(s, at);
-    if b == 117 {
+    if b == LETTER_U {
         return match code_at(s, at + 1) {
             Value::Wrong(x) => Value::Wrong(x),
             Value::Of(v, e) => Value::Of(256 + v, e),

@@ -16,6 +16,11 @@ use json_write::put_number;
 use json_write::put_string;
 use libc::STDOUT_FILENO;
 use output::Wrote;
+use text::LEFT_BRACE;
+use text::LEFT_BRACKET;
+use text::QUOTE;
+use text::RIGHT_BRACE;
+use text::RIGHT_BRACKET;
 use text::Read;
 use text::Turn;
 use text::look;
@@ -93,7 +98,7 @@ fn say_value(s: &[u8], start: usize, end: usize)
         say(&s[start..end]);
     }
     if let Kind::String = k {
-        if let Read::Next(q) = mark(s, start, 34) {
+        if let Read::Next(q) = mark(s, start, QUOTE) {
             say(b" ");
             say_string(s, q);
         }
@@ -138,7 +143,7 @@ fn say_part(s: &[u8], at: usize, close: u16) -> usize
     ensures { λ r. ⌜ at ≤ r ⌝ }
     ensures { λ r. ⌜ r ≤ length (now (s .entry)) ⌝ }
 {
-    if close == 125 {
+    if close == RIGHT_BRACE {
         return say_member(s, at);
     }
     say_element(s, at)
@@ -177,11 +182,11 @@ fn say_inside(s: &[u8], at: usize, close: u16)
 fn say_all(s: &[u8]) {
     let i = skip_space(s, 0);
     let b = look(s, i);
-    if b == 123 {
-        say_inside(s, i + 1, 125);
+    if b == LEFT_BRACE {
+        say_inside(s, i + 1, RIGHT_BRACE);
     }
-    if b == 91 {
-        say_inside(s, i + 1, 93);
+    if b == LEFT_BRACKET {
+        say_inside(s, i + 1, RIGHT_BRACKET);
     }
 }
 

@@ -3,6 +3,8 @@ use json_access::member_at;
 use json_equal::equals;
 use json_marks::separator;
 use json_marks::skip_space;
+use text::LEFT_BRACE;
+use text::RIGHT_BRACE;
 use text::Turn;
 use text::look;
 ghost use Prim.Native.Nat.{_≤_};
@@ -22,7 +24,7 @@ fn has_from<'a, 'b>(s: &'a [u8], at: usize, depth: usize, name: &'b [u8]) -> boo
         if equals(s, q, name) {
             return true;
         }
-        match separator(s, e, 125) {
+        match separator(s, e, RIGHT_BRACE) {
             Turn::Go(j) => {
                 i = j;
             }
@@ -41,11 +43,11 @@ pub fn has_member<'a, 'b>(s: &'a [u8], at: usize, depth: usize, name: &'b [u8]) 
         return false;
     }
     let i = skip_space(s, at);
-    if look(s, i) != 123 {
+    if look(s, i) != LEFT_BRACE {
         return false;
     }
     let j = skip_space(s, i + 1);
-    if look(s, j) == 125 {
+    if look(s, j) == RIGHT_BRACE {
         return false;
     }
     has_from(s, j, depth, name)

@@ -6,6 +6,8 @@ use json_marks::separator;
 use json_marks::skip_space;
 use json_read::Verdict;
 use json_read::read;
+use text::LEFT_BRACE;
+use text::RIGHT_BRACE;
 use text::Turn;
 use text::look;
 ghost use mathlib.Core.Path.{_≡_};
@@ -31,7 +33,7 @@ fn find_from<'a, 'b>(s: &'a [u8], at: usize, name: &'b [u8]) -> Part
         if equals(s, q, name) {
             return Part { start: a, end: e };
         }
-        match separator(s, e, 125) {
+        match separator(s, e, RIGHT_BRACE) {
             Turn::Go(j) => {
                 i = j;
             }
@@ -48,11 +50,11 @@ fn find_in<'a, 'b>(s: &'a [u8], name: &'b [u8]) -> Part
     ensures { λ r. ⌜ FindsIn (now (s .entry)) (now (name .entry)) r ⌝ }
 {
     let i = skip_space(s, 0);
-    if look(s, i) != 123 {
+    if look(s, i) != LEFT_BRACE {
         return Part { start: 0, end: 0 };
     }
     let j = skip_space(s, i + 1);
-    if look(s, j) == 125 {
+    if look(s, j) == RIGHT_BRACE {
         return Part { start: 0, end: 0 };
     }
     find_from(s, j, name)

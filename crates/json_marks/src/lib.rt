@@ -1,4 +1,5 @@
 // White space, single bytes and the marks between values.
+use text::COMMA;
 use text::Read;
 use text::Turn;
 use text::look;
@@ -69,7 +70,7 @@ pub fn separator(s: &[u8], at: usize, close: u16) -> Turn
     if b == close {
         return Turn::Stop(Read::Next(i + 1));
     }
-    if b == 44 {
+    if b == COMMA {
         return Turn::Go(i + 1);
     }
     Turn::Stop(Read::Bad(i))

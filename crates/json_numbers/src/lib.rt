@@ -1,4 +1,7 @@
 // Numbers of a JSON text, read by place.
+use text::DOT;
+use text::MINUS;
+use text::PLUS;
 use text::Read;
 use text::in_range;
 use text::look;
@@ -9,6 +12,13 @@ ghost use Rattle.text.specs.Bytes.{isDigit};
 ghost use Rattle.text.specs.Places.{Gives, Passes};
 ghost use Rattle.json.specs.Syntax.{digits, opt, int, frac, sign, exp, number};
 ghost use Rattle.json_numbers.specs.Power.{power};
+
+// Other characters of numbers, as `look` gives them.
+const CAPITAL_E: u16 = b'E' as u16;
+
+const LETTER_E: u16 = b'e' as u16;
+
+const ZERO: u16 = b'0' as u16;
 
 fn is_digit(b: u16) -> bool
     ensures { λ r. ⌜ r ≡ isDigit b ⌝ }
@@ -56,7 +66,7 @@ fn int_end(s: &[u8], at: usize) -> Read
     requires { ⌜ at ≤ length (now s) ⌝ }
     ensures { λ r. ⌜ Gives (now (s .entry)) at (int (drop at (now (s .entry)))) r ⌝ }
 {
-    if look(s, at) == 48 {
+    if look(s, at) == ZERO {
         return Read::Next(at + 1);
     }
     digits_end(s, at)
@@ -67,7 +77,7 @@ fn frac_end(s: &[u8], at: usize) -> Read
     requires { ⌜ at ≤ length (now s) ⌝ }
     ensures { λ r. ⌜ Gives (now (s .entry)) at (frac (drop at (now (s .entry)))) r ⌝ }
 {
-    if look(s, at) == 46 {
+    if look(s, at) == DOT {
         return digits_end(s, at + 1);
     }
     Read::Next(at)
@@ -78,10 +88,10 @@ fn sign_end(s: &[u8], at: usize) -> Read
     requires { ⌜ at ≤ length (now s) ⌝ }
     ensures { λ r. ⌜ Gives (now (s .entry)) at (sign (drop at (now (s .entry)))) r ⌝ }
 {
-    if look(s, at) == 43 {
+    if look(s, at) == PLUS {
         return Read::Next(at + 1);
     }
-    opt_end(s, at, 45)
+    opt_end(s, at, MINUS)
 }
 
 // After an e: a sign or nothing, and digits.
@@ -101,10 +111,10 @@ fn exp_end(s: &[u8], at: usize) -> Read
     ensures { λ r. ⌜ Gives (now (s .entry)) at (exp (drop at (now (s .entry)))) r ⌝ }
 {
     let b = look(s, at);
-    if b == 101 {
+    if b == LETTER_E {
         return power_end(s, at + 1);
     }
-    if b == 69 {
+    if b == CAPITAL_E {
         return power_end(s, at + 1);
     }
     Read::Next(at)
@@ -114,7 +124,7 @@ pub fn number_end(s: &[u8], at: usize) -> Read
     requires { ⌜ at ≤ length (now s) ⌝ }
     ensures { λ r. ⌜ Gives (now (s .entry)) at (number (drop at (now (s .entry)))) r ⌝ }
 {
-    match opt_end(s, at, 45) {
+    match opt_end(s, at, MINUS) {
         Read::Bad(b) => Read::Bad(b),
         Read::Next(k) => match int_end(s, k) {
             Read::Bad(b) => Read::Bad(b),

@@ -5,6 +5,12 @@ use json_marks::mark;
 use json_marks::separator;
 use json_marks::skip_space;
 use json_numbers::number_end;
+use text::COLON;
+use text::LEFT_BRACE;
+use text::LEFT_BRACKET;
+use text::QUOTE;
+use text::RIGHT_BRACE;
+use text::RIGHT_BRACKET;
 use text::Read;
 use text::Turn;
 use text::look;
@@ -13,6 +19,13 @@ ghost use lib.ListN.{length, drop};
 ghost use Rattle.text.specs.Places.{Gives};
 ghost use Rattle.json.specs.Tree.{jnull};
 ghost use Rattle.json.specs.Syntax.{four, scalar, name, elements, pairs, value, text};
+
+// Letters, as `look` gives them.
+const LETTER_F: u16 = b'f' as u16;
+
+const LETTER_N: u16 = b'n' as u16;
+
+const LETTER_T: u16 = b't' as u16;
 
 // Four bytes. (The value that they spell plays no part in where they end.)
 fn four_end(s: &[u8], at: usize, a: u16, b: u16, c: u16, d: u16) -> Read
@@ -38,16 +51,16 @@ pub fn scalar_end(s: &[u8], at: usize) -> Read
     ensures { λ r. ⌜ Gives (now (s .entry)) at (scalar (drop at (now (s .entry)))) r ⌝ }
 {
     let b = look(s, at);
-    if b == 34 {
+    if b == QUOTE {
         return string_end(s, at + 1);
     }
-    if b == 116 {
+    if b == LETTER_T {
         return four_end(s, at, 116, 114, 117, 101);
     }
-    if b == 102 {
+    if b == LETTER_F {
         return four_end(s, at + 1, 97, 108, 115, 101);
     }
-    if b == 110 {
+    if b == LETTER_N {
         return four_end(s, at, 110, 117, 108, 108);
     }
     number_end(s, at)
@@ -58,11 +71,11 @@ pub fn name_end(s: &[u8], at: usize) -> Read
     requires { ⌜ at ≤ length (now s) ⌝ }
     ensures { λ r. ⌜ Gives (now (s .entry)) at (name (drop at (now (s .entry)))) r ⌝ }
 {
-    match mark(s, at, 34) {
+    match mark(s, at, QUOTE) {
         Read::Bad(b) => Read::Bad(b),
         Read::Next(j) => match string_end(s, j) {
             Read::Bad(b) => Read::Bad(b),
-            Read::Next(i) => mark(s, i, 58),
+            Read::Next(i) => mark(s, i, COLON),
         },
     }
 }
@@ -73,7 +86,7 @@ fn array_end(s: &[u8], at: usize, depth: usize) -> Read
     ensures { λ r. ⌜ Gives (now (s .entry)) at (elements (value depth) (drop at (now (s .entry)))) r ⌝ }
 {
     let from = skip_space(s, at);
-    if look(s, from) == 93 {
+    if look(s, from) == RIGHT_BRACKET {
         return Read::Next(from + 1);
     }
     let mut i = from;
@@ -82,7 +95,7 @@ fn array_end(s: &[u8], at: usize, depth: usize) -> Read
             Read::Bad(b) => {
                 return Read::Bad(b);
             }
-            Read::Next(e) => match separator(s, e, 93) {
+            Read::Next(e) => match separator(s, e, RIGHT_BRACKET) {
                 Turn::Go(j) => {
                     i = j;
                 }
@@ -100,7 +113,7 @@ fn object_end(s: &[u8], at: usize, depth: usize) -> Read
     ensures { λ r. ⌜ Gives (now (s .entry)) at (pairs (value depth) (drop at (now (s .entry)))) r ⌝ }
 {
     let from = skip_space(s, at);
-    if look(s, from) == 125 {
+    if look(s, from) == RIGHT_BRACE {
         return Read::Next(from + 1);
     }
     let mut i = from;
@@ -113,7 +126,7 @@ fn object_end(s: &[u8], at: usize, depth: usize) -> Read
                 Read::Bad(b) => {
                     return Read::Bad(b);
                 }
-                Read::Next(e) => match separator(s, e, 125) {
+                Read::Next(e) => match separator(s, e, RIGHT_BRACE) {
                     Turn::Go(j) => {
                         i = j;
                     }
@@ -136,10 +149,10 @@ pub fn value_end(s: &[u8], at: usize, depth: usize) -> Read
         return scalar_end(s, i);
     }
     let b = look(s, i);
-    if b == 91 {
+    if b == LEFT_BRACKET {
         return array_end(s, i + 1, depth - 1);
     }
-    if b == 123 {
+    if b == LEFT_BRACE {
         return object_end(s, i + 1, depth - 1);
     }
     scalar_end(s, i)

@@ -2,6 +2,9 @@
 // Where no value is read, the place is of no use, and within the text.
 use json_marks::skip_space;
 use json_scan::scalar_end;
+use text::LEFT_BRACE;
+use text::LEFT_BRACKET;
+use text::QUOTE;
 use text::Read;
 use text::look;
 ghost use mathlib.Core.Path.{_≡_};
@@ -103,13 +106,13 @@ pub fn skip_value(s: &[u8], at: usize) -> usize
     }
     let i = skip_space(s, at);
     let b = look(s, i);
-    if b == 34 {
+    if b == QUOTE {
         return string_stop(s, i + 1);
     }
-    if b == 91 {
+    if b == LEFT_BRACKET {
         return bracket_stop(s, i + 1);
     }
-    if b == 123 {
+    if b == LEFT_BRACE {
         return bracket_stop(s, i + 1);
     }
     // A number or a literal: a few bytes, and they end by the grammar (in 1x the value is 1).

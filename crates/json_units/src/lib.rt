@@ -1,6 +1,8 @@
 // The units of a JSON string: bytes, and the numbers of \uXXXX escapes.
 use json_escapes::Value;
 use json_escapes::escape_at;
+use text::BACKSLASH;
+use text::QUOTE;
 use text::in_range;
 use text::look;
 ghost use mathlib.Core.Path.{_≡_};
@@ -28,10 +30,10 @@ pub fn unit_at(s: &[u8], at: usize) -> Piece
     ensures { λ r. ⌜ (unit (drop at (now (s .entry))) ≡ unitOf (now (s .entry)) r) × UnitIn at (length (now (s .entry))) r ⌝ }
 {
     let b = look(s, at);
-    if b == 34 {
+    if b == QUOTE {
         return Piece::End(at + 1);
     }
-    if b == 92 {
+    if b == BACKSLASH {
         return match escape_at(s, at + 1) {
             Value::Wrong(x) => Piece::Wrong(x),
             Value::Of(u, e) => Piece::Of(u, e),

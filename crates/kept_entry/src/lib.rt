@@ -12,6 +12,8 @@ use kept_strings::put_decoded;
 use kept_strings::put_value;
 use output::Wrote;
 use output::put_text;
+use text::LEFT_BRACKET;
+use text::RIGHT_BRACKET;
 use text::Turn;
 use text::look;
 ghost use mathlib.Core.Path.{_≡_};
@@ -71,35 +73,35 @@ pub fn four_at(s: &[u8], at: usize) -> Four
     ensures { λ r. ⌜ TellsFour (now (s .entry)) at r ⌝ }
 {
     let i = skip_space(s, at);
-    if look(s, i) != 91 {
+    if look(s, i) != LEFT_BRACKET {
         return Four::Bad;
     }
     let j = skip_space(s, i + 1);
-    if look(s, j) == 93 {
+    if look(s, j) == RIGHT_BRACKET {
         return Four::Bad;
     }
     let p = element_at(s, j, 13);
     let name = p.start;
     let x = p.end;
-    let Turn::Go(j2) = separator(s, x, 93) else {
+    let Turn::Go(j2) = separator(s, x, RIGHT_BRACKET) else {
         return Four::Bad;
     };
     let p2 = element_at(s, j2, 13);
     let params = p2.start;
     let x2 = p2.end;
-    let Turn::Go(j3) = separator(s, x2, 93) else {
+    let Turn::Go(j3) = separator(s, x2, RIGHT_BRACKET) else {
         return Four::Bad;
     };
     let p3 = element_at(s, j3, 13);
     let kind = p3.start;
     let x3 = p3.end;
-    let Turn::Go(j4) = separator(s, x3, 93) else {
+    let Turn::Go(j4) = separator(s, x3, RIGHT_BRACKET) else {
         return Four::Bad;
     };
     let p4 = element_at(s, j4, 13);
     let value = p4.start;
     let x4 = p4.end;
-    let Turn::Stop(r) = separator(s, x4, 93) else {
+    let Turn::Stop(r) = separator(s, x4, RIGHT_BRACKET) else {
         return Four::Bad;
     };
     Four::At {

@@ -9,6 +9,8 @@ use kept_strings::is_word;
 use kept_strings::put_decoded;
 use kept_strings::put_group;
 use kept_strings::put_values;
+use text::LEFT_BRACE;
+use text::RIGHT_BRACE;
 use text::Turn;
 use text::look;
 ghost use mathlib.Core.Path.{_≡_};
@@ -142,7 +144,7 @@ fn put_from<'a, 'b, 'c>(
             return Step::Bad;
         };
         f = g;
-        match separator(s, e, 125) {
+        match separator(s, e, RIGHT_BRACE) {
             Turn::Go(j) => {
                 i = j;
             }
@@ -169,11 +171,11 @@ pub fn put_object<'a, 'b, 'c>(
     ensures { λ r. ⌜ PutsObject (now (b .entry)) n (now (s .entry)) at r (now (b .exit)) (now (t .exit)) ⌝ }
 {
     let i = skip_space(s, at);
-    if look(s, i) != 123 {
+    if look(s, i) != LEFT_BRACE {
         return Step::Bad;
     }
     let j = skip_space(s, i + 1);
-    if look(s, j) == 125 {
+    if look(s, j) == RIGHT_BRACE {
         return Step::On(Filled {
             end: n,
             rows: 0,

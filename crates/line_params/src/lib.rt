@@ -9,6 +9,9 @@ use line_scan::Param;
 use line_scan::Value;
 use line_scan::param_at;
 use line_scan::value_at;
+use text::COLON;
+use text::COMMA;
+use text::SEMICOLON;
 use text::look;
 
 // The next parameter: where its name ends (it begins after the semicolon), the place after it, how many values it has.
@@ -23,10 +26,10 @@ pub fn next_param(s: &[u8], at: usize) -> NextParam
     ensures { λ r. ⌜ NextParamAt (now (s .entry)) at r ⌝ }
 {
     let b = look(s, at);
-    if b == 58 {
+    if b == COLON {
         return NextParam::End(at + 1);
     }
-    if b != 59 {
+    if b != SEMICOLON {
         return NextParam::End(at);
     }
     let Param::At(e, next, k) = param_at(s, at + 1) else {
@@ -49,7 +52,7 @@ pub fn next_value(s: &[u8], at: usize) -> NextValue
     let Value::At(a, b, next) = value_at(s, at) else {
         return NextValue::Bad;
     };
-    if look(s, next) == 44 {
+    if look(s, next) == COMMA {
         return NextValue::More(a, b, next + 1);
     }
     NextValue::Last(a, b, next)

@@ -8,6 +8,12 @@ ghost use Rattle.line_scan.specs.Lines.{RestAt, LineAt};
 use line_class::Class;
 use line_class::run_end;
 use line_name::is_named;
+use text::COLON;
+use text::COMMA;
+use text::DOT;
+use text::EQUALS;
+use text::QUOTE;
+use text::SEMICOLON;
 use text::look;
 
 // A parameter value: where its bytes begin and end, quotes left out, and the place after it.
@@ -20,10 +26,10 @@ pub fn value_at(s: &[u8], at: usize) -> Value
     requires { ⌜ at ≤ length (now s) ⌝ }
     ensures { λ r. ⌜ ValueAt (now (s .entry)) at r ⌝ }
 {
-    if look(s, at) == 34 {
+    if look(s, at) == QUOTE {
         let a = at + 1;
         let e = run_end(s, a, Class::Quotable);
-        if look(s, e) == 34 {
+        if look(s, e) == QUOTE {
             return Value::At(a, e, e + 1);
         }
         return Value::Bad;
@@ -49,7 +55,7 @@ pub fn values_at(s: &[u8], at: usize) -> Values
             return Values::Bad;
         };
         n += 1;
-        if look(s, next) != 44 {
+        if look(s, next) != COMMA {
             return Values::Upto(next, n);
         }
         i = next + 1;
@@ -70,7 +76,7 @@ pub fn param_at(s: &[u8], at: usize) -> Param
     if e == at {
         return Param::Bad;
     }
-    if look(s, e) != 61 {
+    if look(s, e) != EQUALS {
         return Param::Bad;
     }
     let Values::Upto(next, n) = values_at(s, e + 1) else {
@@ -94,10 +100,10 @@ pub fn params_at(s: &[u8], at: usize) -> Params
     let mut m = 0;
     loop {
         let b = look(s, i);
-        if b == 58 {
+        if b == COLON {
             return Params::Upto(i + 1, n, m);
         }
-        if b != 59 {
+        if b != SEMICOLON {
             return Params::Bad;
         }
         let Param::At(_, next, k) = param_at(s, i + 1) else {
@@ -165,7 +171,7 @@ pub fn parse_line(s: &[u8]) -> Parsed
     if e == 0 {
         return Parsed::Bad;
     }
-    if look(s, e) == 46 {
+    if look(s, e) == DOT {
         let a = e + 1;
         let b = run_end(s, a, Class::Name);
         if b == a {

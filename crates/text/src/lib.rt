@@ -6,6 +6,35 @@ ghost use lib.ListN.{length};
 ghost use Rattle.text.specs.Bytes.{between};
 ghost use Rattle.text.specs.Places.{byteAt};
 
+// Characters that readers ask for, as `look` gives them.
+pub const QUOTE: u16 = b'"' as u16;
+
+pub const PLUS: u16 = b'+' as u16;
+
+pub const COMMA: u16 = b',' as u16;
+
+pub const MINUS: u16 = b'-' as u16;
+
+pub const DOT: u16 = b'.' as u16;
+
+pub const SLASH: u16 = b'/' as u16;
+
+pub const COLON: u16 = b':' as u16;
+
+pub const SEMICOLON: u16 = b';' as u16;
+
+pub const EQUALS: u16 = b'=' as u16;
+
+pub const LEFT_BRACKET: u16 = b'[' as u16;
+
+pub const BACKSLASH: u16 = b'\\' as u16;
+
+pub const RIGHT_BRACKET: u16 = b']' as u16;
+
+pub const LEFT_BRACE: u16 = b'{' as u16;
+
+pub const RIGHT_BRACE: u16 = b'}' as u16;
+
 // Where a reader ended: the place after what it read, or the first place at which nothing can go on.
 pub enum Read {
     Next(usize),

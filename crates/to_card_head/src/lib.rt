@@ -18,16 +18,16 @@ ghost use Rattle.to_card_head.specs.Head.{wordOf, TellsFilled, TellsSame
 fn is_lower_name(c: u8) -> bool
     ensures { λ r. ⌜ r ≡ isLowerName c ⌝ }
 {
-    if c > 122 {
+    if c > b'z' {
         return false;
     }
-    if c >= 97 {
+    if c >= b'a' {
         return true;
     }
-    if c > 57 {
+    if c > b'9' {
         return false;
     }
-    if c >= 48 {
+    if c >= b'0' {
         return true;
     }
     c == b'-'

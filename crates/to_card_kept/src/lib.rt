@@ -9,6 +9,8 @@ use kept_line::put_kept_line;
 use kept_used::is_kept_class;
 use table_marks::scan_rows;
 use table_sound::is_sound;
+use text::LEFT_BRACKET;
+use text::RIGHT_BRACKET;
 use text::Turn;
 use text::look;
 use to_card_lines::Lines;
@@ -109,7 +111,7 @@ fn put_from<'a, 'b, 'c, 'd, 'e, 'f>(
         n += k;
         lines += l;
         ok = ok & c;
-        match separator(s, e, 93) {
+        match separator(s, e, RIGHT_BRACKET) {
             Turn::Go(j) => {
                 i = j;
             }
@@ -144,11 +146,11 @@ pub fn put_kept<'a, 'b, 'c, 'd, 'e, 'f>(
         return Lines::Wrong;
     }
     let i = skip_space(s, at);
-    if look(s, i) != 91 {
+    if look(s, i) != LEFT_BRACKET {
         return Lines::Wrong;
     }
     let j = skip_space(s, i + 1);
-    if look(s, j) == 93 {
+    if look(s, j) == RIGHT_BRACKET {
         return Lines::All(0, 0, true);
     }
     put_from(out, b, t, scratch, s, slots, j, full, parts)

@@ -14,6 +14,8 @@ use line_pen::fill;
 use line_pen::pen_byte;
 use line_pen::pen_bytes;
 use output::Wrote;
+use text::LEFT_BRACE;
+use text::RIGHT_BRACE;
 use text::Turn;
 use text::look;
 use to_card_head::is_filled;
@@ -209,7 +211,7 @@ fn put_from<'a, 'b, 'c>(out: &'a mut [u8], buffer: &'b mut [u8], s: &'c [u8], at
         n += k;
         lines += l;
         ok = ok & c;
-        match separator(s, e, 125) {
+        match separator(s, e, RIGHT_BRACE) {
             Turn::Go(j) => {
                 i = j;
             }
@@ -228,11 +230,11 @@ pub fn put_members<'a, 'b, 'c>(out: &'a mut [u8], buffer: &'b mut [u8], s: &'c [
     ensures { λ r. ⌜ PutsMembers (now (s .entry)) (now (out .entry)) r (now (out .exit)) ⌝ }
 {
     let i = skip_space(s, 0);
-    if look(s, i) != 123 {
+    if look(s, i) != LEFT_BRACE {
         return Lines::Wrong;
     }
     let j = skip_space(s, i + 1);
-    if look(s, j) == 125 {
+    if look(s, j) == RIGHT_BRACE {
         return Lines::All(0, 0, true);
     }
     put_from(out, buffer, s, j)
