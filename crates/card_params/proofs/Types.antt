@@ -16,7 +16,7 @@ use Rattle.text.proofs.Cases.{byBool}
 use Rattle.line_pen.specs.declared.Pen.{Pen}
 use Rattle.line_pen.specs.Pen.{Pens}
 use Rattle.line_pen.proofs.Laws.{pens-as, pens-none, pens-then}
-use Rattle.convert.specs.Table.{typeNames, vcardType, type-name, contextCodes, featureCodes, inOrder}
+use Rattle.convert.specs.Table.{typeNames, vcardType, feature-type, contextCodes, featureCodes, inOrder}
 use Rattle.card_params.specs.Params.{markAll, typeLead, typePart, typesFrom}
 
 -- ---- one value
@@ -118,10 +118,10 @@ unfolding keep
 keep-same p q zero c h = refl
 keep-same p q (suc k) c h = rw (h c (omega arith), keep-same p q k (suc c) (λ x l. h x (omega arith)))
 
-name-at : (c : ℕ) → getD (map vcardType typeNames) c [] ≡ vcardType (getD typeNames c (type-name [] []))
+name-at : (c : ℕ) → getD (map vcardType typeNames) c [] ≡ vcardType (getD typeNames c (feature-type [] []))
 name-at c = go typeNames c
   where
-    go : (ts : List Rattle.convert.specs.Table.TypeName) (c : ℕ) → getD (map vcardType ts) c [] ≡ vcardType (getD ts c (type-name [] []))
+    go : (ts : List Rattle.convert.specs.Table.TypeName) (c : ℕ) → getD (map vcardType ts) c [] ≡ vcardType (getD ts c (feature-type [] []))
     go [] c = refl
     go (t ∷ ts) zero = refl
     go (t ∷ ts) (suc c) = go ts c
@@ -131,7 +131,7 @@ map-same f g h [] = refl
 map-same f g h (c ∷ cs) = rw (h c, map-same f g h cs)
 
 -- the marks of these codes, in the table's order
-pub types-order : (cs : List ℕ) → typesFrom (map vcardType typeNames) (markAll (0 ∷ 0 ∷ 0 ∷ 0 ∷ 0 ∷ 0 ∷ 0 ∷ 0 ∷ 0 ∷ []) cs) 9 0 false ≡ listed false (map (λ c. vcardType (getD typeNames c (type-name [] []))) (inOrder cs))
+pub types-order : (cs : List ℕ) → typesFrom (map vcardType typeNames) (markAll (0 ∷ 0 ∷ 0 ∷ 0 ∷ 0 ∷ 0 ∷ 0 ∷ 0 ∷ 0 ∷ []) cs) 9 0 false ≡ listed false (map (λ c. vcardType (getD typeNames c (feature-type [] []))) (inOrder cs))
 unfolding inOrder
 types-order cs =
     let row : List ℕ = 0 ∷ 0 ∷ 0 ∷ 0 ∷ 0 ∷ 0 ∷ 0 ∷ 0 ∷ 0 ∷ [] in

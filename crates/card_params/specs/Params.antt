@@ -4,6 +4,7 @@ use mathlib.Core.Bool.{Bool, true, false, _&&_, _||_}
 use mathlib.Core.List.{List, [], _∷_, _++_, map}
 use mathlib.Core.Option.{Option, none, some}
 use Prim.Native.Nat.{ℕ, zero, suc, _-_}
+use Prim.Native.Char.{code}
 use lib.Dec.{eqb, ltb, leb}
 use lib.ListN.{length, take, drop, getD, set}
 use Rattle.text.specs.Choice.{pick, with-some, chain, provided}
@@ -47,12 +48,12 @@ FlagsAs row r after (some cs) = (r ≡ true) × (after ≡ markAll row cs)
 
 -- of the members from a place on: whether each is a flag of the table, and then a mark for each
 abbrev pub FlagsFrom : Bytes → ℕ → ℕ → Bytes → List ℕ → Bool → List ℕ → Type 0
-FlagsFrom s at base names row r after = (ts : List TypeName) → parts 44 names ≡ map jsonType ts → (us ms : Members) (t : Bytes) → loop (pair (value 12)) (drop at s) ≡ got us t → decodedMembers us ≡ some ms
+FlagsFrom s at base names row r after = (ts : List TypeName) → parts (code ",") names ≡ map jsonType ts → (us ms : Members) (t : Bytes) → loop (pair (value 12)) (drop at s) ≡ got us t → decodedMembers us ≡ some ms
     → FlagsAs row r after (each (flagOf base ts) (membersOf ms))
 
 -- the same of the value in a slot
 abbrev pub TellsFlags : Bytes → ℕ → ℕ → Bytes → List ℕ → Bool → List ℕ → Type 0
-TellsFlags s slot base names row r after = (ts : List TypeName) → parts 44 names ≡ map jsonType ts → (o : Option Json) → Slot 13 s slot o → FlagsAs row r after (flagsIn base ts o)
+TellsFlags s slot base names row r after = (ts : List TypeName) → parts (code ",") names ≡ map jsonType ts → (o : Option Json) → Slot 13 s slot o → FlagsAs row r after (flagsIn base ts o)
 
 -- the values of TYPE at these marks: what stands before one, one of k places from c on
 unfoldable pub typeLead : Bool → Bytes

@@ -4,6 +4,7 @@ use mathlib.Core.Bool.{Bool, true, false, _&&_, _||_, not}
 use mathlib.Core.List.{List, [], _∷_, _++_, map}
 use mathlib.Core.Option.{Option, none, some, Option·map}
 use Prim.Native.Nat.{ℕ, suc, _≤_, _<_}
+use Prim.Native.Char.{code}
 use lib.Dec.{eqb, ltb, leb}
 use lib.ListN.{length, drop}
 use Rattle.text.specs.Choice.{pick, with-some, is-some, chain, provided}
@@ -61,7 +62,7 @@ blankOf (some x) = empty x
 -- ---- phones: `tel:`, and no control but tab
 
 unfoldable pub telByte : ℕ → ℕ → Bool
-telByte k c = pick (eqb k 0) (eqb c 116) (pick (eqb k 1) (eqb c 101) (pick (eqb k 2) (eqb c 108) (pick (eqb k 3) (eqb c 58) (not (isControl c)))))
+telByte k c = pick (eqb k 0) (eqb c (code "t")) (pick (eqb k 1) (eqb c (code "e")) (pick (eqb k 2) (eqb c (code "l")) (pick (eqb k 3) (eqb c (code ":")) (not (isControl c)))))
 
 unfoldable pub onTel : ℕ → ℕ
 onTel k = pick (ltb k 4) (suc k) 4

@@ -4,6 +4,7 @@ use mathlib.Core.Bool.{Bool, true, false, _||_, not}
 use mathlib.Core.List.{List, [], _∷_}
 use mathlib.Core.Option.{some}
 use Prim.Native.Nat.{ℕ, _≤_}
+use Prim.Native.Char.{code}
 use lib.Dec.{eqb}
 use lib.ListN.{length}
 use Rattle.text.specs.Choice.{pick}
@@ -21,8 +22,8 @@ besidesPointer = 0 ∷ 1 ∷ 2 ∷ 5 ∷ 6 ∷ 7 ∷ []
 
 -- a byte of a pointer; the flag says that a tilde stands just before
 abbrev pub pointsOn : Bool → ℕ → Bool
-pointsOn true c = eqb c 48 || eqb c 49
-pointsOn false c = not (eqb c 47)
+pointsOn true c = eqb c (code "0") || eqb c (code "1")
+pointsOn false c = not (eqb c (code "/"))
 
 -- these pointers point at those names, in order
 abbrev pub Pointers : List Bytes → List Bytes → Type 0

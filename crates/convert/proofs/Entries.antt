@@ -18,7 +18,8 @@ use Rattle.convert.specs.Table.{Map, Slot, inOrder}
 use Rattle.convert.specs.Model.{Entry}
 use Rattle.convert.specs.Value.{isKeyText, isPref, writeAs, writtenType}
 use Rattle.convert.specs.Classify.{isId, Seen, prefFrom, allowed, entryOf}
-use Rattle.convert.specs.ToCard.{paramOf, entryLine}
+use Rattle.convert.specs.Property.{paramOf}
+use Rattle.convert.specs.ToCard.{entryLine}
 use Rattle.convert.proofs.Forms.{formed, typeOf, read-form, takes-written, type-lowered}
 use Rattle.convert.proofs.Types.{typeText, below, types-read}
 

@@ -12,7 +12,7 @@ use Rattle.text.proofs.Cases.{byKeysP, not-both}
 use Rattle.text.proofs.Lists.{all-head, all-tail, any-append, keep-passes}
 use Rattle.json.specs.Tree.{jtrue, Member, member, object}
 use Rattle.json.proofs.Listed.{members-listed}
-use Rattle.convert.specs.Table.{TypeName, type-name, typeNames, jsonType, contextCodes, featureCodes, position, inOrder}
+use Rattle.convert.specs.Table.{TypeName, feature-type, typeNames, jsonType, contextCodes, featureCodes, position, inOrder}
 use Rattle.convert.specs.FromJson.{flagOf, flagsFrom}
 use Rattle.convert.proofs.Orders.{any-keep, codes}
 
@@ -23,7 +23,7 @@ abbrev pub isFeature : ℕ → Bool
 isFeature c = any (eqb c) featureCodes
 
 abbrev pub flagJson : ℕ → Member
-flagJson c = member (jsonType (getD typeNames c (type-name [] []))) jtrue
+flagJson c = member (jsonType (getD typeNames c (feature-type [] []))) jtrue
 
 context-read : (c : ℕ) → isContext c ≡ true → flagOf 0 (take 2 typeNames) (flagJson c) ≡ some c
 unfolding any position same

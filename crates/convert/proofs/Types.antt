@@ -10,11 +10,11 @@ use Rattle.text.specs.Choice.{pick}
 use Rattle.text.specs.Bytes.{Bytes, all, same, lower, lowered, between, onHead, parts, flat, each}
 use Rattle.text.proofs.Cases.{byBelow, upTo, tests, not-both}
 use Rattle.text.proofs.Lists.{all-head, all-tail}
-use Rattle.convert.specs.Table.{type-name, typeNames, vcardType, position, inOrder}
+use Rattle.convert.specs.Table.{feature-type, typeNames, vcardType, position, inOrder}
 use Rattle.convert.specs.Classify.{typesFrom}
 
 abbrev pub typeText : ℕ → Bytes
-typeText t = vcardType (getD typeNames t (type-name [] []))
+typeText t = vcardType (getD typeNames t (feature-type [] []))
 
 abbrev pub codeOf : ℕ → Bytes → Option ℕ
 codeOf n v = position (λ t. same (lowered v) (vcardType t)) (take n typeNames)

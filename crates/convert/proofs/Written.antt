@@ -16,7 +16,8 @@ use Rattle.convert.specs.Table.{reserved}
 use Rattle.convert.specs.Value.{readName, writeName}
 use Rattle.convert.specs.Pointer.{pointer}
 use Rattle.convert.specs.Classify.{as-version, as-uid, as-kind, as-dropped, as-full, as-parts, as-member, Seen, isDerived, fullClass, partsClass, memberName, memberValue, memberClass, classify}
-use Rattle.convert.specs.ToCard.{property, derivedLine, memberLine}
+use Rattle.convert.specs.Property.{property}
+use Rattle.convert.specs.ToCard.{derivedLine, memberLine}
 use Rattle.convert.proofs.Pointers.{pointed-pointer}
 
 -- ---- lines with no parameters

@@ -1,6 +1,7 @@
 -- Refusal 13: a string that no vCard line can carry.
 use mathlib.Core.Bool.{Bool, true, _&&_, not}
 use mathlib.Core.List.{List, [], _∷_}
+use Prim.Native.Char.{code}
 use Rattle.text.specs.Choice.{with-some}
 use Rattle.text.specs.Bytes.{Bytes, any, all, among, is}
 use Rattle.json.specs.Tree.{nameOf}
@@ -19,7 +20,7 @@ carriedText s = not (any (λ c. isControl c && not (is 10 c)) s)
 
 -- parameters: no control but tab, and no double quote
 unfoldable pub carriedParam : Bytes → Bool
-carriedParam s = carriedRaw s && not (any (is 34) s)
+carriedParam s = carriedRaw s && not (any (is (code "\"")) s)
 
 unfoldable pub carriedAs : Form → List Bytes → Bool
 carriedAs text vs = all carriedText vs

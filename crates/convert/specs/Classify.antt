@@ -4,6 +4,7 @@ use mathlib.Core.Bool.{Bool, true, false, _&&_, not}
 use mathlib.Core.List.{List, [], _∷_, map}
 use mathlib.Core.Option.{Option, none, some, Option·map}
 use Prim.Native.Nat.{ℕ}
+use Prim.Native.Char.{code}
 use lib.Dec.{eqb}
 use lib.ListN.{take}
 use Rattle.text.specs.Choice.{pick, with-some, chain, provided}
@@ -129,7 +130,7 @@ prefFrom (p ∷ (q ∷ qs)) = none
 -- TYPE: each value, split at commas, is one of the first n of the table
 unfoldable pub typesFrom : ℕ → List Bytes → Option (List ℕ)
 typesFrom n vs =
-    Option·map inOrder (each (λ v. position (λ t. same (lowered v) (vcardType t)) (take n typeNames)) (flat (map (parts 44) vs)))
+    Option·map inOrder (each (λ v. position (λ t. same (lowered v) (vcardType t)) (take n typeNames)) (flat (map (parts (code ",")) vs)))
 
 -- the parameters that a map's lines take, besides VALUE
 abbrev pub allowed : ℕ → List Bytes

@@ -2,6 +2,7 @@
 use mathlib.Core.List.{List, [], _∷_, _++_, map}
 use mathlib.Core.Option.{Option, none, some}
 use Prim.Native.Nat.{ℕ, suc}
+use Prim.Native.Char.{code}
 use lib.Dec.{eqb}
 use Rattle.text.specs.Choice.{pick}
 use Rattle.text.specs.Bytes.{Bytes, lowered, flat}
@@ -86,7 +87,7 @@ mapsFrom i (m ∷ ms) ps = keyedEntries m (inMap i ps) ∷ mapsFrom (suc i) ms p
 
 -- No UID: stem, hyphen, card number.
 unfoldable pub madeUid : Bytes → ℕ → Bytes
-madeUid stem n = stem ++ 45 ∷ decimal n
+madeUid stem n = stem ++ code "-" ∷ decimal n
 
 unfoldable pub cardOfClassed : Bytes → ℕ → List Classed → Card
 cardOfClassed stem n cs =

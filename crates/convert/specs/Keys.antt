@@ -3,13 +3,14 @@
 use mathlib.Core.Bool.{not}
 use mathlib.Core.List.{List, [], _∷_, _++_}
 use Prim.Native.Nat.{ℕ, zero, suc}
+use Prim.Native.Char.{code}
 use lib.ListN.{length}
 use Rattle.text.specs.Choice.{pick}
 use Rattle.text.specs.Bytes.{Bytes, among, empty, keep}
 use Rattle.text.specs.Decimal.{decimal}
 
 unfoldable pub numbered : Bytes → ℕ → Bytes
-numbered prefix n = prefix ++ 45 ∷ decimal n
+numbered prefix n = prefix ++ code "-" ∷ decimal n
 
 -- the first of n, n + 1, .. that is not used; so many are tried
 unfoldable pub freshFrom : ℕ → Bytes → ℕ → List Bytes → Bytes

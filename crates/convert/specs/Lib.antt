@@ -2,6 +2,7 @@ pub mod Table
 pub mod Model
 pub mod Value
 pub mod Pointer
+pub mod Property
 pub mod Classify
 pub mod Keys
 pub mod FromCard

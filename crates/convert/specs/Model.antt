@@ -1,12 +1,13 @@
 -- The middle of both conversions: what a card says, in one form for all that is equal.
 use mathlib.Core.Bool.{Bool, not}
-use mathlib.Core.List.{List, [], _∷_}
+use mathlib.Core.List.{List, [], map}
 use mathlib.Core.Option.{Option, none}
 use Prim.Native.Nat.{ℕ}
 use lib.ListN.{getD}
 use Rattle.text.specs.Bytes.{Bytes, any, empty}
 use Rattle.json.specs.Tree.{Member}
 use Rattle.line.specs.Grammar.{Param}
+use Rattle.convert.specs.Table.{Part, nameRow}
 
 -- An entry of one of the seven maps.
 pub record Entry : Type 0 where
@@ -35,7 +36,7 @@ pub record Card : Type 0 where
 
 -- no component of any kind
 abbrev pub noParts : List (List Bytes)
-noParts = [] ∷ [] ∷ [] ∷ [] ∷ [] ∷ [] ∷ [] ∷ []
+noParts = map (λ (p : Part). []) nameRow
 
 -- there is a component
 unfoldable pub hasParts : List (List Bytes) → Bool

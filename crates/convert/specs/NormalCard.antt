@@ -4,6 +4,7 @@ use mathlib.Core.Bool.{Bool, true, false, _&&_, not}
 use mathlib.Core.List.{List, [], _∷_, _++_, map}
 use mathlib.Core.Option.{none}
 use Prim.Native.Nat.{ℕ, suc, _+_}
+use Prim.Native.Char.{code}
 use lib.ListN.{getD}
 use lib.Dec.{eqb}
 use Rattle.text.specs.Choice.{pick, with-some}
@@ -16,12 +17,12 @@ use Rattle.line.specs.Params.{valuesNamed, valueType, besidesValue, merged}
 use Rattle.line.specs.Text.{readText, splitText, writeText}
 use Rattle.line.specs.Write.{writeCard}
 use Rattle.convert.specs.Table.{Form, text, single, uri, phone, organization, Map, maps, typeNames, vcardType}
+use Rattle.convert.specs.Model.{part}
+use Rattle.convert.specs.Property.{property, paramOf}
+use Rattle.convert.specs.Value.{isTelUri, without}
 use Rattle.convert.specs.Classify.{Class, as-version, as-uid, as-kind, as-dropped, as-full, as-parts, as-entry, as-member, as-kept, Classed, classed}
 use Rattle.convert.specs.Keys.{keys}
 use Rattle.convert.specs.Answers.{rawLines, linesOf, orNone}
-
-abbrev pub plainLine : Bytes → List Param → Bytes → Line
-plainLine n ps v = record { group = []; name = n; params = ps; value = v }
 
 -- ---- values: escapes as 01 writes them
 
@@ -35,25 +36,19 @@ textOf v = with-some (readText v) (λ t. t) v
 
 -- the strings of one part of N: split at bare commas, empty ones gone
 unfoldable pub partTexts : Bytes → List Bytes
-partTexts s = keep (λ v. not (empty v)) (map textOf (splitText 44 s))
-
-abbrev pub partAt : ℕ → List (List Bytes) → List Bytes
-partAt i ps = getD ps i []
-
-abbrev pub less : List Bytes → List Bytes → List Bytes
-less vs ws = keep (λ v. not (among v ws)) vs
+partTexts s = keep (λ v. not (empty v)) (map textOf (splitText (code ",") s))
 
 -- N's own strings, part by part: family values that are no secondary surname, .., suffixes that are no generation, ..
 unfoldable pub nameValues : Bytes → List (List Bytes)
 nameValues v =
-    let ps : List (List Bytes) = map partTexts (splitText 59 v) in
-    less (partAt 0 ps) (partAt 5 ps) ∷ partAt 1 ps ∷ partAt 2 ps ∷ partAt 3 ps ∷ less (partAt 4 ps) (partAt 6 ps) ∷ partAt 5 ps ∷ partAt 6 ps ∷ []
+    let ps : List (List Bytes) = map partTexts (splitText (code ";") v) in
+    without (part ps 5) (part ps 0) ∷ part ps 1 ∷ part ps 2 ∷ part ps 3 ∷ without (part ps 6) (part ps 4) ∷ part ps 5 ∷ part ps 6 ∷ []
 
 -- N written with 7 parts by its rule: secondary surnames again after the family, generations again after the suffixes
 unfoldable pub nameText : List (List Bytes) → Bytes
 nameText ps =
     joined (ascii ";") (map (λ vs. joined (ascii ",") (map (writeText true) vs))
-    ((partAt 0 ps ++ partAt 5 ps) ∷ partAt 1 ps ∷ partAt 2 ps ∷ partAt 3 ps ∷ (partAt 4 ps ++ partAt 6 ps) ∷ partAt 5 ps ∷ partAt 6 ps ∷ []))
+    ((part ps 0 ++ part ps 5) ∷ part ps 1 ∷ part ps 2 ∷ part ps 3 ∷ (part ps 4 ++ part ps 6) ∷ part ps 5 ∷ part ps 6 ∷ []))
 
 -- ORG: empty units gone
 abbrev pub unitsGone : List Bytes → List Bytes
@@ -61,46 +56,39 @@ unitsGone [] = []
 unitsGone (n ∷ us) = n ∷ keep (λ u. not (empty u)) us
 
 unfoldable pub orgText : Bytes → Bytes
-orgText v = joined (ascii ";") (unitsGone (map (renewed true) (splitText 59 v)))
+orgText v = joined (ascii ";") (unitsGone (map (renewed true) (splitText (code ";") v)))
 
 -- TEL's number, and whether it is written raw with VALUE=uri
 unfoldable pub telNumber : Bytes → Bytes → Bytes
 telNumber type v = pick (same type (ascii "uri")) v (textOf v)
 
-unfoldable pub isTelUriForm : Bytes → Bool
-isTelUriForm n = begins (ascii "tel:") n && not (any isControl n)
-
 unfoldable pub entryValue : Form → Bytes → Bytes → Bytes
 entryValue text type v = renewed false v
 entryValue single type v = renewed false v
 entryValue uri type v = v
-entryValue phone type v = pick (isTelUriForm (telNumber type v)) (telNumber type v) (writeText false (telNumber type v))
+entryValue phone type v = pick (isTelUri (telNumber type v)) (telNumber type v) (writeText false (telNumber type v))
 entryValue organization type v = orgText v
 
 -- ---- parameters PROP-ID, PREF, TYPE, VALUE
 
-abbrev pub whereAny : Bytes → List Bytes → List Param
-whereAny n [] = []
-whereAny n (v ∷ vs) = param n (v ∷ vs) ∷ []
-
 -- TYPE lower-case, repeats gone, in the table's order
 unfoldable pub typeForm : List Bytes → List Bytes
-typeForm vs = keep (λ t. among t (map lowered (flat (map (parts 44) vs)))) (map vcardType typeNames)
+typeForm vs = keep (λ t. among t (map lowered (flat (map (parts (code ",")) vs)))) (map vcardType typeNames)
 
 unfoldable pub valueForm : Form → Bytes → Bytes → List Bytes
 valueForm text type v = []
 valueForm single type v = []
 valueForm uri type v = []
-valueForm phone type v = pick (isTelUriForm (telNumber type v)) (ascii "uri" ∷ []) []
+valueForm phone type v = pick (isTelUri (telNumber type v)) (ascii "uri" ∷ []) []
 valueForm organization type v = []
 
 -- a line of a map, with its key
 unfoldable pub entryForm : Map → Bytes → Line → Line
 entryForm m k l =
-    plainLine (lowered (l .name))
-    (param (ascii "prop-id") (k ∷ []) ∷ (whereAny (ascii "pref") (valuesNamed (ascii "pref") (l .params))
-    ++ whereAny (ascii "type") (typeForm (valuesNamed (ascii "type") (l .params)))
-    ++ whereAny (ascii "value") (valueForm (m .form) (valueType (l .params)) (l .value))))
+    property (lowered (l .name))
+    (param (ascii "prop-id") (k ∷ []) ∷ (paramOf (ascii "pref") (valuesNamed (ascii "pref") (l .params))
+    ++ paramOf (ascii "type") (typeForm (valuesNamed (ascii "type") (l .params)))
+    ++ paramOf (ascii "value") (valueForm (m .form) (valueType (l .params)) (l .value))))
     (entryValue (m .form) (valueType (l .params)) (l .value))
 
 -- a kept line: group lower-case, equal-named parameters merged, VALUE last, lower-case, dropped when unknown; the value as it is
@@ -170,7 +158,7 @@ memberForm c = form (c .class)
     form (as-full v) = []
     form (as-parts ps) = []
     form (as-entry i e) = []
-    form (as-member n j) = plainLine (ascii "jsprop") (param (ascii "jsptr") (valuesNamed (ascii "jsptr") (c .line .params)) ∷ []) (writeText false (compact j)) ∷ []
+    form (as-member n j) = property (ascii "jsprop") (param (ascii "jsptr") (valuesNamed (ascii "jsptr") (c .line .params)) ∷ []) (writeText false (compact j)) ∷ []
     form as-kept = []
 
 abbrev pub orMade : List Line → Line → List Line
@@ -184,15 +172,15 @@ nameStrings (l ∷ ls) = flat (nameValues (l .value))
 
 -- with no converted FN, one is made of the components joined by spaces
 unfoldable pub derivedForm : List Line → Line
-derivedForm ns = plainLine (ascii "fn") (param (ascii "derived") (ascii "TRUE" ∷ []) ∷ []) (writeText false (joined (ascii " ") (nameStrings ns)))
+derivedForm ns = property (ascii "fn") (param (ascii "derived") (ascii "TRUE" ∷ []) ∷ []) (writeText false (joined (ascii " ") (nameStrings ns)))
 
 unfoldable pub normalLines : Bytes → ℕ → List Classed → List Line
 normalLines stem n cs =
-    plainLine (ascii "version") [] (ascii "4.0")
-    ∷ (orMade (map (λ (l : Line). plainLine (ascii "uid") [] (l .value)) (section uids cs)) (plainLine (ascii "uid") [] (stem ++ 45 ∷ decimal n))
-    ++ map (λ (l : Line). plainLine (ascii "kind") [] (lowered (l .value))) (section kinds cs)
-    ++ orMade (map (λ (l : Line). plainLine (ascii "fn") [] (renewed false (l .value))) (section fulls cs)) (derivedForm (section names cs))
-    ++ map (λ (l : Line). plainLine (ascii "n") [] (nameText (nameValues (l .value)))) (section names cs)
+    property (ascii "version") [] (ascii "4.0")
+    ∷ (orMade (map (λ (l : Line). property (ascii "uid") [] (l .value)) (section uids cs)) (property (ascii "uid") [] (stem ++ code "-" ∷ decimal n))
+    ++ map (λ (l : Line). property (ascii "kind") [] (lowered (l .value))) (section kinds cs)
+    ++ orMade (map (λ (l : Line). property (ascii "fn") [] (renewed false (l .value))) (section fulls cs)) (derivedForm (section names cs))
+    ++ map (λ (l : Line). property (ascii "n") [] (nameText (nameValues (l .value)))) (section names cs)
     ++ mapForms 0 maps cs
     ++ flat (map memberForm cs)
     ++ map keptForm (section kepts cs))

@@ -3,6 +3,7 @@ use mathlib.Core.Bool.{Bool, true, false, not}
 use mathlib.Core.List.{[], _∷_, _++_}
 use mathlib.Core.Option.{Option, none, some}
 use Prim.Native.Nat.{ℕ}
+use Prim.Native.Char.{code}
 use lib.Dec.{eqb}
 use Rattle.text.specs.Choice.{pick, provided}
 use Rattle.text.specs.Bytes.{Bytes, empty}
@@ -18,9 +19,9 @@ pointedFrom true [] = none
 pointedFrom false (c ∷ s) =
     let tilde : Option Bytes = pointedFrom true s in
     let plain : Option Bytes = push c (pointedFrom false s) in
-    let no-tilde : Option Bytes = pick (eqb c 47) none plain in
-    pick (eqb c 126) tilde no-tilde
-pointedFrom true (c ∷ s) = pick (eqb c 48) (push 126 (pointedFrom false s)) (pick (eqb c 49) (push 47 (pointedFrom false s)) none)
+    let no-tilde : Option Bytes = pick (eqb c (code "/")) none plain in
+    pick (eqb c (code "~")) tilde no-tilde
+pointedFrom true (c ∷ s) = pick (eqb c (code "0")) (push 126 (pointedFrom false s)) (pick (eqb c (code "1")) (push 47 (pointedFrom false s)) none)
 
 -- the name of the member that a pointer points at
 unfoldable pub pointed : Bytes → Option Bytes
@@ -28,4 +29,4 @@ pointed p = provided (not (empty p)) (pointedFrom false p)
 
 unfoldable pub pointer : Bytes → Bytes
 pointer [] = []
-pointer (c ∷ s) = pick (eqb c 126) (126 ∷ 48 ∷ []) (pick (eqb c 47) (126 ∷ 49 ∷ []) (c ∷ [])) ++ pointer s
+pointer (c ∷ s) = pick (eqb c (code "~")) (code "~" ∷ code "0" ∷ []) (pick (eqb c (code "/")) (code "~" ∷ code "1" ∷ []) (c ∷ [])) ++ pointer s

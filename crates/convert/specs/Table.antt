@@ -1,5 +1,5 @@
 -- The table 'Converted lines' of 01 as data: one row a map, and the values of TYPE.
-use mathlib.Core.Bool.{Bool}
+use mathlib.Core.Bool.{Bool, true, false, not}
 use mathlib.Core.List.{List, [], _∷_, _++_, map}
 use mathlib.Core.Option.{Option, none, some}
 use Prim.Native.Nat.{ℕ, suc}
@@ -37,36 +37,46 @@ maps =
     ∷ record { member = ascii "organizations"; prefix = ascii "ORG"; properties = ascii "org" ∷ []; kinds = []; content = ascii "name"; form = organization; types = 0 }
     ∷ []
 
--- top-level members that no JSPROP line makes
+-- top-level members that no JSPROP line makes: those of a card, the maps', and that of kept lines
 abbrev pub reserved : List Bytes
 reserved =
-    ascii "@type" ∷ ascii "version" ∷ ascii "uid" ∷ ascii "kind" ∷ ascii "name" ∷ ascii "nicknames" ∷ ascii "emails" ∷ ascii "phones" ∷ ascii "links" ∷ ascii "notes"
-    ∷ ascii "titles" ∷ ascii "organizations" ∷ ascii "vCardProps" ∷ []
+    ascii "@type" ∷ ascii "version" ∷ ascii "uid" ∷ ascii "kind" ∷ ascii "name" ∷ (map (λ (m : Map). m .member) maps ++ (ascii "vCardProps" ∷ []))
 
--- ---- TYPE: its value, and the context (the first two) or feature that it stands for; contexts first, each alphabetical by JSON name
+-- ---- TYPE: its value, and the JSON name of the context or feature that it stands for; contexts first, each alphabetical by JSON name
 
 pub data TypeName : Type 0 where
-  type-name : (vcard json : Bytes) → TypeName
+  context-type feature-type : (vcard json : Bytes) → TypeName
 
 abbrev pub typeNames : List TypeName
 typeNames =
-    type-name (ascii "home") (ascii "private") ∷ type-name (ascii "work") (ascii "work")
-    ∷ type-name (ascii "fax") (ascii "fax") ∷ type-name (ascii "cell") (ascii "mobile") ∷ type-name (ascii "pager") (ascii "pager")
-    ∷ type-name (ascii "text") (ascii "text") ∷ type-name (ascii "textphone") (ascii "textphone") ∷ type-name (ascii "video") (ascii "video")
-    ∷ type-name (ascii "voice") (ascii "voice") ∷ []
+    context-type (ascii "home") (ascii "private") ∷ context-type (ascii "work") (ascii "work")
+    ∷ feature-type (ascii "fax") (ascii "fax") ∷ feature-type (ascii "cell") (ascii "mobile") ∷ feature-type (ascii "pager") (ascii "pager")
+    ∷ feature-type (ascii "text") (ascii "text") ∷ feature-type (ascii "textphone") (ascii "textphone") ∷ feature-type (ascii "video") (ascii "video")
+    ∷ feature-type (ascii "voice") (ascii "voice") ∷ []
 
 abbrev pub vcardType : TypeName → Bytes
-vcardType (type-name v j) = v
+vcardType (context-type v j) = v
+vcardType (feature-type v j) = v
 
 abbrev pub jsonType : TypeName → Bytes
-jsonType (type-name v j) = j
+jsonType (context-type v j) = j
+jsonType (feature-type v j) = j
+
+abbrev pub isContext : TypeName → Bool
+isContext (context-type v j) = true
+isContext (feature-type v j) = false
+
+-- the places, from i on, of those that a test takes
+abbrev pub placesOf : (TypeName → Bool) → ℕ → List TypeName → List ℕ
+placesOf p i [] = []
+placesOf p i (t ∷ ts) = pick (p t) (i ∷ placesOf p (suc i) ts) (placesOf p (suc i) ts)
 
 -- places in the table of TYPE
 abbrev pub contextCodes : List ℕ
-contextCodes = 0 ∷ 1 ∷ []
+contextCodes = placesOf isContext 0 typeNames
 
 abbrev pub featureCodes : List ℕ
-featureCodes = 2 ∷ 3 ∷ 4 ∷ 5 ∷ 6 ∷ 7 ∷ 8 ∷ []
+featureCodes = placesOf (λ t. not (isContext t)) 0 typeNames
 
 -- codes without repeats, in the table's order
 unfoldable pub inOrder : List ℕ → List ℕ
@@ -74,10 +84,22 @@ inOrder cs = keep (λ c. any (eqb c) cs) (contextCodes ++ featureCodes)
 
 -- ---- N
 
+-- A part of a structured value: the kind of its components, and the later part whose values it repeats.
+pub record Part : Type 0 where
+  pub kind : Bytes
+  pub repeats : Option ℕ
+
+-- N as one row: secondary surnames stand among the family names too, generations among the suffixes
+abbrev pub nameRow : List Part
+nameRow =
+    record { kind = ascii "surname"; repeats = some 5 } ∷ record { kind = ascii "given"; repeats = none }
+    ∷ record { kind = ascii "given2"; repeats = none } ∷ record { kind = ascii "title"; repeats = none }
+    ∷ record { kind = ascii "credential"; repeats = some 6 } ∷ record { kind = ascii "surname2"; repeats = none }
+    ∷ record { kind = ascii "generation"; repeats = none } ∷ []
+
 -- the kinds of components, in the order of N's parts
 abbrev pub componentKinds : List Bytes
-componentKinds =
-    ascii "surname" ∷ ascii "given" ∷ ascii "given2" ∷ ascii "title" ∷ ascii "credential" ∷ ascii "surname2" ∷ ascii "generation" ∷ []
+componentKinds = map (λ (p : Part). p .kind) nameRow
 
 -- ---- finding a place in a list
 

@@ -9,19 +9,12 @@ use Rattle.json.specs.Compact.{compact}
 use Rattle.line.specs.Grammar.{Param, param, Line}
 use Rattle.line.specs.Text.{writeText}
 use Rattle.line.specs.Write.{writeCard}
-use Rattle.convert.specs.Table.{Map, maps, typeNames, vcardType, type-name}
+use Rattle.convert.specs.Table.{Map, maps, typeNames, vcardType, feature-type}
 use Rattle.convert.specs.Model.{Entry, Card, hasParts}
 use Rattle.convert.specs.Value.{writeAs, writtenType, writeName}
 use Rattle.convert.specs.Pointer.{pointer}
+use Rattle.convert.specs.Property.{property, paramOf}
 use Rattle.convert.specs.FromJson.{keptAsLine}
-
-abbrev pub property : Bytes → List Param → Bytes → Line
-property n ps v = record { group = []; name = n; params = ps; value = v }
-
--- a parameter where it has values
-abbrev pub paramOf : Bytes → List Bytes → List Param
-paramOf n [] = []
-paramOf n (v ∷ vs) = param n (v ∷ vs) ∷ []
 
 abbrev pub whereFilled : Bytes → Line → List Line
 whereFilled v l = pick (empty v) [] (l ∷ [])
@@ -42,7 +35,7 @@ unfoldable pub entryLine : Map → Entry → Line
 entryLine m e =
     property (getD (m .properties) (e .which) [])
     (param (ascii "prop-id") (e .key ∷ []) ∷ (pick (empty (e .pref)) [] (param (ascii "pref") (e .pref ∷ []) ∷ [])
-    ++ paramOf (ascii "type") (map (λ t. vcardType (getD typeNames t (type-name [] []))) (e .types))
+    ++ paramOf (ascii "type") (map (λ t. vcardType (getD typeNames t (feature-type [] []))) (e .types))
     ++ paramOf (ascii "value") (writtenType (m .form) (e .texts))))
     (writeAs (m .form) (e .texts))
 

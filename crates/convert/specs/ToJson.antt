@@ -10,7 +10,7 @@ use Rattle.text.specs.Bytes.{Bytes, ascii, empty, any, keep}
 use Rattle.json.specs.Tree.{Json, jstr, jnum, jtrue, Member, member, object, array}
 use Rattle.json.specs.Compact.{compact}
 use Rattle.line.specs.Grammar.{Param, param}
-use Rattle.convert.specs.Table.{Form, text, single, uri, phone, organization, Map, maps, typeNames, jsonType, type-name, contextCodes, featureCodes, componentKinds}
+use Rattle.convert.specs.Table.{Form, text, single, uri, phone, organization, Map, maps, typeNames, jsonType, feature-type, contextCodes, featureCodes, componentKinds}
 use Rattle.convert.specs.Model.{Entry, Kept, Card, hasParts}
 use Rattle.convert.specs.Value.{filled, headOr}
 
@@ -52,7 +52,7 @@ contentJson organization n (v ∷ vs) =
 unfoldable pub flagsJson : Bytes → List ℕ → List ℕ → List Member
 flagsJson n kind codes =
     let cs : List ℕ = keep (λ c. any (eqb c) kind) codes in
-    where′ (not (empty cs)) (member n (object (map (λ c. member (jsonType (getD typeNames c (type-name [] []))) jtrue) cs)))
+    where′ (not (empty cs)) (member n (object (map (λ c. member (jsonType (getD typeNames c (feature-type [] []))) jtrue) cs)))
 
 unfoldable pub entryJson : Map → Entry → Member
 entryJson m e =

@@ -2,16 +2,17 @@
 use mathlib.Core.Bool.{Bool, true, false, _&&_, not}
 use mathlib.Core.List.{List, [], _∷_, _++_, map, tail}
 use mathlib.Core.Option.{Option, none, some, Option·map}
-use Prim.Native.Nat.{zero}
+use Prim.Native.Nat.{ℕ, suc}
+use Prim.Native.Char.{code}
 use lib.ListN.{length}
 use lib.Dec.{eqb, leb}
-use Rattle.text.specs.Choice.{pick, chain, provided}
+use Rattle.text.specs.Choice.{pick, chain, provided, with-some}
 use Rattle.text.specs.Bytes.{Bytes, ascii, is, any, all, empty, same, among, begins, isDigit, joined, keep, each}
 use Rattle.text.specs.Decimal.{number}
 use Rattle.text.specs.Reader.{first}
 use Rattle.line.specs.Class.{isKey, isControl}
 use Rattle.line.specs.Text.{readText, splitText, writeText}
-use Rattle.convert.specs.Table.{Form, text, single, uri, phone, organization}
+use Rattle.convert.specs.Table.{Form, text, single, uri, phone, organization, Part, nameRow}
 use Rattle.convert.specs.Model.{part}
 
 abbrev pub filled : Bytes → Bool
@@ -25,7 +26,7 @@ isKeyText k = filled k && leb (length k) 255 && all isKey k
 
 -- PREF: 1 to 100, no leading zero
 unfoldable pub isPref : Bytes → Bool
-isPref p = filled p && leb (length p) 3 && all isDigit p && not (is 48 (first p)) && leb (number p) 100
+isPref p = filled p && leb (length p) 3 && all isDigit p && not (is (code "0") (first p)) && leb (number p) 100
 
 -- ---- ORG: the name, then units; empty units vanish
 
@@ -43,10 +44,10 @@ alone v = Option·map (λ t. t ∷ []) v
 
 unfoldable pub readAs : Form → Bytes → Bytes → Option (List Bytes)
 readAs text type v = alone (readText v)
-readAs single type v = provided (eqb (length (splitText 44 v)) 1) (alone (readText v))
+readAs single type v = provided (eqb (length (splitText (code ",") v)) 1) (alone (readText v))
 readAs uri type v = some (v ∷ [])
 readAs phone type v = pick (same type (ascii "uri")) (provided (begins (ascii "tel:") v) (some (v ∷ []))) (alone (readText v))
-readAs organization type v = chain (each readText (splitText 59 v)) λ vs. provided (any filled vs) (some (organized vs))
+readAs organization type v = chain (each readText (splitText (code ";") v)) λ vs. provided (any filled vs) (some (organized vs))
 
 -- which VALUE a form takes
 unfoldable pub takesType : Form → Bytes → Bool
@@ -80,27 +81,30 @@ writtenType organization vs = []
 
 -- values of one part, split at bare commas; empty ones vanish
 unfoldable pub partValues : Bytes → Option (List Bytes)
-partValues s = Option·map (keep filled) (each readText (splitText 44 s))
+partValues s = Option·map (keep filled) (each readText (splitText (code ",") s))
 
 -- those that are not among the others
 unfoldable pub without : List Bytes → List Bytes → List Bytes
 without others vs = keep (λ v. not (among v others)) vs
 
--- all seven parts; reading ignores a family value also among the secondary surnames, and a suffix also among the generations
+-- all parts of a row from the i-th on: those that repeat another's values get them by the rule given
+abbrev pub rowFrom : (List Bytes → List Bytes → List Bytes) → ℕ → List Part → List (List Bytes) → List (List Bytes)
+rowFrom f i [] ps = []
+rowFrom f i (p ∷ row) ps = with-some (p .repeats) (λ r. f (part ps r) (part ps i)) (part ps i) ∷ rowFrom f (suc i) row ps
+
+-- reading ignores a family value also among the secondary surnames, and a suffix also among the generations
 unfoldable pub ownParts : List (List Bytes) → List (List Bytes)
-ownParts ps =
-    without (part ps 5) (part ps 0) ∷ part ps 1 ∷ part ps 2 ∷ part ps 3 ∷ without (part ps 6) (part ps 4) ∷ part ps 5 ∷ part ps 6 ∷ []
+ownParts ps = rowFrom without 0 nameRow ps
 
 -- none where an escape is bad, where there are over 7 parts, or where every value is empty
 unfoldable pub readName : Bytes → Option (List (List Bytes))
 readName v =
-    provided (leb (length (splitText 59 v)) 7)
-    (chain (each partValues (splitText 59 v)) λ ps. provided (any (λ vs. not (empty vs)) ps) (some (ownParts ps)))
+    provided (leb (length (splitText (code ";") v)) (length nameRow))
+    (chain (each partValues (splitText (code ";") v)) λ ps. provided (any (λ vs. not (empty vs)) ps) (some (ownParts ps)))
 
 -- writing appends surname2 to family and generation to suffixes
 unfoldable pub writtenParts : List (List Bytes) → List (List Bytes)
-writtenParts ps =
-    (part ps 0 ++ part ps 5) ∷ part ps 1 ∷ part ps 2 ∷ part ps 3 ∷ (part ps 4 ++ part ps 6) ∷ part ps 5 ∷ part ps 6 ∷ []
+writtenParts ps = rowFrom (λ others vs. vs ++ others) 0 nameRow ps
 
 unfoldable pub writeName : List (List Bytes) → Bytes
 writeName ps = joined (ascii ";") (map (λ vs. joined (ascii ",") (map (writeText true) vs)) (writtenParts ps))

@@ -28,7 +28,8 @@ use Rattle.convert.specs.Value.{filled, isKeyText, partValues, without, ownPart
 use Rattle.convert.specs.Classify.{nothing, bare, sole, treeOf, memberName, memberValue, entryOf}
 use Rattle.convert.specs.FromCard.{keptLine}
 use Rattle.convert.specs.FromJson.{keptAsLine}
-use Rattle.convert.specs.NormalCard.{plainLine, renewed, nameValues, nameText, entryForm, keptForm, propId}
+use Rattle.convert.specs.Property.{property}
+use Rattle.convert.specs.NormalCard.{renewed, nameValues, nameText, entryForm, keptForm, propId}
 use Rattle.convert.specs.Answers.{isNamed, onlyUri, misused}
 use Rattle.convert.proofs.Names.{read-parts}
 use Rattle.convert.proofs.Entries.{Proper, entry-read}
@@ -50,7 +51,7 @@ use Rattle.line.proofs.Merging.{none-left}
 use Rattle.home.proofs.Merged.{merged-none}
 use Rattle.home.proofs.LineKept.{LineFine, fine}
 
-plain-line : (n v : Bytes) → plain (plainLine n [] v) ≡ true
+plain-line : (n v : Bytes) → plain (property n [] v) ≡ true
 unfolding same valueType valuesNamed besidesValue lacking keep flat lowered lower between
 plain-line n v = refl
 
@@ -75,11 +76,11 @@ module _ (l : Line) (h : LineFine l) where
       bad : empty (l .group) && empty (l .params) ≡ false → misused l ≡ true
       bad e = rw (same-true (lowered (l .name)) (ascii "kind") n, e)
 
-  pub uid-allowed : isNamed (ascii "uid") l ≡ true → Allowed l (plainLine (ascii "uid") [] (l .value))
+  pub uid-allowed : isNamed (ascii "uid") l ≡ true → Allowed l (property (ascii "uid") [] (l .value))
   unfolding same lowered lower between onlyUri
   uid-allowed n = uid (n, refl) (uid-used n) refl refl
 
-  pub kind-allowed : isNamed (ascii "kind") l ≡ true → Allowed l (plainLine (ascii "kind") [] (lowered (l .value)))
+  pub kind-allowed : isNamed (ascii "kind") l ≡ true → Allowed l (property (ascii "kind") [] (lowered (l .value)))
   kind-allowed n = kind (n, own-names .0) (kind-used n) refl refl
 
 -- ---- FN and N
@@ -88,7 +89,7 @@ full-back : (v t : Bytes) → readText v ≡ some t → readText (renewed false 
 unfolding renewed
 full-back v t e = rw e (read-write false t)
 
-pub full-allowed : (l : Line) (v : Bytes) → isNamed (ascii "fn") l ≡ true → plain l ≡ true → readText (l .value) ≡ some v → Allowed l (plainLine (ascii "fn") [] (renewed false (l .value)))
+pub full-allowed : (l : Line) (v : Bytes) → isNamed (ascii "fn") l ≡ true → plain l ≡ true → readText (l .value) ≡ some v → Allowed l (property (ascii "fn") [] (renewed false (l .value)))
 unfolding same lowered lower between
 full-allowed l v n p e = full (n, refl) p (plain-line (ascii "fn") (renewed false (l .value))) v e (full-back (l .value) v e)
 
@@ -116,7 +117,7 @@ parts-back l ps c e =
           ∙ read-parts (without (part came 5) (part came 0)) (part came 1) (part came 2) (part came 3) (without (part came 6) (part came 4)) (part came 5) (part came 6) g;
     }
 
-pub parts-allowed : (l : Line) (ps : List (List Bytes)) → CleanLine l → isNamed (ascii "n") l ≡ true → plain l ≡ true → readName (l .value) ≡ some ps → Allowed l (plainLine (ascii "n") [] (nameText (nameValues (l .value))))
+pub parts-allowed : (l : Line) (ps : List (List Bytes)) → CleanLine l → isNamed (ascii "n") l ≡ true → plain l ≡ true → readName (l .value) ≡ some ps → Allowed l (property (ascii "n") [] (nameText (nameValues (l .value))))
 unfolding same lowered lower between
 parts-allowed l ps c n p e = parts (n, refl) p (plain-line (ascii "n") (nameText (nameValues (l .value)))) (parts-back l ps c e)
 
@@ -162,7 +163,7 @@ module _ (l : Line) (w : Slot) (e : Entry) (c : CleanLine l) (o : slotOf (lowere
 abbrev pub pointing : List Bytes → List Param
 pointing vs = param (ascii "jsptr") vs ∷ []
 
-pointing-bare : (vs v : Bytes) (ps : List Bytes) → bare (plainLine v (pointing ps) vs) ≡ true
+pointing-bare : (vs v : Bytes) (ps : List Bytes) → bare (property v (pointing ps) vs) ≡ true
 unfolding same valueType valuesNamed named keep flat lowered lower between
 pointing-bare vs v ps = refl
 
@@ -184,7 +185,7 @@ tree-read (tree i) j e = ap tree (some-same e)
 tree-read (refused n) j e = none-some e
 
 pub member-allowed : (l : Line) (n : Bytes) (j : Json) → isNamed (ascii "jsprop") l ≡ true → bare l ≡ true → memberName nothing (besidesValue (l .params)) ≡ some n → memberValue (l .value) ≡ some j
-    → Allowed l (plainLine (ascii "jsprop") (pointing (valuesNamed (ascii "jsptr") (l .params))) (writeText false (compact j)))
+    → Allowed l (property (ascii "jsprop") (pointing (valuesNamed (ascii "jsptr") (l .params))) (writeText false (compact j)))
 unfolding memberName memberValue same
 member-allowed l n j a b m v =
     let ps : List Param = besidesValue (l .params) in

@@ -18,7 +18,8 @@ use Rattle.convert.specs.Value.{filled, readName, writeName}
 use Rattle.convert.specs.Classify.{as-version, as-uid, as-kind, as-dropped, as-full, as-parts, Id, isId, Seen, nothing, fullClass, classify}
 use Rattle.convert.specs.FromCard.{Gives}
 use Rattle.convert.specs.FromJson.{isLowerWord, idsFrom, seenIn}
-use Rattle.convert.specs.ToCard.{property, whereFilled, lineWhere, derivedLine, fullLine, cardLines}
+use Rattle.convert.specs.Property.{property}
+use Rattle.convert.specs.ToCard.{whereFilled, lineWhere, derivedLine, fullLine, cardLines}
 use Rattle.convert.specs.Carry.{apart}
 use Rattle.convert.proofs.Names.{read-name}
 use Rattle.convert.proofs.Written.{version-class, uid-class, kind-class, full-class, parts-class, full-written, parts-written, derived-written}

@@ -24,7 +24,8 @@ use Rattle.convert.specs.Value.{filled, writeName}
 use Rattle.convert.specs.Classify.{Seen}
 use Rattle.convert.specs.Carry.{carriedText, carriedParam, carriedAs, carriedMaps, carriedKept}
 use Rattle.convert.specs.FromJson.{isLowerWord, keptAsLine, keptStands, seenIn}
-use Rattle.convert.specs.ToCard.{property, whereFilled, lineWhere, derivedLine, fullLine, entryLine, mapsLines, memberLine, cardLines, printCard}
+use Rattle.convert.specs.Property.{property}
+use Rattle.convert.specs.ToCard.{whereFilled, lineWhere, derivedLine, fullLine, entryLine, mapsLines, memberLine, cardLines, printCard}
 use Rattle.convert.specs.Answers.{rawLines, linesOf}
 use Rattle.home.proofs.Proper.{ProperEntries, ProperMaps, ProperMembers, AllKeptFine, ProperCard}
 use Rattle.home.proofs.Rows.{Row, Rows, rows}

@@ -23,7 +23,8 @@ use Rattle.convert.specs.Table.{maps}
 use Rattle.convert.specs.Model.{Card, hasParts}
 use Rattle.convert.specs.Value.{filled, writeName}
 use Rattle.convert.specs.FromJson.{isLowerWord, seenIn}
-use Rattle.convert.specs.ToCard.{property, whereFilled, derivedLine, fullLine, cardLines}
+use Rattle.convert.specs.Property.{property}
+use Rattle.convert.specs.ToCard.{whereFilled, derivedLine, fullLine, cardLines}
 use Rattle.convert.specs.Answers.{Answer, fine, lineRoom, seek, given, firstFrom, atLine, garbled, ungrammatical, isNamed, isVersionLine, versionFirst, onlyUri, misused, secondFrom, emptied, lineTests}
 use Rattle.convert.proofs.Cases.{empty-upper}
 use Rattle.home.proofs.Proper.{ProperCard}

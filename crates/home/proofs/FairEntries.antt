@@ -19,7 +19,8 @@ use Rattle.convert.specs.Model.{Entry}
 use Rattle.convert.specs.Value.{headOr, isKeyText, isPref, isTelUri, writtenType}
 use Rattle.convert.specs.Carry.{carriedAs}
 use Rattle.convert.specs.FromJson.{isLowerWord}
-use Rattle.convert.specs.ToCard.{paramOf, entryLine}
+use Rattle.convert.specs.Property.{paramOf}
+use Rattle.convert.specs.ToCard.{entryLine}
 use Rattle.convert.proofs.Types.{typeText, below}
 use Rattle.convert.proofs.Entries.{Proper}
 use Rattle.home.proofs.Proper.{ProperEntry}

@@ -9,7 +9,8 @@ use Rattle.line.specs.Grammar.{Line, readLine}
 use Rattle.line.specs.Write.{writeCard}
 use Rattle.convert.specs.Classify.{nothing, classed}
 use Rattle.convert.specs.FromCard.{cardOfClassed, cardOfLines}
-use Rattle.convert.specs.ToCard.{property, fullLine, cardLines, printCard}
+use Rattle.convert.specs.Property.{property}
+use Rattle.convert.specs.ToCard.{fullLine, cardLines, printCard}
 use Rattle.convert.specs.Answers.{secondFrom, emptied, rawLines, linesOf}
 use Rattle.convert.specs.NormalCard.{normalLines, normalCard}
 use Rattle.home.proofs.NormalCardHead.{uid-part, kind-part}

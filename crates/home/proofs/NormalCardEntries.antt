@@ -15,8 +15,9 @@ use Rattle.convert.specs.Table.{Map, Slot, slotFrom, slotOf, position, maps}
 use Rattle.convert.specs.Model.{Entry}
 use Rattle.convert.specs.Value.{isKeyText, isPref, readAs, takesType, writeAs, writtenType}
 use Rattle.convert.specs.Classify.{Seen, isId, keyFrom, prefFrom, typesFrom, allowed, entryOf}
-use Rattle.convert.specs.ToCard.{property, paramOf, entryLine}
-use Rattle.convert.specs.NormalCard.{whereAny, typeForm, valueForm, entryValue, entryForm, propId}
+use Rattle.convert.specs.Property.{property, paramOf}
+use Rattle.convert.specs.ToCard.{entryLine}
+use Rattle.convert.specs.NormalCard.{typeForm, valueForm, entryValue, entryForm, propId}
 use Rattle.convert.proofs.Types.{typeText}
 use Rattle.home.proofs.Known.{onProvided, onChain, onSome}
 use Rattle.home.proofs.Positions.{position-name, pref-filled}
@@ -50,14 +51,10 @@ key-given s i [] k e = sym (some-same e)
 key-given s i (v ∷ []) k e = onProvided (isKeyText v && not (any (isId i v) (s .ids))) (some v) e λ t r. sym (some-same r)
 key-given s i (v ∷ (w ∷ vs)) k e = none-some e
 
-pref-given : (vs : List Bytes) (p : Bytes) → prefFrom vs ≡ some p → pick (empty p) [] (param (ascii "pref") (p ∷ []) ∷ []) ≡ whereAny (ascii "pref") vs
+pref-given : (vs : List Bytes) (p : Bytes) → prefFrom vs ≡ some p → pick (empty p) [] (param (ascii "pref") (p ∷ []) ∷ []) ≡ paramOf (ascii "pref") vs
 pref-given [] p e = rw (← some-same e)
 pref-given (v ∷ []) p e = onProvided (isPref v) (some v) e λ t r. rw (← some-same r, not-true (empty v) (pref-filled v t))
 pref-given (v ∷ (w ∷ vs)) p e = none-some e
-
-param-same : (n : Bytes) (vs : List Bytes) → paramOf n vs ≡ whereAny n vs
-param-same n [] = refl
-param-same n (v ∷ vs) = refl
 
 -- ---- the entry
 
@@ -92,15 +89,15 @@ module _ (s : Seen) (w : Slot) (l : Line) (e : Entry) where
 
   params-form : entryOf s w l ≡ some e
       → pick (empty (e .pref)) [] (param (ascii "pref") (e .pref ∷ []) ∷ []) ++ paramOf (ascii "type") (map typeText (e .types)) ++ paramOf (ascii "value") (writtenType (w .map .form) (e .texts))
-      ≡ whereAny (ascii "pref") (valuesNamed (ascii "pref") (l .params)) ++ whereAny (ascii "type") (typeForm (valuesNamed (ascii "type") (l .params)))
-      ++ whereAny (ascii "value") (valueForm (w .map .form) (valueType (l .params)) (l .value))
+      ≡ paramOf (ascii "pref") (valuesNamed (ascii "pref") (l .params)) ++ paramOf (ascii "type") (typeForm (valuesNamed (ascii "type") (l .params)))
+      ++ paramOf (ascii "value") (valueForm (w .map .form) (valueType (l .params)) (l .value))
   unfolding same
   params-form h =
       onEntry h λ k p t v n.
       ap₂ _++_
-      (ap₂ _++_ (pref-given (valuesNamed (ascii "pref") ps) (e .pref) p ∙ ap (whereAny (ascii "pref")) (values-besides (ascii "pref") (l .params) refl))
-      (param-same (ascii "type") (map typeText (e .types)) ∙ ap (whereAny (ascii "type")) (types-form (w .map .types) (valuesNamed (ascii "type") ps) (e .types) t ∙ ap typeForm (values-besides (ascii "type") (l .params) refl))))
-      (param-same (ascii "value") (writtenType (w .map .form) (e .texts)) ∙ ap (whereAny (ascii "value")) (form-written (w .map .form) (valueType (l .params)) (l .value) (e .texts) v .1))
+      (ap₂ _++_ (pref-given (valuesNamed (ascii "pref") ps) (e .pref) p ∙ ap (paramOf (ascii "pref")) (values-besides (ascii "pref") (l .params) refl))
+      (ap (paramOf (ascii "type")) (types-form (w .map .types) (valuesNamed (ascii "type") ps) (e .types) t ∙ ap typeForm (values-besides (ascii "type") (l .params) refl))))
+      (ap (paramOf (ascii "value")) (form-written (w .map .form) (valueType (l .params)) (l .value) (e .texts) v .1))
 
   name-form : entryOf s w l ≡ some e → slotOf (lowered (l .name)) ≡ some w → getD (w .map .properties) (e .which) [] ≡ lowered (l .name)
   name-form h o = onEntry h λ k p t v n. ap (λ (x : ℕ). getD (w .map .properties) x []) (sym n) ∙ sym (slot-name (lowered (l .name)) w o)

@@ -13,9 +13,10 @@ use Rattle.line.specs.Grammar.{Line}
 use Rattle.convert.specs.Value.{filled}
 use Rattle.convert.specs.Classify.{Class, as-version, as-uid, as-kind, as-dropped, as-full, as-parts, as-entry, as-member, as-kept, Seen, classedAfter}
 use Rattle.convert.specs.FromCard.{Gives, gives, gathered, firstOf, orElse, madeUid}
-use Rattle.convert.specs.ToCard.{property, whereFilled}
+use Rattle.convert.specs.Property.{property}
+use Rattle.convert.specs.ToCard.{whereFilled}
 use Rattle.convert.specs.Answers.{secondFrom, emptied, isNamed}
-use Rattle.convert.specs.NormalCard.{plainLine, uids, kinds, section, orMade}
+use Rattle.convert.specs.NormalCard.{uids, kinds, section, orMade}
 use Rattle.home.proofs.Images.{AtMostOne, empty-map}
 use Rattle.home.proofs.Classes.{Fact, Agrees, gathered-section, elsewhere}
 use Rattle.home.proofs.Once.{ByName, few, one-named, gathered-all}
@@ -55,7 +56,7 @@ uid-named s l as-kept h n = refl
 
 pub uid-part : (stem : Bytes) (n : ℕ) (s : Seen) (ls : List Line) → secondFrom 1 [] ls ≡ none
     → uid-line (orElse (firstOf (gathered (λ (g : Gives). g .uid) (classedAfter s ls))) (madeUid stem n)) ∷ []
-    ≡ orMade (map (λ (l : Line). plainLine (ascii "uid") [] (l .value)) (section uids (classedAfter s ls))) (plainLine (ascii "uid") [] (stem ++ 45 ∷ decimal n))
+    ≡ orMade (map (λ (l : Line). property (ascii "uid") [] (l .value)) (section uids (classedAfter s ls))) (property (ascii "uid") [] (stem ++ 45 ∷ decimal n))
 unfolding madeUid same among any
 uid-part stem n s ls h =
     sym (one-or-made uid-line (gathered (λ (g : Gives). g .uid) (classedAfter s ls)) (madeUid stem n) (one-named (λ (g : Gives). g .uid) (ascii "uid") uid-named (λ l c. few l c .0) refl 1 [] s ls h))
@@ -115,7 +116,7 @@ kind-there (k ∷ (j ∷ ks)) o h = absurd o
 
 pub kind-part : (s : Seen) (ls : List Line) → secondFrom 1 [] ls ≡ none → any emptied ls ≡ false
     → whereFilled (orElse (firstOf (gathered (λ (g : Gives). g .kind) (classedAfter s ls))) []) (kind-line (orElse (firstOf (gathered (λ (g : Gives). g .kind) (classedAfter s ls))) []))
-    ≡ map (λ (l : Line). plainLine (ascii "kind") [] (lowered (l .value))) (section kinds (classedAfter s ls))
+    ≡ map (λ (l : Line). property (ascii "kind") [] (lowered (l .value))) (section kinds (classedAfter s ls))
 unfolding same among any
 kind-part s ls h e =
     kind-there (gathered (λ (g : Gives). g .kind) (classedAfter s ls)) (one-named (λ (g : Gives). g .kind) (ascii "kind") kind-named (λ l c. few l c .1) refl 1 [] s ls h) (gathered-all (λ (g : Gives). g .kind) filled emptied kind-filled s ls e)

@@ -12,8 +12,9 @@ use Rattle.convert.specs.Model.{hasParts, noParts}
 use Rattle.convert.specs.Value.{writtenParts, writeName}
 use Rattle.convert.specs.Classify.{Class, as-version, as-uid, as-kind, as-dropped, as-full, as-parts, as-entry, as-member, as-kept, Seen, classedAfter}
 use Rattle.convert.specs.FromCard.{Gives, gives, gathered, firstOf, orElse}
-use Rattle.convert.specs.ToCard.{property, lineWhere, derivedLine}
-use Rattle.convert.specs.NormalCard.{plainLine, renewed, nameValues, nameText, fulls, names, section, orMade, nameStrings, derivedForm}
+use Rattle.convert.specs.Property.{property}
+use Rattle.convert.specs.ToCard.{lineWhere, derivedLine}
+use Rattle.convert.specs.NormalCard.{renewed, nameValues, nameText, fulls, names, section, orMade, nameStrings, derivedForm}
 use Rattle.convert.proofs.CardParts.{has-no-parts}
 use Rattle.home.proofs.Images.{AtMostOne}
 use Rattle.home.proofs.Classes.{Fact, Agrees, gathered-section, elsewhere}
@@ -25,7 +26,7 @@ use Rattle.home.proofs.Once.{ByFlag, few, one-seen, gathered-all}
 abbrev full-line : Bytes → Line
 full-line v = property (ascii "fn") [] (writeText false v)
 
-full-agrees : (s : Seen) (l : Line) (c : Class) → Fact s l c → Agrees (λ (g : Gives). g .full) fulls full-line (λ (l : Line). plainLine (ascii "fn") [] (renewed false (l .value))) l c
+full-agrees : (s : Seen) (l : Line) (c : Class) → Fact s l c → Agrees (λ (g : Gives). g .full) fulls full-line (λ (l : Line). property (ascii "fn") [] (renewed false (l .value))) l c
 unfolding renewed
 full-agrees s l as-version h = refl
 full-agrees s l (as-uid v) h = refl
@@ -55,11 +56,11 @@ full-there (v ∷ (w ∷ vs)) d h = absurd h
 
 full-part : (s : Seen) (ls : List Line) (d : Line)
     → with-some (firstOf (gathered (λ (g : Gives). g .full) (classedAfter s ls))) full-line d ∷ []
-    ≡ orMade (map (λ (l : Line). plainLine (ascii "fn") [] (renewed false (l .value))) (section fulls (classedAfter s ls))) d
+    ≡ orMade (map (λ (l : Line). property (ascii "fn") [] (renewed false (l .value))) (section fulls (classedAfter s ls))) d
 full-part s ls d =
     full-there (gathered (λ (g : Gives). g .full) (classedAfter s ls)) d
     (one-seen (λ (g : Gives). g .full) (λ (t : Seen). t .full) full-once (λ l c. few l c .2) s ls)
-    ∙ ap (λ (x : List Line). orMade x d) (gathered-section (λ (g : Gives). g .full) fulls full-line (λ (l : Line). plainLine (ascii "fn") [] (renewed false (l .value))) full-agrees s ls)
+    ∙ ap (λ (x : List Line). orMade x d) (gathered-section (λ (g : Gives). g .full) fulls full-line (λ (l : Line). property (ascii "fn") [] (renewed false (l .value))) full-agrees s ls)
 
 -- ---- N
 
@@ -121,7 +122,7 @@ derived-lines [] = refl
 derived-lines (l ∷ ls) = refl
 
 name-lines : (ns : List Line) → AtMostOne (values ns) → all hasParts (values ns) ≡ true
-    → lineWhere (hasParts (orElse (firstOf (values ns)) noParts)) (property (ascii "n") [] (writeName (orElse (firstOf (values ns)) noParts))) ≡ map (λ (l : Line). plainLine (ascii "n") [] (nameText (nameValues (l .value)))) ns
+    → lineWhere (hasParts (orElse (firstOf (values ns)) noParts)) (property (ascii "n") [] (writeName (orElse (firstOf (values ns)) noParts))) ≡ map (λ (l : Line). property (ascii "n") [] (nameText (nameValues (l .value)))) ns
 name-lines [] o h = rw has-no-parts
 name-lines (l ∷ []) o h = rw (all-head hasParts (nameValues (l .value)) [] h, written-name (nameValues (l .value)))
 name-lines (l ∷ (k ∷ ls)) o h = absurd o
@@ -132,12 +133,12 @@ derived-part s ls = rw (parts-form s ls) (derived-lines (section names (classedA
 -- FN, or one made of N
 pub fn-part : (s : Seen) (ls : List Line)
     → with-some (firstOf (gathered (λ (g : Gives). g .full) (classedAfter s ls))) full-line (derivedLine (orElse (firstOf (gathered (λ (g : Gives). g .parts) (classedAfter s ls))) noParts)) ∷ []
-    ≡ orMade (map (λ (l : Line). plainLine (ascii "fn") [] (renewed false (l .value))) (section fulls (classedAfter s ls))) (derivedForm (section names (classedAfter s ls)))
+    ≡ orMade (map (λ (l : Line). property (ascii "fn") [] (renewed false (l .value))) (section fulls (classedAfter s ls))) (derivedForm (section names (classedAfter s ls)))
 fn-part s ls = rw (derived-part s ls) (full-part s ls (derivedForm (section names (classedAfter s ls))))
 
 pub name-part : (s : Seen) (ls : List Line)
     → lineWhere (hasParts (orElse (firstOf (gathered (λ (g : Gives). g .parts) (classedAfter s ls))) noParts)) (property (ascii "n") [] (writeName (orElse (firstOf (gathered (λ (g : Gives). g .parts) (classedAfter s ls))) noParts)))
-    ≡ map (λ (l : Line). plainLine (ascii "n") [] (nameText (nameValues (l .value)))) (section names (classedAfter s ls))
+    ≡ map (λ (l : Line). property (ascii "n") [] (nameText (nameValues (l .value)))) (section names (classedAfter s ls))
 name-part s ls =
     let o : AtMostOne (gathered (λ (g : Gives). g .parts) (classedAfter s ls)) =
     one-seen (λ (g : Gives). g .parts) (λ (t : Seen). t .parts) parts-once (λ l c. few l c .3) s ls in

@@ -17,7 +17,8 @@ use Rattle.convert.specs.Pointer.{pointed, pointer}
 use Rattle.convert.specs.Classify.{Class, as-version, as-uid, as-kind, as-dropped, as-full, as-parts, as-entry, as-member, as-kept, Seen, sole, memberName, classedAfter}
 use Rattle.convert.specs.FromJson.{keptAsLine}
 use Rattle.convert.specs.FromCard.{Gives, gives, gathered, keptLine}
-use Rattle.convert.specs.ToCard.{property, memberLine}
+use Rattle.convert.specs.Property.{property}
+use Rattle.convert.specs.ToCard.{memberLine}
 use Rattle.convert.specs.NormalCard.{kepts, section, memberForm, keptForm}
 use Rattle.convert.proofs.Pointers.{pointer-pointed}
 use Rattle.home.proofs.Known.{onProvided, onChain}

@@ -8,7 +8,7 @@ use lib.Dec.{eqb, ltb}
 use Rattle.text.specs.Bytes.{Bytes, any, all, same, among, lowered, parts, flat, each}
 use Rattle.text.proofs.Cases.{byBelow, upTo, not-both}
 use Rattle.text.proofs.Same.{same-true}
-use Rattle.convert.specs.Table.{type-name, typeNames, vcardType, inOrder, position}
+use Rattle.convert.specs.Table.{feature-type, typeNames, vcardType, inOrder, position}
 use Rattle.convert.specs.Classify.{typesFrom}
 use Rattle.convert.specs.NormalCard.{typeForm}
 use Rattle.convert.proofs.Types.{typeText, codeOf}
@@ -27,7 +27,7 @@ same-type c d h l =
 code-value : (n : ℕ) (v : Bytes) (d c : ℕ) → codeOf n v ≡ some d → ltb c 9 ≡ true → eqb c d ≡ same (typeText c) (lowered v)
 code-value n v d c e h =
     let p : position (λ t. same (lowered v) (vcardType t)) typeNames ≡ some d = position-take (λ t. same (lowered v) (vcardType t)) n typeNames d e in
-    let q : lowered v ≡ typeText d = same-true (lowered v) (typeText d) (position-passes (λ t. same (lowered v) (vcardType t)) (type-name [] []) typeNames d p) in
+    let q : lowered v ≡ typeText d = same-true (lowered v) (typeText d) (position-passes (λ t. same (lowered v) (vcardType t)) (feature-type [] []) typeNames d p) in
     rw q (sym (same-type c d h (position-inside (λ t. same (lowered v) (vcardType t)) typeNames d p)))
 
 given-codes : (n c : ℕ) → ltb c 9 ≡ true → (vs : List Bytes) (cs : List ℕ) → each (codeOf n) vs ≡ some cs → any (eqb c) cs ≡ among (typeText c) (map lowered vs)

@@ -13,7 +13,7 @@ use Rattle.text.proofs.Lists.{keep-same, all-anything}
 use Rattle.line.specs.Text.{readText, splitText, escape, writeText}
 use Rattle.convert.specs.Table.{Form, text, single, uri, phone, organization}
 use Rattle.convert.specs.Value.{filled, organized, readAs, isTelUri, writeAs, writtenType}
-use Rattle.convert.specs.NormalCard.{renewed, unitsGone, orgText, telNumber, isTelUriForm, entryValue, valueForm}
+use Rattle.convert.specs.NormalCard.{renewed, unitsGone, orgText, telNumber, entryValue, valueForm}
 use Rattle.home.proofs.Known.{onProvided, onChain, onMap}
 use Rattle.home.proofs.Images.{each-same, keep-map}
 
@@ -37,7 +37,7 @@ tel-number type v vs e =
     (λ t. rw t (onMap (λ t. t ∷ []) (readText v) (rw t at e) λ x p q. rw p q))
 
 tel-written : (type v : Bytes) → Written phone type v (telNumber type v ∷ [])
-unfolding writeAs writtenType entryValue valueForm isTelUri isTelUriForm
+unfolding writeAs writtenType entryValue valueForm isTelUri
 tel-written type v = (refl, refl)
 
 -- ---- ORG

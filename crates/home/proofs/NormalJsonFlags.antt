@@ -12,7 +12,7 @@ use Rattle.text.proofs.Cases.{byBool, byBelow, upTo, not-both}
 use Rattle.text.proofs.Lists.{any-append, keep-swap}
 use Rattle.text.proofs.Same.{same-true}
 use Rattle.json.specs.Tree.{Json, jtrue, Member, member, field, object, asObject}
-use Rattle.convert.specs.Table.{TypeName, type-name, typeNames, jsonType, contextCodes, featureCodes, inOrder, position}
+use Rattle.convert.specs.Table.{TypeName, feature-type, typeNames, jsonType, contextCodes, featureCodes, inOrder, position}
 use Rattle.convert.specs.FromJson.{isTrue, flagOf, flagsFrom}
 use Rattle.convert.specs.ToJson.{flagsJson}
 use Rattle.convert.specs.NormalJson.{fieldsOf, as-is, unlessGone, flagsForm}
@@ -22,7 +22,7 @@ use Rattle.home.proofs.Positions.{position-passes, position-inside}
 use Rattle.home.proofs.Shapes.{true-inv, gone}
 
 abbrev nowhere : TypeName
-nowhere = type-name [] []
+nowhere = feature-type [] []
 
 -- ---- one flag
 

@@ -7,7 +7,8 @@ use Rattle.convert.specs.Table.{maps}
 use Rattle.convert.specs.Model.{Card, hasParts}
 use Rattle.convert.specs.Value.{writeName}
 use Rattle.convert.specs.FromJson.{keptAsLine}
-use Rattle.convert.specs.ToCard.{property, whereFilled, lineWhere, fullLine, mapsLines, memberLine, cardLines}
+use Rattle.convert.specs.Property.{property}
+use Rattle.convert.specs.ToCard.{whereFilled, lineWhere, fullLine, mapsLines, memberLine, cardLines}
 use Rattle.home.proofs.Alls.{All, all-joined}
 
 abbrev pub versionLine : Line

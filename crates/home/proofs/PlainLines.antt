@@ -21,7 +21,8 @@ use Rattle.convert.specs.Model.{Entry, Kept}
 use Rattle.convert.specs.Value.{headOr, isTelUri, writtenType}
 use Rattle.convert.specs.Classify.{Seen}
 use Rattle.convert.specs.FromJson.{isLowerWord, isGroup, neverKept, keptAsLine, keptStands}
-use Rattle.convert.specs.ToCard.{property, paramOf, lineWhere, derivedLine, entryLine, mapsLines, memberLine}
+use Rattle.convert.specs.Property.{property, paramOf}
+use Rattle.convert.specs.ToCard.{lineWhere, derivedLine, entryLine, mapsLines, memberLine}
 use Rattle.convert.specs.Answers.{valueFits}
 use Rattle.convert.proofs.Types.{typeText}
 use Rattle.convert.proofs.Entries.{four, the-value, prefValues, entry-params}

@@ -19,7 +19,8 @@ use Rattle.line.specs.Grammar.{Line}
 use Rattle.convert.specs.Table.{Map, maps}
 use Rattle.convert.specs.Value.{isKeyText}
 use Rattle.convert.specs.Classify.{Class, as-version, as-uid, as-kind, as-dropped, as-full, as-parts, as-entry, as-member, as-kept, nothing, Classed}
-use Rattle.convert.specs.NormalCard.{plainLine, renewed, nameValues, nameText, entryForm, keptForm, Section, nowhere, uids, kinds, fulls, names, members, kepts, map-at, sectionOf, sectionNumber, section, propId, entryForms, mapForms, memberForm, derivedForm, normalLines}
+use Rattle.convert.specs.Property.{property}
+use Rattle.convert.specs.NormalCard.{renewed, nameValues, nameText, entryForm, keptForm, Section, nowhere, uids, kinds, fulls, names, members, kepts, map-at, sectionOf, sectionNumber, section, propId, entryForms, mapForms, memberForm, derivedForm, normalLines}
 use Rattle.convert.specs.Keys.{fresh, keysAfter, keys}
 use Rattle.home.specs.Allowed.{Allowed, here, AllStand, no-more, one-more, whereNone}
 use Rattle.home.specs.Members.{Pairwise, no-pair, pair}
@@ -53,10 +54,10 @@ RowLine m l = (isIdText (propId l) ≡ true) × ((k : Bytes) → isKeyText k ≡
 -- what a line of the section is
 abbrev pub Fits : Section → Line → Type 0
 Fits nowhere l = Unit {0}
-Fits uids l = Allowed l (plainLine (ascii "uid") [] (l .value))
-Fits kinds l = Allowed l (plainLine (ascii "kind") [] (lowered (l .value)))
-Fits fulls l = Allowed l (plainLine (ascii "fn") [] (renewed false (l .value)))
-Fits names l = Allowed l (plainLine (ascii "n") [] (nameText (nameValues (l .value))))
+Fits uids l = Allowed l (property (ascii "uid") [] (l .value))
+Fits kinds l = Allowed l (property (ascii "kind") [] (lowered (l .value)))
+Fits fulls l = Allowed l (property (ascii "fn") [] (renewed false (l .value)))
+Fits names l = Allowed l (property (ascii "n") [] (nameText (nameValues (l .value))))
 Fits members l = Unit {0}
 Fits kepts l = Allowed l (keptForm l)
 Fits (map-at i) l = (m : Map) → at i maps ≡ some m → RowLine m l
@@ -212,7 +213,7 @@ members-stand (c ∷ cs) h = rw (section-first members (c .line) (c .class) cs) 
 
 -- VERSION, and the lines made where none came
 abbrev pub newOf : Bytes → ℕ → List Classed → List Line
-newOf stem n cs = plainLine (ascii "version") [] (ascii "4.0") ∷ (whereNone (section uids cs) (plainLine (ascii "uid") [] (stem ++ 45 ∷ decimal n)) ++ whereNone (section fulls cs) (derivedForm (section names cs)))
+newOf stem n cs = property (ascii "version") [] (ascii "4.0") ∷ (whereNone (section uids cs) (property (ascii "uid") [] (stem ++ 45 ∷ decimal n)) ++ whereNone (section fulls cs) (derivedForm (section names cs)))
 
 no-new : (v : Line) (u f : List Line) → v ∷ (u ++ [] ++ f ++ [] ++ [] ++ [] ++ []) ≡ v ∷ (u ++ f)
 no-new v u f = simp append-nil
@@ -220,14 +221,14 @@ no-new v u f = simp append-nil
 pub sections-stand : (stem : Bytes) (n : ℕ) (cs : List Classed) → All ClassedFine cs → length cs ≤ 512 → AllStand (newOf stem n cs) (sectioned cs) (normalLines stem n cs)
 unfolding normalLines
 sections-stand stem n cs h few =
-    let version : Line = plainLine (ascii "version") [] (ascii "4.0") in
+    let version : Line = property (ascii "version") [] (ascii "4.0") in
     let vs : AllStand (version ∷ []) [] (version ∷ []) = no-more in
-    let us = stand-made (λ (l : Line). plainLine (ascii "uid") [] (l .value)) (plainLine (ascii "uid") [] (stem ++ 45 ∷ decimal n)) (section uids cs) (section-fits uids cs h) in
-    let ks = stand-each (λ (l : Line). plainLine (ascii "kind") [] (lowered (l .value))) (section kinds cs) (section-fits kinds cs h) in
-    let fs = stand-made (λ (l : Line). plainLine (ascii "fn") [] (renewed false (l .value))) (derivedForm (section names cs)) (section fulls cs) (section-fits fulls cs h) in
-    let ns = stand-each (λ (l : Line). plainLine (ascii "n") [] (nameText (nameValues (l .value)))) (section names cs) (section-fits names cs h) in
+    let us = stand-made (λ (l : Line). property (ascii "uid") [] (l .value)) (property (ascii "uid") [] (stem ++ 45 ∷ decimal n)) (section uids cs) (section-fits uids cs h) in
+    let ks = stand-each (λ (l : Line). property (ascii "kind") [] (lowered (l .value))) (section kinds cs) (section-fits kinds cs h) in
+    let fs = stand-made (λ (l : Line). property (ascii "fn") [] (renewed false (l .value))) (derivedForm (section names cs)) (section fulls cs) (section-fits fulls cs h) in
+    let ns = stand-each (λ (l : Line). property (ascii "n") [] (nameText (nameValues (l .value)))) (section names cs) (section-fits names cs h) in
     let ms = maps-stand cs h few 0 maps (refl, (refl, (refl, (refl, (refl, (refl, (refl, tt))))))) in
     let js = pair-stand (members-stand cs h) in
     let xs = stand-each keptForm (section kepts cs) (section-fits kepts cs h) in
-    rw (← no-new version (whereNone (section uids cs) (plainLine (ascii "uid") [] (stem ++ 45 ∷ decimal n))) (whereNone (section fulls cs) (derivedForm (section names cs))))
+    rw (← no-new version (whereNone (section uids cs) (property (ascii "uid") [] (stem ++ 45 ∷ decimal n))) (whereNone (section fulls cs) (derivedForm (section names cs))))
     (stand-both vs (stand-both (stand-both (stand-both (stand-both (stand-both (stand-both us ks) fs) ns) ms) js) xs))

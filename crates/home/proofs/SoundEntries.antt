@@ -13,7 +13,7 @@ use Rattle.text.proofs.Lists.{all-head, all-tail, all-imply, keep-swap}
 use Rattle.json.specs.Tree.{Json, jtrue, jstr, Member, member, nameOf, object, array}
 use Rattle.json.proofs.Sound.{Sound}
 use Rattle.line.specs.Class.{isKey}
-use Rattle.convert.specs.Table.{Form, text, single, uri, phone, organization, Map, maps, typeNames, type-name, jsonType, contextCodes, featureCodes, inOrder}
+use Rattle.convert.specs.Table.{Form, text, single, uri, phone, organization, Map, maps, typeNames, feature-type, jsonType, contextCodes, featureCodes, inOrder}
 use Rattle.convert.specs.Value.{filled, isKeyText}
 use Rattle.convert.specs.ToJson.{where′, contentJson}
 use Rattle.home.proofs.Alls.{All, all-joined, test-all}
@@ -51,7 +51,7 @@ key-utf8 k h = ascii-utf8 k (all-imply isKey isAscii key-ascii k (and-right (fil
 -- ---- contexts and features
 
 abbrev pub typeJson : ℕ → Bytes
-typeJson c = jsonType (getD typeNames c (type-name [] []))
+typeJson c = jsonType (getD typeNames c (feature-type [] []))
 
 abbrev pub inGroup : List ℕ → ℕ → Bool
 inGroup group c = any (eqb c) group

@@ -5,6 +5,7 @@ use mathlib.Core.Bool.{Bool, true, false, _||_}
 use mathlib.Core.List.{[], _∷_, _++_}
 use mathlib.Core.Logic.{_⊎_}
 use Prim.Native.Nat.{ℕ, zero, suc, _+_, _≤_, _<_}
+use Prim.Native.Char.{code}
 use lib.ListN.{length, take}
 use lib.Dec.{eqb}
 use Rattle.text.specs.Bytes.{Bytes, ascii, is, between, isDigit}
@@ -62,31 +63,31 @@ unfoldable pub Digits : Lang
 Digits = One isDigit then Many (One isDigit)
 
 unfoldable pub Int : Lang
-Int = One (is 48) or (One (between 49 57) then Many (One isDigit))
+Int = One (is (code "0")) or (One (between (code "1") (code "9")) then Many (One isDigit))
 
 unfoldable pub Frac : Lang
-Frac = One (is 46) then Digits
+Frac = One (is (code ".")) then Digits
 
 unfoldable pub isE : ℕ → Bool
-isE c = eqb c 101 || eqb c 69
+isE c = eqb c (code "e") || eqb c (code "E")
 
 unfoldable pub isSign : ℕ → Bool
-isSign c = eqb c 43 || eqb c 45
+isSign c = eqb c (code "+") || eqb c (code "-")
 
 unfoldable pub Exp : Lang
 Exp = One isE then Maybe (One isSign) then Digits
 
 unfoldable pub Number : Lang
-Number = Maybe (One (is 45)) then Int then Maybe Frac then Maybe Exp
+Number = Maybe (One (is (code "-"))) then Int then Maybe Frac then Maybe Exp
 
 -- ---- section 7: strings, their characters in UTF-8 (section 8.1)
 
 unfoldable pub isHex : ℕ → Bool
-isHex c = between 48 57 c || between 65 70 c || between 97 102 c
+isHex c = between (code "0") (code "9") c || between (code "A") (code "F") c || between (code "a") (code "f") c
 
 -- what may stand after a backslash, besides u: " \ / b f n r t
 unfoldable pub isShort : ℕ → Bool
-isShort c = eqb c 34 || eqb c 92 || eqb c 47 || eqb c 98 || eqb c 102 || eqb c 110 || eqb c 114 || eqb c 116
+isShort c = eqb c (code "\"") || eqb c (code "\\") || eqb c (code "/") || eqb c (code "b") || eqb c (code "f") || eqb c (code "n") || eqb c (code "r") || eqb c (code "t")
 
 -- %x20-21 / %x23-5B / %x5D-7F, and characters of several bytes
 unfoldable pub isPlain : ℕ → Bool
@@ -98,11 +99,11 @@ Wide s = (utf8 s ≡ true) × (128 ≤ first s) × (first s < 256) × ((a b : By
 
 unfoldable pub Character : Lang
 Character =
-    One isPlain or Wide or (One (is 92) then One isShort)
-    or (One (is 92) then One (is 117) then One isHex then One isHex then One isHex then One isHex)
+    One isPlain or Wide or (One (is (code "\\")) then One isShort)
+    or (One (is (code "\\")) then One (is (code "u")) then One isHex then One isHex then One isHex then One isHex)
 
 unfoldable pub String : Lang
-String = One (is 34) then Many Character then One (is 34)
+String = One (is (code "\"")) then Many Character then One (is (code "\""))
 
 -- ---- sections 3 to 5: values; the depth is the number of arrays and objects around what is inside
 
@@ -110,13 +111,13 @@ unfoldable pub Scalar : Lang
 Scalar = Exactly (ascii "true") or Exactly (ascii "false") or Exactly (ascii "null") or Number or String
 
 unfoldable pub Array : Lang → Lang
-Array Item = Mark 91 then Maybe (Item then Many (Mark 44 then Item)) then Mark 93
+Array Item = Mark (code "[") then Maybe (Item then Many (Mark (code ",") then Item)) then Mark (code "]")
 
 unfoldable pub Named : Lang → Lang
-Named Item = String then Mark 58 then Item
+Named Item = String then Mark (code ":") then Item
 
 unfoldable pub Object : Lang → Lang
-Object Item = Mark 123 then Maybe (Named Item then Many (Mark 44 then Named Item)) then Mark 125
+Object Item = Mark (code "{") then Maybe (Named Item then Many (Mark (code ",") then Named Item)) then Mark (code "}")
 
 unfoldable pub Value : ℕ → Lang
 Value zero = Scalar

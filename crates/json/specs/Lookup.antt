@@ -3,6 +3,7 @@ use mathlib.Core.Bool.{Bool, true, false, _&&_}
 use mathlib.Core.List.{List, [], _∷_}
 use mathlib.Core.Option.{Option, none, some}
 use Prim.Native.Nat.{ℕ, _-_}
+use Prim.Native.Char.{code}
 use lib.ListN.{length, take, drop}
 use lib.Dec.{leb}
 use Rattle.text.specs.Choice.{pick, with-some}
@@ -29,11 +30,11 @@ unfoldable pub spanOf : ℕ → Bytes → Got (Step (List Span))
 spanOf d s =
     bind (name s) λ k t.
     bind (value d t) λ j u.
-    sep 125 (record { name = k; from = skip t; after = u } ∷ []) (λ ps. record { name = k; from = skip t; after = u } ∷ ps) u
+    sep (code "}") (record { name = k; from = skip t; after = u } ∷ []) (λ ps. record { name = k; from = skip t; after = u } ∷ ps) u
 
 -- the members of a text that is an object
 unfoldable pub spans : ℕ → Bytes → Got (List Span)
-spans d s = on (is 123) (λ c t. on (is 125) (λ c t. got [] t) (loop (spanOf d)) (skip t)) bad (skip s)
+spans d s = on (is (code "{")) (λ c t. on (is (code "}")) (λ c t. got [] t) (loop (spanOf d)) (skip t)) bad (skip s)
 
 abbrev pub given : Got (List Span) → List Span
 given (got ps t) = ps

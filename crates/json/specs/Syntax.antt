@@ -4,6 +4,7 @@
 use mathlib.Core.Bool.{Bool, true, false, _&&_}
 use mathlib.Core.List.{[], _∷_, _++_}
 use Prim.Native.Nat.{ℕ, zero, suc, _+_, _-_, _*_}
+use Prim.Native.Char.{code}
 use lib.Dec.{eqb, ltb}
 use Rattle.text.specs.Choice.{pick}
 use Rattle.text.specs.Bytes.{Bytes, is, between, isDigit}
@@ -22,7 +23,7 @@ token b s = one b (skip s)
 -- ---- strings
 
 unfoldable pub hexVal : ℕ → ℕ
-hexVal c = pick (isDigit c) (c - 48) (pick (between 65 70 c) (c - 55) (c - 87))
+hexVal c = pick (isDigit c) (c - 48) (pick (between (code "A") (code "F") c) (c - 55) (c - 87))
 
 unfoldable pub hex : Bytes → Got ℕ
 hex = on isHex (λ c t. got (hexVal c) t) bad
@@ -32,11 +33,11 @@ hex4 s = bind (hex s) λ a s. bind (hex s) λ b s. bind (hex s) λ c s. bind (he
 
 -- the byte that a short escape stands for
 unfoldable pub short : ℕ → ℕ
-short c = pick (eqb c 98) 8 (pick (eqb c 102) 12 (pick (eqb c 110) 10 (pick (eqb c 114) 13 (pick (eqb c 116) 9 c))))
+short c = pick (eqb c (code "b")) 8 (pick (eqb c (code "f")) 12 (pick (eqb c (code "n")) 10 (pick (eqb c (code "r")) 13 (pick (eqb c (code "t")) 9 c))))
 
 -- what follows a backslash, as a unit
 unfoldable pub escape : Bytes → Got ℕ
-escape = on (is 117) (λ c t. under (λ v. 256 + v) (hex4 t)) (on isShort (λ c t. got (short c) t) bad)
+escape = on (is (code "u")) (λ c t. under (λ v. 256 + v) (hex4 t)) (on isShort (λ c t. got (short c) t) bad)
 
 -- the first byte of a character of several bytes
 abbrev pub leads : Due → Bool
@@ -64,8 +65,8 @@ push u = more (λ us. u ∷ us)
 -- one character, or the closing quote
 unfoldable pub character : Bytes → Got (Step Bytes)
 character =
-    on (is 34) (λ c t. got (last []) t)
-    (on (is 92) (λ c t. under push (escape t))
+    on (is (code "\"")) (λ c t. got (last []) t)
+    (on (is (code "\\")) (λ c t. under push (escape t))
     (on (between 32 127) (λ c t. got (push c) t)
     (on isLead (λ c t. under (λ cs. more (λ us. c ∷ (cs ++ us))) (following (lead c) t)) bad)))
 
@@ -74,7 +75,7 @@ unfoldable pub characters : Bytes → Got Bytes
 characters = loop character
 
 unfoldable pub string : Bytes → Got Bytes
-string s = bind (one 34 s) λ q t. characters t
+string s = bind (one (code "\"") s) λ q t. characters t
 
 -- ---- numbers, as spelled
 
@@ -85,19 +86,19 @@ unfoldable pub digits : Bytes → Got Bytes
 digits = some-of isDigit
 
 unfoldable pub int : Bytes → Got Bytes
-int = on (is 48) (λ c t. got (c ∷ []) t) digits
+int = on (is (code "0")) (λ c t. got (c ∷ []) t) digits
 
 unfoldable pub frac : Bytes → Got Bytes
-frac = on (is 46) (λ c t. under (λ ds. c ∷ ds) (digits t)) (got [])
+frac = on (is (code ".")) (λ c t. under (λ ds. c ∷ ds) (digits t)) (got [])
 
 unfoldable pub sign : Bytes → Got Bytes
-sign = on (is 43) (λ c t. got (c ∷ []) t) (opt 45)
+sign = on (is (code "+")) (λ c t. got (c ∷ []) t) (opt (code "-"))
 
 unfoldable pub exp : Bytes → Got Bytes
 exp = on isE (λ c t. bind (sign t) λ g t. bind (digits t) λ ds t. got (c ∷ (g ++ ds)) t) (got [])
 
 unfoldable pub number : Bytes → Got Bytes
-number s = bind (opt 45 s) λ a s. bind (int s) λ b s. bind (frac s) λ c s. bind (exp s) λ d s. got (a ++ b ++ c ++ d) s
+number s = bind (opt (code "-") s) λ a s. bind (int s) λ b s. bind (frac s) λ c s. bind (exp s) λ d s. got (a ++ b ++ c ++ d) s
 
 -- ---- values
 
@@ -106,37 +107,37 @@ four a b c d j s = bind (one a s) λ x s. bind (one b s) λ x s. bind (one c s) 
 
 unfoldable pub scalar : Bytes → Got Json
 scalar =
-    on (is 34) (λ c t. under jstr (characters t))
-    (when (is 116) (four 116 114 117 101 jtrue)
-    (on (is 102) (λ c t. four 97 108 115 101 jfalse t)
-    (when (is 110) (four 110 117 108 108 jnull) (λ t. under jnum (number t)))))
+    on (is (code "\"")) (λ c t. under jstr (characters t))
+    (when (is (code "t")) (four (code "t") (code "r") (code "u") (code "e") jtrue)
+    (on (is (code "f")) (λ c t. four (code "a") (code "l") (code "s") (code "e") jfalse t)
+    (when (is (code "n")) (four (code "n") (code "u") (code "l") (code "l") jnull) (λ t. under jnum (number t)))))
 
 -- after a value: the byte that closes, or a comma. What the turn is with no more to come, and with more
 unfoldable pub sep : {B : Type 0} → ℕ → B → (B → B) → Bytes → Got (Step B)
-sep close b g s = on (is close) (λ c t. got (last b) t) (on (is 44) (λ c t. got (more g) t) bad) (skip s)
+sep close b g s = on (is close) (λ c t. got (last b) t) (on (is (code ",")) (λ c t. got (more g) t) bad) (skip s)
 
 -- a member's name, with the colon
 unfoldable pub name : Bytes → Got Bytes
-name s = bind (token 34 s) λ q s. bind (characters s) λ k s. bind (token 58 s) λ c s. got k s
+name s = bind (token (code "\"") s) λ q s. bind (characters s) λ k s. bind (token (code ":") s) λ c s. got k s
 
 unfoldable pub item : (Bytes → Got Json) → Bytes → Got (Step Elems)
-item rd s = bind (rd s) λ j t. sep 93 (econs j enil) (econs j) t
+item rd s = bind (rd s) λ j t. sep (code "]") (econs j enil) (econs j) t
 
 unfoldable pub elements : (Bytes → Got Json) → Bytes → Got Elems
-elements rd s = on (is 93) (λ c t. got enil t) (loop (item rd)) (skip s)
+elements rd s = on (is (code "]")) (λ c t. got enil t) (loop (item rd)) (skip s)
 
 unfoldable pub pair : (Bytes → Got Json) → Bytes → Got (Step Members)
-pair rd s = bind (name s) λ k t. bind (rd t) λ j t. sep 125 (mcons k j mnil) (mcons k j) t
+pair rd s = bind (name s) λ k t. bind (rd t) λ j t. sep (code "}") (mcons k j mnil) (mcons k j) t
 
 unfoldable pub pairs : (Bytes → Got Json) → Bytes → Got Members
-pairs rd s = on (is 125) (λ c t. got mnil t) (loop (pair rd)) (skip s)
+pairs rd s = on (is (code "}")) (λ c t. got mnil t) (loop (pair rd)) (skip s)
 
 -- white space and a value, with d arrays and objects at most around what is inside it
 unfoldable pub value : ℕ → Bytes → Got Json
 value zero s = scalar (skip s)
 value (suc d) s =
-    on (is 91) (λ c t. under jarr (elements (value d) t))
-    (on (is 123) (λ c t. under jobj (pairs (value d) t)) scalar) (skip s)
+    on (is (code "[")) (λ c t. under jarr (elements (value d) t))
+    (on (is (code "{")) (λ c t. under jobj (pairs (value d) t)) scalar) (skip s)
 
 -- a JSON text: a value, and nothing but white space around it
 unfoldable pub text : ℕ → Bytes → Got Json

@@ -19,11 +19,12 @@ use Rattle.json.specs.Syntax.{skip, token, characters, name, scalar, value}
 use Rattle.json.specs.Strings.{decode}
 use Rattle.json.proofs.AsSpelled.{number-spelled}
 use Rattle.json_marks.proofs.Laws.{skip-to}
-use Rattle.json_skip.specs.Skip.{quoted, Leaves, Skips}
+use Rattle.json_skip.specs.Skip.{quoted, Leaves}
 use Rattle.json_skip.proofs.Strings.{characters-leads}
 use Rattle.json_strings.specs.Spelled.{spelled}
 use Rattle.json_strings.proofs.Names.{name-string}
-use Rattle.json_access.specs.Access.{placeOf, Stands}
+use Rattle.json_access.specs.declared.Head.{Head}
+use Rattle.json_access.specs.Access.{placeOf, Stands, EndsAt, TellsHead, TellsMember}
 
 past-past : (p : ℕ → Bool) (t : Bytes) → past p (past p t) ≡ past p t
 unfolding past
@@ -45,7 +46,7 @@ as-next s at want (Bad b) g q = absurd (not-bad (sym (at-bad want g) ∙ q))
 
 -- ---- where a value stands
 
-module _ (d : ℕ) (s t : Bytes) {a x : ℕ} (b : skip t ≡ drop a s) (l : a ≤ length s) (h : x ≤ length s) (g : Skips s a x) where
+module _ (d : ℕ) (s t : Bytes) {a x : ℕ} (b : skip t ≡ drop a s) (l : a ≤ length s) (h : x ≤ length s) (g : EndsAt d s a x) where
   -- a number takes as many bytes as its spelling has
   spelling : (u y : Bytes) → value d t ≡ got (jnum y) u → u ≡ drop x s → take (x - a) (drop a s) ≡ y
   spelling u y w q =
@@ -55,12 +56,17 @@ module _ (d : ℕ) (s t : Bytes) {a x : ℕ} (b : skip t ≡ drop a s) (l : a �
 
   pub stands : (j : Json) (u : Bytes) → value d t ≡ got j u → Stands s t j u a x
   stands j u w =
-      let q : u ≡ drop x s = g d j u (ap (value d) (sym b) ∙ value-skip d t ∙ w) in
+      let q : u ≡ drop x s = g j u (ap (value d) (sym b) ∙ value-skip d t ∙ w) in
       record {
         begins = b;
         ends = q;
         as-spelled = λ y e. spelling u y (w ∙ ap (λ (k : Json). got k u) e) q;
       }
+
+-- a member by where its name and its value begin, and where its value ends
+pub head-member : (d : ℕ) (s : Bytes) (at : ℕ) (h : Head) (x : ℕ) → TellsHead s at h → h .start ≤ length s → x ≤ length s → EndsAt d s (h .start) x
+    → TellsMember d s at (record { name = h .name; start = h .start; end = x })
+head-member d s at h x g l m f k t e j u w = let p = g k t e in (p .0, stands d s t (p .1) l m f j u w)
 
 -- the name of a member, and where its value begins
 module _ (s : Bytes) (at : ℕ) {r : Read} (g : Gives s at (token 34 (drop at s)) r) (k t : Bytes) (e : name (drop at s) ≡ got k t) {q : ℕ} (eq : q ≡ placeOf r) where

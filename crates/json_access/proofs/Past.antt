@@ -10,9 +10,9 @@ use Rattle.text.proofs.Fine.{not-bad}
 use Rattle.json.specs.Syntax.{skip, token, name, value}
 use Rattle.json_skip.proofs.Ends.{no-value}
 use Rattle.json_access.specs.declared.Part.{Part}
-use Rattle.json_access.specs.declared.Places.{Places}
+use Rattle.json_access.specs.declared.Head.{Head}
 use Rattle.json_access.specs.declared.Kind.{Kind}
-use Rattle.json_access.specs.Access.{TellsMember, TellsElement, TellsKind}
+use Rattle.json_access.specs.Access.{TellsHead, TellsElement, TellsKind}
 
 no-name : name [] ≡ bad []
 unfolding name token one skip past on
@@ -22,8 +22,8 @@ module _ (s : Bytes) (at : ℕ) (h : length s < at) where
   nothing : drop at s ≡ []
   nothing = drop-of-length-le s {i = at} (omega arith)
 
-  pub member-past : (d : ℕ) (r : Places) → TellsMember d s at r
-  member-past d r k t e = absurd (not-bad (sym (ap name nothing ∙ no-name) ∙ e))
+  pub head-past : (r : Head) → TellsHead s at r
+  head-past r k t e = absurd (not-bad (sym (ap name nothing ∙ no-name) ∙ e))
 
   pub element-past : (d : ℕ) (r : Part) → TellsElement d s at r
   element-past d r j u e = absurd (not-bad (sym (ap (value d) nothing ∙ no-value d) ∙ e))

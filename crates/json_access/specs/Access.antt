@@ -11,6 +11,7 @@ use Rattle.json.specs.Syntax.{skip, name, value}
 use Rattle.json.specs.Strings.{decode}
 use Rattle.json_strings.specs.Spelled.{spelled}
 use Rattle.json_access.specs.declared.Part.{Part}
+use Rattle.json_access.specs.declared.Head.{Head}
 use Rattle.json_access.specs.declared.Places.{Places}
 use Rattle.json_access.specs.declared.Kind.{Kind}
 use Rattle.json_access.specs.declared.Kind.the-variants.{Null, True, False, Number, String, Array, Object}
@@ -31,6 +32,14 @@ pub record Stands (s t : Bytes) (j : Json) (u : Bytes) (start end : ℕ) : Type 
   pub begins : skip t ≡ drop start s
   pub ends : u ≡ drop end s
   pub as-spelled : (x : Bytes) → j ≡ jnum x → take (end - start) (drop start s) ≡ x
+
+-- if a value is read at a place, d arrays and objects at most around what is inside it, it ends at r
+abbrev pub EndsAt : ℕ → Bytes → ℕ → ℕ → Type 0
+EndsAt d s at r = (j : Json) (u : Bytes) → value d (drop at s) ≡ got j u → u ≡ drop r s
+
+-- if there is a member at a place, its name stands for what was read, and its value begins there
+abbrev pub TellsHead : Bytes → ℕ → Head → Type 0
+TellsHead s at r = (k t : Bytes) → name (drop at s) ≡ got k t → (spelled s (r .name) ≡ decode k) × (skip t ≡ drop (r .start) s)
 
 -- if there is a member at a place, its name stands for what was read, and its value stands there
 abbrev pub TellsMember : ℕ → Bytes → ℕ → Places → Type 0

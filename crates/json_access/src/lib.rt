@@ -9,12 +9,18 @@ use text::look;
 ghost use mathlib.Core.Path.{_≡_};
 ghost use Prim.Native.Nat.{_≤_};
 ghost use lib.ListN.{length};
-ghost use Rattle.json_access.specs.Access.{placeOf, Inside, TellsMember, TellsElement, TellsKind};
+ghost use Rattle.json_access.specs.Access.{placeOf, Inside, TellsHead, TellsMember, TellsElement, TellsKind};
 
 // A part of a text: from `start` to just before `end`.
 pub struct Part {
     pub start: usize,
     pub end: usize,
+}
+
+// Where a member's name begins, after the first quote, and where its value does.
+pub struct Head {
+    pub name: usize,
+    pub start: usize,
 }
 
 // The places of a member: of its name, after the first quote, and of its value.
@@ -24,7 +30,8 @@ pub struct Places {
     pub end: usize,
 }
 
-fn place(r: Read) -> usize
+// The place at which a reader ended, whether it read something or not.
+pub fn place(r: Read) -> usize
     ensures { λ x. ⌜ x ≡ placeOf r ⌝ }
 {
     match r {
@@ -33,23 +40,31 @@ fn place(r: Read) -> usize
     }
 }
 
+// The member at a place of an object, up to its value.
+pub fn head_at(s: &[u8], at: usize) -> Head
+    ensures { λ r. ⌜ r .name ≤ length (now (s .entry)) ⌝ }
+    ensures { λ r. ⌜ (at ≤ length (now (s .entry)) → at ≤ r .start) × (r .start ≤ length (now (s .entry))) ⌝ }
+    ensures { λ r. ⌜ TellsHead (now (s .entry)) at r ⌝ }
+{
+    if at > s.len() {
+        return Head { name: 0, start: 0 };
+    }
+    let q = place(mark(s, at, 34));
+    let z = string_stop(s, q);
+    let v = place(mark(s, z, 58));
+    let a = skip_space(s, v);
+    Head { name: q, start: a }
+}
+
 // The member at a place of an object.
 pub fn member_at(s: &[u8], at: usize, depth: usize) -> Places
     ensures { λ r. ⌜ r .name ≤ length (now (s .entry)) ⌝ }
     ensures { λ r. ⌜ Inside at (length (now (s .entry))) (r .start) (r .end) ⌝ }
     ensures { λ r. ⌜ TellsMember depth (now (s .entry)) at r ⌝ }
 {
-    if at > s.len() {
-        return Places {
-            name: 0,
-            start: 0,
-            end: 0,
-        };
-    }
-    let q = place(mark(s, at, 34));
-    let z = string_stop(s, q);
-    let v = place(mark(s, z, 58));
-    let a = skip_space(s, v);
+    let h = head_at(s, at);
+    let q = h.name;
+    let a = h.start;
     let e = skip_value(s, a);
     Places {
         name: q,

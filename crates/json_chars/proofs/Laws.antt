@@ -1,5 +1,5 @@
 -- Laws of characters, over plain values.
-use mathlib.Core.Path.{_≡_, _∙_}
+use mathlib.Core.Path.{_≡_, refl, ap, _∙_}
 use mathlib.Core.Bool.{true, false}
 use mathlib.Core.List.{[], _∷_}
 use Prim.Native.Nat.{ℕ, zero, suc, _+_, _-_, _≤_, _<_}
@@ -16,8 +16,12 @@ use Rattle.text.specs.Bytes.{Bytes, is, between}
 use Rattle.text.specs.Utf8.{Due, due, lead}
 use Rattle.text.specs.Reader.{Got, got, bad, under, on, Step, more, last}
 use Rattle.text.specs.Places.{byteAt, Gives, GivesT}
-use Rattle.text.proofs.Places.{byBool, here, bad-here, by-under, by-on, not-on, on-yes, on-no, same-turn, under-more, under-bad, more-here, last-here, bad-turn}
-use Rattle.json.specs.Syntax.{escape, isLead, leads, tailBytes, following, character}
+use Rattle.text.proofs.Places.{byBool, here, bad-here, by-under, by-on, not-on, on-yes, on-no, same-turn, under-more, under-bad, more-here, last-here, bad-turn, same-as, up}
+use Rattle.text.proofs.Cases.{in-between}
+use Rattle.text.proofs.Fine.{loop-more, loop-last, loop-bad}
+use Rattle.json.specs.Syntax.{escape, isLead, leads, tailBytes, following, character, characters}
+use Rattle.json.proofs.Fine.{character-fine}
+use Rattle.json_chars.specs.Strings.{ToEnd}
 
 -- ---- whether a character of several bytes starts, by what must follow
 pub by-lead : (c : ℕ) {d : Due} → d ≡ lead c → isLead c ≡ leads d
@@ -78,3 +82,28 @@ module _ (s : Bytes) (i b : ℕ) (e : b ≡ byteAt s i) where
       pub char-none : between 32 127 b ≡ false → isLead b ≡ false → i ≤ length s → GivesT s i (character (drop i s)) (Stop (Bad i))
       unfolding character
       char-none p h l = same-turn (past-marks _ _ ∙ on-no (between 32 127) s i b e _ _ p ∙ on-no isLead s i b e _ _ h) (bad-turn (omega arith) l)
+
+-- ---- a string, one character after the other
+module _ (s : Bytes) (i : ℕ) where
+  goes-on : (j : ℕ) (w : Got (Step Bytes)) → character (drop i s) ≡ w → GivesT s i w (Go j) → ToEnd s i j
+  unfolding characters
+  goes-on j (got (more g) t) q h r x =
+      same-as (loop-more character (character-fine .less) (drop i s) (drop j s) g (q ∙ ap (got (more g)) (h .is))) (up (omega (arith, h .within .0)) (by-under g x))
+  goes-on j (got (last b) t) q h r x = absurd (h .is)
+  goes-on j (bad t) q h r x = absurd (h .is)
+
+  pub string-on : (j : ℕ) → GivesT s i (character (drop i s)) (Go j) → ToEnd s i j
+  string-on j h = goes-on j (character (drop i s)) refl h
+
+  stops : (r : Read) (w : Got (Step Bytes)) → character (drop i s) ≡ w → GivesT s i w (Stop r) → Gives s i (characters (drop i s)) r
+  unfolding characters
+  stops r (got (more g) t) q h = absurd (h .is)
+  stops r (got (last b) t) q h = same-as (loop-last character (character-fine .less) (drop i s) t b q) (record { is = h .is; within = h .within })
+  stops r (bad t) q h = same-as (loop-bad character (character-fine .less) (drop i s) t q) (record { is = h .is; within = h .within })
+
+  pub string-stop : (r : Read) → GivesT s i (character (drop i s)) (Stop r) → Gives s i (characters (drop i s)) r
+  string-stop r h = stops r (character (drop i s)) refl h
+
+  -- a character of one byte that stands for itself
+  pub plain-on : (b : ℕ) → b ≡ byteAt s i → (b ≡ 34 → ⊥) → (b ≡ 92 → ⊥) → 32 ≤ b → b < 128 → i + 1 ≤ length s → ToEnd s i (i + 1)
+  plain-on b e n m l h k = string-on (i + 1) (char-plain s i b e n m (in-between 32 127 b l (omega arith)) k)

@@ -12,6 +12,7 @@ ghost use lib.ListN.{length, drop};
 ghost use Rattle.text.specs.Utf8.{due};
 ghost use Rattle.text.specs.Places.{Gives, GivesT};
 ghost use Rattle.json.specs.Syntax.{tailBytes, following, character, characters};
+ghost use Rattle.json_chars.specs.Strings.{ToEnd};
 
 // So many tails of a character.
 fn tails_end(s: &[u8], at: usize, count: u8) -> Read
@@ -75,6 +76,35 @@ fn next_character(s: &[u8], at: usize) -> Turn
     }
 }
 
+// Past characters of one byte that stand for themselves.
+fn plain_end(s: &[u8], at: usize) -> usize
+    requires { ⌜ at ≤ length (now s) ⌝ }
+    ensures { λ r. ⌜ (at ≤ r) × (r ≤ length (now (s .entry))) ⌝ }
+    ensures { λ r. ⌜ ToEnd (now (s .entry)) at r ⌝ }
+{
+    let mut i = at;
+    loop {
+        let b = look(s, i);
+        if b > 92 {
+            if b > 127 {
+                return i;
+            }
+            i += 1;
+            continue;
+        }
+        if b == 34 {
+            return i;
+        }
+        if b == 92 {
+            return i;
+        }
+        if b < 32 {
+            return i;
+        }
+        i += 1;
+    }
+}
+
 // A string, from after its first quote.
 pub fn string_end(s: &[u8], at: usize) -> Read
     requires { ⌜ at ≤ length (now s) ⌝ }
@@ -82,7 +112,8 @@ pub fn string_end(s: &[u8], at: usize) -> Read
 {
     let mut i = at;
     loop {
-        match next_character(s, i) {
+        let from = plain_end(s, i);
+        match next_character(s, from) {
             Turn::Go(j) => {
                 i = j;
             }

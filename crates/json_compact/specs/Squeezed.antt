@@ -2,6 +2,7 @@
 use mathlib.Core.List.{[], _∷_, _++_}
 use mathlib.Core.Option.{Option}
 use Prim.Native.Nat.{ℕ, zero, suc}
+use Prim.Native.Char.{code}
 use lib.ListN.{length}
 use Rattle.text.specs.Choice.{pick, with-some}
 use Rattle.text.specs.Bytes.{Bytes, is, between, empty}
@@ -19,7 +20,7 @@ inQuotes x = quoted (with-some x (λ s. s) []) []
 unfoldable pub piece : Bytes → Got Bytes
 piece =
     on isSpace (λ c t. got [] t)
-    (on (is 34) (λ c t. under (λ us. inQuotes (decode us)) (characters t))
+    (on (is (code "\"")) (λ c t. under (λ us. inQuotes (decode us)) (characters t))
     (on (between 0 255) (λ c t. got (c ∷ []) t) bad))
 
 -- a piece, and what follows it; nothing from where no piece is read

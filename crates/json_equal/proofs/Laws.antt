@@ -1,6 +1,6 @@
 -- Laws of comparing decoded strings, over plain values.
-use mathlib.Core.Path.{_≡_, refl, ap, _∙_}
-use mathlib.Core.Bool.{false}
+use mathlib.Core.Path.{_≡_, refl, sym, ap, _∙_}
+use mathlib.Core.Bool.{true, false}
 use mathlib.Core.Logic.{⊎-elim}
 use mathlib.Core.List.{[], _∷_}
 use mathlib.Core.Option.{Option, none, some}
@@ -11,18 +11,38 @@ use native.Mathlib.Omega.{arith}
 use lib.ListN.{length, getD, drop, drop-of-length-le}
 use lib.Seq.{drop-cons}
 use lib.Dec.{eqb}
-use borrow.Author.Tests.{eq-eqb, ne-eqb}
+use borrow.Author.Tests.{eq-eqb, ne-eqb, eqb-true, eqb-false}
 use Rattle.text.specs.Choice.{is-some}
-use Rattle.text.specs.Bytes.{Bytes, same}
+use Rattle.text.specs.Bytes.{Bytes, same, between}
+use Rattle.text.specs.Places.{byteAt}
+use Rattle.text.specs.Utf8.{encode}
+use Rattle.text.proofs.Cases.{byBool, between-true, below}
 use Rattle.json.specs.Strings.{before}
+use Rattle.json_strings.specs.declared.Letter.{Letter}
+use Rattle.json_strings.specs.declared.Letter.the-variants.{Raw, Code, End, Alone}
 use Rattle.json_strings.specs.declared.Byte.{Byte}
 use Rattle.json_strings.specs.declared.Byte.the-variants.{One}
 use Rattle.json_strings.proofs.NextByte.{is-one}
-use Rattle.json_strings.specs.Spelled.{left, byteOf, spells, agree}
+use Rattle.json_strings.specs.Spelled.{spelled, letterOf, left, byteOf, spells, agree}
+use Rattle.json_strings.proofs.Laws.{quote-at, bare-at, nothing-at}
 
-paired-on : (b : ℕ) (x : Option Bytes) → is-some (before (b ∷ []) x) ≡ is-some x
-paired-on b none = refl
-paired-on b (some y) = refl
+paired-on : (p : Bytes) (x : Option Bytes) → is-some (before p x) ≡ is-some x
+paired-on p none = refl
+paired-on p (some y) = refl
+
+-- what the next character of a string tells
+module _ (s : Bytes) {x : Option Bytes} {r : Letter} (q : x ≡ letterOf s r) where
+  pub letter-alone : r ≡ Alone → is-some x ≡ false
+  letter-alone e = ap is-some (q ∙ ap (letterOf s) e)
+
+  pub letter-end : r ≡ End → is-some x ≡ true
+  letter-end e = ap is-some (q ∙ ap (letterOf s) e)
+
+  pub letter-raw : {b j : ℕ} → r ≡ Raw b j → is-some x ≡ is-some (spelled s j)
+  letter-raw {b} {j} e = ap is-some (q ∙ ap (letterOf s) e) ∙ paired-on (b ∷ []) (spelled s j)
+
+  pub letter-code : {v j : ℕ} → r ≡ Code v j → is-some x ≡ is-some (spelled s j)
+  letter-code {v} {j} e = ap is-some (q ∙ ap (letterOf s) e) ∙ paired-on (encode v) (spelled s j)
 
 -- ---- with given bytes
 pub spells-end : (bs : Bytes) (k : ℕ) → k ≤ length bs → eqb k (length bs) ≡ spells (some []) (drop k bs)
@@ -45,6 +65,42 @@ spells-on : (bs : Bytes) (k b : ℕ) (x : Option Bytes) → k < length bs → ge
 unfolding same
 spells-on bs k b none l q = refl
 spells-on bs k b (some y) l q = rw (drop-cons bs k 0 l, eq-eqb _ _ q, add-one k)
+
+-- ---- by the byte at a place, which is no backslash
+module _ (s : Bytes) (i b : ℕ) (e : b ≡ byteAt s i) (m : b ≡ 92 → ⊥) where
+  pub bare-paired : (b ≡ 34 → ⊥) → 32 ≤ b → b < 256 → is-some (spelled s i) ≡ is-some (spelled s (i + 1))
+  bare-paired n l h = ap is-some (bare-at s i b e n m l h) ∙ paired-on (b ∷ []) (spelled s (i + 1))
+
+  module _ (bs : Bytes) (k : ℕ) where
+    as-spelled : {x : Option Bytes} → spelled s i ≡ x → spells (spelled s i) (drop k bs) ≡ spells x (drop k bs)
+    as-spelled q = ap (λ (x : Option Bytes). spells x (drop k bs)) q
+
+    -- whatever the byte is, once the quote is dealt with
+    not-quote : (b ≡ 34 → ⊥) → ((x : Option Bytes) → spells (before (b ∷ []) x) (drop k bs) ≡ false) → spells (spelled s i) (drop k bs) ≡ false
+    not-quote n f =
+        byBool (between 32 255 b) (λ r. let w = between-true 32 255 b r in as-spelled (bare-at s i b e n m (w .0) (omega (arith, w .1))) ∙ f (spelled s (i + 1)))
+        (λ r. as-spelled (nothing-at s i b e n m r))
+
+    pub quote-spells : k ≤ length bs → b ≡ 34 → spells (spelled s i) (drop k bs) ≡ eqb k (length bs)
+    quote-spells l q = as-spelled (quote-at s i b e q) ∙ sym (spells-end bs k l)
+
+    pub bytes-end : k ≡ length bs → eqb b 34 ≡ spells (spelled s i) (drop k bs)
+    bytes-end q =
+        byBool (eqb b 34) (λ h. h ∙ sym (quote-spells (omega arith) (eqb-true b 34 h) ∙ eq-eqb _ _ q))
+        (λ h. h ∙ sym (not-quote (eqb-false b 34 h) (λ x. spells-short bs k b x q)))
+
+    module _ (l : k < length bs) where
+      pub quote-early : b ≡ 34 → spells (spelled s i) (drop k bs) ≡ false
+      quote-early q = quote-spells (omega arith) q ∙ ne-eqb k (length bs) (λ z. omega arith)
+
+      pub bare-other : (b ≡ getD bs k 0 → ⊥) → spells (spelled s i) (drop k bs) ≡ false
+      bare-other n = byBool (eqb b 34) (λ h. quote-early (eqb-true b 34 h)) (λ h. not-quote (eqb-false b 34 h) (λ x. spells-other bs k b x l (λ z. n (sym z))))
+
+      pub control-spells : b < 32 → spells (spelled s i) (drop k bs) ≡ false
+      control-spells h = as-spelled (nothing-at s i b e (λ z. omega arith) m (below 32 255 b h))
+
+      pub bare-same : (b ≡ 34 → ⊥) → 32 ≤ b → b < 256 → b ≡ getD bs k 0 → spells (spelled s i) (drop k bs) ≡ spells (spelled s (i + 1)) (drop (k + 1) bs)
+      bare-same n h g q = as-spelled (bare-at s i b e n m h g) ∙ spells-on bs k b (spelled s (i + 1)) l (sym q)
 
 -- ---- with each other
 pub agree-none : (x : Option Bytes) → agree x none ≡ false
@@ -75,9 +131,6 @@ agree-on a b (some x) (some y) q = rw (eq-eqb _ _ q)
 
 -- ---- what the next byte of a string tells: the laws that the proofs of code cite
 module _ (s : Bytes) {x : Option Bytes} {r : Byte} (q : x ≡ byteOf s r) {b j g : ℕ} (e : r ≡ One b j g) where
-  pub paired-one : is-some x ≡ is-some (left s j g)
-  paired-one = rw (is-one s q e) (paired-on b (left s j g))
-
   pub ends-one : agree (some []) x ≡ false
   ends-one = rw (is-one s q e) (agree-end b (left s j g))
 

@@ -3,6 +3,7 @@ use mathlib.Core.Path.{_≡_}
 use mathlib.Core.Bool.{Bool, true, false, _||_}
 use mathlib.Core.List.{[], _∷_}
 use Prim.Native.Nat.{ℕ, suc, _-_, _≤_}
+use Prim.Native.Char.{code}
 use lib.Dec.{eqb}
 use lib.ListN.{length, drop}
 use Rattle.text.specs.Choice.{pick}
@@ -15,13 +16,13 @@ use Rattle.json.specs.Syntax.{value}
 unfoldable pub quoted : Bool → Bytes → Bytes
 quoted escaped [] = []
 quoted true (c ∷ s) = quoted false s
-quoted false (c ∷ s) = pick (eqb c 34) s (quoted (eqb c 92) s)
+quoted false (c ∷ s) = pick (eqb c (code "\"")) s (quoted (eqb c (code "\\")) s)
 
 unfoldable pub opens : ℕ → Bool
-opens c = eqb c 91 || eqb c 123
+opens c = eqb c (code "[") || eqb c (code "{")
 
 unfoldable pub shuts : ℕ → Bool
-shuts c = eqb c 93 || eqb c 125
+shuts c = eqb c (code "]") || eqb c (code "}")
 
 -- out of strings, or in one
 pub data Side : Type 0 where
@@ -32,10 +33,10 @@ pub data Side : Type 0 where
 unfoldable pub closed : Side → ℕ → Bytes → Bytes
 closed side n [] = []
 closed outside n (c ∷ s) =
-    pick (eqb c 34) (closed (inside false) n s)
+    pick (eqb c (code "\"")) (closed (inside false) n s)
     (pick (opens c) (closed outside (suc n) s) (pick (shuts c) (pick (eqb n 0) s (closed outside (n - 1) s)) (closed outside n s)))
 closed (inside true) n (c ∷ s) = closed (inside false) n s
-closed (inside false) n (c ∷ s) = pick (eqb c 34) (closed outside n s) (closed (inside (eqb c 92)) n s)
+closed (inside false) n (c ∷ s) = pick (eqb c (code "\"")) (closed outside n s) (closed (inside (eqb c (code "\\"))) n s)
 
 -- t stands from the place r on, which is not before `at`
 pub record Leaves (s : Bytes) (at : ℕ) (t : Bytes) (r : ℕ) : Type 0 where

@@ -9,10 +9,12 @@ use lib.ListN.{length, drop, drop-of-length-le}
 use lib.Dec.{eqb, ltb}
 use borrow.Author.Tests.{eq-eqb, ne-eqb, lt-ltb, le-ltb}
 use Rattle.text.specs.Choice.{pick}
-use Rattle.text.specs.Bytes.{Bytes, between}
+use Rattle.text.specs.Bytes.{Bytes, is, between}
 use Rattle.text.specs.Utf8.{encode}
-use Rattle.text.specs.Reader.{Got, got, bad, under, on, last, loop}
-use Rattle.text.proofs.Places.{byBool}
+use Rattle.text.specs.Reader.{Got, got, bad, under, on, Step, last, loop}
+use Rattle.text.specs.Places.{byteAt}
+use Rattle.text.proofs.Places.{byBool, on-yes, on-no}
+use Rattle.text.proofs.Cases.{in-between}
 use Rattle.text.proofs.Fine.{loop-more, loop-last, loop-bad}
 use Rattle.json.specs.Syntax.{characters}
 use Rattle.json.specs.Strings.{isHigh, isLow, joinedPair, before, decodeAfter, decode}
@@ -145,6 +147,26 @@ module _ (s : Bytes) (at : ℕ) {r : Piece} (q : unit (drop at s) ≡ unitOf s r
       pub pair-is : 256 ≤ u → isLow (u - 256) ≡ true → told h (units (drop at s)) ≡ before (encode (joinedPair h (u - 256))) (spelled s b)
       unfolding spelled
       pair-is l k = told-more h s at u b (q ∙ ap (unitOf s) e) ∙ low-second h n u (units (drop b s)) l k
+
+-- ---- what stands at a place, by its byte
+module _ (s : Bytes) (i b : ℕ) (e : b ≡ byteAt s i) where
+  pub quote-at : b ≡ 34 → spelled s i ≡ some []
+  unfolding unit
+  quote-at h = end-is s i {r = End (i + 1)} (on-yes (is 34) s i b e _ _ (eq-eqb _ _ h)) {b = i + 1} refl
+
+  module _ (n : b ≡ 34 → ⊥) (m : b ≡ 92 → ⊥) where
+    past-marks : (f : ℕ → Bytes → Got (Step Bytes)) (g : Bytes → Got (Step Bytes)) → on (is 34) (λ c t. got (last []) t) (on (is 92) f g) (drop i s) ≡ g (drop i s)
+    past-marks f g = on-no (is 34) s i b e _ _ (ne-eqb _ _ n) ∙ on-no (is 92) s i b e _ _ (ne-eqb _ _ m)
+
+    -- a byte that stands for itself
+    pub bare-at : 32 ≤ b → b < 256 → spelled s i ≡ before (b ∷ []) (spelled s (i + 1))
+    unfolding unit
+    bare-at l h = raw-is s i {r = Of b (i + 1)} (past-marks _ _ ∙ on-yes (between 32 255) s i b e _ _ (in-between 32 255 b l (omega arith))) b (i + 1) refl h
+
+    -- a control, or the end of the text
+    pub nothing-at : between 32 255 b ≡ false → spelled s i ≡ none
+    unfolding unit
+    nothing-at h = wrong-is s i {r = Wrong i} (past-marks _ _ ∙ on-no (between 32 255) s i b e _ _ h) {b = i} refl
 
 pub unit-in : (at n : ℕ) {r q : Piece} → UnitIn at n r → r ≡ q → UnitIn at n q
 unit-in at n h e = subst (UnitIn at n) e h

@@ -1,6 +1,7 @@
 -- The units of a string: what the contracts of this crate cite.
 use mathlib.Core.List.{[]}
 use Prim.Native.Nat.{ℕ, _≤_, _<_}
+use Prim.Native.Char.{code}
 use lib.ListN.{drop}
 use Rattle.text.specs.Bytes.{Bytes, is, between}
 use Rattle.text.specs.Reader.{Got, got, bad, under, on, Step, last, loop}
@@ -16,8 +17,8 @@ push u = syntax.push u
 -- reads (Syntax.antt's `character`) are the same units (the law `units-same`).
 unfoldable pub unit : Bytes → Got (Step Bytes)
 unit =
-    on (is 34) (λ c t. got (last []) t)
-    (on (is 92) (λ c t. under push (escape t))
+    on (is (code "\"")) (λ c t. got (last []) t)
+    (on (is (code "\\")) (λ c t. under push (escape t))
     (on (between 32 255) (λ c t. got (push c) t) bad))
 
 unfoldable pub units : Bytes → Got Bytes

@@ -3,6 +3,7 @@ use mathlib.Core.Path.{_≡_}
 use mathlib.Core.Bool.{Bool, true}
 use mathlib.Core.List.{List, [], _∷_, _++_}
 use Prim.Native.Nat.{ℕ}
+use Prim.Native.Char.{code}
 use Rattle.text.specs.Choice.{pick}
 use Rattle.text.specs.Bytes.{Bytes, ascii, all, same, uppered}
 use Rattle.line.specs.Grammar.{Param, param, paramValues}
@@ -24,7 +25,7 @@ isPointer n = same (uppered n) (ascii "JSPTR")
 
 -- what stands before a value: a comma, or `;NAME=` where its parameter begins
 unfoldable pub leadText : Bool → Bytes → Bytes
-leadText more n = pick more (44 ∷ []) (59 ∷ (uppered n ++ 61 ∷ []))
+leadText more n = pick more (code "," ∷ []) (code ";" ∷ (uppered n ++ code "=" ∷ []))
 
 -- a row of the table: what stands before its value, and the value
 unfoldable pub rowText : Bool → Bytes → Bool → Bytes → Bytes
@@ -33,7 +34,7 @@ rowText more n quoted v = leadText more n ++ writeValue quoted v []
 -- parameters without the colon after them (`writeParams`: law `params-then`)
 unfoldable pub paramsText : List Param → Bytes
 paramsText [] = []
-paramsText (param n vs ∷ ps) = 59 ∷ (uppered n ++ 61 ∷ writeValues (isPointer n) vs []) ++ paramsText ps
+paramsText (param n vs ∷ ps) = code ";" ∷ (uppered n ++ code "=" ∷ writeValues (isPointer n) vs []) ++ paramsText ps
 
 -- a line can carry all values of these (13 otherwise)
 unfoldable pub carriedParams : List Param → Bool

@@ -3,6 +3,7 @@ use mathlib.Core.Bool.{Bool, _&&_, not}
 use mathlib.Core.List.{List, [], _∷_}
 use mathlib.Core.Option.{Option, none, some}
 use Prim.Native.Nat.{ℕ, _+_}
+use Prim.Native.Char.{code}
 use lib.ListN.{length}
 use lib.Dec.{leb}
 use Rattle.text.specs.Choice.{provided}
@@ -34,27 +35,27 @@ word = some-of isName
 
 -- bare, or in quotes
 unfoldable pub paramValue : Bytes → Got Bytes
-paramValue = on (is 34) (λ q t. bind (run-of isQuotable t) λ v t. bind (one 34 t) λ q t. got v t) (run-of isBare)
+paramValue = on (is (code "\"")) (λ q t. bind (run-of isQuotable t) λ v t. bind (one (code "\"") t) λ q t. got v t) (run-of isBare)
 
 -- a value, and whether a comma brings another
 unfoldable pub valueTurn : Bytes → Got (Step (List Bytes))
-valueTurn s = bind (paramValue s) λ v t. on (is 44) (λ c t. got (more (λ vs. v ∷ vs)) t) (got (last (v ∷ []))) t
+valueTurn s = bind (paramValue s) λ v t. on (is (code ",")) (λ c t. got (more (λ vs. v ∷ vs)) t) (got (last (v ∷ []))) t
 
 unfoldable pub parameter : Bytes → Got Param
-parameter s = bind (word s) λ n t. bind (one 61 t) λ e t. bind (loop valueTurn t) λ vs t. got (param n vs) t
+parameter s = bind (word s) λ n t. bind (one (code "=") t) λ e t. bind (loop valueTurn t) λ vs t. got (param n vs) t
 
 -- the colon, or one more parameter
 unfoldable pub paramTurn : Bytes → Got (Step (List Param))
 paramTurn =
-    on (is 58) (λ c t. got (last []) t)
-    (on (is 59) (λ c t. bind (parameter t) λ p t. got (more (λ ps. p ∷ ps)) t) bad)
+    on (is (code ":")) (λ c t. got (last []) t)
+    (on (is (code ";")) (λ c t. bind (parameter t) λ p t. got (more (λ ps. p ∷ ps)) t) bad)
 
 -- from after the name
 unfoldable pub afterName : Bytes → Bytes → Bytes → Got Line
 afterName g n s = bind (loop paramTurn s) λ ps t. got (record { group = g; name = n; params = ps; value = t }) []
 
 unfoldable pub lineReader : Bytes → Got Line
-lineReader s = bind (word s) λ w t. on (is 46) (λ c t. bind (word t) λ n t. afterName w n t) (afterName [] w) t
+lineReader s = bind (word s) λ w t. on (is (code ".")) (λ c t. bind (word t) λ n t. afterName w n t) (afterName [] w) t
 
 -- ---- counts
 

@@ -3,6 +3,7 @@ use mathlib.Core.Bool.{Bool, true, false, _&&_, _||_}
 use mathlib.Core.List.{List, [], _∷_, _++_}
 use mathlib.Core.Option.{Option, none, some}
 use Prim.Native.Nat.{ℕ}
+use Prim.Native.Char.{code}
 use lib.Dec.{eqb}
 use Rattle.text.specs.Choice.{pick}
 use Rattle.text.specs.Bytes.{Bytes, onHead}
@@ -15,7 +16,7 @@ push c (some s) = some (c ∷ s)
 
 -- what stands after a backslash
 unfoldable pub escaped : ℕ → Option Bytes → Option Bytes
-escaped c r = pick (eqb c 92 || eqb c 44 || eqb c 59) (push c r) (pick (eqb c 110 || eqb c 78) (push 10 r) none)
+escaped c r = pick (eqb c (code "\\") || eqb c (code ",") || eqb c (code ";")) (push c r) (pick (eqb c (code "n") || eqb c (code "N")) (push 10 r) none)
 
 -- the flag says that a backslash stands just before
 unfoldable pub textFrom : Bool → Bytes → Option Bytes
@@ -25,7 +26,7 @@ textFrom true (c ∷ s) = escaped c (textFrom false s)
 textFrom false (c ∷ s) =
     let escape-next : Option Bytes = textFrom true s in
     let plain : Option Bytes = push c (textFrom false s) in
-    pick (eqb c 92) escape-next plain
+    pick (eqb c (code "\\")) escape-next plain
 
 -- none where an escape is bad
 unfoldable pub readText : Bytes → Option Bytes
@@ -40,7 +41,7 @@ splitFrom false d (c ∷ s) =
     let escape-next : List Bytes = onHead c (splitFrom true d s) in
     let rest : List Bytes = splitFrom false d s in
     let plain : List Bytes = pick (eqb c d) ([] ∷ rest) (onHead c rest) in
-    pick (eqb c 92) escape-next plain
+    pick (eqb c (code "\\")) escape-next plain
 
 unfoldable pub splitText : ℕ → Bytes → List Bytes
 splitText d s = splitFrom false d s
@@ -49,8 +50,8 @@ splitText d s = splitFrom false d s
 
 unfoldable pub escape : Bool → ℕ → Bytes
 escape semi c =
-    pick (eqb c 92) (92 ∷ 92 ∷ [])
-    (pick (eqb c 10) (92 ∷ 110 ∷ []) (pick (eqb c 44) (92 ∷ 44 ∷ []) (pick (semi && eqb c 59) (92 ∷ 59 ∷ []) (c ∷ []))))
+    pick (eqb c (code "\\")) (code "\\" ∷ code "\\" ∷ [])
+    (pick (eqb c 10) (code "\\" ∷ code "n" ∷ []) (pick (eqb c (code ",")) (code "\\" ∷ code "," ∷ []) (pick (semi && eqb c (code ";")) (code "\\" ∷ code ";" ∷ []) (c ∷ []))))
 
 unfoldable pub writeText : Bool → Bytes → Bytes
 writeText semi [] = []

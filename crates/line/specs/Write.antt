@@ -2,6 +2,7 @@
 use mathlib.Core.Bool.{Bool, _&&_, _||_, not}
 use mathlib.Core.List.{List, [], _∷_, _++_}
 use Prim.Native.Nat.{ℕ, suc, _+_}
+use Prim.Native.Char.{code}
 use lib.Dec.{eqb, ltb}
 use Rattle.text.specs.Choice.{pick}
 use Rattle.text.specs.Bytes.{Bytes, ascii, all, same, uppered, empty}
@@ -12,21 +13,21 @@ use Rattle.line.specs.Grammar.{Param, param, Line}
 
 -- quotes where a value is not bare, and around every value of JSPTR
 unfoldable pub writeValue : Bool → Bytes → Bytes → Bytes
-writeValue always v t = pick (always || not (all isBare v)) (34 ∷ (v ++ 34 ∷ t)) (v ++ t)
+writeValue always v t = pick (always || not (all isBare v)) (code "\"" ∷ (v ++ code "\"" ∷ t)) (v ++ t)
 
 unfoldable pub writeValues : Bool → List Bytes → Bytes → Bytes
 writeValues always [] t = t
 writeValues always (v ∷ []) t = writeValue always v t
-writeValues always (v ∷ (w ∷ ws)) t = writeValue always v (44 ∷ writeValues always (w ∷ ws) t)
+writeValues always (v ∷ (w ∷ ws)) t = writeValue always v (code "," ∷ writeValues always (w ∷ ws) t)
 
 -- names are written upper-case
 unfoldable pub writeParams : List Param → Bytes → Bytes
-writeParams [] t = 58 ∷ t
+writeParams [] t = code ":" ∷ t
 writeParams (param n vs ∷ ps) t =
-    59 ∷ (uppered n ++ 61 ∷ writeValues (same (uppered n) (ascii "JSPTR")) vs (writeParams ps t))
+    code ";" ∷ (uppered n ++ code "=" ∷ writeValues (same (uppered n) (ascii "JSPTR")) vs (writeParams ps t))
 
 unfoldable pub writeGroup : Bytes → Bytes → Bytes
-writeGroup g t = pick (empty g) t (g ++ 46 ∷ t)
+writeGroup g t = pick (empty g) t (g ++ code "." ∷ t)
 
 -- a line unfolded, without its end
 unfoldable pub writeLine : Line → Bytes

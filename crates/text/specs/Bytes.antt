@@ -26,13 +26,13 @@ unfoldable pub between : ℕ → ℕ → ℕ → Bool
 between lo hi c = leb lo c && leb c hi
 
 abbrev pub isDigit : ℕ → Bool
-isDigit c = between 48 57 c
+isDigit c = between (code "0") (code "9") c
 
 abbrev pub isUpper : ℕ → Bool
-isUpper c = between 65 90 c
+isUpper c = between (code "A") (code "Z") c
 
 abbrev pub isLower : ℕ → Bool
-isLower c = between 97 122 c
+isLower c = between (code "a") (code "z") c
 
 abbrev pub isLetter : ℕ → Bool
 isLetter c = isUpper c || isLower c

@@ -24,7 +24,7 @@ use Rattle.card_pen.proofs.Styles.{written-raw, stands-raw}
 use Rattle.convert.specs.Value.{filled}
 use Rattle.convert.specs.FromJson.{isLowerWord, isText}
 use Rattle.convert.specs.Carry.{carriedRaw}
-use Rattle.convert.specs.ToCard.{property}
+use Rattle.convert.specs.Property.{property}
 use Rattle.card_value.specs.Values.{StringIs}
 use Rattle.to_card_lines.specs.declared.Lines.{Lines}
 use Rattle.to_card_lines.specs.declared.Lines.the-variants.{All, Wrong}

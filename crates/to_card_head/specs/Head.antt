@@ -15,7 +15,8 @@ use Rattle.line_pen.specs.Pen.{Fills}
 use Rattle.convert.specs.Value.{filled}
 use Rattle.convert.specs.FromJson.{isLowerWord, isText}
 use Rattle.convert.specs.Carry.{carriedRaw}
-use Rattle.convert.specs.ToCard.{property, whereFilled}
+use Rattle.convert.specs.Property.{property}
+use Rattle.convert.specs.ToCard.{whereFilled}
 use Rattle.card_value.specs.Values.{StringIs}
 use Rattle.to_card_lines.specs.declared.Lines.{Lines}
 use Rattle.to_card_lines.specs.declared.Lines.the-variants.{All, Wrong}

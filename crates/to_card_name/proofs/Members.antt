@@ -115,25 +115,25 @@ module _ (s : Bytes) (slot : ℕ) (m : List ℕ) where
       pub list-empty : r ≡ Empty → ListsAs s slot m Nothing
       list-empty e o h = let w = opened Empty e o h in w .2 ∙ ap (λ (x : Option (List Json)). chain x (each componentOf)) (w .1) ∙ each-none
 
-      module _ (j : ℕ) (e : r ≡ ArrayAt j) (b : Bool) (checks : ChecksFrom s j m b) where
+      module _ (j : ℕ) (e : r ≡ ArrayAt j) (n′ : ℕ) (checks : ChecksFrom s j m n′) where
         elements : (o : Option Json) → Slot 14 s slot o → (js : Option (List Json)) × (x : Elements s j js) × (componentsIn o ≡ each componentOf (elemsOf (x .elems)))
         elements o h = let w = opened (ArrayAt j) e o h in (w .0, w .1, w .2 ∙ ap (λ (x : Option (List Json)). chain x (each componentOf)) (w .1 .is))
 
-        pub list-bad : b ≡ false → ListsAs s slot m NoList
+        pub list-bad : n′ ≡ 0 → ListsAs s slot m NoList
         list-bad f o h = let w = elements o h in w .2 ∙ by (each componentOf (elemsOf (w .1 .elems))) (checks (w .1 .units) (w .1 .elems) (w .1 .rest) (w .1 .read) (w .1 .are))
           where
-            by : (x : Option (List Component)) → CheckedAs m b x → x ≡ none
+            by : (x : Option (List Component)) → CheckedAs m n′ x → x ≡ none
             by none q = refl
-            by (some cs) q = let z : _≡_ {A = ℕ} 0 1 = cc in absurd (omega arith)
+            by (some cs) q = absurd (omega (arith, q .0))
 
-        pub list-at : b ≡ true → ListsAs s slot m (ListAt j)
+        pub list-at : (n′ ≡ 0 → ⊥) → ListsAs s slot m (ListAt j n′)
         list-at f o h =
             let w = elements o h in
             let x = w .1 in
             by (componentsIn o) (each componentOf (elemsOf (x .elems))) refl (w .2) (checks (x .units) (x .elems) (x .rest) (x .read) (x .are))
           where
-            by : (c d : Option (List Component)) → each componentOf (elemsOf (elements o h .1 .elems)) ≡ d → c ≡ d → CheckedAs m b d → ListedAs s m (ListAt j) c
-            by c none g p q = let z : _≡_ {A = ℕ} 0 1 = cc in absurd (omega arith)
+            by : (c d : Option (List Component)) → each componentOf (elemsOf (elements o h .1 .elems)) ≡ d → c ≡ d → CheckedAs m n′ d → ListedAs s m (ListAt j n′) c
+            by c none g p q = absurd (f q)
             by c (some cs) g p q = let y = elements o h .1 in (cs, p, record { units = y .units; elems = y .elems; rest = y .rest; read = y .read; are = y .are; is = g }, q .1)
 
 pub array-in : {n j : ℕ} (r : Arr) → ArrayIn n r → r ≡ ArrayAt j → j ≤ n

@@ -22,7 +22,8 @@ use Rattle.convert.specs.Model.{part, hasParts}
 use Rattle.convert.specs.Value.{writeName}
 use Rattle.convert.specs.FromJson.{Component, byKind}
 use Rattle.convert.specs.Carry.{carriedText, apart}
-use Rattle.convert.specs.ToCard.{property, lineWhere, derivedLine}
+use Rattle.convert.specs.Property.{property}
+use Rattle.convert.specs.ToCard.{lineWhere, derivedLine}
 use Rattle.card_value.specs.Values.{StringIs}
 use Rattle.to_card_lines.specs.declared.Lines.the-variants.{All}
 use Rattle.to_card_lines.specs.declared.Penned.{Penned}

@@ -24,6 +24,7 @@ use Rattle.to_card_lines.specs.declared.Lines.the-variants.{Wrong as Twelve}
 use Rattle.to_card_lines.specs.Lines.{Part, PartAs}
 use Rattle.to_card_lines.proofs.Parts.{none-wrong}
 use Rattle.to_card_head.proofs.Slots.{slot-none, slot-some}
+use Rattle.to_card_parts.specs.Parts.{RowsFrom}
 use Rattle.to_card_name.specs.declared.Full.{Full}
 use Rattle.to_card_name.specs.declared.Full.the-variants.{At, Absent, Wrong}
 use Rattle.to_card_name.specs.declared.Listed.{Listed}
@@ -45,8 +46,8 @@ clear-seven (suc zero) = refl
 clear-seven (suc (suc zero)) = refl
 clear-seven (suc (suc (suc i))) = clear-four i
 
-pub listed-in : {n j : ℕ} (r : Listed) → ListedIn n r → r ≡ ListAt j → j ≤ n
-listed-in {n} {j} r h e = subst (ListedIn n) e h
+pub listed-in : {s : Bytes} {kinds values : List ℕ} {j n : ℕ} (r : Listed) → ListedIn s kinds values r → r ≡ ListAt j n → (j ≤ length s) × RowsFrom s j kinds values n
+listed-in {s} {kinds} {values} r h e = subst (ListedIn s kinds values) e h
 
 -- ---- by the components
 
@@ -63,8 +64,8 @@ module _ (s : Bytes) (full slot : ℕ) (room : Bytes) (m : List ℕ) (l : Listed
   pub list-alone : l ≡ Nothing → (r : Lines) (after : Bytes) → PutsAlone s full room r after → PutsList s full slot room r after
   list-alone e r after p f h o w = subst (PartAs room r after) (sym (ap (linesOf f) (listed Nothing e o w))) (p f h)
 
-  pub list-both : (j : ℕ) → l ≡ ListAt j → (r : Lines) (after : Bytes) → PutsBoth s full j m room r after → PutsList s full slot room r after
-  list-both j e r after p f h o w = let x = listed (ListAt j) e o w in subst (PartAs room r after) (sym (ap (linesOf f) (x .1))) (p f h (x .0) (x .2) (x .3))
+  pub list-both : (j n : ℕ) → l ≡ ListAt j n → (r : Lines) (after : Bytes) → PutsBoth s full j m room r after → PutsList s full slot room r after
+  list-both j n e r after p f h o w = let x = listed (ListAt j n) e o w in subst (PartAs room r after) (sym (ap (linesOf f) (x .1))) (p f h (x .0) (x .2) (x .3))
 
 -- ---- by all members
 

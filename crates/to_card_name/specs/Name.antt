@@ -17,12 +17,13 @@ use Rattle.convert.specs.Model.{part, hasParts}
 use Rattle.convert.specs.Value.{writeName}
 use Rattle.convert.specs.FromJson.{Component, componentOf, byKind, Name, nameless, isFalse, nameFrom}
 use Rattle.convert.specs.Carry.{carriedText, apart}
-use Rattle.convert.specs.ToCard.{property, lineWhere, derivedLine}
+use Rattle.convert.specs.Property.{property}
+use Rattle.convert.specs.ToCard.{lineWhere, derivedLine}
 use Rattle.card_value.specs.Values.{StringIs}
 use Rattle.to_card_lines.specs.declared.Lines.{Lines}
 use Rattle.to_card_lines.specs.declared.Penned.{Penned}
 use Rattle.to_card_lines.specs.Lines.{lineBytes, linesBytes, Part, PartAs}
-use Rattle.to_card_parts.specs.Parts.{Lists, valuesOf, Marked}
+use Rattle.to_card_parts.specs.Parts.{Lists, valuesOf, Marked, RowsFrom}
 use Rattle.to_card_order.specs.Order.{orderFrom, carriedOrder}
 use Rattle.to_card_name.specs.declared.Full.{Full}
 use Rattle.to_card_name.specs.declared.Full.the-variants.{At, Absent, Wrong}
@@ -72,13 +73,14 @@ FullAs s Wrong x = x ≡ none
 abbrev pub TellsFull : Bytes → ℕ → Full → Type 0
 TellsFull s slot r = (o : Option Json) → Slot 14 s slot o → FullAs s r (fullIn o)
 
-abbrev pub ListedIn : ℕ → Listed → Type 0
-ListedIn n (ListAt j) = j ≤ n
-ListedIn n Nothing = Unit {0}
-ListedIn n NoList = Unit {0}
+-- the rows are those of the components
+abbrev pub ListedIn : Bytes → List ℕ → List ℕ → Listed → Type 0
+ListedIn s kinds values (ListAt j n) = (j ≤ length s) × RowsFrom s j kinds values n
+ListedIn s kinds values Nothing = Unit {0}
+ListedIn s kinds values NoList = Unit {0}
 
 abbrev pub ListedAs : Bytes → List ℕ → Listed → Option (List Component) → Type 0
-ListedAs s m (ListAt j) o = (cs : List Component) × (o ≡ some cs) × Lists s j cs × Marked m cs
+ListedAs s m (ListAt j n) o = (cs : List Component) × (o ≡ some cs) × Lists s j cs × Marked m cs
 ListedAs s m Nothing o = o ≡ some []
 ListedAs s m NoList o = o ≡ none
 

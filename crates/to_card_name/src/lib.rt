@@ -11,13 +11,14 @@ use to_card_lines::put_string_line;
 use to_card_order::are_apart;
 use to_card_order::pen_order;
 use to_card_parts::Array;
-use to_card_parts::check_components;
+use to_card_parts::list_rows;
 use to_card_parts::open_array;
 ghost use mathlib.Core.Path.{_≡_};
 ghost use Prim.Native.Nat.{_≤_, _<_};
 ghost use lib.ListN.{length};
 ghost use Rattle.json_index.specs.Index.{Clear};
 ghost use Rattle.to_card_lines.specs.Lines.{LinesIn};
+ghost use Rattle.to_card_parts.specs.Parts.{RowsFrom};
 ghost use Rattle.to_card_name.specs.Name.{TellsUnordered, TellsFull, ListedIn, ListsAs, TellsParts, TellsApart, OrderLine, FnLine, NLine, PutsAlone, PutsBoth, PutsList, PutsSlots, PutsName};
 
 // The full name: where its string stands; it is absent; or 12.
@@ -27,9 +28,9 @@ pub enum Full {
     Wrong,
 }
 
-// The components: where the first stands; there are none; or 12.
+// The components: where the first stands, and how many rows they have; there are none; or 12.
 pub enum Listed {
-    At(usize),
+    At(usize, usize),
     Nothing,
     Wrong,
 }
@@ -73,11 +74,19 @@ fn full_in(s: &[u8], slot: usize) -> Full
     Full::At(q)
 }
 
-// The components in a slot, and marks of the kinds that have a value.
-fn list_components<'a, 'b>(marks: &'a mut [usize], s: &'b [u8], slot: usize) -> Listed
+// The components in a slot: a row for each, and marks of the kinds that have a value.
+fn list_components<'a, 'b, 'c, 'd>(
+    marks: &'a mut [usize],
+    kinds: &'b mut [usize],
+    values: &'c mut [usize],
+    s: &'d [u8],
+    slot: usize,
+) -> Listed
     requires { ⌜ 7 ≤ length (now marks) ⌝ }
     requires { ⌜ Clear (now marks) ⌝ }
-    ensures { λ r. ⌜ ListedIn (length (now (s .entry))) r ⌝ }
+    requires { ⌜ 16 ≤ length (now kinds) ⌝ }
+    requires { ⌜ 16 ≤ length (now values) ⌝ }
+    ensures { λ r. ⌜ ListedIn (now (s .entry)) (now (kinds .exit)) (now (values .exit)) r ⌝ }
     ensures { λ r. ⌜ ListsAs (now (s .entry)) slot (now (marks .exit)) r ⌝ }
 {
     if slot == 0 {
@@ -90,10 +99,11 @@ fn list_components<'a, 'b>(marks: &'a mut [usize], s: &'b [u8], slot: usize) -> 
         Array::Wrong => Listed::Wrong,
         Array::Empty => Listed::Nothing,
         Array::At(j) => {
-            if !check_components(marks, s, j) {
+            let n = list_rows(marks, kinds, values, s, j);
+            if n == 0 {
                 return Listed::Wrong;
             }
-            Listed::At(j)
+            Listed::At(j, n)
         }
     }
 }
@@ -110,9 +120,21 @@ fn has_parts(marks: &[usize]) -> bool
 }
 
 // Whether two kinds have no value in common; looked for where both have values.
-fn apart_in<'a, 'b>(s: &'a [u8], at: usize, marks: &'b [usize], one: usize, other: usize) -> bool
+fn apart_in<'a, 'b, 'c, 'd>(
+    s: &'a [u8],
+    at: usize,
+    marks: &'b [usize],
+    kinds: &'c [usize],
+    values: &'d [usize],
+    rows: usize,
+    one: usize,
+    other: usize,
+) -> bool
     requires { ⌜ at ≤ length (now s) ⌝ }
     requires { ⌜ 7 ≤ length (now marks) ⌝ }
+    requires { ⌜ 16 ≤ length (now kinds) ⌝ }
+    requires { ⌜ 16 ≤ length (now values) ⌝ }
+    requires { ⌜ RowsFrom (now s) at (now kinds) (now values) rows ⌝ }
     requires { ⌜ one < 7 ⌝ }
     requires { ⌜ other < 7 ⌝ }
     ensures { λ r. ⌜ TellsApart (now (s .entry)) at (now (marks .entry)) one other r ⌝ }
@@ -123,11 +145,11 @@ fn apart_in<'a, 'b>(s: &'a [u8], at: usize, marks: &'b [usize], one: usize, othe
     if marks[other] == 0 {
         return true;
     }
-    are_apart(s, at, one, other)
+    are_apart(s, at, kinds, values, rows, one, other)
 }
 
 // A line whose value is the values of the components in an order of kinds.
-fn put_order_line<'a, 'b, 'c, 'd, 'e>(
+fn put_order_line<'a, 'b, 'c, 'd, 'e, 'f, 'g>(
     out: &'a mut [u8],
     head: &'b [u8],
     style: u8,
@@ -135,15 +157,33 @@ fn put_order_line<'a, 'b, 'c, 'd, 'e>(
     s: &'c [u8],
     at: usize,
     marks: &'d [usize],
-    order: &'e [u8],
+    kinds: &'e [usize],
+    values: &'f [usize],
+    rows: usize,
+    order: &'g [u8],
 ) -> Penned
     requires { ⌜ at ≤ length (now s) ⌝ }
     requires { ⌜ 7 ≤ length (now marks) ⌝ }
+    requires { ⌜ 16 ≤ length (now kinds) ⌝ }
+    requires { ⌜ 16 ≤ length (now values) ⌝ }
+    requires { ⌜ RowsFrom (now s) at (now kinds) (now values) rows ⌝ }
     ensures { λ r. ⌜ OrderLine (now (s .entry)) at (now (marks .entry)) style mark (now (head .entry)) (now (order .entry)) (now (out .entry)) r (now (out .exit)) ⌝ }
 {
     let p = pen_bytes(out, 0, head);
     let n1 = p.bytes;
-    let q = pen_order(&mut out[n1..], p.column, style, mark, s, at, marks, order);
+    let q = pen_order(
+        &mut out[n1..],
+        p.column,
+        style,
+        mark,
+        s,
+        at,
+        marks,
+        kinds,
+        values,
+        rows,
+        order,
+    );
     let n2 = n1 + q.bytes;
     let z = fill(&mut out[n2..], b"\r\n");
     let n3 = n2 + z;
@@ -155,21 +195,39 @@ fn put_order_line<'a, 'b, 'c, 'd, 'e>(
 }
 
 // FN: the full name, or one made of the components where there is none (its place is 0).
-fn put_fn<'a, 'b, 'c>(
+fn put_fn<'a, 'b, 'c, 'd, 'e>(
     out: &'a mut [u8],
     s: &'b [u8],
     full: usize,
     at: usize,
     marks: &'c [usize],
+    kinds: &'d [usize],
+    values: &'e [usize],
+    rows: usize,
 ) -> Penned
     requires { ⌜ at ≤ length (now s) ⌝ }
     requires { ⌜ 7 ≤ length (now marks) ⌝ }
+    requires { ⌜ 16 ≤ length (now kinds) ⌝ }
+    requires { ⌜ 16 ≤ length (now values) ⌝ }
+    requires { ⌜ RowsFrom (now s) at (now kinds) (now values) rows ⌝ }
     ensures { λ r. ⌜ FnLine (now (s .entry)) full at (now (marks .entry)) (now (out .entry)) r (now (out .exit)) ⌝ }
 {
     if full != 0 {
         return put_string_line(out, b"FN:", 1, s, full);
     }
-    let p = put_order_line(out, b"FN;DERIVED=TRUE:", 1, b' ', s, at, marks, b"0123456");
+    let p = put_order_line(
+        out,
+        b"FN;DERIVED=TRUE:",
+        1,
+        b' ',
+        s,
+        at,
+        marks,
+        kinds,
+        values,
+        rows,
+        b"0123456",
+    );
     let n = p.bytes;
     Penned {
         bytes: n,
@@ -178,9 +236,20 @@ fn put_fn<'a, 'b, 'c>(
 }
 
 // N, where there is a component that is not empty: its parts with surname2 after the surname and generation after the credential.
-fn put_n<'a, 'b, 'c>(out: &'a mut [u8], s: &'b [u8], at: usize, marks: &'c [usize]) -> Counted
+fn put_n<'a, 'b, 'c, 'd, 'e>(
+    out: &'a mut [u8],
+    s: &'b [u8],
+    at: usize,
+    marks: &'c [usize],
+    kinds: &'d [usize],
+    values: &'e [usize],
+    rows: usize,
+) -> Counted
     requires { ⌜ at ≤ length (now s) ⌝ }
     requires { ⌜ 7 ≤ length (now marks) ⌝ }
+    requires { ⌜ 16 ≤ length (now kinds) ⌝ }
+    requires { ⌜ 16 ≤ length (now values) ⌝ }
+    requires { ⌜ RowsFrom (now s) at (now kinds) (now values) rows ⌝ }
     ensures { λ r. ⌜ NLine (now (s .entry)) at (now (marks .entry)) (now (out .entry)) r (now (out .exit)) ⌝ }
 {
     if !has_parts(marks) {
@@ -190,11 +259,23 @@ fn put_n<'a, 'b, 'c>(out: &'a mut [u8], s: &'b [u8], at: usize, marks: &'c [usiz
             carried: true,
         };
     }
-    let p = put_order_line(out, b"N:", 2, b',', s, at, marks, b"05;1;2;3;46;5;6");
+    let p = put_order_line(
+        out,
+        b"N:",
+        2,
+        b',',
+        s,
+        at,
+        marks,
+        kinds,
+        values,
+        rows,
+        b"05;1;2;3;46;5;6",
+    );
     let n = p.bytes;
     let ok = p.carried;
-    let a = apart_in(s, at, marks, 0, 5);
-    let b = apart_in(s, at, marks, 4, 6);
+    let a = apart_in(s, at, marks, kinds, values, rows, 0, 5);
+    let b = apart_in(s, at, marks, kinds, values, rows, 4, 6);
     Counted {
         bytes: n,
         lines: 1,
@@ -219,22 +300,28 @@ fn put_alone<'a, 'b>(out: &'a mut [u8], s: &'b [u8], full: usize) -> Lines
 }
 
 // The lines of a name with components.
-fn put_both<'a, 'b, 'c>(
+fn put_both<'a, 'b, 'c, 'd, 'e>(
     out: &'a mut [u8],
     s: &'b [u8],
     full: usize,
     at: usize,
     marks: &'c [usize],
+    kinds: &'d [usize],
+    values: &'e [usize],
+    rows: usize,
 ) -> Lines
     requires { ⌜ at ≤ length (now s) ⌝ }
     requires { ⌜ 7 ≤ length (now marks) ⌝ }
+    requires { ⌜ 16 ≤ length (now kinds) ⌝ }
+    requires { ⌜ 16 ≤ length (now values) ⌝ }
+    requires { ⌜ RowsFrom (now s) at (now kinds) (now values) rows ⌝ }
     ensures { λ r. ⌜ LinesIn (length (now (out .entry))) r ⌝ }
     ensures { λ r. ⌜ length (now (out .exit)) ≡ length (now (out .entry)) ⌝ }
     ensures { λ r. ⌜ PutsBoth (now (s .entry)) full at (now (marks .entry)) (now (out .entry)) r (now (out .exit)) ⌝ }
 {
-    let p = put_fn(out, s, full, at, marks);
+    let p = put_fn(out, s, full, at, marks, kinds, values, rows);
     let n = p.bytes;
-    let t = put_n(&mut out[n..], s, at, marks);
+    let t = put_n(&mut out[n..], s, at, marks, kinds, values, rows);
     let m = n + t.bytes;
     let k = 1 + t.lines;
     let ok = p.carried & t.carried;
@@ -248,10 +335,12 @@ fn put_list<'a, 'b>(out: &'a mut [u8], s: &'b [u8], full: usize, components: usi
     ensures { λ r. ⌜ PutsList (now (s .entry)) full components (now (out .entry)) r (now (out .exit)) ⌝ }
 {
     let mut marks = [0usize; 7];
-    match list_components(&mut marks, s, components) {
+    let mut kinds = [0usize; 16];
+    let mut values = [0usize; 16];
+    match list_components(&mut marks, &mut kinds, &mut values, s, components) {
         Listed::Wrong => Lines::Wrong,
         Listed::Nothing => put_alone(out, s, full),
-        Listed::At(j) => put_both(out, s, full, j, &marks),
+        Listed::At(j, n) => put_both(out, s, full, j, &marks, &kinds, &values, n),
     }
 }
 

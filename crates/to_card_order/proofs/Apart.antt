@@ -3,10 +3,10 @@ use mathlib.Core.Path.{_≡_, refl, sym, ap, subst, _∙_}
 use mathlib.Core.Bool.{Bool, true, false, _&&_, _||_, not}
 use mathlib.Core.List.{List, [], _∷_, _++_}
 use mathlib.Core.Option.{Option, none, some}
-use Prim.Native.Nat.{ℕ, zero, suc, _≤_}
+use Prim.Native.Nat.{ℕ, zero, suc, _+_, _≤_, _<_}
 use native.Mathlib.Omega.{arith}
 use lib.Dec.{eqb}
-use lib.ListN.{length, drop}
+use lib.ListN.{length, take, drop, getD}
 use Rattle.text.specs.declared.Read.{Read}
 use Rattle.text.specs.declared.Turn.the-variants.{Go, Stop}
 use Rattle.text.specs.Choice.{pick}
@@ -25,10 +25,11 @@ use Rattle.convert.specs.FromJson.{Component, component, componentOf, ofKind}
 use Rattle.to_card_head.specs.Head.{TellsFilled}
 use Rattle.to_card_parts.specs.declared.Found.{Found}
 use Rattle.to_card_parts.specs.declared.Found.the-variants.{Of, Wrong}
-use Rattle.to_card_parts.specs.Parts.{TellsComponent, Lists, valuesOf, valueIf}
+use Rattle.to_card_parts.specs.Parts.{TellsComponent, Lists, valuesOf, valueIf, RowsFrom}
 use Rattle.to_card_parts.proofs.Elements.{Far, far-first, Now, now-of}
 use Rattle.to_card_parts.proofs.Values.{values-none, values-more, all-append}
 use Rattle.to_card_parts.proofs.Passes.{found-none, found-some}
+use Rattle.to_card_parts.proofs.Rows.{row-taken, rows-taken}
 use Rattle.to_card_order.specs.Order.{FindsAmong, Clashes, TellsApart}
 
 -- ---- one value
@@ -46,6 +47,14 @@ one-among (a ∷ x) (b ∷ y) true h = or-false (eqb a b && same x y)
 
 -- ---- among the values of a kind
 
+-- one component more
+module _ (s : Bytes) (kind value k v : ℕ) (b c : Bool) (agrees : c ≡ eqb kind k && agree (spelled s value) (spelled s v)) where
+  more : (past : List Component) (x y : Bytes) → spelled s value ≡ some x → spelled s v ≡ some y → filled x ≡ true → b ≡ among x (valuesOf kind past) → (b || c) ≡ among x (valuesOf kind (past ++ (component k y ∷ [])))
+  more past x y q w h z =
+      let a : c ≡ among x (ofKind kind (component k y)) =
+      agrees ∙ ap (λ (o : Option Bytes). eqb kind k && agree o (spelled s v)) q ∙ ap (λ (o : Option Bytes). eqb kind k && agree (some x) o) w ∙ sym (one-among x y (eqb kind k) h) in
+      ap (λ (t : Bool). t || c) z ∙ ap (λ (t : Bool). among x (valuesOf kind past) || t) a ∙ sym (among-append x (valuesOf kind past) (ofKind kind (component k y))) ∙ ap (among x) (sym (values-more kind past (component k y)))
+
 abbrev pub Finding : Bytes → ℕ → ℕ → ℕ → ℕ → Bool → Type 0
 Finding s at kind value i b = (cs : List Component) (l : Lists s at cs) (x : Bytes) → spelled s value ≡ some x → filled x ≡ true
     → (past : List Component) × Far componentOf 13 s (elemsOf (l .elems)) (l .rest) i past × (b ≡ among x (valuesOf kind past))
@@ -61,18 +70,12 @@ module _ (s : Bytes) (at kind value i : ℕ) (b : Bool) (going : Finding s at ki
       none-some (sym (n .fails (found-none s f (componentOf (n .val)) (tells (n .val) (n .is-val)) e)) ∙ l .is)
 
   module _ (k v : ℕ) (e : f ≡ Of k v) (c : Bool) (agrees : c ≡ eqb kind k && agree (spelled s value) (spelled s v)) where
-    more : (past : List Component) (x y : Bytes) → spelled s value ≡ some x → spelled s v ≡ some y → filled x ≡ true → b ≡ among x (valuesOf kind past) → (b || c) ≡ among x (valuesOf kind (past ++ (component k y ∷ [])))
-    more past x y q w h z =
-        let a : c ≡ among x (ofKind kind (component k y)) =
-        agrees ∙ ap (λ (o : Option Bytes). eqb kind k && agree o (spelled s v)) q ∙ ap (λ (o : Option Bytes). eqb kind k && agree (some x) o) w ∙ sym (one-among x y (eqb kind k) h) in
-        ap (λ (t : Bool). t || c) z ∙ ap (λ (t : Bool). among x (valuesOf kind past) || t) a ∙ sym (among-append x (valuesOf kind past) (ofKind kind (component k y))) ∙ ap (among x) (sym (values-more kind past (component k y)))
-
     pub finding-on : (j : ℕ) → GivesT s (r .end) (sep 93 zero suc (drop (r .end) s)) (Go j) → Finding s at kind value j (b || c)
     finding-on j w cs l x q h =
         let g = going cs l x q h in
         let n = now-of (g .1) r told in
         let d = found-some s f (componentOf (n .val)) (tells (n .val) (n .is-val)) k v e in
-        (g .0 ++ (component k (d .0) ∷ []), n .goes (component k (d .0)) (d .1) j w, more (g .0) x (d .0) q (d .2) h (g .2))
+        (g .0 ++ (component k (d .0) ∷ []), n .goes (component k (d .0)) (d .1) j w, more s kind value k v b c agrees (g .0) x (d .0) q (d .2) h (g .2))
 
     pub finds-all : (u : Read) → GivesT s (r .end) (sep 93 zero suc (drop (r .end) s)) (Stop u) → FindsAmong s at kind value (b || c)
     finds-all u w cs l x q h =
@@ -80,7 +83,25 @@ module _ (s : Bytes) (at kind value i : ℕ) (b : Bool) (going : Finding s at ki
         let n = now-of (g .1) r told in
         let d = found-some s f (componentOf (n .val)) (tells (n .val) (n .is-val)) k v e in
         let y : g .0 ++ (component k (d .0) ∷ []) ≡ cs = some-same (sym (n .ends (component k (d .0)) (d .1) u w) ∙ l .is) in
-        more (g .0) x (d .0) q (d .2) h (g .2) ∙ ap (λ (t : List Component). among x (valuesOf kind t)) y
+        more s kind value k v b c agrees (g .0) x (d .0) q (d .2) h (g .2) ∙ ap (λ (t : List Component). among x (valuesOf kind t)) y
+
+-- by the rows of the components: those before row i
+abbrev pub FindingTo : Bytes → ℕ → ℕ → ℕ → ℕ → Bool → Type 0
+FindingTo s at kind value i b = (cs : List Component) → Lists s at cs → (x : Bytes) → spelled s value ≡ some x → filled x ≡ true → b ≡ among x (valuesOf kind (take i cs))
+
+pub finding-none : (s : Bytes) (at kind value : ℕ) → FindingTo s at kind value 0 false
+finding-none s at kind value cs l x q h = sym (ap (among x) (values-none kind) ∙ among-none x)
+
+module _ (s : Bytes) (at kind value : ℕ) (kinds values : List ℕ) (rows : ℕ) (le : rows ≤ 16) (given : RowsFrom s at kinds values rows) (i : ℕ) (b : Bool) (going : FindingTo s at kind value i b) where
+  pub finding-row : i < rows → (c : Bool) → c ≡ eqb kind (getD kinds i 0) && agree (spelled s value) (spelled s (getD values i 0)) → FindingTo s at kind value (i + 1) (b || c)
+  finding-row l c agrees cs y x q h =
+      let g = given le cs y in
+      let r = g .row i l in
+      more s kind value (getD kinds i 0) (getD values i 0) b c agrees (take i cs) x (r .0) q (r .2) h (going cs y x q h)
+      ∙ ap (λ (t : List Component). among x (valuesOf kind t)) (sym (row-taken s kinds values rows cs g i l))
+
+  pub finds-rows : rows ≤ i → FindsAmong s at kind value b
+  finds-rows l cs y x q h = going cs y x q h ∙ ap (λ (t : List Component). among x (valuesOf kind t)) (rows-taken s kinds values rows cs (given le cs y) i l)
 
 -- ---- a value that clashes
 
@@ -129,6 +150,14 @@ apart-append : (vs ws us : List Bytes) → apart (vs ++ ws) us ≡ apart vs us &
 unfolding apart
 apart-append vs ws us = all-append (λ v. not (among v us)) vs ws
 
+-- one component more
+module _ (s : Bytes) (at one other k v : ℕ) (ok c : Bool) (clash : Clashes s at (eqb one k) v other c) where
+  parted : (cs : List Component) → Lists s at cs → (past : List Component) (y : Bytes) → spelled s v ≡ some y → ok ≡ apart (valuesOf one past) (valuesOf other cs)
+      → (ok && not c) ≡ apart (valuesOf one (past ++ (component k y ∷ []))) (valuesOf other cs)
+  parted cs l past y w z =
+      ap (λ (t : Bool). t && not c) z ∙ ap (λ (t : Bool). apart (valuesOf one past) (valuesOf other cs) && t) (clash cs l y w)
+      ∙ sym (apart-append (valuesOf one past) (ofKind one (component k y)) (valuesOf other cs)) ∙ ap (λ (t : List Bytes). apart t (valuesOf other cs)) (sym (values-more one past (component k y)))
+
 module _ (s : Bytes) (at one other i : ℕ) (ok : Bool) (going : Parting s at one other i ok) (r : Part) (told : TellsElement 13 s i r) (f : Found) (tells : TellsComponent s (r .start) f) where
   pub parts-wrong : f ≡ Wrong → TellsApart s at one other ok
   parts-wrong e cs l =
@@ -137,18 +166,12 @@ module _ (s : Bytes) (at one other i : ℕ) (ok : Bool) (going : Parting s at on
       none-some (sym (n .fails (found-none s f (componentOf (n .val)) (tells (n .val) (n .is-val)) e)) ∙ l .is)
 
   module _ (k v : ℕ) (e : f ≡ Of k v) (c : Bool) (clash : Clashes s at (eqb one k) v other c) where
-    parted : (cs : List Component) → Lists s at cs → (past : List Component) (y : Bytes) → spelled s v ≡ some y → ok ≡ apart (valuesOf one past) (valuesOf other cs)
-        → (ok && not c) ≡ apart (valuesOf one (past ++ (component k y ∷ []))) (valuesOf other cs)
-    parted cs l past y w z =
-        ap (λ (t : Bool). t && not c) z ∙ ap (λ (t : Bool). apart (valuesOf one past) (valuesOf other cs) && t) (clash cs l y w)
-        ∙ sym (apart-append (valuesOf one past) (ofKind one (component k y)) (valuesOf other cs)) ∙ ap (λ (t : List Bytes). apart t (valuesOf other cs)) (sym (values-more one past (component k y)))
-
     pub parting-on : (j : ℕ) → GivesT s (r .end) (sep 93 zero suc (drop (r .end) s)) (Go j) → Parting s at one other j (ok && not c)
     parting-on j w cs l =
         let g = going cs l in
         let n = now-of (g .1) r told in
         let d = found-some s f (componentOf (n .val)) (tells (n .val) (n .is-val)) k v e in
-        (g .0 ++ (component k (d .0) ∷ []), n .goes (component k (d .0)) (d .1) j w, parted cs l (g .0) (d .0) (d .2) (g .2))
+        (g .0 ++ (component k (d .0) ∷ []), n .goes (component k (d .0)) (d .1) j w, parted s at one other k v ok c clash cs l (g .0) (d .0) (d .2) (g .2))
 
     pub parts-all : (u : Read) → GivesT s (r .end) (sep 93 zero suc (drop (r .end) s)) (Stop u) → TellsApart s at one other (ok && not c)
     parts-all u w cs l =
@@ -156,4 +179,22 @@ module _ (s : Bytes) (at one other i : ℕ) (ok : Bool) (going : Parting s at on
         let n = now-of (g .1) r told in
         let d = found-some s f (componentOf (n .val)) (tells (n .val) (n .is-val)) k v e in
         let y : g .0 ++ (component k (d .0) ∷ []) ≡ cs = some-same (sym (n .ends (component k (d .0)) (d .1) u w) ∙ l .is) in
-        parted cs l (g .0) (d .0) (d .2) (g .2) ∙ ap (λ (t : List Component). apart (valuesOf one t) (valuesOf other cs)) y
+        parted s at one other k v ok c clash cs l (g .0) (d .0) (d .2) (g .2) ∙ ap (λ (t : List Component). apart (valuesOf one t) (valuesOf other cs)) y
+
+-- by the rows of the components: those before row i
+abbrev pub PartingTo : Bytes → ℕ → ℕ → ℕ → ℕ → Bool → Type 0
+PartingTo s at one other i ok = (cs : List Component) → Lists s at cs → ok ≡ apart (valuesOf one (take i cs)) (valuesOf other cs)
+
+pub parting-none : (s : Bytes) (at one other : ℕ) → PartingTo s at one other 0 true
+parting-none s at one other cs l = sym (ap (λ (vs : List Bytes). apart vs (valuesOf other cs)) (values-none one) ∙ apart-none (valuesOf other cs))
+
+module _ (s : Bytes) (at one other : ℕ) (kinds values : List ℕ) (rows : ℕ) (le : rows ≤ 16) (given : RowsFrom s at kinds values rows) (i : ℕ) (ok : Bool) (going : PartingTo s at one other i ok) where
+  pub parting-row : i < rows → (c : Bool) → Clashes s at (eqb one (getD kinds i 0)) (getD values i 0) other c → PartingTo s at one other (i + 1) (ok && not c)
+  parting-row l c clash cs y =
+      let g = given le cs y in
+      let r = g .row i l in
+      parted s at one other (getD kinds i 0) (getD values i 0) ok c clash cs y (take i cs) (r .0) (r .2) (going cs y)
+      ∙ ap (λ (t : List Component). apart (valuesOf one t) (valuesOf other cs)) (sym (row-taken s kinds values rows cs g i l))
+
+  pub parts-rows : rows ≤ i → TellsApart s at one other ok
+  parts-rows l cs y = going cs y ∙ ap (λ (t : List Component). apart (valuesOf one t) (valuesOf other cs)) (rows-taken s kinds values rows cs (given le cs y) i l)

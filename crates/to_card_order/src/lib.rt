@@ -9,7 +9,6 @@ use to_card_head::is_filled;
 use to_card_parts::Found;
 use to_card_parts::Inked;
 use to_card_parts::component_at;
-use to_card_parts::list_rows;
 use to_card_parts::pen_listed;
 ghost use mathlib.Core.Path.{_≡_};
 ghost use mathlib.Core.Bool.{_&&_};
@@ -92,8 +91,8 @@ fn pen_place<'a, 'b, 'c, 'd, 'e>(
     )
 }
 
-// The values of the components from a place on, in an order of kinds: a digit is a kind, a semicolon itself.
-pub fn pen_order<'a, 'b, 'c, 'd>(
+// The values of the components from a place on, by their rows, in an order of kinds: a digit is a kind, a semicolon itself.
+pub fn pen_order<'a, 'b, 'c, 'd, 'e, 'f>(
     out: &'a mut [u8],
     column: usize,
     style: u8,
@@ -101,15 +100,18 @@ pub fn pen_order<'a, 'b, 'c, 'd>(
     s: &'b [u8],
     at: usize,
     marks: &'c [usize],
-    order: &'d [u8],
+    kinds: &'d [usize],
+    values: &'e [usize],
+    rows: usize,
+    order: &'f [u8],
 ) -> Told
     requires { ⌜ at ≤ length (now s) ⌝ }
     requires { ⌜ 7 ≤ length (now marks) ⌝ }
+    requires { ⌜ 16 ≤ length (now kinds) ⌝ }
+    requires { ⌜ 16 ≤ length (now values) ⌝ }
+    requires { ⌜ RowsFrom (now s) at (now kinds) (now values) rows ⌝ }
     ensures { λ r. ⌜ InksOrder (now (s .entry)) at (now (marks .entry)) style mark (now (order .entry)) (now (out .entry)) column r (now (out .exit)) ⌝ }
 {
-    let mut kinds = [0usize; 16];
-    let mut values = [0usize; 16];
-    let rows = list_rows(&mut kinds, &mut values, s, at);
     let mut n = 0;
     let mut c = column;
     let mut b = false;
@@ -124,8 +126,8 @@ pub fn pen_order<'a, 'b, 'c, 'd>(
             s,
             at,
             marks,
-            &kinds,
-            &values,
+            kinds,
+            values,
             rows,
             order[i],
             b,
@@ -179,9 +181,49 @@ fn is_among(s: &[u8], at: usize, kind: usize, value: usize) -> bool
     }
 }
 
-// Whether a value, where it is asked for and not empty, is one of a kind too.
-fn clashes(s: &[u8], at: usize, wanted: bool, value: usize, kind: usize) -> bool
+// Whether a string that is not empty is a value of a kind, by the rows of the components from a place on.
+fn is_listed<'a, 'b, 'c>(
+    s: &'a [u8],
+    at: usize,
+    kinds: &'b [usize],
+    values: &'c [usize],
+    rows: usize,
+    kind: usize,
+    value: usize,
+) -> bool
     requires { ⌜ at ≤ length (now s) ⌝ }
+    requires { ⌜ 16 ≤ length (now kinds) ⌝ }
+    requires { ⌜ 16 ≤ length (now values) ⌝ }
+    requires { ⌜ RowsFrom (now s) at (now kinds) (now values) rows ⌝ }
+    ensures { λ r. ⌜ FindsAmong (now (s .entry)) at kind value r ⌝ }
+{
+    if rows > 16 {
+        return is_among(s, at, kind, value);
+    }
+    let mut i = 0;
+    let mut found = false;
+    while i < rows {
+        found = found | agrees(s, kind == kinds[i], value, values[i]);
+        i += 1;
+    }
+    found
+}
+
+// Whether a value, where it is asked for and not empty, is one of a kind too.
+fn clashes<'a, 'b, 'c>(
+    s: &'a [u8],
+    at: usize,
+    kinds: &'b [usize],
+    values: &'c [usize],
+    rows: usize,
+    wanted: bool,
+    value: usize,
+    kind: usize,
+) -> bool
+    requires { ⌜ at ≤ length (now s) ⌝ }
+    requires { ⌜ 16 ≤ length (now kinds) ⌝ }
+    requires { ⌜ 16 ≤ length (now values) ⌝ }
+    requires { ⌜ RowsFrom (now s) at (now kinds) (now values) rows ⌝ }
     ensures { λ r. ⌜ Clashes (now (s .entry)) at wanted value kind r ⌝ }
 {
     if !wanted {
@@ -190,12 +232,23 @@ fn clashes(s: &[u8], at: usize, wanted: bool, value: usize, kind: usize) -> bool
     if !is_filled(s, value) {
         return false;
     }
-    is_among(s, at, kind, value)
+    is_listed(s, at, kinds, values, rows, kind, value)
 }
 
-// Whether no value of the one kind is a value of the other.
-pub fn are_apart(s: &[u8], at: usize, one: usize, other: usize) -> bool
+// Whether no value of the one kind is a value of the other, of the components from a place on.
+fn walk_apart<'a, 'b, 'c>(
+    s: &'a [u8],
+    at: usize,
+    kinds: &'b [usize],
+    values: &'c [usize],
+    rows: usize,
+    one: usize,
+    other: usize,
+) -> bool
     requires { ⌜ at ≤ length (now s) ⌝ }
+    requires { ⌜ 16 ≤ length (now kinds) ⌝ }
+    requires { ⌜ 16 ≤ length (now values) ⌝ }
+    requires { ⌜ RowsFrom (now s) at (now kinds) (now values) rows ⌝ }
     ensures { λ r. ⌜ TellsApart (now (s .entry)) at one other r ⌝ }
 {
     let mut i = at;
@@ -207,7 +260,7 @@ pub fn are_apart(s: &[u8], at: usize, one: usize, other: usize) -> bool
         let Found::Of(k, v) = component_at(s, a) else {
             return ok;
         };
-        ok = ok & !clashes(s, at, one == k, v, other);
+        ok = ok & !clashes(s, at, kinds, values, rows, one == k, v, other);
         match separator(s, e, 93) {
             Turn::Go(j) => {
                 i = j;
@@ -217,4 +270,42 @@ pub fn are_apart(s: &[u8], at: usize, one: usize, other: usize) -> bool
             }
         }
     }
+}
+
+// Whether no value of the one kind is a value of the other, by the rows of the components from a place on.
+pub fn are_apart<'a, 'b, 'c>(
+    s: &'a [u8],
+    at: usize,
+    kinds: &'b [usize],
+    values: &'c [usize],
+    rows: usize,
+    one: usize,
+    other: usize,
+) -> bool
+    requires { ⌜ at ≤ length (now s) ⌝ }
+    requires { ⌜ 16 ≤ length (now kinds) ⌝ }
+    requires { ⌜ 16 ≤ length (now values) ⌝ }
+    requires { ⌜ RowsFrom (now s) at (now kinds) (now values) rows ⌝ }
+    ensures { λ r. ⌜ TellsApart (now (s .entry)) at one other r ⌝ }
+{
+    if rows > 16 {
+        return walk_apart(s, at, kinds, values, rows, one, other);
+    }
+    let mut i = 0;
+    let mut ok = true;
+    while i < rows {
+        ok = ok
+            & !clashes(
+                s,
+                at,
+                kinds,
+                values,
+                rows,
+                one == kinds[i],
+                values[i],
+                other,
+            );
+        i += 1;
+    }
+    ok
 }

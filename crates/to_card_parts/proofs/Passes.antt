@@ -121,11 +121,11 @@ pub checking-first : (s : Bytes) (at : ℕ) (m : List ℕ) → Clear m → Check
 checking-first s at m h us es t e f = ([], far-first componentOf 13 s us es t at e f, λ i l. eq-eqb (getD m i 0) 0 (h i) ∙ sym (ap empty (values-none i)))
 
 module _ (s : Bytes) (at i : ℕ) (m : List ℕ) (going : Checking s at i m) (r : Part) (told : TellsElement 13 s i r) (f : Found) (tells : TellsComponent s (r .start) f) where
-  pub checks-wrong : f ≡ Wrong → (after : List ℕ) → ChecksFrom s at after false
+  pub checks-wrong : f ≡ Wrong → (after : List ℕ) → ChecksFrom s at after 0
   checks-wrong e after us es t x y =
       let g = going us es t x y in
       let n = now-of (g .1) r told in
-      subst (CheckedAs after false) (sym (n .fails (found-none s f (componentOf (n .val)) (tells (n .val) (n .is-val)) e))) refl
+      subst (CheckedAs after 0) (sym (n .fails (found-none s f (componentOf (n .val)) (tells (n .val) (n .is-val)) e))) refl
 
   module _ (k v : ℕ) (e : f ≡ Of k v) (after : List ℕ) (l : k < length m) (marks : Marks s v k m after) where
     pub checking-on : (j : ℕ) → GivesT s (r .end) (sep 93 zero suc (drop (r .end) s)) (Go j) → Checking s at j after
@@ -135,12 +135,12 @@ module _ (s : Bytes) (at i : ℕ) (m : List ℕ) (going : Checking s at i m) (r 
         let c = found-some s f (componentOf (n .val)) (tells (n .val) (n .is-val)) k v e in
         (g .0 ++ (component k (c .0) ∷ []), n .goes (component k (c .0)) (c .1) j w, marked-on m after (g .0) k (c .0) l (marks .is (c .0) (c .2)) (g .2))
 
-    pub checks-all : (z : Read) → GivesT s (r .end) (sep 93 zero suc (drop (r .end) s)) (Stop z) → ChecksFrom s at after true
-    checks-all z w us es t x y =
+    pub checks-all : (z : Read) → GivesT s (r .end) (sep 93 zero suc (drop (r .end) s)) (Stop z) → (n : ℕ) → 0 < n → ChecksFrom s at after n
+    checks-all z w q h us es t x y =
         let g = going us es t x y in
         let n = now-of (g .1) r told in
         let c = found-some s f (componentOf (n .val)) (tells (n .val) (n .is-val)) k v e in
-        subst (CheckedAs after true) (sym (n .ends (component k (c .0)) (c .1) z w)) (refl, marked-on m after (g .0) k (c .0) l (marks .is (c .0) (c .2)) (g .2))
+        subst (CheckedAs after q) (sym (n .ends (component k (c .0)) (c .1) z w)) (h, marked-on m after (g .0) k (c .0) l (marks .is (c .0) (c .2)) (g .2))
 
 -- ---- the writing pass
 

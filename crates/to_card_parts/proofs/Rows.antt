@@ -28,7 +28,7 @@ use Rattle.convert.specs.FromJson.{Component, component, componentOf, ofKind}
 use Rattle.to_card_parts.specs.declared.Found.{Found}
 use Rattle.to_card_parts.specs.declared.Found.the-variants.{Of}
 use Rattle.to_card_parts.specs.declared.Inked.{Inked}
-use Rattle.to_card_parts.specs.Parts.{TellsComponent, Lists, valuesOf, Says, InksOne, InksKind, Rows, RowsFrom}
+use Rattle.to_card_parts.specs.Parts.{TellsComponent, Lists, valuesOf, CheckedAs, ChecksFrom, Says, InksOne, InksKind, Rows, RowsFrom, AddsRow}
 use Rattle.to_card_parts.proofs.Elements.{Far, far-first, now-of}
 use Rattle.to_card_parts.proofs.Passes.{found-some}
 use Rattle.to_card_parts.proofs.Values.{values-none, values-more, says-none, says-then, says-as}
@@ -88,30 +88,53 @@ module _ (s : Bytes) (kinds values : List ℕ) (n : ℕ) (cs : List Component) (
 -- ---- the pass that lists them
 
 abbrev pub Listing : Bytes → ℕ → ℕ → List ℕ → List ℕ → ℕ → Type 0
-Listing s at i kinds values n = (cs : List Component) (l : Lists s at cs) → (past : List Component) × Far componentOf 13 s (elemsOf (l .elems)) (l .rest) i past × Rows s kinds values n past
+Listing s at i kinds values n = n ≤ 16 → (cs : List Component) (l : Lists s at cs) → (past : List Component) × Far componentOf 13 s (elemsOf (l .elems)) (l .rest) i past × Rows s kinds values n past
 
 pub listing-first : (s : Bytes) (at : ℕ) (kinds values : List ℕ) → Listing s at at kinds values 0
-listing-first s at kinds values cs l = ([], far-first componentOf 13 s (l .units) (l .elems) (l .rest) at (l .read) (l .are), rows-none s kinds values)
+listing-first s at kinds values le cs l = ([], far-first componentOf 13 s (l .units) (l .elems) (l .rest) at (l .read) (l .are), rows-none s kinds values)
 
 module _ (s : Bytes) (at i : ℕ) (kinds values : List ℕ) (n : ℕ) (going : Listing s at i kinds values n) (r : Part) (told : TellsElement 13 s i r) (f : Found) (tells : TellsComponent s (r .start) f)
-    (k v : ℕ) (e : f ≡ Of k v) (l : n < length kinds) (m : n < length values) where
-  pub listing-on : (j : ℕ) → GivesT s (r .end) (sep 93 zero suc (drop (r .end) s)) (Go j) → Listing s at j (set kinds n k) (set values n v) (n + 1)
-  listing-on j w cs y =
-      let g = going cs y in
+    (k v : ℕ) (e : f ≡ Of k v) (l : 16 ≤ length kinds) (m : 16 ≤ length values) (kinds′ values′ : List ℕ) (n′ : ℕ) (adds : AddsRow kinds values n k v kinds′ values′ n′) where
+  more-rows : n′ ≤ 16 → (past : List Component) (x : Bytes) → spelled s v ≡ some x → Rows s kinds values n past → Rows s kinds′ values′ n′ (past ++ (component k x ∷ []))
+  more-rows le past x q h =
+      let a = adds .added le in
+      let cs = past ++ (component k x ∷ []) in
+      let t = rows-on s kinds values n past k v x (omega (arith, a .0)) (omega (arith, a .0)) q h in
+      let u = subst (λ (z : ℕ). Rows s (set kinds n k) (set values n v) z cs) (sym (a .1)) t in
+      let w = subst (λ (z : List ℕ). Rows s z (set values n v) n′ cs) (sym (a .2)) u in
+      subst (λ (z : List ℕ). Rows s kinds′ z n′ cs) (sym (a .3)) w
+
+  pub listing-on : (j : ℕ) → GivesT s (r .end) (sep 93 zero suc (drop (r .end) s)) (Go j) → Listing s at j kinds′ values′ n′
+  listing-on j w le cs y =
+      let a = adds .added le in
+      let g = going (omega (arith, a .0)) cs y in
       let x = now-of (g .1) r told in
       let c = found-some s f (componentOf (x .val)) (tells (x .val) (x .is-val)) k v e in
-      (g .0 ++ (component k (c .0) ∷ []), x .goes (component k (c .0)) (c .1) j w, rows-on s kinds values n (g .0) k v (c .0) l m (c .2) (g .2))
+      (g .0 ++ (component k (c .0) ∷ []), x .goes (component k (c .0)) (c .1) j w, more-rows le (g .0) (c .0) (c .2) (g .2))
 
-  pub lists-all : (z : Read) → GivesT s (r .end) (sep 93 zero suc (drop (r .end) s)) (Stop z) → RowsFrom s at (set kinds n k) (set values n v) (n + 1)
+  pub lists-all : (z : Read) → GivesT s (r .end) (sep 93 zero suc (drop (r .end) s)) (Stop z) → RowsFrom s at kinds′ values′ n′
   lists-all z w le cs y =
-      let g = going cs y in
+      let a = adds .added le in
+      let g = going (omega (arith, a .0)) cs y in
       let x = now-of (g .1) r told in
       let c = found-some s f (componentOf (x .val)) (tells (x .val) (x .is-val)) k v e in
       let q : g .0 ++ (component k (c .0) ∷ []) ≡ cs = some-same (sym (x .ends (component k (c .0)) (c .1) z w) ∙ y .is) in
-      subst (Rows s (set kinds n k) (set values n v) (n + 1)) q (rows-on s kinds values n (g .0) k v (c .0) l m (c .2) (g .2))
+      subst (Rows s kinds′ values′ n′) q (more-rows le (g .0) (c .0) (c .2) (g .2))
 
-pub no-rows : (s : Bytes) (at : ℕ) (kinds values : List ℕ) → RowsFrom s at kinds values 17
-no-rows s at kinds values l = absurd (omega (arith, l))
+-- where an element is no component, no components are listed
+pub no-rows : (s : Bytes) (at : ℕ) (m kinds values : List ℕ) (n : ℕ) → ChecksFrom s at m 0 → RowsFrom s at kinds values n
+no-rows s at m kinds values n h le cs l =
+    let q = subst (CheckedAs m 0) (l .is) (h (l .units) (l .elems) (l .rest) (l .read) (l .are)) in
+    absurd (omega (arith, q .0))
+
+-- ---- the components before a row
+
+module _ (s : Bytes) (kinds values : List ℕ) (n : ℕ) (cs : List Component) (h : Rows s kinds values n cs) where
+  pub row-taken : (i : ℕ) (l : i < n) → take (i + 1) cs ≡ take i cs ++ (component (getD kinds i 0) (h .row i l .0) ∷ [])
+  row-taken i l = ap (λ (j : ℕ). take j cs) (add-one i) ∙ take-on cs i (omega (arith, h .count)) ∙ ap (λ (d : Component). take i cs ++ (d ∷ [])) (h .row i l .1)
+
+  pub rows-taken : (i : ℕ) → n ≤ i → take i cs ≡ cs
+  rows-taken i l = take-all cs i (omega (arith, h .count))
 
 -- ---- the writing pass by rows
 
@@ -129,7 +152,7 @@ module _ (s : Bytes) (at style mark kind : ℕ) (begun : Bool) (room : Bytes) (c
   by-rows-all l = record {
     text = going .text;
     pens = going .pens;
-    says = λ cs y. says-as (ap (valuesOf kind) (take-all cs i (omega (arith, given le cs y .count)))) (going .so cs y);
+    says = λ cs y. says-as (ap (valuesOf kind) (rows-taken s kinds values rows cs (given le cs y) i l)) (going .so cs y);
   }
 
   pub by-rows-on : i < rows → (w : Inked) (last : Bytes) → InksOne s (getD values i 0) style mark (eqb kind (getD kinds i 0)) b (midOf n (length out - n) out) c w last
@@ -141,8 +164,6 @@ module _ (s : Bytes) (at style mark kind : ℕ) (begun : Bool) (room : Bytes) (c
         let g = given le cs y in
         let r = g .row i l in
         let k : ℕ = getD kinds i 0 in
-        let t : take (i + 1) cs ≡ take i cs ++ (component k (r .0) ∷ []) =
-        ap (λ (j : ℕ). take j cs) (add-one i) ∙ take-on cs i (omega (arith, g .count)) ∙ ap (λ (d : Component). take i cs ++ (d ∷ [])) (r .1) in
-        says-as (sym (ap (valuesOf kind) t ∙ values-more kind (take i cs) (component k (r .0))))
+        says-as (sym (ap (valuesOf kind) (row-taken s kinds values rows cs g i l) ∙ values-more kind (take i cs) (component k (r .0))))
         (says-then style mark begun (valuesOf kind (take i cs)) (ofKind kind (component k (r .0))) (going .so cs y) (one .says (r .0) (r .2)));
   }

@@ -3,7 +3,7 @@ use mathlib.Core.Path.{_≡_}
 use mathlib.Core.Bool.{Bool, true, false, _&&_, _||_, not}
 use mathlib.Core.List.{List, [], _∷_, _++_, map}
 use mathlib.Core.Option.{Option, none, some}
-use Prim.Native.Nat.{ℕ, _≤_, _<_}
+use Prim.Native.Nat.{ℕ, _+_, _≤_, _<_}
 use lib.Dec.{eqb}
 use lib.ListN.{length, drop, getD, set}
 use Rattle.text.specs.Choice.{pick, both, chain}
@@ -95,12 +95,12 @@ pub record Marks (s : Bytes) (at kind : ℕ) (m after : List ℕ) : Type 0 where
   pub long : length after ≡ length m
   pub is : (x : Bytes) → spelled s at ≡ some x → after ≡ pick (filled x) (set m kind 1) m
 
-abbrev pub CheckedAs : List ℕ → Bool → Option (List Component) → Type 0
-CheckedAs m r none = r ≡ false
-CheckedAs m r (some cs) = (r ≡ true) × Marked m cs
+abbrev pub CheckedAs : List ℕ → ℕ → Option (List Component) → Type 0
+CheckedAs m r none = r ≡ 0
+CheckedAs m r (some cs) = (0 < r) × Marked m cs
 
--- 12, or marks of the kinds that are there
-abbrev pub ChecksFrom : Bytes → ℕ → List ℕ → Bool → Type 0
+-- 12 (0), or marks of the kinds that are there
+abbrev pub ChecksFrom : Bytes → ℕ → List ℕ → ℕ → Type 0
 ChecksFrom s at m r = (us es : Elems) (t : Bytes) → loop (item (value 13)) (drop at s) ≡ got us t → decodedElems us ≡ some es
     → CheckedAs m r (each componentOf (elemsOf es))
 
@@ -141,3 +141,10 @@ pub record Rows (s : Bytes) (kinds values : List ℕ) (n : ℕ) (cs : List Compo
 -- n rows, where n is not over 16, are the components that stand there
 abbrev pub RowsFrom : Bytes → ℕ → List ℕ → List ℕ → ℕ → Type 0
 RowsFrom s at kinds values n = n ≤ 16 → (cs : List Component) → Lists s at cs → Rows s kinds values n cs
+
+-- a row after n others; r, where it is not over 16, is how many there are then
+pub record AddsRow (kinds values : List ℕ) (n kind value : ℕ) (kinds′ values′ : List ℕ) (r : ℕ) : Type 0 where
+  pub long-kinds : length kinds′ ≡ length kinds
+  pub long-values : length values′ ≡ length values
+  pub some-row : 0 < r
+  pub added : r ≤ 16 → (n < 16) × (r ≡ n + 1) × (kinds′ ≡ set kinds n kind) × (values′ ≡ set values n value)

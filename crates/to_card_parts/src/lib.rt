@@ -14,7 +14,7 @@ ghost use mathlib.Core.Path.{_≡_};
 ghost use Prim.Native.Nat.{_≤_, _<_};
 ghost use lib.ListN.{length};
 ghost use Rattle.json_index.specs.Index.{Clear};
-ghost use Rattle.to_card_parts.specs.Parts.{KindIn, TellsSlots, TellsComponent, ArrayIn, OpensAs, Marks, ChecksFrom, InksOne, InksKind, RowsFrom};
+ghost use Rattle.to_card_parts.specs.Parts.{KindIn, TellsSlots, TellsComponent, ArrayIn, OpensAs, Marks, ChecksFrom, InksOne, InksKind, AddsRow, RowsFrom};
 
 // A component: the place of its kind among the kinds, and the place of its value; or 12.
 pub enum Found {
@@ -115,28 +115,59 @@ fn mark_kind<'a, 'b>(marks: &'a mut [usize], s: &'b [u8], kind: usize, value: us
     true
 }
 
-// Whether all elements from a place on are components; and marks of the kinds that have a value that is not empty.
-pub fn check_components<'a, 'b>(marks: &'a mut [usize], s: &'b [u8], at: usize) -> bool
+// A row for one more component: its kind, and the place of its value. How many rows there are then; 17 where they would be more than 16.
+fn put_row<'a, 'b>(
+    kinds: &'a mut [usize],
+    values: &'b mut [usize],
+    rows: usize,
+    kind: usize,
+    value: usize,
+) -> usize
+    requires { ⌜ 16 ≤ length (now kinds) ⌝ }
+    requires { ⌜ 16 ≤ length (now values) ⌝ }
+    ensures { λ r. ⌜ AddsRow (now (kinds .entry)) (now (values .entry)) rows kind value (now (kinds .exit)) (now (values .exit)) r ⌝ }
+{
+    if rows >= 16 {
+        return 17;
+    }
+    kinds[rows] = kind;
+    values[rows] = value;
+    rows + 1
+}
+
+// A row for each component from a place on, and marks of the kinds that have a value that is not empty. How many there are; 17 where they are more than 16; 0 where an element is no component.
+pub fn list_rows<'a, 'b, 'c, 'd>(
+    marks: &'a mut [usize],
+    kinds: &'b mut [usize],
+    values: &'c mut [usize],
+    s: &'d [u8],
+    at: usize,
+) -> usize
     requires { ⌜ at ≤ length (now s) ⌝ }
     requires { ⌜ 7 ≤ length (now marks) ⌝ }
     requires { ⌜ Clear (now marks) ⌝ }
+    requires { ⌜ 16 ≤ length (now kinds) ⌝ }
+    requires { ⌜ 16 ≤ length (now values) ⌝ }
     ensures { λ r. ⌜ ChecksFrom (now (s .entry)) at (now (marks .exit)) r ⌝ }
+    ensures { λ r. ⌜ RowsFrom (now (s .entry)) at (now (kinds .exit)) (now (values .exit)) r ⌝ }
 {
     let mut i = at;
+    let mut n = 0;
     loop {
         let p = element_at(s, i, 13);
         let a = p.start;
         let e = p.end;
         let Found::Of(k, v) = component_at(s, a) else {
-            return false;
+            return 0;
         };
         mark_kind(marks, s, k, v);
+        n = put_row(kinds, values, n, k, v);
         match separator(s, e, 93) {
             Turn::Go(j) => {
                 i = j;
             }
             Turn::Stop(r) => {
-                return true;
+                return n;
             }
         }
     }
@@ -244,44 +275,6 @@ pub fn pen_kind<'a, 'b>(
                     begun: b,
                     carried: ok,
                 };
-            }
-        }
-    }
-}
-
-// A row for each component from a place on: its kind, and the place of its value. How many there are; 17 where they are more than 16.
-pub fn list_rows<'a, 'b, 'c>(
-    kinds: &'a mut [usize],
-    values: &'b mut [usize],
-    s: &'c [u8],
-    at: usize,
-) -> usize
-    requires { ⌜ at ≤ length (now s) ⌝ }
-    requires { ⌜ 16 ≤ length (now kinds) ⌝ }
-    requires { ⌜ 16 ≤ length (now values) ⌝ }
-    ensures { λ r. ⌜ RowsFrom (now (s .entry)) at (now (kinds .exit)) (now (values .exit)) r ⌝ }
-{
-    let mut i = at;
-    let mut n = 0;
-    loop {
-        let p = element_at(s, i, 13);
-        let a = p.start;
-        let e = p.end;
-        let Found::Of(k, v) = component_at(s, a) else {
-            return 17;
-        };
-        if n >= 16 {
-            return 17;
-        }
-        kinds[n] = k;
-        values[n] = v;
-        n += 1;
-        match separator(s, e, 93) {
-            Turn::Go(j) => {
-                i = j;
-            }
-            Turn::Stop(r) => {
-                return n;
             }
         }
     }

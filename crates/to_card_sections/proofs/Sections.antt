@@ -13,7 +13,8 @@ use Rattle.convert.specs.Classify.{Seen}
 use Rattle.convert.specs.Value.{filled}
 use Rattle.convert.specs.FromJson.{Name, mapFrom, keptFrom, keptAsLine, keptStands, otherMembers, seenIn, standing, cardFromMembers}
 use Rattle.convert.specs.Carry.{carried, carriedRaw, carriedText, carriedParam, carriedKept, carriedMaps, apart}
-use Rattle.convert.specs.ToCard.{cardLines, mapsLines, memberLine, fullLine, property, whereFilled}
+use Rattle.convert.specs.Property.{property}
+use Rattle.convert.specs.ToCard.{cardLines, mapsLines, memberLine, fullLine, whereFilled}
 use Rattle.to_card_lines.specs.Lines.{Part, joinParts, partsOf}
 use Rattle.to_card_head.specs.Head.{isCard, isVersion, uidIn, kindIn, headOf, headFrom, headLines, startLines}
 use Rattle.to_card_members.specs.Members.{membersPart}

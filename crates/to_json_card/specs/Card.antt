@@ -3,6 +3,7 @@ use mathlib.Core.Path.{_≡_}
 use mathlib.Core.List.{List, [], _∷_, _++_}
 use mathlib.Core.Option.{some}
 use Prim.Native.Nat.{ℕ, _≤_}
+use Prim.Native.Char.{code}
 use lib.ListN.{length}
 use Rattle.text.specs.Bytes.{Bytes, flat}
 use Rattle.json.specs.Tree.{Json, Member, member}
@@ -40,7 +41,7 @@ abbrev pub HasMember : Bytes → Type 0
 HasMember s = (m : Member) × IsMember s m
 
 abbrev pub PutsMemberTurn : Bytes → Bytes → Wrote → Bytes → Type 0
-PutsMemberTurn room s r out = (m : Member) → IsMember s m → Puts room ((44 ∷ []) ++ memberBytes m) r out
+PutsMemberTurn room s r out = (m : Member) → IsMember s m → Puts room ((code "," ∷ []) ++ memberBytes m) r out
 
 abbrev pub PutsMembers : Bytes → List ℕ → List ℕ → List ℕ → ℕ → Wrote → Bytes → Type 0
 PutsMembers room scratch starts codes n r out = (cs : List Classed) → Classified scratch starts codes n cs → Puts room (membersIn cs) r out
@@ -59,7 +60,7 @@ abbrev pub middlePieces : List Classed → List Bytes
 middlePieces cs = after (mapsJson maps (mapsFrom 0 maps (gathered (λ (g : Gives). g .entry) cs))) ∷ membersIn cs ∷ []
 
 abbrev pub endPieces : List Classed → List Bytes
-endPieces cs = propsBytes (keptOf cs) ∷ (125 ∷ []) ∷ []
+endPieces cs = propsBytes (keptOf cs) ∷ (code "}" ∷ []) ∷ []
 
 abbrev pub PutsTop : Bytes → Bytes → ℕ → List ℕ → List ℕ → List ℕ → ℕ → Wrote → Bytes → Type 0
 PutsTop room stem number scratch starts codes n r out = (cs : List Classed) → Classified scratch starts codes n cs → Puts room (flat (topPieces stem number cs)) r out

@@ -4,6 +4,7 @@ use mathlib.Core.Bool.{Bool, true, false, not}
 use mathlib.Core.List.{List, [], _∷_, map}
 use mathlib.Core.Option.{some}
 use Prim.Native.Nat.{ℕ, _+_}
+use Prim.Native.Char.{code}
 use lib.Dec.{eqb, ltb}
 use lib.ListN.{length, drop, getD}
 use Rattle.text.specs.Choice.{pick, is-some}
@@ -32,7 +33,7 @@ keyed k e = record { key = k; which = e .which; texts = e .texts; types = e .typ
 
 -- the pieces of the row of the table: the content's name, and the kind where the map has kinds
 pub record RowPieces (w : Slot) (i kind : ℕ) : Type 0 where
-  pub content : quoted (w .map .content) (58 ∷ []) ≡ contentPiece i
+  pub content : quoted (w .map .content) (code ":" ∷ []) ≡ contentPiece i
   pub kinds : before (where′ (not (empty (w .map .kinds))) (member (ascii "kind") (jstr (getD (w .map .kinds) (w .which) [])))) ≡ kindPiece kind
 
 -- the table's line converts, for something seen before and some slot with that row of the table of maps
@@ -66,11 +67,11 @@ orgName i u = pick (empty u) [] (stringPiece i false u)
 
 -- its units where there are any: 7 after a name, 8 without one
 unfoldable pub unitsPiece : ℕ → List Bytes → Bytes
-unitsPiece k us = flat (listed k false us ∷ pick (empty us) [] (93 ∷ []) ∷ [])
+unitsPiece k us = flat (listed k false us ∷ pick (empty us) [] (code "]" ∷ []) ∷ [])
 
 -- the parts after the one that ends at e, those that are filled, as they read
 abbrev pub unitsAfter : Bytes → ℕ → List Bytes
-unitsAfter v e = keep filled (map plainText (pick (ltb e (length v)) (splitText 59 (drop (e + 1) v)) []))
+unitsAfter v e = keep filled (map plainText (pick (ltb e (length v)) (splitText (code ";") (drop (e + 1) v)) []))
 
 unfoldable pub orgPiece : ℕ → List Bytes → Bytes
 orgPiece i [] = []
@@ -78,7 +79,7 @@ orgPiece i (u ∷ us) = flat (orgName i u ∷ unitsPiece (pick (not (empty u)) 7
 
 -- by the form's number: 4 is ORG's
 unfoldable pub stringsPiece : ℕ → ℕ → Bool → Bytes → Bytes
-stringsPiece i form raw v = pick (eqb form 4) (orgPiece i (splitText 59 v)) (stringPiece i raw v)
+stringsPiece i form raw v = pick (eqb form 4) (orgPiece i (splitText (code ";") v)) (stringPiece i raw v)
 
 -- the value has no bad escape where it is TEXT
 pub record StringsGood (form : ℕ) (raw : Bool) (v : Bytes) : Type 0 where

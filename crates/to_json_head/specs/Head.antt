@@ -2,6 +2,7 @@
 use mathlib.Core.Bool.{Bool}
 use mathlib.Core.List.{[], _∷_, _++_}
 use Prim.Native.Nat.{ℕ}
+use Prim.Native.Char.{code}
 use Rattle.text.specs.Choice.{pick}
 use Rattle.text.specs.Bytes.{Bytes, ascii, lowered}
 use Rattle.json.specs.Tree.{member, jstr}
@@ -17,7 +18,7 @@ uidOf given uid stem n = pick given uid (madeUid stem n)
 -- what stands before kind in `Card.print-split`
 unfoldable pub startBytes : Bytes → Bytes
 startBytes uid =
-    123 ∷ (memberBytes (member (ascii "@type") (jstr (ascii "Card"))) ++ after (member (ascii "version") (jstr (ascii "1.0")) ∷ member (ascii "uid") (jstr uid) ∷ []))
+    code "{" ∷ (memberBytes (member (ascii "@type") (jstr (ascii "Card"))) ++ after (member (ascii "version") (jstr (ascii "1.0")) ∷ member (ascii "uid") (jstr uid) ∷ []))
 
 -- the value of KIND, in lower case
 unfoldable pub kindBytes : Bytes → Bytes

@@ -3,6 +3,7 @@ use mathlib.Core.Path.{_≡_}
 use mathlib.Core.Bool.{Bool, true, false, _&&_, not}
 use mathlib.Core.List.{List, [], _∷_, _++_, map}
 use Prim.Native.Nat.{ℕ}
+use Prim.Native.Char.{code}
 use lib.Dec.{eqb, ltb}
 use lib.ListN.{drop, getD}
 use Rattle.text.specs.Choice.{pick, is-some}
@@ -24,10 +25,10 @@ unfoldable pub opening : ℕ → Bytes
 opening k = pick (eqb k 7) (ascii ",\"units\":[") (pick (eqb k 8) (ascii "\"units\":[") [])
 
 unfoldable pub itemHead : Bool → ℕ → Bytes
-itemHead begun k = pick begun (44 ∷ []) (opening k)
+itemHead begun k = pick begun (code "," ∷ []) (opening k)
 
 abbrev pub itemPiece : Bool → ℕ → Bytes → Bytes
-itemPiece begun k t = flat (itemHead begun k ∷ lead k ∷ quoted t [] ∷ (125 ∷ []) ∷ [])
+itemPiece begun k t = flat (itemHead begun k ∷ lead k ∷ quoted t [] ∷ (code "}" ∷ []) ∷ [])
 
 unfoldable pub listed : ℕ → Bool → List Bytes → Bytes
 listed k begun [] = []
@@ -54,4 +55,4 @@ pub record NextIs (s : Bytes) (at c r : ℕ) : Type 0 where
 -- ---- elements of an array with commas between them; the flag says that another came before
 unfoldable pub elems : Bool → List Json → Bytes
 elems begun [] = []
-elems begun (j ∷ js) = pick begun (44 ∷ []) [] ++ (written j [] ++ elems true js)
+elems begun (j ∷ js) = pick begun (code "," ∷ []) [] ++ (written j [] ++ elems true js)

@@ -3,6 +3,7 @@ use mathlib.Core.Path.{_≡_}
 use mathlib.Core.Bool.{Bool}
 use mathlib.Core.List.{List, [], _∷_}
 use Prim.Native.Nat.{ℕ, _≤_}
+use Prim.Native.Char.{code}
 use lib.Dec.{ltb}
 use lib.ListN.{getD}
 use Rattle.text.specs.Choice.{pick}
@@ -15,7 +16,7 @@ use Rattle.line_table.specs.Table.{part, valueAt, lineIn}
 -- a parameter of that name in lower case: all its values, wherever they stand
 abbrev pub paramPiece : Bool → Bytes → List ℕ → Bytes → Bytes
 paramPiece begun s t x =
-    flat (pick begun (44 ∷ []) [] ∷ quoted (lowered x) [] ∷ (58 ∷ []) ∷ written (valuesJson (valuesNamed (lowered x) (lineIn s t .params))) [] ∷ [])
+    flat (pick begun (code "," ∷ []) [] ∷ quoted (lowered x) [] ∷ (code ":" ∷ []) ∷ written (valuesJson (valuesNamed (lowered x) (lineIn s t .params))) [] ∷ [])
 
 -- the group comes first, where there is one
 unfoldable pub groupPiece : Bytes → Bytes
@@ -28,7 +29,7 @@ pub record ValueRow (s : Bytes) (t : List ℕ) (r : ℕ) : Type 0 where
 
 -- what stands before the parameters, and after them
 abbrev pub headPiece : Bytes → Bytes → Bytes
-headPiece name group = flat ((91 ∷ []) ∷ quoted (lowered name) [] ∷ (44 ∷ 123 ∷ []) ∷ groupPiece group ∷ [])
+headPiece name group = flat ((code "[" ∷ []) ∷ quoted (lowered name) [] ∷ (code "," ∷ code "{" ∷ []) ∷ groupPiece group ∷ [])
 
 abbrev pub tailPiece : Bytes → List ℕ → Bytes → Bytes
-tailPiece s t value = flat ((125 ∷ 44 ∷ []) ∷ quoted (valueType (lineIn s t .params)) [] ∷ (44 ∷ []) ∷ quoted value [] ∷ (93 ∷ []) ∷ [])
+tailPiece s t value = flat ((code "}" ∷ code "," ∷ []) ∷ quoted (valueType (lineIn s t .params)) [] ∷ (code "," ∷ []) ∷ quoted value [] ∷ (code "]" ∷ []) ∷ [])

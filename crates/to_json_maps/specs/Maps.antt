@@ -4,6 +4,7 @@ use mathlib.Core.Bool.{Bool, true, false, not}
 use mathlib.Core.List.{List, [], _∷_, _++_, map}
 use mathlib.Core.Option.{some}
 use Prim.Native.Nat.{ℕ, zero, suc, _+_, _≤_, _<_}
+use Prim.Native.Char.{code}
 use lib.ListN.{length, getD}
 use Rattle.text.specs.Choice.{pick}
 use Rattle.text.specs.Bytes.{Bytes, empty, flat, keep, among, lowered}
@@ -57,7 +58,7 @@ mapMember m es = where′ (not (empty es)) (member (m .member) (object (map (ent
 
 -- what comes before an entry
 unfoldable pub headPiece : Map → Bool → Bytes
-headPiece m begun = pick begun (44 ∷ []) (44 ∷ quoted (m .member) (58 ∷ 123 ∷ []))
+headPiece m begun = pick begun (code "," ∷ []) (code "," ∷ quoted (m .member) (code ":" ∷ code "{" ∷ []))
 
 -- an entry with that key
 unfoldable pub entryPiece : Map → Bool → Bytes → Entry → Bytes

@@ -4,6 +4,7 @@ use mathlib.Core.Bool.{Bool, true, false, _||_, not}
 use mathlib.Core.List.{List, [], _∷_, _++_}
 use mathlib.Core.Option.{Option, none, some}
 use Prim.Native.Nat.{ℕ, zero, suc, _≤_}
+use Prim.Native.Char.{code}
 use lib.Dec.{eqb}
 use lib.ListN.{length, drop, getD}
 use Rattle.text.specs.Choice.{pick, with-some, is-some}
@@ -22,12 +23,12 @@ use Rattle.to_json_items.specs.Items.{listed, isOwn, textsOf, Readable}
 
 -- part k of N, empty where it is missing
 abbrev pub partOf : Bytes → ℕ → Bytes
-partOf v k = getD (splitText 59 v) k []
+partOf v k = getD (splitText (code ";") v) k []
 
 -- where part k begins
 pub record PartFrom (v : Bytes) (k r : ℕ) : Type 0 where
   pub within : r ≤ length v
-  pub is : headOr [] (splitText 59 (drop r v)) ≡ partOf v k
+  pub is : headOr [] (splitText (code ";") (drop r v)) ≡ partOf v k
 
 -- the part whose values part k does not repeat: the secondary surnames for the family, the generations for suffixes, else none
 unfoldable pub otherPart : ℕ → ℕ
@@ -56,7 +57,7 @@ fullPiece full v = pick full (flat (ascii "\"full\":" ∷ quoted (plainText v) [
 
 unfoldable pub partsPiece : Bool → Bool → Bytes → Bytes
 partsPiece full parts v =
-    pick parts (flat (pick full (ascii ",\"components\":") (ascii "\"components\":") ∷ flat ((91 ∷ []) ∷ componentsFrom 7 v 0 false ∷ (93 ∷ []) ∷ []) ∷ [])) []
+    pick parts (flat (pick full (ascii ",\"components\":") (ascii "\"components\":") ∷ flat ((code "[" ∷ []) ∷ componentsFrom 7 v 0 false ∷ (code "]" ∷ []) ∷ []) ∷ [])) []
 
 -- FN's value is TEXT and N's value is a name, where they are given
 pub record NamesGood (full : Bool) (fv : Bytes) (parts : Bool) (nv : Bytes) : Type 0 where

@@ -4,6 +4,7 @@ use mathlib.Core.Bool.{Bool, true, false, not, _||_}
 use mathlib.Core.List.{List, [], _∷_, _++_, map}
 use mathlib.Core.Option.{Option, some}
 use Prim.Native.Nat.{ℕ, _≤_, _<_}
+use Prim.Native.Char.{code}
 use lib.ListN.{getD}
 use Rattle.text.specs.Choice.{pick, is-some}
 use Rattle.text.specs.Bytes.{Bytes, ascii, empty, flat}
@@ -29,13 +30,13 @@ keptOf cs = gathered (λ (g : Gives). g .kept) cs
 
 -- what comes before a kept line
 unfoldable pub propHead : Bool → Bytes
-propHead begun = pick begun (44 ∷ []) (ascii ",\"vCardProps\":[")
+propHead begun = pick begun (code "," ∷ []) (ascii ",\"vCardProps\":[")
 
 unfoldable pub propPiece : Bool → Kept → Bytes
 propPiece begun k = flat (propHead begun ∷ written (keptJson k) [] ∷ [])
 
 unfoldable pub propsEnd : Bool → Bytes
-propsEnd begun = pick begun (93 ∷ []) []
+propsEnd begun = pick begun (code "]" ∷ []) []
 
 -- the kept lines that are left
 unfoldable pub propsFrom : Bool → List Kept → Bytes
@@ -106,4 +107,4 @@ membersIn cs = after (gathered (λ (g : Gives). g .member) cs)
 abbrev pub sections : Bytes → ℕ → List Classed → List Bytes
 sections stem number cs =
     startBytes (uidIn stem number cs) ∷ kindMember (kindIn cs) ∷ nameIn cs ∷ after (mapsJson maps (mapsFrom 0 maps (gathered (λ (g : Gives). g .entry) cs))) ∷ membersIn cs
-    ∷ propsBytes (keptOf cs) ∷ (125 ∷ []) ∷ []
+    ∷ propsBytes (keptOf cs) ∷ (code "}" ∷ []) ∷ []

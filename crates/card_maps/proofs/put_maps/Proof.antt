@@ -62,19 +62,44 @@ enum-told c = search needs
 
 -- src/lib.rt:52:13
 same-length : tie.Need-same-length Inv-loop μ-loop
-same-length c = in-part (c .before .before .before .before .before .before .before .before .loop .n) (now (c .before .before .before .before .before .before .before .before .before .before .before .before .args .out)) (c .before .before .before .before .before .before .before .before .loop .out) (c .before .before .before .before .put-nth .last .0) {m = 0} (c .before .before .before .before .before .before .before .before .loop .inv .1) (c .before .before .before .before .before .before .before .before .loop .inv .2) (omega arith) (c .before .before .before .before .put-nth .ensures .1 .0) .1
+same-length c =
+    let args = c .before .before .before .before .before .before .before .before .before .before .before .before .args in
+    let loop = c .before .before .before .before .before .before .before .before .loop in
+    let put-nth = c .before .before .before .before .put-nth in
+    in-part (loop .n) (now (args .out)) (loop .out) (put-nth .last .0) {m = 0} (loop .inv .1) (loop .inv .2) (omega arith) (put-nth .ensures .1 .0) .1
 
 -- src/lib.rt:52:13
 returns : tie.Need-returns Inv-loop μ-loop
-returns c = (tt, (in-part (c .before .before .before .before .before .before .before .before .loop .n) (now (c .before .before .before .before .before .before .before .before .before .before .before .before .args .out)) (c .before .before .before .before .before .before .before .before .loop .out) (c .before .before .before .before .put-nth .last .0) {m = 0} (c .before .before .before .before .before .before .before .before .loop .inv .1) (c .before .before .before .before .before .before .before .before .loop .inv .2) (omega arith) (c .before .before .before .before .put-nth .ensures .1 .0) .1, maps-wrong (now (c .before .before .before .before .before .before .before .before .before .before .before .before .args .s)) (now (c .before .before .before .before .before .before .before .before .before .before .before .before .args .slots)) (now (c .before .before .before .before .before .before .before .before .before .before .before .before .args .out)) (c .before .before .before .before .before .before .before .before .loop .k) (c .before .before .before .before .before .before .before .before .loop .n) (c .before .before .before .before .before .before .before .before .loop .lines) (c .before .before .before .before .before .before .before .before .loop .ok) (c .before .before .before .before .before .before .before .before .loop .out) (c .before .before .before .before .before .before .before .before .loop .inv .4) (c .before .before .before .before .before .before .before .loop-test .taken) (c .before .before .before .before .put-nth .result) _ (c .before .before .before .before .put-nth .ensures .1 .1) _ (c .enum-told .given .1)))
+returns c =
+    let args = c .before .before .before .before .before .before .before .before .before .before .before .before .args in
+    let loop = c .before .before .before .before .before .before .before .before .loop in
+    let loop-test = c .before .before .before .before .before .before .before .loop-test in
+    let put-nth = c .before .before .before .before .put-nth in (
+      tt,
+      (in-part (loop .n) (now (args .out)) (loop .out) (put-nth .last .0) {m = 0} (loop .inv .1) (loop .inv .2) (omega arith) (put-nth .ensures .1 .0) .1, maps-wrong (now (args .s)) (now (args .slots)) (now (args .out)) (loop .k) (loop .n) (loop .lines) (loop .ok) (loop .out) (loop .inv .4) (loop-test .taken) (put-nth .result) _ (put-nth .ensures .1 .1) _ (c .enum-told .given .1)),
+    )
 
 -- src/lib.rt:54:9
 add-n : tie.Need-add-n Inv-loop μ-loop
-add-n c = let l = lines-in (length (midOf (c .before .before .before .before .before .before .before .before .before .loop .n) (length (c .before .before .before .before .before .before .before .before .before .loop .out) - (c .before .before .before .before .before .before .before .before .before .loop .n)) (c .before .before .before .before .before .before .before .before .before .loop .out))) (length (now (c .before .before .before .before .before .before .before .before .before .before .before .before .before .args .s))) (c .before .before .before .before .before .put-nth .ensures .0) (c .before .m .given .1) in let p = in-part (c .before .before .before .before .before .before .before .before .before .loop .n) (now (c .before .before .before .before .before .before .before .before .before .before .before .before .before .args .out)) (c .before .before .before .before .before .before .before .before .before .loop .out) (c .before .before .before .before .before .put-nth .last .0) (c .before .before .before .before .before .before .before .before .before .loop .inv .1) (c .before .before .before .before .before .before .before .before .before .loop .inv .2) (l .0) (c .before .before .before .before .before .put-nth .ensures .1 .0) in record { fits = omega (arith, p .0, p .1, c .before .before .before .before .before .before .before .before .before .before .before .before .before .good .0 .0) }
+add-n c =
+    let args = c .before .before .before .before .before .before .before .before .before .before .before .before .before .args in
+    let good = c .before .before .before .before .before .before .before .before .before .before .before .before .before .good in
+    let loop = c .before .before .before .before .before .before .before .before .before .loop in
+    let put-nth = c .before .before .before .before .before .put-nth in
+    let l = lines-in (length (midOf (loop .n) (length (loop .out) - (loop .n)) (loop .out))) (length (now (args .s))) (put-nth .ensures .0)
+    (c .before .m .given .1) in let p = in-part (loop .n) (now (args .out)) (loop .out) (put-nth .last .0) (loop .inv .1) (loop .inv .2) (l .0)
+    (put-nth .ensures .1 .0) in record { fits = omega (arith, p .0, p .1, good .0 .0) }
 
 -- src/lib.rt:55:9
 add-lines : tie.Need-add-lines Inv-loop μ-loop
-add-lines c = let l = lines-in (length (midOf (c .before .before .before .before .before .before .before .before .before .loop .n) (length (c .before .before .before .before .before .before .before .before .before .loop .out) - (c .before .before .before .before .before .before .before .before .before .loop .n)) (c .before .before .before .before .before .before .before .before .before .loop .out))) (length (now (c .before .before .before .before .before .before .before .before .before .before .before .before .before .args .s))) (c .before .before .before .before .before .put-nth .ensures .0) (c .before .m .given .1) in record { fits = omega (arith, l .1, c .before .before .before .before .before .before .before .before .before .before .before .before .before .pre .0, c .before .before .before .before .before .before .before .before .before .loop .inv .3, c .before .before .before .before .before .before .before .before .loop-test .taken) }
+add-lines c =
+    let args = c .before .before .before .before .before .before .before .before .before .before .before .before .before .args in
+    let pre = c .before .before .before .before .before .before .before .before .before .before .before .before .before .pre in
+    let loop = c .before .before .before .before .before .before .before .before .before .loop in
+    let loop-test = c .before .before .before .before .before .before .before .before .loop-test in
+    let put-nth = c .before .before .before .before .before .put-nth in
+    let l = lines-in (length (midOf (loop .n) (length (loop .out) - (loop .n)) (loop .out))) (length (now (args .s))) (put-nth .ensures .0)
+    (c .before .m .given .1) in record { fits = omega (arith, l .1, pre .0, loop .inv .3, loop-test .taken) }
 
 -- src/lib.rt:57:9
 add-k : tie.Need-add-k Inv-loop μ-loop
@@ -86,7 +111,22 @@ loop-less c = omega (arith, c .before .before .before .before .before .before .b
 
 -- src/lib.rt:49:5
 loop-again : tie.Need-loop-again Inv-loop μ-loop
-loop-again c = let l = lines-in (length (midOf (c .before .before .before .before .before .before .before .before .before .loop .n) (length (c .before .before .before .before .before .before .before .before .before .loop .out) - (c .before .before .before .before .before .before .before .before .before .loop .n)) (c .before .before .before .before .before .before .before .before .before .loop .out))) (length (now (c .before .before .before .before .before .before .before .before .before .before .before .before .before .args .s))) (c .before .before .before .before .before .put-nth .ensures .0) (c .before .m .given .1) in let p = in-part (c .before .before .before .before .before .before .before .before .before .loop .n) (now (c .before .before .before .before .before .before .before .before .before .before .before .before .before .args .out)) (c .before .before .before .before .before .before .before .before .before .loop .out) (c .before .before .before .before .before .put-nth .last .0) (c .before .before .before .before .before .before .before .before .before .loop .inv .1) (c .before .before .before .before .before .before .before .before .before .loop .inv .2) (l .0) (c .before .before .before .before .before .put-nth .ensures .1 .0) in (omega (arith, c .before .before .before .before .before .before .before .before .loop-test .taken), p .0, p .1, omega (arith, l .1, c .before .before .before .before .before .before .before .before .before .before .before .before .before .pre .0, c .before .before .before .before .before .before .before .before .before .loop .inv .3), maps-on (now (c .before .before .before .before .before .before .before .before .before .before .before .before .before .args .s)) (now (c .before .before .before .before .before .before .before .before .before .before .before .before .before .args .slots)) (now (c .before .before .before .before .before .before .before .before .before .before .before .before .before .args .out)) (c .before .before .before .before .before .before .before .before .before .loop .k) (c .before .before .before .before .before .before .before .before .before .loop .n) (c .before .before .before .before .before .before .before .before .before .loop .lines) (c .before .before .before .before .before .before .before .before .before .loop .ok) (c .before .before .before .before .before .before .before .before .before .loop .out) (c .before .before .before .before .before .before .before .before .before .loop .inv .4) (c .before .before .before .before .before .before .before .before .loop-test .taken) (c .before .before .before .before .before .put-nth .result) _ (c .before .before .before .before .before .put-nth .ensures .1 .1) _ _ _ (c .before .m .given .1))
+loop-again c =
+    let args = c .before .before .before .before .before .before .before .before .before .before .before .before .before .args in
+    let pre = c .before .before .before .before .before .before .before .before .before .before .before .before .before .pre in
+    let loop = c .before .before .before .before .before .before .before .before .before .loop in
+    let loop-test = c .before .before .before .before .before .before .before .before .loop-test in
+    let put-nth = c .before .before .before .before .before .put-nth in
+    let m = c .before .m in
+    let l = lines-in (length (midOf (loop .n) (length (loop .out) - (loop .n)) (loop .out))) (length (now (args .s))) (put-nth .ensures .0)
+    (m .given .1) in let p = in-part (loop .n) (now (args .out)) (loop .out) (put-nth .last .0) (loop .inv .1) (loop .inv .2) (l .0)
+    (put-nth .ensures .1 .0) in (
+      omega (arith, loop-test .taken),
+      p .0,
+      p .1,
+      omega (arith, l .1, pre .0, loop .inv .3),
+      maps-on (now (args .s)) (now (args .slots)) (now (args .out)) (loop .k) (loop .n) (loop .lines) (loop .ok) (loop .out) (loop .inv .4) (loop-test .taken) (put-nth .result) _ (put-nth .ensures .1 .1) _ _ _ (m .given .1),
+    )
 
 -- src/lib.rt:38:1
 same-length-2 : tie.Need-same-length-2 Inv-loop μ-loop
@@ -94,7 +134,12 @@ same-length-2 c = c .before .loop .inv .2
 
 -- src/lib.rt:38:1
 returns-2 : tie.Need-returns-2 Inv-loop μ-loop
-returns-2 c = ((omega (arith, c .before .loop .inv .1, c .before .loop .inv .2), omega (arith, c .before .loop .inv .3, c .before .loop .inv .0)), (c .before .loop .inv .2, maps-all (now (c .before .before .before .before .before .args .s)) (now (c .before .before .before .before .before .args .slots)) (now (c .before .before .before .before .before .args .out)) (c .before .loop .k) (c .before .loop .n) (c .before .loop .lines) (c .before .loop .ok) (c .before .loop .out) (c .before .loop .inv .4) (c .loop-test .left) (c .before .loop .inv .0)))
+returns-2 c =
+    let args = c .before .before .before .before .before .args in
+    let loop = c .before .loop in (
+      (omega (arith, loop .inv .1, loop .inv .2), omega (arith, loop .inv .3, loop .inv .0)),
+      (loop .inv .2, maps-all (now (args .s)) (now (args .slots)) (now (args .out)) (loop .k) (loop .n) (loop .lines) (loop .ok) (loop .out) (loop .inv .4) (c .loop-test .left) (loop .inv .0)),
+    )
 
 pub put-maps-spec : {M : Type 1} → statement M
 put-maps-spec =

@@ -30,7 +30,13 @@ same-length c = search needs
 
 -- src/lib.rt:17:9
 returns : tie.Need-returns
-returns c = (c .before .before .put-map .ensures .0, (c .before .before .put-map .ensures .1 .0, nth-is (now (c .before .before .before .before .before .before .before .before .before .before .args .s)) (c .before .before .before .before .before .before .before .before .before .before .args .k) 0 (c .before .before .before .before .before .before .before .before .before .before .args .slot) _ _ _ (c .before .before .before .before .before .before .before .if1 .taken) (λ d o h. c .before .before .put-map .ensures .1 .1 nicknames nicknames-row o h)))
+returns c =
+    let args = c .before .before .before .before .before .before .before .before .before .before .args in
+    let if1 = c .before .before .before .before .before .before .before .if1 in
+    let put-map = c .before .before .put-map in (
+      put-map .ensures .0,
+      (put-map .ensures .1 .0, nth-is (now (args .s)) (args .k) 0 (args .slot) _ _ _ (if1 .taken) (λ d o h. put-map .ensures .1 .1 nicknames nicknames-row o h)),
+    )
 
 -- src/lib.rt:20:38
 slice-aggregate-put-map-4 : tie.Need-slice-aggregate-put-map-4
@@ -54,7 +60,13 @@ same-length-2 c = search needs
 
 -- src/lib.rt:20:9
 returns-2 : tie.Need-returns-2
-returns-2 c = (c .before .before .put-map2 .ensures .0, (c .before .before .put-map2 .ensures .1 .0, nth-is (now (c .before .before .before .before .before .before .before .before .before .before .before .args .s)) (c .before .before .before .before .before .before .before .before .before .before .before .args .k) 1 (c .before .before .before .before .before .before .before .before .before .before .before .args .slot) _ _ _ (c .before .before .before .before .before .before .before .if2 .taken) (λ d o h. c .before .before .put-map2 .ensures .1 .1 emails emails-row o h)))
+returns-2 c =
+    let args = c .before .before .before .before .before .before .before .before .before .before .before .args in
+    let if2 = c .before .before .before .before .before .before .before .if2 in
+    let put-map2 = c .before .before .put-map2 in (
+      put-map2 .ensures .0,
+      (put-map2 .ensures .1 .0, nth-is (now (args .s)) (args .k) 1 (args .slot) _ _ _ (if2 .taken) (λ d o h. put-map2 .ensures .1 .1 emails emails-row o h)),
+    )
 
 -- src/lib.rt:23:38
 slice-aggregate-put-map-7 : tie.Need-slice-aggregate-put-map-7
@@ -78,7 +90,13 @@ same-length-3 c = search needs
 
 -- src/lib.rt:23:9
 returns-3 : tie.Need-returns-3
-returns-3 c = (c .before .before .put-map3 .ensures .0, (c .before .before .put-map3 .ensures .1 .0, nth-is (now (c .before .before .before .before .before .before .before .before .before .before .before .before .args .s)) (c .before .before .before .before .before .before .before .before .before .before .before .before .args .k) 2 (c .before .before .before .before .before .before .before .before .before .before .before .before .args .slot) _ _ _ (c .before .before .before .before .before .before .before .if3 .taken) (λ d o h. c .before .before .put-map3 .ensures .1 .1 phones phones-row o h)))
+returns-3 c =
+    let args = c .before .before .before .before .before .before .before .before .before .before .before .before .args in
+    let if3 = c .before .before .before .before .before .before .before .if3 in
+    let put-map3 = c .before .before .put-map3 in (
+      put-map3 .ensures .0,
+      (put-map3 .ensures .1 .0, nth-is (now (args .s)) (args .k) 2 (args .slot) _ _ _ (if3 .taken) (λ d o h. put-map3 .ensures .1 .1 phones phones-row o h)),
+    )
 
 -- src/lib.rt:26:38
 slice-aggregate-put-map-10 : tie.Need-slice-aggregate-put-map-10
@@ -102,7 +120,13 @@ same-length-4 c = search needs
 
 -- src/lib.rt:26:9
 returns-4 : tie.Need-returns-4
-returns-4 c = (c .before .before .put-map4 .ensures .0, (c .before .before .put-map4 .ensures .1 .0, nth-is (now (c .before .before .before .before .before .before .before .before .before .before .before .before .before .args .s)) (c .before .before .before .before .before .before .before .before .before .before .before .before .before .args .k) 3 (c .before .before .before .before .before .before .before .before .before .before .before .before .before .args .slot) _ _ _ (c .before .before .before .before .before .before .before .if4 .taken) (λ d o h. c .before .before .put-map4 .ensures .1 .1 links links-row o h)))
+returns-4 c =
+    let args = c .before .before .before .before .before .before .before .before .before .before .before .before .before .args in
+    let if4 = c .before .before .before .before .before .before .before .if4 in
+    let put-map4 = c .before .before .put-map4 in (
+      put-map4 .ensures .0,
+      (put-map4 .ensures .1 .0, nth-is (now (args .s)) (args .k) 3 (args .slot) _ _ _ (if4 .taken) (λ d o h. put-map4 .ensures .1 .1 links links-row o h)),
+    )
 
 -- src/lib.rt:29:38
 slice-aggregate-put-map-13 : tie.Need-slice-aggregate-put-map-13
@@ -126,7 +150,13 @@ same-length-5 c = search needs
 
 -- src/lib.rt:29:9
 returns-5 : tie.Need-returns-5
-returns-5 c = (c .before .before .put-map5 .ensures .0, (c .before .before .put-map5 .ensures .1 .0, nth-is (now (c .before .before .before .before .before .before .before .before .before .before .before .before .before .before .args .s)) (c .before .before .before .before .before .before .before .before .before .before .before .before .before .before .args .k) 4 (c .before .before .before .before .before .before .before .before .before .before .before .before .before .before .args .slot) _ _ _ (c .before .before .before .before .before .before .before .if5 .taken) (λ d o h. c .before .before .put-map5 .ensures .1 .1 notes notes-row o h)))
+returns-5 c =
+    let args = c .before .before .before .before .before .before .before .before .before .before .before .before .before .before .args in
+    let if5 = c .before .before .before .before .before .before .before .if5 in
+    let put-map5 = c .before .before .put-map5 in (
+      put-map5 .ensures .0,
+      (put-map5 .ensures .1 .0, nth-is (now (args .s)) (args .k) 4 (args .slot) _ _ _ (if5 .taken) (λ d o h. put-map5 .ensures .1 .1 notes notes-row o h)),
+    )
 
 -- src/lib.rt:32:38
 slice-aggregate-put-map-16 : tie.Need-slice-aggregate-put-map-16
@@ -150,7 +180,13 @@ same-length-6 c = search needs
 
 -- src/lib.rt:32:9
 returns-6 : tie.Need-returns-6
-returns-6 c = (c .before .before .put-map6 .ensures .0, (c .before .before .put-map6 .ensures .1 .0, nth-is (now (c .before .before .before .before .before .before .before .before .before .before .before .before .before .before .before .args .s)) (c .before .before .before .before .before .before .before .before .before .before .before .before .before .before .before .args .k) 5 (c .before .before .before .before .before .before .before .before .before .before .before .before .before .before .before .args .slot) _ _ _ (c .before .before .before .before .before .before .before .if6 .taken) (λ d o h. c .before .before .put-map6 .ensures .1 .1 titles titles-row o h)))
+returns-6 c =
+    let args = c .before .before .before .before .before .before .before .before .before .before .before .before .before .before .before .args in
+    let if6 = c .before .before .before .before .before .before .before .if6 in
+    let put-map6 = c .before .before .put-map6 in (
+      put-map6 .ensures .0,
+      (put-map6 .ensures .1 .0, nth-is (now (args .s)) (args .k) 5 (args .slot) _ _ _ (if6 .taken) (λ d o h. put-map6 .ensures .1 .1 titles titles-row o h)),
+    )
 
 -- src/lib.rt:34:27
 slice-aggregate-put-map-19 : tie.Need-slice-aggregate-put-map-19
@@ -174,7 +210,18 @@ same-length-7 c = search needs
 
 -- src/lib.rt:11:1
 returns-7 : tie.Need-returns-7
-returns-7 c = (c .before .before .put-map7 .ensures .0, (c .before .before .put-map7 .ensures .1 .0, nth-last (now (c .before .before .before .before .before .before .before .before .before .before .before .before .before .before .before .args .s)) (c .before .before .before .before .before .before .before .before .before .before .before .before .before .before .before .args .k) (c .before .before .before .before .before .before .before .before .before .before .before .before .before .before .before .args .slot) _ _ _ (c .before .before .before .before .before .before .before .before .before .before .before .before .if1 .left) (c .before .before .before .before .before .before .before .before .before .before .before .if2 .left) (c .before .before .before .before .before .before .before .before .before .before .if3 .left) (c .before .before .before .before .before .before .before .before .before .if4 .left) (c .before .before .before .before .before .before .before .before .if5 .left) (c .before .before .before .before .before .before .before .if6 .left) (λ d o h. c .before .before .put-map7 .ensures .1 .1 organizations organizations-row o h)))
+returns-7 c =
+    let args = c .before .before .before .before .before .before .before .before .before .before .before .before .before .before .before .args in
+    let if1 = c .before .before .before .before .before .before .before .before .before .before .before .before .if1 in
+    let if2 = c .before .before .before .before .before .before .before .before .before .before .before .if2 in
+    let if3 = c .before .before .before .before .before .before .before .before .before .before .if3 in
+    let if4 = c .before .before .before .before .before .before .before .before .before .if4 in
+    let if5 = c .before .before .before .before .before .before .before .before .if5 in
+    let if6 = c .before .before .before .before .before .before .before .if6 in
+    let put-map7 = c .before .before .put-map7 in (
+      put-map7 .ensures .0,
+      (put-map7 .ensures .1 .0, nth-last (now (args .s)) (args .k) (args .slot) _ _ _ (if1 .left) (if2 .left) (if3 .left) (if4 .left) (if5 .left) (if6 .left) (λ d o h. put-map7 .ensures .1 .1 organizations organizations-row o h)),
+    )
 
 pub put-nth-spec : {M : Type 1} → statement M
 put-nth-spec =

@@ -44,7 +44,15 @@ same-length c = c .before .before .before .before .loop .inv .1
 
 -- src/lib.rt:68:13
 returns : tie.Need-returns Inv-loop μ-loop
-returns c = (c .before .before .before .before .loop .inv .1, flags-not (now (c .before .before .before .before .before .before .before .before .args .s)) (c .before .before .before .before .before .before .before .before .args .at) (c .before .before .before .before .before .before .before .before .args .base) (now (c .before .before .before .before .before .before .before .before .args .names)) (now (c .before .before .before .before .before .before .before .before .args .row)) (c .before .before .before .before .loop .i) (c .before .before .before .before .loop .row) (c .before .before .before .before .loop .inv .2) (c .before .before .before .member-at .result) (c .before .before .before .member-at .ensures .1 .1) (c .before .before .kind-at .result) (c .before .before .kind-at .ensures) (c .before .kind-code .result) (c .before .kind-code .ensures) (c .if1 .taken) _)
+returns c =
+    let args = c .before .before .before .before .before .before .before .before .args in
+    let loop = c .before .before .before .before .loop in
+    let member-at = c .before .before .before .member-at in
+    let kind-at = c .before .before .kind-at in
+    let kind-code = c .before .kind-code in (
+      loop .inv .1,
+      flags-not (now (args .s)) (args .at) (args .base) (now (args .names)) (now (args .row)) (loop .i) (loop .row) (loop .inv .2) (member-at .result) (member-at .ensures .1 .1) (kind-at .result) (kind-at .ensures) (kind-code .result) (kind-code .ensures) (c .if1 .taken) _,
+    )
 
 -- src/lib.rt:70:13
 which-name-requires : tie.Need-which-name-requires Inv-loop μ-loop
@@ -56,7 +64,17 @@ same-length-2 c = c .before .before .before .before .before .before .loop .inv .
 
 -- src/lib.rt:72:13
 returns-2 : tie.Need-returns-2 Inv-loop μ-loop
-returns-2 c = (c .before .before .before .before .before .before .loop .inv .1, flags-other (now (c .before .before .before .before .before .before .before .before .before .before .args .s)) (c .before .before .before .before .before .before .before .before .before .before .args .at) (c .before .before .before .before .before .before .before .before .before .before .args .base) (now (c .before .before .before .before .before .before .before .before .before .before .args .names)) (now (c .before .before .before .before .before .before .before .before .before .before .args .row)) (c .before .before .before .before .before .before .loop .i) (c .before .before .before .before .before .before .loop .row) (c .before .before .before .before .before .before .loop .inv .2) (c .before .before .before .before .before .member-at .result) (c .before .before .before .before .before .member-at .ensures .1 .1) (c .before .before .before .before .kind-at .result) (c .before .before .before .before .kind-at .ensures) (c .before .before .before .kind-code .result) (c .before .before .before .kind-code .ensures) (c .before .before .if1 .left) (c .before .which-name .result) (c .before .which-name .ensures) (c .before .before .before .before .before .before .before .before .before .before .args .count) (c .before .before .before .before .before .before .before .before .before .before .pre .1 .0) (c .if2 .taken) _)
+returns-2 c =
+    let pre = c .before .before .before .before .before .before .before .before .before .before .pre in
+    let args = c .before .before .before .before .before .before .before .before .before .before .args in
+    let loop = c .before .before .before .before .before .before .loop in
+    let member-at = c .before .before .before .before .before .member-at in
+    let kind-at = c .before .before .before .before .kind-at in
+    let kind-code = c .before .before .before .kind-code in
+    let which-name = c .before .which-name in (
+      loop .inv .1,
+      flags-other (now (args .s)) (args .at) (args .base) (now (args .names)) (now (args .row)) (loop .i) (loop .row) (loop .inv .2) (member-at .result) (member-at .ensures .1 .1) (kind-at .result) (kind-at .ensures) (kind-code .result) (kind-code .ensures) (c .before .before .if1 .left) (which-name .result) (which-name .ensures) (args .count) (pre .1 .0) (c .if2 .taken) _,
+    )
 
 -- src/lib.rt:74:17
 add-c : tie.Need-add-c Inv-loop μ-loop
@@ -76,11 +94,31 @@ enum-known-j c = search needs
 
 -- src/lib.rt:61:5
 loop-less : tie.Need-loop-less Inv-loop μ-loop
-loop-less c = let h = turn-as (c .before .before .before .separator .ensures) (c .before .j .given .1) in omega (arith, h .within .0, h .within .1, c .before .before .before .before .before .before .before .before .before .member-at .ensures .1 .0 .from (c .before .before .before .before .before .before .before .before .before .before .loop .inv .0), c .before .before .before .before .before .before .before .before .before .member-at .ensures .1 .0 .ordered)
+loop-less c =
+    let loop = c .before .before .before .before .before .before .before .before .before .before .loop in
+    let member-at = c .before .before .before .before .before .before .before .before .before .member-at in
+    let separator = c .before .before .before .separator in
+    let h = turn-as (separator .ensures) (c .before .j .given .1) in omega
+    (arith, h .within .0, h .within .1, member-at .ensures .1 .0 .from (loop .inv .0), member-at .ensures .1 .0 .ordered)
 
 -- src/lib.rt:61:5
 loop-again : tie.Need-loop-again Inv-loop μ-loop
-loop-again c = let h = turn-as (c .before .before .before .separator .ensures) (c .before .j .given .1) in (h .within .1, length-set (c .before .before .before .before .before .before .before .before .before .before .loop .row) (c .before .before .before .before .before .before .before .before .before .before .before .before .before .before .args .base + (c .before .before .before .before .before .which-name .result)) 1 ∙ (c .before .before .before .before .before .before .before .before .before .before .loop .inv .1), flags-on (now (c .before .before .before .before .before .before .before .before .before .before .before .before .before .before .args .s)) (c .before .before .before .before .before .before .before .before .before .before .before .before .before .before .args .at) (c .before .before .before .before .before .before .before .before .before .before .before .before .before .before .args .base) (now (c .before .before .before .before .before .before .before .before .before .before .before .before .before .before .args .names)) (now (c .before .before .before .before .before .before .before .before .before .before .before .before .before .before .args .row)) (c .before .before .before .before .before .before .before .before .before .before .loop .i) (c .before .before .before .before .before .before .before .before .before .before .loop .row) (c .before .before .before .before .before .before .before .before .before .before .loop .inv .2) (c .before .before .before .before .before .before .before .before .before .member-at .result) (c .before .before .before .before .before .before .before .before .before .member-at .ensures .1 .1) (c .before .before .before .before .before .before .before .before .kind-at .result) (c .before .before .before .before .before .before .before .before .kind-at .ensures) (c .before .before .before .before .before .before .before .kind-code .result) (c .before .before .before .before .before .before .before .kind-code .ensures) (c .before .before .before .before .before .before .if1 .left) (c .before .before .before .before .before .which-name .result) (c .before .before .before .before .before .which-name .ensures) (c .before .before .before .before .before .before .before .before .before .before .before .before .before .before .args .count) (c .before .before .before .before .before .before .before .before .before .before .before .before .before .before .pre .1 .0) (c .before .before .before .before .if2 .left) _ h)
+loop-again c =
+    let args = c .before .before .before .before .before .before .before .before .before .before .before .before .before .before .args in
+    let pre = c .before .before .before .before .before .before .before .before .before .before .before .before .before .before .pre in
+    let loop = c .before .before .before .before .before .before .before .before .before .before .loop in
+    let member-at = c .before .before .before .before .before .before .before .before .before .member-at in
+    let kind-at = c .before .before .before .before .before .before .before .before .kind-at in
+    let kind-code = c .before .before .before .before .before .before .before .kind-code in
+    let if1 = c .before .before .before .before .before .before .if1 in
+    let which-name = c .before .before .before .before .before .which-name in
+    let if2 = c .before .before .before .before .if2 in
+    let separator = c .before .before .before .separator in
+    let h = turn-as (separator .ensures) (c .before .j .given .1) in (
+      h .within .1,
+      length-set (loop .row) (args .base + (which-name .result)) 1 ∙ (loop .inv .1),
+      flags-on (now (args .s)) (args .at) (args .base) (now (args .names)) (now (args .row)) (loop .i) (loop .row) (loop .inv .2) (member-at .result) (member-at .ensures .1 .1) (kind-at .result) (kind-at .ensures) (kind-code .result) (kind-code .ensures) (if1 .left) (which-name .result) (which-name .ensures) (args .count) (pre .1 .0) (if2 .left) _ h,
+    )
 
 -- src/lib.rt:80:24
 enum-known-r : tie.Need-enum-known-r Inv-loop μ-loop
@@ -88,11 +126,28 @@ enum-known-r c = search needs
 
 -- src/lib.rt:81:17
 same-length-3 : tie.Need-same-length-3 Inv-loop μ-loop
-same-length-3 c = length-set (c .before .before .before .before .before .before .before .before .before .before .loop .row) (c .before .before .before .before .before .before .before .before .before .before .before .before .before .before .args .base + (c .before .before .before .before .before .which-name .result)) 1 ∙ (c .before .before .before .before .before .before .before .before .before .before .loop .inv .1)
+same-length-3 c =
+    let args = c .before .before .before .before .before .before .before .before .before .before .before .before .before .before .args in
+    let loop = c .before .before .before .before .before .before .before .before .before .before .loop in
+    let which-name = c .before .before .before .before .before .which-name in
+    length-set (loop .row) (args .base + (which-name .result)) 1 ∙ (loop .inv .1)
 
 -- src/lib.rt:81:17
 returns-3 : tie.Need-returns-3 Inv-loop μ-loop
-returns-3 c = (length-set (c .before .before .before .before .before .before .before .before .before .before .loop .row) (c .before .before .before .before .before .before .before .before .before .before .before .before .before .before .args .base + (c .before .before .before .before .before .which-name .result)) 1 ∙ (c .before .before .before .before .before .before .before .before .before .before .loop .inv .1), flags-all (now (c .before .before .before .before .before .before .before .before .before .before .before .before .before .before .args .s)) (c .before .before .before .before .before .before .before .before .before .before .before .before .before .before .args .at) (c .before .before .before .before .before .before .before .before .before .before .before .before .before .before .args .base) (now (c .before .before .before .before .before .before .before .before .before .before .before .before .before .before .args .names)) (now (c .before .before .before .before .before .before .before .before .before .before .before .before .before .before .args .row)) (c .before .before .before .before .before .before .before .before .before .before .loop .i) (c .before .before .before .before .before .before .before .before .before .before .loop .row) (c .before .before .before .before .before .before .before .before .before .before .loop .inv .2) (c .before .before .before .before .before .before .before .before .before .member-at .result) (c .before .before .before .before .before .before .before .before .before .member-at .ensures .1 .1) (c .before .before .before .before .before .before .before .before .kind-at .result) (c .before .before .before .before .before .before .before .before .kind-at .ensures) (c .before .before .before .before .before .before .before .kind-code .result) (c .before .before .before .before .before .before .before .kind-code .ensures) (c .before .before .before .before .before .before .if1 .left) (c .before .before .before .before .before .which-name .result) (c .before .before .before .before .before .which-name .ensures) (c .before .before .before .before .before .before .before .before .before .before .before .before .before .before .args .count) (c .before .before .before .before .before .before .before .before .before .before .before .before .before .before .pre .1 .0) (c .before .before .before .before .if2 .left) _ (turn-as (c .before .before .before .separator .ensures) (c .before .r .given .1)))
+returns-3 c =
+    let args = c .before .before .before .before .before .before .before .before .before .before .before .before .before .before .args in
+    let pre = c .before .before .before .before .before .before .before .before .before .before .before .before .before .before .pre in
+    let loop = c .before .before .before .before .before .before .before .before .before .before .loop in
+    let member-at = c .before .before .before .before .before .before .before .before .before .member-at in
+    let kind-at = c .before .before .before .before .before .before .before .before .kind-at in
+    let kind-code = c .before .before .before .before .before .before .before .kind-code in
+    let if1 = c .before .before .before .before .before .before .if1 in
+    let which-name = c .before .before .before .before .before .which-name in
+    let if2 = c .before .before .before .before .if2 in
+    let separator = c .before .before .before .separator in (
+      length-set (loop .row) (args .base + (which-name .result)) 1 ∙ (loop .inv .1),
+      flags-all (now (args .s)) (args .at) (args .base) (now (args .names)) (now (args .row)) (loop .i) (loop .row) (loop .inv .2) (member-at .result) (member-at .ensures .1 .1) (kind-at .result) (kind-at .ensures) (kind-code .result) (kind-code .ensures) (if1 .left) (which-name .result) (which-name .ensures) (args .count) (pre .1 .0) (if2 .left) _ (turn-as (separator .ensures) (c .before .r .given .1)),
+    )
 
 pub flags-from-spec : {M : Type 1} → statement M
 flags-from-spec =

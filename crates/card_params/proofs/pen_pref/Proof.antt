@@ -62,7 +62,13 @@ same-length c = search needs
 
 -- src/lib.rt:139:1
 returns-3 : tie.Need-returns-3
-returns-3 c = pens-as (pref-piece (now (c .before .before .before .before .before .before .before .before .before .before .before .before .before .before .before .args .s)) (c .before .before .before .before .before .before .before .before .before .before .before .before .before .before .before .args .a) (c .before .before .before .before .before .before .before .before .before .before .before .before .before .before .before .args .e) (c .before .before .before .before .before .before .before .before .before .before .before .before .if1 .left) (c .before .before .before .before .before .before .before .before .before .before .before .if2 .left)) (pens-then (c .before .before .before .before .before .before .before .before .pen-bytes .ensures) (c .before .before .before .pen-bytes2 .ensures))
+returns-3 c =
+    let args = c .before .before .before .before .before .before .before .before .before .before .before .before .before .before .before .args in
+    let if1 = c .before .before .before .before .before .before .before .before .before .before .before .before .if1 in
+    let if2 = c .before .before .before .before .before .before .before .before .before .before .before .if2 in
+    let pen-bytes = c .before .before .before .before .before .before .before .before .pen-bytes in
+    let pen-bytes2 = c .before .before .before .pen-bytes2 in
+    pens-as (pref-piece (now (args .s)) (args .a) (args .e) (if1 .left) (if2 .left)) (pens-then (pen-bytes .ensures) (pen-bytes2 .ensures))
 
 pub pen-pref-spec : {M : Type 1} → statement M
 pen-pref-spec =

@@ -62,7 +62,14 @@ same-length c = search needs
 
 -- src/lib.rt:176:1
 returns-2 : tie.Need-returns-2
-returns-2 c = pens-as (part-on (parts 44 (now (c .before .before .before .before .before .before .before .before .before .before .before .before .before .before .args .names))) (c .before .before .before .before .before .before .before .before .before .before .before .before .before .before .args .c) (c .before .before .before .before .before .before .before .before .before .before .before .before .before .before .args .on) (c .before .before .before .before .before .before .before .before .before .before .before .before .before .before .args .begun) (not-false _ (c .before .before .before .before .before .before .before .before .before .before .before .if1 .left)) (c .before .before .before .before .before .before .before .before .before .before .nth-name .ensures .is)) (pens-then (c .before .before .before .before .before .before .before .before .pen-lead .ensures) (c .before .before .before .pen-bytes .ensures))
+returns-2 c =
+    let args = c .before .before .before .before .before .before .before .before .before .before .before .before .before .before .args in
+    let if1 = c .before .before .before .before .before .before .before .before .before .before .before .if1 in
+    let nth-name = c .before .before .before .before .before .before .before .before .before .before .nth-name in
+    let pen-lead = c .before .before .before .before .before .before .before .before .pen-lead in
+    let pen-bytes = c .before .before .before .pen-bytes in
+    pens-as (part-on (parts 44 (now (args .names))) (args .c) (args .on) (args .begun) (not-false _ (if1 .left)) (nth-name .ensures .is))
+    (pens-then (pen-lead .ensures) (pen-bytes .ensures))
 
 pub pen-type-spec : {M : Type 1} → statement M
 pen-type-spec =

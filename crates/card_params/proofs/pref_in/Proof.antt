@@ -26,7 +26,12 @@ kind-code-requires c κs = search needs
 
 -- src/lib.rt:127:9
 returns-2 : tie.Need-returns-2
-returns-2 c = pref-other (now (c .before .before .before .before .before .args .s)) (c .before .before .before .before .before .args .slot) (c .before .before .before .if1 .left) (c .before .before .kind-at .result) (c .before .before .kind-at .ensures) (c .before .kind-code .result) (c .before .kind-code .ensures) (c .if2 .taken)
+returns-2 c =
+    let args = c .before .before .before .before .before .args in
+    let if1 = c .before .before .before .if1 in
+    let kind-at = c .before .before .kind-at in
+    let kind-code = c .before .kind-code in
+    pref-other (now (args .s)) (args .slot) (if1 .left) (kind-at .result) (kind-at .ensures) (kind-code .result) (kind-code .ensures) (c .if2 .taken)
 
 -- src/lib.rt:129:9
 element-at-requires : tie.Need-element-at-requires
@@ -50,11 +55,27 @@ is-pref-requires c κs = search needs
 
 -- src/lib.rt:133:9
 returns-3 : tie.Need-returns-3
-returns-3 c = pref-bad (now (c .before .before .before .before .before .before .before .before .before .args .s)) (c .before .before .before .before .before .before .before .before .before .args .slot) (c .before .before .before .before .before .before .before .if1 .left) (c .before .before .before .before .before .before .kind-at .result) (c .before .before .before .before .before .before .kind-at .ensures) (c .before .before .before .before .before .kind-code .result) (c .before .before .before .before .before .kind-code .ensures) (c .before .before .before .before .if2 .left) (c .before .before .before .element-at .result) (c .before .before .before .element-at .ensures .1) (c .before .before .before .element-at .ensures .0) (sym (c .before .is-pref .ensures) ∙ not-true _ (c .if3 .taken))
+returns-3 c =
+    let args = c .before .before .before .before .before .before .before .before .before .args in
+    let if1 = c .before .before .before .before .before .before .before .if1 in
+    let kind-at = c .before .before .before .before .before .before .kind-at in
+    let kind-code = c .before .before .before .before .before .kind-code in
+    let if2 = c .before .before .before .before .if2 in
+    let element-at = c .before .before .before .element-at in
+    pref-bad (now (args .s)) (args .slot) (if1 .left) (kind-at .result) (kind-at .ensures) (kind-code .result) (kind-code .ensures) (if2 .left)
+    (element-at .result) (element-at .ensures .1) (element-at .ensures .0) (sym (c .before .is-pref .ensures) ∙ not-true _ (c .if3 .taken))
 
 -- src/lib.rt:119:1
 returns-4 : tie.Need-returns-4
-returns-4 c = pref-good (now (c .before .before .before .before .before .before .before .before .before .args .s)) (c .before .before .before .before .before .before .before .before .before .args .slot) (c .before .before .before .before .before .before .before .if1 .left) (c .before .before .before .before .before .before .kind-at .result) (c .before .before .before .before .before .before .kind-at .ensures) (c .before .before .before .before .before .kind-code .result) (c .before .before .before .before .before .kind-code .ensures) (c .before .before .before .before .if2 .left) (c .before .before .before .element-at .result) (c .before .before .before .element-at .ensures .1) (c .before .before .before .element-at .ensures .0) (sym (c .before .is-pref .ensures) ∙ not-false _ (c .if3 .left))
+returns-4 c =
+    let args = c .before .before .before .before .before .before .before .before .before .args in
+    let if1 = c .before .before .before .before .before .before .before .if1 in
+    let kind-at = c .before .before .before .before .before .before .kind-at in
+    let kind-code = c .before .before .before .before .before .kind-code in
+    let if2 = c .before .before .before .before .if2 in
+    let element-at = c .before .before .before .element-at in
+    pref-good (now (args .s)) (args .slot) (if1 .left) (kind-at .result) (kind-at .ensures) (kind-code .result) (kind-code .ensures) (if2 .left)
+    (element-at .result) (element-at .ensures .1) (element-at .ensures .0) (sym (c .before .is-pref .ensures) ∙ not-false _ (c .if3 .left))
 
 pub pref-in-spec : {M : Type 1} → statement M
 pref-in-spec =

@@ -41,7 +41,12 @@ returns-3 c = blank-end _ (sym (left-none (now (c .before .before .before .befor
 
 -- src/lib.rt:84:1
 returns-4 : tie.Need-returns-4
-returns-4 c = blank-one _ (left (now (c .before .before .before .before .before .before .args .s)) (c .before .b .given .0 .1 .0) (c .before .b .given .0 .1 .1 .0)) (c .before .b .given .0 .0) (sym (left-none (now (c .before .before .before .before .before .before .args .s)) (c .before .before .before .before .before .before .args .at)) ∙ is-one (now (c .before .before .before .before .before .before .args .s)) (c .before .before .before .next-byte .ensures .0) (c .before .b .given .1))
+returns-4 c =
+    let args = c .before .before .before .before .before .before .args in
+    let next-byte = c .before .before .before .next-byte in
+    let b = c .before .b in
+    blank-one _ (left (now (args .s)) (b .given .0 .1 .0) (b .given .0 .1 .1 .0)) (b .given .0 .0)
+    (sym (left-none (now (args .s)) (args .at)) ∙ is-one (now (args .s)) (next-byte .ensures .0) (b .given .1))
 
 pub is-blank-spec : {M : Type 1} → statement M
 is-blank-spec =

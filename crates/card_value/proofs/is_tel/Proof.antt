@@ -46,7 +46,12 @@ enum-told c = search needs
 
 -- src/lib.rt:141:17
 returns-3 : tie.Need-returns-3 Inv-loop μ-loop
-returns-3 c = the-form (eq-eqb _ _ (c .before .before .before .before .before .if1 .left)) (sym (c .before .before .before .loop .inv .1 ∙ ap (telSeen (c .before .before .before .loop .k)) (is-alone (now (c .before .before .before .before .before .before .before .args .s)) (c .before .before .next-byte .ensures .0) (c .enum-told .given .1))))
+returns-3 c =
+    let args = c .before .before .before .before .before .before .before .args in
+    let if1 = c .before .before .before .before .before .if1 in
+    let loop = c .before .before .before .loop in
+    the-form (eq-eqb _ _ (if1 .left))
+    (sym (loop .inv .1 ∙ ap (telSeen (loop .k)) (is-alone (now (args .s)) (c .before .before .next-byte .ensures .0) (c .enum-told .given .1))))
 
 -- src/lib.rt:144:17
 enum-told-2 : tie.Need-enum-told-2 Inv-loop μ-loop
@@ -54,7 +59,13 @@ enum-told-2 c = search needs
 
 -- src/lib.rt:144:17
 returns-4 : tie.Need-returns-4 Inv-loop μ-loop
-returns-4 c = the-form (eq-eqb _ _ (c .before .before .before .before .before .if1 .left)) (tel-end (c .before .before .before .loop .k) ∙ sym (c .before .before .before .loop .inv .1 ∙ ap (telSeen (c .before .before .before .loop .k)) (is-end (now (c .before .before .before .before .before .before .before .args .s)) (c .before .before .next-byte .ensures .0) (c .enum-told2 .given .1))))
+returns-4 c =
+    let args = c .before .before .before .before .before .before .before .args in
+    let if1 = c .before .before .before .before .before .if1 in
+    let loop = c .before .before .before .loop in
+    the-form (eq-eqb _ _ (if1 .left))
+    (tel-end (loop .k) ∙ sym
+    (loop .inv .1 ∙ ap (telSeen (loop .k)) (is-end (now (args .s)) (c .before .before .next-byte .ensures .0) (c .enum-told2 .given .1))))
 
 -- src/lib.rt:146:23
 enum-known-b : tie.Need-enum-known-b Inv-loop μ-loop
@@ -66,7 +77,16 @@ fits-tel-requires c κs = tt
 
 -- src/lib.rt:148:21
 returns-5 : tie.Need-returns-5 Inv-loop μ-loop
-returns-5 c = the-form (eq-eqb _ _ (c .before .before .before .before .before .before .before .before .if1 .left)) (tel-bad (c .before .before .before .before .before .before .loop .k) (c .before .before .before .b .given .0 .0) (left (now (c .before .before .before .before .before .before .before .before .before .before .args .s)) (c .before .before .before .b .given .0 .1 .0) (c .before .before .before .b .given .0 .1 .1 .0)) (sym (c .before .fits-tel .ensures) ∙ not-true _ (c .if3 .taken)) ∙ sym (c .before .before .before .before .before .before .loop .inv .1 ∙ ap (telSeen (c .before .before .before .before .before .before .loop .k)) (is-one (now (c .before .before .before .before .before .before .before .before .before .before .args .s)) (c .before .before .before .before .before .next-byte .ensures .0) (c .before .before .before .b .given .1))))
+returns-5 c =
+    let args = c .before .before .before .before .before .before .before .before .before .before .args in
+    let if1 = c .before .before .before .before .before .before .before .before .if1 in
+    let loop = c .before .before .before .before .before .before .loop in
+    let next-byte = c .before .before .before .before .before .next-byte in
+    let b = c .before .before .before .b in
+    the-form (eq-eqb _ _ (if1 .left))
+    (tel-bad (loop .k) (b .given .0 .0) (left (now (args .s)) (b .given .0 .1 .0) (b .given .0 .1 .1 .0))
+    (sym (c .before .fits-tel .ensures) ∙ not-true _ (c .if3 .taken)) ∙ sym
+    (loop .inv .1 ∙ ap (telSeen (loop .k)) (is-one (now (args .s)) (next-byte .ensures .0) (b .given .1))))
 
 -- src/lib.rt:150:17
 onward-requires : tie.Need-onward-requires Inv-loop μ-loop
@@ -74,11 +94,23 @@ onward-requires c κs = tt
 
 -- src/lib.rt:138:5
 loop-less : tie.Need-loop-less Inv-loop μ-loop
-loop-less c = byte-in (now (c .before .before .before .before .before .before .before .before .before .before .before .args .s)) (c .before .before .before .before .before .before .before .loop .i) (c .before .before .before .before .before .before .before .loop .h) (c .before .before .before .before .before .before .next-byte .ensures .1) (c .before .before .before .before .b .given .1) .1
+loop-less c =
+    let args = c .before .before .before .before .before .before .before .before .before .before .before .args in
+    let loop = c .before .before .before .before .before .before .before .loop in
+    let next-byte = c .before .before .before .before .before .before .next-byte in
+    let b = c .before .before .before .before .b in
+    byte-in (now (args .s)) (loop .i) (loop .h) (next-byte .ensures .1) (b .given .1) .1
 
 -- src/lib.rt:138:5
 loop-again : tie.Need-loop-again Inv-loop μ-loop
-loop-again c = (byte-in (now (c .before .before .before .before .before .before .before .before .before .before .before .args .s)) (c .before .before .before .before .before .before .before .loop .i) (c .before .before .before .before .before .before .before .loop .h) (c .before .before .before .before .before .before .next-byte .ensures .1) (c .before .before .before .before .b .given .1) .0, c .before .before .before .before .before .before .before .loop .inv .1 ∙ ap (telSeen (c .before .before .before .before .before .before .before .loop .k)) (is-one (now (c .before .before .before .before .before .before .before .before .before .before .before .args .s)) (c .before .before .before .before .before .before .next-byte .ensures .0) (c .before .before .before .before .b .given .1)) ∙ tel-more (c .before .before .before .before .before .before .before .loop .k) (c .before .before .before .before .b .given .0 .0) (left (now (c .before .before .before .before .before .before .before .before .before .before .before .args .s)) (c .before .before .before .before .b .given .0 .1 .0) (c .before .before .before .before .b .given .0 .1 .1 .0)) (sym (c .before .before .fits-tel .ensures) ∙ not-false _ (c .before .if3 .left)) (c .onward .ensures))
+loop-again c =
+    let args = c .before .before .before .before .before .before .before .before .before .before .before .args in
+    let loop = c .before .before .before .before .before .before .before .loop in
+    let next-byte = c .before .before .before .before .before .before .next-byte in
+    let b = c .before .before .before .before .b in (
+      byte-in (now (args .s)) (loop .i) (loop .h) (next-byte .ensures .1) (b .given .1) .0,
+      loop .inv .1 ∙ ap (telSeen (loop .k)) (is-one (now (args .s)) (next-byte .ensures .0) (b .given .1)) ∙ tel-more (loop .k) (b .given .0 .0) (left (now (args .s)) (b .given .0 .1 .0) (b .given .0 .1 .1 .0)) (sym (c .before .before .fits-tel .ensures) ∙ not-false _ (c .before .if3 .left)) (c .onward .ensures),
+    )
 
 pub is-tel-spec : {M : Type 1} → statement M
 is-tel-spec =

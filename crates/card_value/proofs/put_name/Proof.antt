@@ -26,7 +26,13 @@ same-length c = search needs
 
 -- src/lib.rt:290:9
 returns : tie.Need-returns
-returns c = (pens-in (c .before .before .pen-bytes .ensures), (pens-length (c .before .before .pen-bytes .ensures), name-absent (now (c .before .before .before .before .before .before .before .before .args .s)) (c .before .before .before .before .before .before .before .before .args .slot) _ _ _ (c .before .before .before .before .before .if1 .taken) (c .before .before .pen-bytes .ensures)))
+returns c =
+    let args = c .before .before .before .before .before .before .before .before .args in
+    let if1 = c .before .before .before .before .before .if1 in
+    let pen-bytes = c .before .before .pen-bytes in (
+      pens-in (pen-bytes .ensures),
+      (pens-length (pen-bytes .ensures), name-absent (now (args .s)) (args .slot) _ _ _ (if1 .taken) (pen-bytes .ensures)),
+    )
 
 -- src/lib.rt:297:9
 string-in-requires : tie.Need-string-in-requires
@@ -54,7 +60,15 @@ same-length-2 c = search needs
 
 -- src/lib.rt:281:1
 returns-3 : tie.Need-returns-3
-returns-3 c = (pens-in (c .before .before .before .pen-text .ensures .pens), (pens-length (c .before .before .before .pen-text .ensures .pens), name-there (now (c .before .before .before .before .before .before .before .before .before .before .before .args .s)) (c .before .before .before .before .before .before .before .before .before .before .before .args .slot) _ _ _ (c .before .before .before .before .before .before .before .before .if1 .left) (c .before .before .before .before .before .before .before .string-in .result) (c .before .before .before .before .before .before .before .string-in .ensures) (c .before .before .before .before .before .before .if2 .left) (c .before .before .before .pen-text .ensures) (c .is-blank .ensures)))
+returns-3 c =
+    let args = c .before .before .before .before .before .before .before .before .before .before .before .args in
+    let if1 = c .before .before .before .before .before .before .before .before .if1 in
+    let string-in = c .before .before .before .before .before .before .before .string-in in
+    let if2 = c .before .before .before .before .before .before .if2 in
+    let pen-text = c .before .before .before .pen-text in (
+      pens-in (pen-text .ensures .pens),
+      (pens-length (pen-text .ensures .pens), name-there (now (args .s)) (args .slot) _ _ _ (if1 .left) (string-in .result) (string-in .ensures) (if2 .left) (pen-text .ensures) (c .is-blank .ensures)),
+    )
 
 pub put-name-spec : {M : Type 1} → statement M
 put-name-spec =

@@ -28,7 +28,12 @@ same-length c = c .before .before .before .before .put-name .ensures .1 .0
 
 -- src/lib.rt:333:9
 returns : tie.Need-returns
-returns c = (tt, (c .before .before .before .before .put-name .ensures .1 .0, org-no-name (now (c .before .before .before .before .before .before .before .before .args .s)) (c .before .before .before .before .before .before .before .before .args .name) (c .before .before .before .before .before .before .before .before .args .units) _ (c .before .before .before .before .before .before .before .before .args .column) _ (c .before .before .before .before .put-name .result) (c .before .before .before .before .put-name .ensures .1 .1) _ (c .enum-told .given .1)))
+returns c =
+    let args = c .before .before .before .before .before .before .before .before .args in
+    let put-name = c .before .before .before .before .put-name in (
+      tt,
+      (put-name .ensures .1 .0, org-no-name (now (args .s)) (args .name) (args .units) _ (args .column) _ (put-name .result) (put-name .ensures .1 .1) _ (c .enum-told .given .1)),
+    )
 
 -- src/lib.rt:340:19
 sub-put-units : tie.Need-sub-put-units
@@ -56,31 +61,80 @@ enum-told-2 c = search needs
 
 -- src/lib.rt:342:9
 same-length-2 : tie.Need-same-length-2
-same-length-2 c = part-length (c .before .before .before .before .before .before .before .n .given .0 .0) (c .before .before .before .before .before .before .before .before .before .before .before .put-name .last .0) (c .before .before .before .before .put-units .last .0) (omega (arith, ink-in (c .before .before .before .before .before .before .before .before .before .before .before .put-name .ensures .0) (c .before .before .before .before .before .before .before .n .given .1), c .before .before .before .before .before .before .before .before .before .before .before .put-name .ensures .1 .0)) (c .before .before .before .before .put-units .ensures .1 .0) ∙ (c .before .before .before .before .before .before .before .before .before .before .before .put-name .ensures .1 .0)
+same-length-2 c =
+    let put-name = c .before .before .before .before .before .before .before .before .before .before .before .put-name in
+    let n = c .before .before .before .before .before .before .before .n in
+    let put-units = c .before .before .before .before .put-units in
+    part-length (n .given .0 .0) (put-name .last .0) (put-units .last .0)
+    (omega (arith, ink-in (put-name .ensures .0) (n .given .1), put-name .ensures .1 .0)) (put-units .ensures .1 .0) ∙ (put-name .ensures .1 .0)
 
 -- src/lib.rt:342:9
 returns-2 : tie.Need-returns-2
-returns-2 c = (tt, (part-length (c .before .before .before .before .before .before .before .n .given .0 .0) (c .before .before .before .before .before .before .before .before .before .before .before .put-name .last .0) (c .before .before .before .before .put-units .last .0) (omega (arith, ink-in (c .before .before .before .before .before .before .before .before .before .before .before .put-name .ensures .0) (c .before .before .before .before .before .before .before .n .given .1), c .before .before .before .before .before .before .before .before .before .before .before .put-name .ensures .1 .0)) (c .before .before .before .before .put-units .ensures .1 .0) ∙ (c .before .before .before .before .before .before .before .before .before .before .before .put-name .ensures .1 .0), org-no-units (now (c .before .before .before .before .before .before .before .before .before .before .before .before .before .before .before .args .s)) (c .before .before .before .before .before .before .before .before .before .before .before .before .before .before .before .args .name) (c .before .before .before .before .before .before .before .before .before .before .before .before .before .before .before .args .units) _ (c .before .before .before .before .before .before .before .before .before .before .before .before .before .before .before .args .column) _ (c .before .before .before .before .before .before .before .before .before .before .before .put-name .result) (c .before .before .before .before .before .before .before .before .before .before .before .put-name .ensures .1 .1) _ _ _ _ (c .before .before .before .before .before .before .before .n .given .1) _ (c .before .before .before .before .put-units .result) (c .before .before .before .before .put-units .ensures .1 .1) _ (c .enum-told2 .given .1)))
+returns-2 c =
+    let args = c .before .before .before .before .before .before .before .before .before .before .before .before .before .before .before .args in
+    let put-name = c .before .before .before .before .before .before .before .before .before .before .before .put-name in
+    let n = c .before .before .before .before .before .before .before .n in
+    let put-units = c .before .before .before .before .put-units in (
+      tt,
+      (part-length (n .given .0 .0) (put-name .last .0) (put-units .last .0) (omega (arith, ink-in (put-name .ensures .0) (n .given .1), put-name .ensures .1 .0)) (put-units .ensures .1 .0) ∙ (put-name .ensures .1 .0), org-no-units (now (args .s)) (args .name) (args .units) _ (args .column) _ (put-name .result) (put-name .ensures .1 .1) _ _ _ _ (n .given .1) _ (put-units .result) (put-units .ensures .1 .1) _ (c .enum-told2 .given .1)),
+    )
 
 -- src/lib.rt:346:9
 same-length-3 : tie.Need-same-length-3
-same-length-3 c = part-length (c .before .before .before .before .before .before .before .before .before .n .given .0 .0) (c .before .before .before .before .before .before .before .before .before .before .before .before .before .put-name .last .0) (c .before .before .before .before .before .before .put-units .last .0) (omega (arith, ink-in (c .before .before .before .before .before .before .before .before .before .before .before .before .before .put-name .ensures .0) (c .before .before .before .before .before .before .before .before .before .n .given .1), c .before .before .before .before .before .before .before .before .before .before .before .before .before .put-name .ensures .1 .0)) (c .before .before .before .before .before .before .put-units .ensures .1 .0) ∙ (c .before .before .before .before .before .before .before .before .before .before .before .before .before .put-name .ensures .1 .0)
+same-length-3 c =
+    let put-name = c .before .before .before .before .before .before .before .before .before .before .before .before .before .put-name in
+    let n = c .before .before .before .before .before .before .before .before .before .n in
+    let put-units = c .before .before .before .before .before .before .put-units in
+    part-length (n .given .0 .0) (put-name .last .0) (put-units .last .0)
+    (omega (arith, ink-in (put-name .ensures .0) (n .given .1), put-name .ensures .1 .0)) (put-units .ensures .1 .0) ∙ (put-name .ensures .1 .0)
 
 -- src/lib.rt:346:9
 returns-3 : tie.Need-returns-3
-returns-3 c = (tt, (part-length (c .before .before .before .before .before .before .before .before .before .n .given .0 .0) (c .before .before .before .before .before .before .before .before .before .before .before .before .before .put-name .last .0) (c .before .before .before .before .before .before .put-units .last .0) (omega (arith, ink-in (c .before .before .before .before .before .before .before .before .before .before .before .before .before .put-name .ensures .0) (c .before .before .before .before .before .before .before .before .before .n .given .1), c .before .before .before .before .before .before .before .before .before .before .before .before .before .put-name .ensures .1 .0)) (c .before .before .before .before .before .before .put-units .ensures .1 .0) ∙ (c .before .before .before .before .before .before .before .before .before .before .before .before .before .put-name .ensures .1 .0), org-nothing (now (c .before .before .before .before .before .before .before .before .before .before .before .before .before .before .before .before .before .args .s)) (c .before .before .before .before .before .before .before .before .before .before .before .before .before .before .before .before .before .args .name) (c .before .before .before .before .before .before .before .before .before .before .before .before .before .before .before .before .before .args .units) _ (c .before .before .before .before .before .before .before .before .before .before .before .before .before .before .before .before .before .args .column) _ (c .before .before .before .before .before .before .before .before .before .before .before .before .before .put-name .result) (c .before .before .before .before .before .before .before .before .before .before .before .before .before .put-name .ensures .1 .1) _ _ _ _ (c .before .before .before .before .before .before .before .before .before .n .given .1) _ (c .before .before .before .before .before .before .put-units .result) (c .before .before .before .before .before .before .put-units .ensures .1 .1) _ _ _ _ (c .before .before .m .given .1) _ (c .if1 .taken)))
+returns-3 c =
+    let args = c .before .before .before .before .before .before .before .before .before .before .before .before .before .before .before .before .before .args in
+    let put-name = c .before .before .before .before .before .before .before .before .before .before .before .before .before .put-name in
+    let n = c .before .before .before .before .before .before .before .before .before .n in
+    let put-units = c .before .before .before .before .before .before .put-units in (
+      tt,
+      (part-length (n .given .0 .0) (put-name .last .0) (put-units .last .0) (omega (arith, ink-in (put-name .ensures .0) (n .given .1), put-name .ensures .1 .0)) (put-units .ensures .1 .0) ∙ (put-name .ensures .1 .0), org-nothing (now (args .s)) (args .name) (args .units) _ (args .column) _ (put-name .result) (put-name .ensures .1 .1) _ _ _ _ (n .given .1) _ (put-units .result) (put-units .ensures .1 .1) _ _ _ _ (c .before .before .m .given .1) _ (c .if1 .taken)),
+    )
 
 -- src/lib.rt:348:13
 add-t : tie.Need-add-t
-add-t c = record { fits = omega (arith, part-in (c .before .before .before .before .before .before .before .before .before .n .given .0 .0) (c .before .before .before .before .before .before .before .before .before .before .before .before .before .put-name .last .0) (omega (arith, ink-in (c .before .before .before .before .before .before .before .before .before .before .before .before .before .put-name .ensures .0) (c .before .before .before .before .before .before .before .before .before .n .given .1), c .before .before .before .before .before .before .before .before .before .before .before .before .before .put-name .ensures .1 .0)) (ink-in (c .before .before .before .before .before .before .put-units .ensures .0) (c .before .before .m .given .1)), c .before .before .before .before .before .before .before .before .before .before .before .before .before .put-name .ensures .1 .0, c .before .before .before .before .before .before .before .before .before .before .before .before .before .before .before .before .before .good .0 .0) }
+add-t c =
+    let good = c .before .before .before .before .before .before .before .before .before .before .before .before .before .before .before .before .before .good in
+    let put-name = c .before .before .before .before .before .before .before .before .before .before .before .before .before .put-name in
+    let n = c .before .before .before .before .before .before .before .before .before .n in
+    let put-units = c .before .before .before .before .before .before .put-units in
+    record {
+      fits = omega (
+        arith,
+        part-in (n .given .0 .0) (put-name .last .0) (omega (arith, ink-in (put-name .ensures .0) (n .given .1), put-name .ensures .1 .0)) (ink-in (put-units .ensures .0) (c .before .before .m .given .1)),
+        put-name .ensures .1 .0,
+        good .0 .0,
+      );
+    }
 
 -- src/lib.rt:315:1
 same-length-4 : tie.Need-same-length-4
-same-length-4 c = part-length (c .before .before .before .before .before .before .before .before .before .n .given .0 .0) (c .before .before .before .before .before .before .before .before .before .before .before .before .before .put-name .last .0) (c .before .before .before .before .before .before .put-units .last .0) (omega (arith, ink-in (c .before .before .before .before .before .before .before .before .before .before .before .before .before .put-name .ensures .0) (c .before .before .before .before .before .before .before .before .before .n .given .1), c .before .before .before .before .before .before .before .before .before .before .before .before .before .put-name .ensures .1 .0)) (c .before .before .before .before .before .before .put-units .ensures .1 .0) ∙ (c .before .before .before .before .before .before .before .before .before .before .before .before .before .put-name .ensures .1 .0)
+same-length-4 c =
+    let put-name = c .before .before .before .before .before .before .before .before .before .before .before .before .before .put-name in
+    let n = c .before .before .before .before .before .before .before .before .before .n in
+    let put-units = c .before .before .before .before .before .before .put-units in
+    part-length (n .given .0 .0) (put-name .last .0) (put-units .last .0)
+    (omega (arith, ink-in (put-name .ensures .0) (n .given .1), put-name .ensures .1 .0)) (put-units .ensures .1 .0) ∙ (put-name .ensures .1 .0)
 
 -- src/lib.rt:315:1
 returns-4 : tie.Need-returns-4
-returns-4 c = (omega (arith, part-in (c .before .before .before .before .before .before .before .before .before .n .given .0 .0) (c .before .before .before .before .before .before .before .before .before .before .before .before .before .put-name .last .0) (omega (arith, ink-in (c .before .before .before .before .before .before .before .before .before .before .before .before .before .put-name .ensures .0) (c .before .before .before .before .before .before .before .before .before .n .given .1), c .before .before .before .before .before .before .before .before .before .before .before .before .before .put-name .ensures .1 .0)) (ink-in (c .before .before .before .before .before .before .put-units .ensures .0) (c .before .before .m .given .1)), c .before .before .before .before .before .before .before .before .before .before .before .before .before .put-name .ensures .1 .0), (part-length (c .before .before .before .before .before .before .before .before .before .n .given .0 .0) (c .before .before .before .before .before .before .before .before .before .before .before .before .before .put-name .last .0) (c .before .before .before .before .before .before .put-units .last .0) (omega (arith, ink-in (c .before .before .before .before .before .before .before .before .before .before .before .before .before .put-name .ensures .0) (c .before .before .before .before .before .before .before .before .before .n .given .1), c .before .before .before .before .before .before .before .before .before .before .before .before .before .put-name .ensures .1 .0)) (c .before .before .before .before .before .before .put-units .ensures .1 .0) ∙ (c .before .before .before .before .before .before .before .before .before .before .before .before .before .put-name .ensures .1 .0), org-line (now (c .before .before .before .before .before .before .before .before .before .before .before .before .before .before .before .before .before .args .s)) (c .before .before .before .before .before .before .before .before .before .before .before .before .before .before .before .before .before .args .name) (c .before .before .before .before .before .before .before .before .before .before .before .before .before .before .before .before .before .args .units) _ (c .before .before .before .before .before .before .before .before .before .before .before .before .before .before .before .before .before .args .column) _ (c .before .before .before .before .before .before .before .before .before .before .before .before .before .put-name .result) (c .before .before .before .before .before .before .before .before .before .before .before .before .before .put-name .ensures .1 .1) _ _ _ _ (c .before .before .before .before .before .before .before .before .before .n .given .1) _ (c .before .before .before .before .before .before .put-units .result) (c .before .before .before .before .before .before .put-units .ensures .1 .1) _ _ _ _ (c .before .before .m .given .1) (c .if1 .left)))
+returns-4 c =
+    let args = c .before .before .before .before .before .before .before .before .before .before .before .before .before .before .before .before .before .args in
+    let put-name = c .before .before .before .before .before .before .before .before .before .before .before .before .before .put-name in
+    let n = c .before .before .before .before .before .before .before .before .before .n in
+    let put-units = c .before .before .before .before .before .before .put-units in
+    let m = c .before .before .m in (
+      omega (arith, part-in (n .given .0 .0) (put-name .last .0) (omega (arith, ink-in (put-name .ensures .0) (n .given .1), put-name .ensures .1 .0)) (ink-in (put-units .ensures .0) (m .given .1)), put-name .ensures .1 .0),
+      (part-length (n .given .0 .0) (put-name .last .0) (put-units .last .0) (omega (arith, ink-in (put-name .ensures .0) (n .given .1), put-name .ensures .1 .0)) (put-units .ensures .1 .0) ∙ (put-name .ensures .1 .0), org-line (now (args .s)) (args .name) (args .units) _ (args .column) _ (put-name .result) (put-name .ensures .1 .1) _ _ _ _ (n .given .1) _ (put-units .result) (put-units .ensures .1 .1) _ _ _ _ (m .given .1) (c .if1 .left)),
+    )
 
 pub put-organization-spec : {M : Type 1} → statement M
 put-organization-spec =

@@ -29,7 +29,12 @@ look-requires c κs = search needs
 
 -- src/lib.rt:266:9
 returns-3 : tie.Need-returns-3
-returns-3 c = (tt, (refl, units-none (now (c .before .before .before .before .before .before .before .args .s)) (c .before .before .before .before .before .before .before .args .slot) _ _ (c .before .before .before .before .if1 .left) _ _ (c .before .before .skip-space .ensures) (c .before .look .ensures .0) _ (c .if3 .taken)))
+returns-3 c =
+    let args = c .before .before .before .before .before .before .before .args in
+    let if1 = c .before .before .before .before .if1 in (
+      tt,
+      (refl, units-none (now (args .s)) (args .slot) _ _ (if1 .left) _ _ (c .before .before .skip-space .ensures) (c .before .look .ensures .0) _ (c .if3 .taken)),
+    )
 
 -- src/lib.rt:268:27
 add-skip-space : tie.Need-add-skip-space
@@ -45,7 +50,15 @@ look-requires-2 c κs = search needs
 
 -- src/lib.rt:270:9
 returns-4 : tie.Need-returns-4
-returns-4 c = (omega arith, (refl, units-empty (now (c .before .before .before .before .before .before .before .before .before .before .args .s)) (c .before .before .before .before .before .before .before .before .before .before .args .slot) _ _ (c .before .before .before .before .before .before .before .if1 .left) _ _ (c .before .before .before .before .before .skip-space .ensures) (c .before .before .before .before .look .ensures .0) (c .before .before .before .if3 .left) _ _ (c .before .before .skip-space2 .ensures) (c .before .look2 .ensures .0) (c .if4 .taken)))
+returns-4 c =
+    let args = c .before .before .before .before .before .before .before .before .before .before .args in
+    let if1 = c .before .before .before .before .before .before .before .if1 in
+    let skip-space = c .before .before .before .before .before .skip-space in
+    let look = c .before .before .before .before .look in
+    let if3 = c .before .before .before .if3 in (
+      omega arith,
+      (refl, units-empty (now (args .s)) (args .slot) _ _ (if1 .left) _ _ (skip-space .ensures) (look .ensures .0) (if3 .left) _ _ (c .before .before .skip-space2 .ensures) (c .before .look2 .ensures .0) (c .if4 .taken)),
+    )
 
 -- src/lib.rt:277:5
 put-units-from-requires : tie.Need-put-units-from-requires
@@ -57,7 +70,19 @@ same-length c = search needs
 
 -- src/lib.rt:248:1
 returns-5 : tie.Need-returns-5
-returns-5 c = (c .before .before .put-units-from .ensures .0, (c .before .before .put-units-from .ensures .1 .0, units-full (now (c .before .before .before .before .before .before .before .before .before .before .before .before .before .before .args .s)) (c .before .before .before .before .before .before .before .before .before .before .before .before .before .before .args .slot) _ _ (c .before .before .before .before .before .before .before .before .before .before .before .if1 .left) _ _ (c .before .before .before .before .before .before .before .before .before .skip-space .ensures) (c .before .before .before .before .before .before .before .before .look .ensures .0) (c .before .before .before .before .before .before .before .if3 .left) _ _ (c .before .before .before .before .before .before .skip-space2 .ensures) (c .before .before .before .before .before .look2 .ensures .0) (c .before .before .before .before .if4 .left) _ _ (c .before .before .put-units-from .ensures .1 .1)))
+returns-5 c =
+    let args = c .before .before .before .before .before .before .before .before .before .before .before .before .before .before .args in
+    let if1 = c .before .before .before .before .before .before .before .before .before .before .before .if1 in
+    let skip-space = c .before .before .before .before .before .before .before .before .before .skip-space in
+    let look = c .before .before .before .before .before .before .before .before .look in
+    let if3 = c .before .before .before .before .before .before .before .if3 in
+    let skip-space2 = c .before .before .before .before .before .before .skip-space2 in
+    let look2 = c .before .before .before .before .before .look2 in
+    let if4 = c .before .before .before .before .if4 in
+    let put-units-from = c .before .before .put-units-from in (
+      put-units-from .ensures .0,
+      (put-units-from .ensures .1 .0, units-full (now (args .s)) (args .slot) _ _ (if1 .left) _ _ (skip-space .ensures) (look .ensures .0) (if3 .left) _ _ (skip-space2 .ensures) (look2 .ensures .0) (if4 .left) _ _ (put-units-from .ensures .1 .1)),
+    )
 
 pub put-units-spec : {M : Type 1} → statement M
 put-units-spec =

@@ -40,7 +40,14 @@ same-length c = pens-length (c .before .before .before .loop .inv .1 .pens)
 
 -- src/lib.rt:224:13
 returns : tie.Need-returns Inv-loop μ-loop
-returns c = (tt, (pens-length (c .before .before .before .loop .inv .1 .pens), units-wrong (now (c .before .before .before .before .before .before .args .s)) (c .before .before .before .before .before .before .args .at) (now (c .before .before .before .before .before .before .args .out)) (c .before .before .before .before .before .before .args .column) (c .before .before .before .loop .i) (c .before .before .before .loop .n) (c .before .before .before .loop .k) (c .before .before .before .loop .ok) (c .before .before .before .loop .filled) (c .before .before .before .loop .out) (c .before .before .before .loop .inv .1) (c .before .before .element-at .result) (c .before .before .element-at .ensures .1) (c .before .unit-in .result) (c .before .unit-in .ensures) _ (c .if1 .taken)))
+returns c =
+    let args = c .before .before .before .before .before .before .args in
+    let loop = c .before .before .before .loop in
+    let element-at = c .before .before .element-at in
+    let unit-in = c .before .unit-in in (
+      tt,
+      (pens-length (loop .inv .1 .pens), units-wrong (now (args .s)) (args .at) (now (args .out)) (args .column) (loop .i) (loop .n) (loop .k) (loop .ok) (loop .filled) (loop .out) (loop .inv .1) (element-at .result) (element-at .ensures .1) (unit-in .result) (unit-in .ensures) _ (c .if1 .taken)),
+    )
 
 -- src/lib.rt:226:26
 sub-pen-unit : tie.Need-sub-pen-unit Inv-loop μ-loop
@@ -60,7 +67,11 @@ pen-unit-requires c κs = tt
 
 -- src/lib.rt:227:9
 add-n : tie.Need-add-n Inv-loop μ-loop
-add-n c = record { fits = omega (arith, pens-in (pens-then (c .before .before .before .before .before .before .before .before .loop .inv .1 .pens) (c .before .before .before .pen-unit .ensures .pens)), c .before .before .before .before .before .before .before .before .before .before .before .good .0 .0) }
+add-n c =
+    let good = c .before .before .before .before .before .before .before .before .before .before .before .good in
+    let loop = c .before .before .before .before .before .before .before .before .loop in
+    let pen-unit = c .before .before .before .pen-unit in
+    record { fits = omega (arith, pens-in (pens-then (loop .inv .1 .pens) (pen-unit .ensures .pens)), good .0 .0) }
 
 -- src/lib.rt:231:15
 separator-requires : tie.Need-separator-requires Inv-loop μ-loop
@@ -72,11 +83,27 @@ enum-known-j c = search needs
 
 -- src/lib.rt:218:5
 loop-less : tie.Need-loop-less Inv-loop μ-loop
-loop-less c = let h = turn-as (c .before .before .before .separator .ensures) (c .before .j .given .1) in omega (arith, h .within .0, h .within .1, c .before .before .before .before .before .before .before .before .before .before .before .before .before .element-at .ensures .0 .from (c .before .before .before .before .before .before .before .before .before .before .before .before .before .before .loop .inv .0), c .before .before .before .before .before .before .before .before .before .before .before .before .before .element-at .ensures .0 .ordered)
+loop-less c =
+    let loop = c .before .before .before .before .before .before .before .before .before .before .before .before .before .before .loop in
+    let element-at = c .before .before .before .before .before .before .before .before .before .before .before .before .before .element-at in
+    let separator = c .before .before .before .separator in
+    let h = turn-as (separator .ensures) (c .before .j .given .1) in omega
+    (arith, h .within .0, h .within .1, element-at .ensures .0 .from (loop .inv .0), element-at .ensures .0 .ordered)
 
 -- src/lib.rt:218:5
 loop-again : tie.Need-loop-again Inv-loop μ-loop
-loop-again c = let h = turn-as (c .before .before .before .separator .ensures) (c .before .j .given .1) in (h .within .1, units-on (now (c .before .before .before .before .before .before .before .before .before .before .before .before .before .before .before .before .before .args .s)) (c .before .before .before .before .before .before .before .before .before .before .before .before .before .before .before .before .before .args .at) (now (c .before .before .before .before .before .before .before .before .before .before .before .before .before .before .before .before .before .args .out)) (c .before .before .before .before .before .before .before .before .before .before .before .before .before .before .before .before .before .args .column) (c .before .before .before .before .before .before .before .before .before .before .before .before .before .before .loop .i) (c .before .before .before .before .before .before .before .before .before .before .before .before .before .before .loop .n) (c .before .before .before .before .before .before .before .before .before .before .before .before .before .before .loop .k) (c .before .before .before .before .before .before .before .before .before .before .before .before .before .before .loop .ok) (c .before .before .before .before .before .before .before .before .before .before .before .before .before .before .loop .filled) (c .before .before .before .before .before .before .before .before .before .before .before .before .before .before .loop .out) (c .before .before .before .before .before .before .before .before .before .before .before .before .before .before .loop .inv .1) (c .before .before .before .before .before .before .before .before .before .before .before .before .before .element-at .result) (c .before .before .before .before .before .before .before .before .before .before .before .before .before .element-at .ensures .1) (c .before .before .before .before .before .before .before .before .before .before .before .before .unit-in .result) (c .before .before .before .before .before .before .before .before .before .before .before .before .unit-in .ensures) (c .before .before .before .before .before .before .before .before .before .before .before .if1 .left) (c .before .before .before .before .before .before .before .before .before .pen-unit .result) _ (c .before .before .before .before .before .before .before .before .before .pen-unit .ensures) _ h)
+loop-again c =
+    let args = c .before .before .before .before .before .before .before .before .before .before .before .before .before .before .before .before .before .args in
+    let loop = c .before .before .before .before .before .before .before .before .before .before .before .before .before .before .loop in
+    let element-at = c .before .before .before .before .before .before .before .before .before .before .before .before .before .element-at in
+    let unit-in = c .before .before .before .before .before .before .before .before .before .before .before .before .unit-in in
+    let if1 = c .before .before .before .before .before .before .before .before .before .before .before .if1 in
+    let pen-unit = c .before .before .before .before .before .before .before .before .before .pen-unit in
+    let separator = c .before .before .before .separator in
+    let h = turn-as (separator .ensures) (c .before .j .given .1) in (
+      h .within .1,
+      units-on (now (args .s)) (args .at) (now (args .out)) (args .column) (loop .i) (loop .n) (loop .k) (loop .ok) (loop .filled) (loop .out) (loop .inv .1) (element-at .result) (element-at .ensures .1) (unit-in .result) (unit-in .ensures) (if1 .left) (pen-unit .result) _ (pen-unit .ensures) _ h,
+    )
 
 -- src/lib.rt:235:24
 enum-known-r : tie.Need-enum-known-r Inv-loop μ-loop
@@ -88,7 +115,17 @@ same-length-2 c = pens-length (pens-then (c .before .before .before .before .bef
 
 -- src/lib.rt:236:17
 returns-2 : tie.Need-returns-2 Inv-loop μ-loop
-returns-2 c = (pens-in (pens-then (c .before .before .before .before .before .before .before .before .before .before .before .before .before .before .loop .inv .1 .pens) (c .before .before .before .before .before .before .before .before .before .pen-unit .ensures .pens)), (pens-length (pens-then (c .before .before .before .before .before .before .before .before .before .before .before .before .before .before .loop .inv .1 .pens) (c .before .before .before .before .before .before .before .before .before .pen-unit .ensures .pens)), units-all (now (c .before .before .before .before .before .before .before .before .before .before .before .before .before .before .before .before .before .args .s)) (c .before .before .before .before .before .before .before .before .before .before .before .before .before .before .before .before .before .args .at) (now (c .before .before .before .before .before .before .before .before .before .before .before .before .before .before .before .before .before .args .out)) (c .before .before .before .before .before .before .before .before .before .before .before .before .before .before .before .before .before .args .column) (c .before .before .before .before .before .before .before .before .before .before .before .before .before .before .loop .i) (c .before .before .before .before .before .before .before .before .before .before .before .before .before .before .loop .n) (c .before .before .before .before .before .before .before .before .before .before .before .before .before .before .loop .k) (c .before .before .before .before .before .before .before .before .before .before .before .before .before .before .loop .ok) (c .before .before .before .before .before .before .before .before .before .before .before .before .before .before .loop .filled) (c .before .before .before .before .before .before .before .before .before .before .before .before .before .before .loop .out) (c .before .before .before .before .before .before .before .before .before .before .before .before .before .before .loop .inv .1) (c .before .before .before .before .before .before .before .before .before .before .before .before .before .element-at .result) (c .before .before .before .before .before .before .before .before .before .before .before .before .before .element-at .ensures .1) (c .before .before .before .before .before .before .before .before .before .before .before .before .unit-in .result) (c .before .before .before .before .before .before .before .before .before .before .before .before .unit-in .ensures) (c .before .before .before .before .before .before .before .before .before .before .before .if1 .left) (c .before .before .before .before .before .before .before .before .before .pen-unit .result) _ (c .before .before .before .before .before .before .before .before .before .pen-unit .ensures) _ (turn-as (c .before .before .before .separator .ensures) (c .before .r .given .1))))
+returns-2 c =
+    let args = c .before .before .before .before .before .before .before .before .before .before .before .before .before .before .before .before .before .args in
+    let loop = c .before .before .before .before .before .before .before .before .before .before .before .before .before .before .loop in
+    let element-at = c .before .before .before .before .before .before .before .before .before .before .before .before .before .element-at in
+    let unit-in = c .before .before .before .before .before .before .before .before .before .before .before .before .unit-in in
+    let if1 = c .before .before .before .before .before .before .before .before .before .before .before .if1 in
+    let pen-unit = c .before .before .before .before .before .before .before .before .before .pen-unit in
+    let separator = c .before .before .before .separator in (
+      pens-in (pens-then (loop .inv .1 .pens) (pen-unit .ensures .pens)),
+      (pens-length (pens-then (loop .inv .1 .pens) (pen-unit .ensures .pens)), units-all (now (args .s)) (args .at) (now (args .out)) (args .column) (loop .i) (loop .n) (loop .k) (loop .ok) (loop .filled) (loop .out) (loop .inv .1) (element-at .result) (element-at .ensures .1) (unit-in .result) (unit-in .ensures) (if1 .left) (pen-unit .result) _ (pen-unit .ensures) _ (turn-as (separator .ensures) (c .before .r .given .1))),
+    )
 
 pub put-units-from-spec : {M : Type 1} → statement M
 put-units-from-spec =

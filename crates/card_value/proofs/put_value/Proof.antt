@@ -22,7 +22,13 @@ same-length c = search needs
 
 -- src/lib.rt:366:9
 returns : tie.Need-returns
-returns c = (c .before .before .put-organization .ensures .0, (c .before .before .put-organization .ensures .1 .0, value-org (now (c .before .before .before .before .before .before .before .args .s)) (c .before .before .before .before .before .before .before .args .content) (c .before .before .before .before .before .before .before .args .units) (c .before .before .before .before .before .before .before .args .form) _ _ _ _ (c .before .before .before .before .if1 .taken) (c .before .before .put-organization .ensures .1 .1)))
+returns c =
+    let args = c .before .before .before .before .before .before .before .args in
+    let if1 = c .before .before .before .before .if1 in
+    let put-organization = c .before .before .put-organization in (
+      put-organization .ensures .0,
+      (put-organization .ensures .1 .0, value-org (now (args .s)) (args .content) (args .units) (args .form) _ _ _ _ (if1 .taken) (put-organization .ensures .1 .1)),
+    )
 
 -- src/lib.rt:368:9
 text-in-requires : tie.Need-text-in-requires
@@ -30,7 +36,12 @@ text-in-requires c κs = search needs
 
 -- src/lib.rt:370:9
 returns-2 : tie.Need-returns-2
-returns-2 c = (tt, (refl, value-none (now (c .before .before .before .before .before .args .s)) (c .before .before .before .before .before .args .content) (c .before .before .before .before .before .args .units) (c .before .before .before .before .before .args .form) _ _ _ (c .before .before .if1 .left) (c .before .text-in .result) (c .before .text-in .ensures) (c .if2 .taken)))
+returns-2 c =
+    let args = c .before .before .before .before .before .args in
+    let text-in = c .before .text-in in (
+      tt,
+      (refl, value-none (now (args .s)) (args .content) (args .units) (args .form) _ _ _ (c .before .before .if1 .left) (text-in .result) (text-in .ensures) (c .if2 .taken)),
+    )
 
 -- src/lib.rt:372:8
 is-tel-requires : tie.Need-is-tel-requires
@@ -50,7 +61,17 @@ same-length-2 c = search needs
 
 -- src/lib.rt:376:9
 returns-3 : tie.Need-returns-3
-returns-3 c = (pens-in (c .before .before .pen-text .ensures .pens), (pens-length (c .before .before .pen-text .ensures .pens), value-tel (now (c .before .before .before .before .before .before .before .before .before .before .before .before .args .s)) (c .before .before .before .before .before .before .before .before .before .before .before .before .args .content) (c .before .before .before .before .before .before .before .before .before .before .before .before .args .units) (c .before .before .before .before .before .before .before .before .before .before .before .before .args .form) _ _ _ (c .before .before .before .before .before .before .before .before .before .if1 .left) (c .before .before .before .before .before .before .before .before .text-in .result) (c .before .before .before .before .before .before .before .before .text-in .ensures) (c .before .before .before .before .before .before .before .if2 .left) (c .before .before .before .before .before .before .is-tel .result) (c .before .before .before .before .before .before .is-tel .ensures) (c .before .before .pen-text .result) (c .before .before .before .before .before .if3 .taken) (c .before .before .pen-text .ensures)))
+returns-3 c =
+    let args = c .before .before .before .before .before .before .before .before .before .before .before .before .args in
+    let if1 = c .before .before .before .before .before .before .before .before .before .if1 in
+    let text-in = c .before .before .before .before .before .before .before .before .text-in in
+    let if2 = c .before .before .before .before .before .before .before .if2 in
+    let is-tel = c .before .before .before .before .before .before .is-tel in
+    let if3 = c .before .before .before .before .before .if3 in
+    let pen-text = c .before .before .pen-text in (
+      pens-in (pen-text .ensures .pens),
+      (pens-length (pen-text .ensures .pens), value-tel (now (args .s)) (args .content) (args .units) (args .form) _ _ _ (if1 .left) (text-in .result) (text-in .ensures) (if2 .left) (is-tel .result) (is-tel .ensures) (pen-text .result) (if3 .taken) (pen-text .ensures)),
+    )
 
 -- src/lib.rt:379:39
 slice-aggregate-pen-text-2 : tie.Need-slice-aggregate-pen-text-2
@@ -66,7 +87,18 @@ same-length-3 c = search needs
 
 -- src/lib.rt:382:9
 returns-4 : tie.Need-returns-4
-returns-4 c = (pens-in (c .before .before .pen-text2 .ensures .pens), (pens-length (c .before .before .pen-text2 .ensures .pens), value-raw (now (c .before .before .before .before .before .before .before .before .before .before .before .before .before .args .s)) (c .before .before .before .before .before .before .before .before .before .before .before .before .before .args .content) (c .before .before .before .before .before .before .before .before .before .before .before .before .before .args .units) (c .before .before .before .before .before .before .before .before .before .before .before .before .before .args .form) _ _ _ (c .before .before .before .before .before .before .before .before .before .before .if1 .left) (c .before .before .before .before .before .before .before .before .before .text-in .result) (c .before .before .before .before .before .before .before .before .before .text-in .ensures) (c .before .before .before .before .before .before .before .before .if2 .left) (c .before .before .before .before .before .before .before .is-tel .result) (c .before .before .before .before .before .before .before .is-tel .ensures) (c .before .before .pen-text2 .result) (c .before .before .before .before .before .before .if3 .left) (c .before .before .before .before .before .if4 .taken) (c .before .before .pen-text2 .ensures)))
+returns-4 c =
+    let args = c .before .before .before .before .before .before .before .before .before .before .before .before .before .args in
+    let if1 = c .before .before .before .before .before .before .before .before .before .before .if1 in
+    let text-in = c .before .before .before .before .before .before .before .before .before .text-in in
+    let if2 = c .before .before .before .before .before .before .before .before .if2 in
+    let is-tel = c .before .before .before .before .before .before .before .is-tel in
+    let if3 = c .before .before .before .before .before .before .if3 in
+    let if4 = c .before .before .before .before .before .if4 in
+    let pen-text2 = c .before .before .pen-text2 in (
+      pens-in (pen-text2 .ensures .pens),
+      (pens-length (pen-text2 .ensures .pens), value-raw (now (args .s)) (args .content) (args .units) (args .form) _ _ _ (if1 .left) (text-in .result) (text-in .ensures) (if2 .left) (is-tel .result) (is-tel .ensures) (pen-text2 .result) (if3 .left) (if4 .taken) (pen-text2 .ensures)),
+    )
 
 -- src/lib.rt:384:35
 slice-aggregate-pen-text-3 : tie.Need-slice-aggregate-pen-text-3
@@ -82,7 +114,18 @@ same-length-4 c = search needs
 
 -- src/lib.rt:353:1
 returns-5 : tie.Need-returns-5
-returns-5 c = (pens-in (c .before .before .pen-text3 .ensures .pens), (pens-length (c .before .before .pen-text3 .ensures .pens), value-text (now (c .before .before .before .before .before .before .before .before .before .before .before .before .before .args .s)) (c .before .before .before .before .before .before .before .before .before .before .before .before .before .args .content) (c .before .before .before .before .before .before .before .before .before .before .before .before .before .args .units) (c .before .before .before .before .before .before .before .before .before .before .before .before .before .args .form) _ _ _ (c .before .before .before .before .before .before .before .before .before .before .if1 .left) (c .before .before .before .before .before .before .before .before .before .text-in .result) (c .before .before .before .before .before .before .before .before .before .text-in .ensures) (c .before .before .before .before .before .before .before .before .if2 .left) (c .before .before .before .before .before .before .before .is-tel .result) (c .before .before .before .before .before .before .before .is-tel .ensures) (c .before .before .pen-text3 .result) (c .before .before .before .before .before .before .if3 .left) (c .before .before .before .before .before .if4 .left) (c .before .before .pen-text3 .ensures)))
+returns-5 c =
+    let args = c .before .before .before .before .before .before .before .before .before .before .before .before .before .args in
+    let if1 = c .before .before .before .before .before .before .before .before .before .before .if1 in
+    let text-in = c .before .before .before .before .before .before .before .before .before .text-in in
+    let if2 = c .before .before .before .before .before .before .before .before .if2 in
+    let is-tel = c .before .before .before .before .before .before .before .is-tel in
+    let if3 = c .before .before .before .before .before .before .if3 in
+    let if4 = c .before .before .before .before .before .if4 in
+    let pen-text3 = c .before .before .pen-text3 in (
+      pens-in (pen-text3 .ensures .pens),
+      (pens-length (pen-text3 .ensures .pens), value-text (now (args .s)) (args .content) (args .units) (args .form) _ _ _ (if1 .left) (text-in .result) (text-in .ensures) (if2 .left) (is-tel .result) (is-tel .ensures) (pen-text3 .result) (if3 .left) (if4 .left) (pen-text3 .ensures)),
+    )
 
 pub put-value-spec : {M : Type 1} → statement M
 put-value-spec =

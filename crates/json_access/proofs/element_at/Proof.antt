@@ -20,7 +20,7 @@ skip-value-requires c κs = search needs
 returns-2 : tie.Need-returns-2
 returns-2 c = (
   record { from = λ l. c .before .skip-space .ensures .from; ordered = c .skip-value .ensures .0 .0 (c .before .skip-space .ensures .to); end-in = c .skip-value .ensures .0 .1 },
-  stands (c .before .before .before .before .args .depth) (now (c .before .before .before .before .args .s)) (drop (c .before .before .before .before .args .at) (now (c .before .before .before .before .args .s))) (skip-to (c .before .skip-space .ensures)) (c .before .skip-space .ensures .to) (c .skip-value .ensures .0 .1) (c .skip-value .ensures .1),
+  stands (c .before .before .before .before .args .depth) (now (c .before .before .before .before .args .s)) (drop (c .before .before .before .before .args .at) (now (c .before .before .before .before .args .s))) (skip-to (c .before .skip-space .ensures)) (c .before .skip-space .ensures .to) (c .skip-value .ensures .0 .1) (c .skip-value .ensures .1 (c .before .before .before .before .args .depth)),
 )
 
 pub element-at-spec : {M : Type 1} → statement M

@@ -1,41 +1,47 @@
 use borrow.Author.Needs.{needs}
 use native.Mathlib.Omega.{arith}
 use denote.Ref.{now}
-use Prim.Native.Nat.{_-_}
+use Prim.Native.Nat.{_-_, _≤_}
 use lib.ListN.{length}
-use Rattle.text.proofs.Places.{turn-as}
-use Rattle.text.proofs.Runs.{Run, begin, onward, ended}
-use Rattle.json.specs.Syntax.{character, characters}
+use Rattle.text.proofs.Places.{turn-as, up}
+use Rattle.json_chars.specs.Strings.{ToEnd}
+use Rattle.json_chars.proofs.Laws.{string-on, string-stop}
 use Rattle.json_chars.proofs.string_end.Statement.{statement}
 use Rattle.json_chars.proofs.string_end.Tie as tie
 
 abbrev Inv-loop : tie.InvT-loop
-Inv-loop s at i₀ i = Run character s i₀ i
+Inv-loop s at i₀ i = (i ≤ length s) × ToEnd s at i
 
 abbrev μ-loop : tie.MeasureT-loop
 μ-loop s at i₀ i = length s - i
 
 loop-holds : tie.Need-loop-holds Inv-loop μ-loop
-loop-holds c = begin character (now (c .before .args .s)) (c .before .args .at) (c .before .pre)
+loop-holds c = (search needs, λ r x. x)
+
+plain-end-requires : tie.Need-plain-end-requires Inv-loop μ-loop
+plain-end-requires c κs = c .loop .inv .0
 
 next-character-requires : tie.Need-next-character-requires Inv-loop μ-loop
-next-character-requires c κs = c .loop .inv .to
+next-character-requires c κs = c .plain-end .ensures .0 .1
 
 enum-known-j : tie.Need-enum-known-j Inv-loop μ-loop
 enum-known-j c = search needs
 
 loop-less : tie.Need-loop-less Inv-loop μ-loop
-loop-less c = let h = turn-as (c .before .before .before .next-character .ensures) (c .before .j .given .1) in omega (arith, h .within .0, h .within .1)
+loop-less c = let h = turn-as (c .before .before .before .next-character .ensures) (c .before .j .given .1) in omega (arith, h .within .0, h .within .1, c .before .before .before .before .plain-end .ensures .0 .0)
 
 loop-again : tie.Need-loop-again Inv-loop μ-loop
-loop-again c = onward (c .before .before .before .before .loop .inv) (turn-as (c .before .before .before .next-character .ensures) (c .before .j .given .1))
+loop-again c =
+    let args = c .before .before .before .before .before .before .before .args in
+    let loop = c .before .before .before .before .before .loop in
+    let plain-end = c .before .before .before .before .plain-end in
+    let h = turn-as (c .before .before .before .next-character .ensures) (c .before .j .given .1) in (h .within .1, λ r x. loop .inv .1 r (plain-end .ensures .1 r (string-on (now (args .s)) (plain-end .result) (c .before .j .given .0 .0) h r x)))
 
 enum-known-r : tie.Need-enum-known-r Inv-loop μ-loop
 enum-known-r c = search needs
 
 returns : tie.Need-returns Inv-loop μ-loop
-unfolding characters
-returns c = ended (c .before .before .before .before .loop .inv) (turn-as (c .before .before .before .next-character .ensures) (c .before .r .given .1))
+returns c = c .before .before .before .before .before .loop .inv .1 _ (c .before .before .before .before .plain-end .ensures .1 _ (string-stop (now (c .before .before .before .before .before .before .before .args .s)) (c .before .before .before .before .plain-end .result) (c .before .r .given .0 .0) (turn-as (c .before .before .before .next-character .ensures) (c .before .r .given .1))))
 
 pub string-end-spec : {M : Type 1} → statement M
 string-end-spec =
@@ -44,6 +50,7 @@ string-end-spec =
     Inv-loop
     μ-loop
     loop-holds
+    plain-end-requires
     next-character-requires
     enum-known-j
     loop-less

@@ -30,7 +30,11 @@ string-end-requires c κs = search needs
 
 returns-2 : tie.Need-returns-2
 unfolding piece
-returns-2 c = not-on isSpace _ _ (c .before .before .before .before .look .ensures .0) (sym (c .before .before .before .is-space .ensures) ∙ (c .before .before .if1 .left)) (by-on (is 34) _ _ (c .before .before .before .before .look .ensures .0) (eq-eqb _ _ (c .before .if2 .taken)) (by-under _ (c .string-end .ensures)))
+returns-2 c =
+    let look = c .before .before .before .before .look in
+    let is-space = c .before .before .before .is-space in
+    not-on isSpace _ _ (look .ensures .0) (sym (is-space .ensures) ∙ (c .before .before .if1 .left))
+    (by-on (is 34) _ _ (look .ensures .0) (eq-eqb _ _ (c .before .if2 .taken)) (by-under _ (c .string-end .ensures)))
 
 in-range-requires : tie.Need-in-range-requires
 in-range-requires c κs = search needs
@@ -40,11 +44,26 @@ add-t9 c = search needs
 
 returns-3 : tie.Need-returns-3
 unfolding piece
-returns-3 c = not-on isSpace _ _ (c .before .before .before .before .before .look .ensures .0) (sym (c .before .before .before .before .is-space .ensures) ∙ (c .before .before .before .if1 .left)) (not-on (is 34) _ _ (c .before .before .before .before .before .look .ensures .0) (ne-eqb _ _ (c .before .before .if2 .left)) (by-on (between 0 255) _ _ (c .before .before .before .before .before .look .ensures .0) (sym (c .before .in-range .ensures) ∙ (c .if3 .taken)) (here _ _ (omega (arith, c .before .before .before .before .before .before .before .pre)))))
+returns-3 c =
+    let pre = c .before .before .before .before .before .before .before .pre in
+    let look = c .before .before .before .before .before .look in
+    let is-space = c .before .before .before .before .is-space in
+    let if1 = c .before .before .before .if1 in
+    not-on isSpace _ _ (look .ensures .0) (sym (is-space .ensures) ∙ (if1 .left))
+    (not-on (is 34) _ _ (look .ensures .0) (ne-eqb _ _ (c .before .before .if2 .left))
+    (by-on (between 0 255) _ _ (look .ensures .0) (sym (c .before .in-range .ensures) ∙ (c .if3 .taken)) (here _ _ (omega (arith, pre)))))
 
 returns-4 : tie.Need-returns-4
 unfolding piece
-returns-4 c = not-on isSpace _ _ (c .before .before .before .before .before .look .ensures .0) (sym (c .before .before .before .before .is-space .ensures) ∙ (c .before .before .before .if1 .left)) (not-on (is 34) _ _ (c .before .before .before .before .before .look .ensures .0) (ne-eqb _ _ (c .before .before .if2 .left)) (not-on (between 0 255) _ _ (c .before .before .before .before .before .look .ensures .0) (sym (c .before .in-range .ensures) ∙ (c .if3 .left)) (bad-here _ (omega (arith, c .before .before .before .before .before .before .before .pre)))))
+returns-4 c =
+    let pre = c .before .before .before .before .before .before .before .pre in
+    let look = c .before .before .before .before .before .look in
+    let is-space = c .before .before .before .before .is-space in
+    let if1 = c .before .before .before .if1 in
+    not-on isSpace _ _ (look .ensures .0) (sym (is-space .ensures) ∙ (if1 .left))
+    (not-on (is 34) _ _ (look .ensures .0) (ne-eqb _ _ (c .before .before .if2 .left))
+    (not-on (between 0 255) _ _ (look .ensures .0) (sym (c .before .in-range .ensures) ∙ (c .if3 .left))
+    (bad-here _ (omega (arith, pre)))))
 
 pub piece-end-spec : {M : Type 1} → statement M
 piece-end-spec =

@@ -21,8 +21,14 @@ abbrev μ-loop : tie.MeasureT-loop
 -- after a piece
 abbrev wrote : tie.After-known-told2 Inv-loop μ-loop → Going
 wrote c =
-    let w = turn-on (now (c .before .before .before .before .before .before .before .before .before .before .before .before .before .before .before .args .s)) (c .before .before .before .before .before .before .before .before .before .before .before .before .loop .i) (c .before .before .before .before .before .before .before .before .before .before .piece-end .ensures) (c .before .before .before .before .before .before .before .before .e .given .1) in
-    going (rest-next (squeezed (drop (c .before .before .before .before .before .before .before .before .e .given .0 .0) (now (c .before .before .before .before .before .before .before .before .before .before .before .before .before .before .before .args .s)))) (rest-as (w .2) (c .before .before .before .before .before .before .before .before .before .before .before .before .loop .inv .1)) (c .before .before .before .before .before .put-piece .ensures (w .0) _ (w .1)) (c .before .n .given .1))
+    let args = c .before .before .before .before .before .before .before .before .before .before .before .before .before .before .before .args in
+    let loop = c .before .before .before .before .before .before .before .before .before .before .before .before .loop in
+    let piece-end = c .before .before .before .before .before .before .before .before .before .before .piece-end in
+    let e = c .before .before .before .before .before .before .before .before .e in
+    let put-piece = c .before .before .before .before .before .put-piece in
+    let w = turn-on (now (args .s)) (loop .i) (piece-end .ensures) (e .given .1) in going
+    (rest-next (squeezed (drop (e .given .0 .0) (now (args .s)))) (rest-as (w .2) (loop .inv .1)) (put-piece .ensures (w .0) _ (w .1))
+    (c .before .n .given .1))
 
 loop-holds : tie.Need-loop-holds Inv-loop μ-loop
 loop-holds c = (search needs, rest-all _ _)
@@ -40,7 +46,13 @@ same-length : tie.Need-same-length Inv-loop μ-loop
 same-length c = rest-same (c .before .before .before .before .loop .inv .1)
 
 returns : tie.Need-returns Inv-loop μ-loop
-returns c = compacts (now (c .before .before .before .before .before .before .before .args .s)) (rest-done (turn-bad (now (c .before .before .before .before .before .before .before .args .s)) (c .before .before .before .before .loop .i) (c .before .before .piece-end .ensures) (c .before .before .before .loop-test .taken) (c .enum-told .given .1)) (c .before .before .before .before .loop .inv .1))
+returns c =
+    let args = c .before .before .before .before .before .before .before .args in
+    let loop = c .before .before .before .before .loop in
+    let loop-test = c .before .before .before .loop-test in
+    compacts (now (args .s))
+    (rest-done (turn-bad (now (args .s)) (loop .i) (c .before .before .piece-end .ensures) (loop-test .taken) (c .enum-told .given .1))
+    (loop .inv .1))
 
 sub-put-piece : tie.Need-sub-put-piece Inv-loop μ-loop
 sub-put-piece c = rest-in (c .before .before .before .before .before .loop .inv .1)
@@ -64,16 +76,34 @@ same-length-2 : tie.Need-same-length-2 Inv-loop μ-loop
 same-length-2 c = search needs
 
 returns-2 : tie.Need-returns-2 Inv-loop μ-loop
-returns-2 c = let w = turn-on (now (c .before .before .before .before .before .before .before .before .before .before .before .before .before .before .args .s)) (c .before .before .before .before .before .before .before .before .before .before .before .loop .i) (c .before .before .before .before .before .before .before .before .before .piece-end .ensures) (c .before .before .before .before .before .before .before .e .given .1) in compacts (now (c .before .before .before .before .before .before .before .before .before .before .before .before .before .before .args .s)) (rest-stop (squeezed (drop (c .before .before .before .before .before .before .before .e .given .0 .0) (now (c .before .before .before .before .before .before .before .before .before .before .before .before .before .before .args .s)))) (rest-as (w .2) (c .before .before .before .before .before .before .before .before .before .before .before .loop .inv .1)) (c .before .before .before .before .put-piece .ensures (w .0) _ (w .1)) (c .enum-told2 .given .1))
+returns-2 c =
+    let args = c .before .before .before .before .before .before .before .before .before .before .before .before .before .before .args in
+    let loop = c .before .before .before .before .before .before .before .before .before .before .before .loop in
+    let piece-end = c .before .before .before .before .before .before .before .before .before .piece-end in
+    let e = c .before .before .before .before .before .before .before .e in
+    let put-piece = c .before .before .before .before .put-piece in
+    let w = turn-on (now (args .s)) (loop .i) (piece-end .ensures) (e .given .1) in compacts (now (args .s))
+    (rest-stop (squeezed (drop (e .given .0 .0) (now (args .s)))) (rest-as (w .2) (loop .inv .1)) (put-piece .ensures (w .0) _ (w .1))
+    (c .enum-told2 .given .1))
 
 add-at : tie.Need-add-at Inv-loop μ-loop
 add-at c = rest-fit (wrote c .left) (c .before .before .before .before .before .before .before .before .before .before .before .before .before .before .before .good .0 .0)
 
 loop-less : tie.Need-loop-less Inv-loop μ-loop
-loop-less c = omega (arith, turn-less (now (c .before .before .before .before .before .before .before .before .before .before .before .before .before .before .before .args .s)) (c .before .before .before .before .before .before .before .before .before .before .before .before .loop .i) (c .before .before .before .before .before .before .before .before .before .before .piece-end .ensures) (c .before .before .before .before .before .before .before .before .e .given .1))
+loop-less c =
+    let args = c .before .before .before .before .before .before .before .before .before .before .before .before .before .before .before .args in
+    let loop = c .before .before .before .before .before .before .before .before .before .before .before .before .loop in
+    let piece-end = c .before .before .before .before .before .before .before .before .before .before .piece-end in
+    let e = c .before .before .before .before .before .before .before .before .e in
+    omega (arith, turn-less (now (args .s)) (loop .i) (piece-end .ensures) (e .given .1))
 
 loop-again : tie.Need-loop-again Inv-loop μ-loop
-loop-again c = (omega (arith, turn-less (now (c .before .before .before .before .before .before .before .before .before .before .before .before .before .before .before .args .s)) (c .before .before .before .before .before .before .before .before .before .before .before .before .loop .i) (c .before .before .before .before .before .before .before .before .before .before .piece-end .ensures) (c .before .before .before .before .before .before .before .before .e .given .1)), wrote c .left)
+loop-again c =
+    let args = c .before .before .before .before .before .before .before .before .before .before .before .before .before .before .before .args in
+    let loop = c .before .before .before .before .before .before .before .before .before .before .before .before .loop in
+    let piece-end = c .before .before .before .before .before .before .before .before .before .before .piece-end in
+    let e = c .before .before .before .before .before .before .before .before .e in
+    (omega (arith, turn-less (now (args .s)) (loop .i) (piece-end .ensures) (e .given .1)), wrote c .left)
 
 same-length-3 : tie.Need-same-length-3 Inv-loop μ-loop
 same-length-3 c = rest-same (c .before .loop .inv .1)

@@ -28,7 +28,15 @@ same-length : tie.Need-same-length
 same-length c = search needs
 
 returns-2 : tie.Need-returns-2
-returns-2 c = λ w t p. puts-as (piece-string (now (c .before .before .before .before .before .before .before .before .before .before .args .s)) (c .before .before .before .before .before .before .before .before .before .before .args .at) _ (c .before .before .before .before .before .before .before .look .ensures .0) w t p (sym (c .before .before .before .before .before .before .is-space .ensures) ∙ (c .before .before .before .before .before .if1 .left)) (eq-eqb _ _ (c .before .before .before .before .if2 .taken))) (c .before .before .put-requoted .ensures)
+returns-2 c =
+    let args = c .before .before .before .before .before .before .before .before .before .before .args in
+    let look = c .before .before .before .before .before .before .before .look in
+    let is-space = c .before .before .before .before .before .before .is-space in
+    let if1 = c .before .before .before .before .before .if1 in
+    let if2 = c .before .before .before .before .if2 in
+    λ w t p. puts-as
+    (piece-string (now (args .s)) (args .at) _ (look .ensures .0) w t p (sym (is-space .ensures) ∙ (if1 .left)) (eq-eqb _ _ (if2 .taken)))
+    (c .before .before .put-requoted .ensures)
 
 shared-slice-read-put-byte : tie.Need-shared-slice-read-put-byte
 shared-slice-read-put-byte c = search needs
@@ -40,7 +48,17 @@ same-length-2 : tie.Need-same-length-2
 same-length-2 c = search needs
 
 returns-3 : tie.Need-returns-3
-returns-3 c = λ w t p. puts-as (ap (λ (x : ℕ). x ∷ []) (byte-same (now (c .before .before .before .before .before .before .before .before .before .before .before .args .s)) (c .before .before .before .before .before .before .before .before .before .before .before .args .at) (c .before .before .before .before .before .before .before .before .before .before .before .pre) ∙ sym (c .before .before .before .before .before .before .before .before .look .ensures .0)) ∙ piece-byte (now (c .before .before .before .before .before .before .before .before .before .before .before .args .s)) (c .before .before .before .before .before .before .before .before .before .before .before .args .at) _ (c .before .before .before .before .before .before .before .before .look .ensures .0) w t p (sym (c .before .before .before .before .before .before .before .is-space .ensures) ∙ (c .before .before .before .before .before .before .if1 .left)) (ne-eqb _ _ (c .before .before .before .before .before .if2 .left))) (c .before .before .put-byte .ensures)
+returns-3 c =
+    let args = c .before .before .before .before .before .before .before .before .before .before .before .args in
+    let pre = c .before .before .before .before .before .before .before .before .before .before .before .pre in
+    let look = c .before .before .before .before .before .before .before .before .look in
+    let is-space = c .before .before .before .before .before .before .before .is-space in
+    let if1 = c .before .before .before .before .before .before .if1 in
+    let if2 = c .before .before .before .before .before .if2 in
+    λ w t p. puts-as
+    (ap (λ (x : ℕ). x ∷ []) (byte-same (now (args .s)) (args .at) (pre) ∙ sym (look .ensures .0)) ∙ piece-byte (now (args .s)) (args .at) _
+    (look .ensures .0) w t p (sym (is-space .ensures) ∙ (if1 .left)) (ne-eqb _ _ (if2 .left)))
+    (c .before .before .put-byte .ensures)
 
 pub put-piece-spec : {M : Type 1} → statement M
 put-piece-spec =

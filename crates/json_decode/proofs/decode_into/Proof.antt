@@ -28,7 +28,10 @@ returns : tie.Need-returns Inv-loop μ-loop
 returns c = puts-as (sym (text-none (now (c .before .before .before .before .args .s)) (c .before .before .before .before .args .at) (sym (c .before .is-paired .ensures) ∙ not-true _ (c .if1 .taken)))) (done (start _))
 
 loop-holds : tie.Need-loop-holds Inv-loop μ-loop
-loop-holds c = let p = sym (c .before .is-paired .ensures) ∙ not-false _ (c .if1 .left) in (text-in (now (c .before .before .before .before .args .s)) (c .before .before .before .before .args .at) p, (_, text-left (now (c .before .before .before .before .args .s)) (c .before .before .before .before .args .at) p, rest-all _ _))
+loop-holds c =
+    let args = c .before .before .before .before .args in
+    let p = sym (c .before .is-paired .ensures) ∙ not-false _ (c .if1 .left) in
+    (text-in (now (args .s)) (args .at) p, (_, text-left (now (args .s)) (args .at) p, rest-all _ _))
 
 next-byte-requires : tie.Need-next-byte-requires Inv-loop μ-loop
 next-byte-requires c κs = c .loop .inv .0
@@ -58,7 +61,12 @@ same-length-3 : tie.Need-same-length-3 Inv-loop μ-loop
 same-length-3 c = rest-same (c .before .before .before .before .before .loop .inv .1 .2)
 
 returns-4 : tie.Need-returns-4 Inv-loop μ-loop
-returns-4 c = let u = one-left (now (c .before .before .before .before .before .before .before .before .before .before .args .s)) (c .before .before .before .before .next-byte .ensures .0) _ (c .before .before .before .before .before .loop .inv .1 .1) (c .before .before .b .given .1) in rest-no-byte (rest-as (u .2) (c .before .before .before .before .before .loop .inv .1 .2)) (c .if2 .taken)
+returns-4 c =
+    let args = c .before .before .before .before .before .before .before .before .before .before .args in
+    let loop = c .before .before .before .before .before .loop in
+    let next-byte = c .before .before .before .before .next-byte in
+    let u = one-left (now (args .s)) (next-byte .ensures .0) _ (loop .inv .1 .1) (c .before .before .b .given .1) in rest-no-byte
+    (rest-as (u .2) (loop .inv .1 .2)) (c .if2 .taken)
 
 slice-write-out : tie.Need-slice-write-out Inv-loop μ-loop
 slice-write-out c = omega (arith, c .if2 .left)
@@ -67,10 +75,22 @@ add-k : tie.Need-add-k Inv-loop μ-loop
 add-k c = omega (arith, c .if2 .left)
 
 loop-less : tie.Need-loop-less Inv-loop μ-loop
-loop-less c = byte-in (now (c .before .before .before .before .before .before .before .before .before .before .args .s)) (c .before .before .before .before .before .loop .i) (c .before .before .before .before .before .loop .h) (c .before .before .before .before .next-byte .ensures .1) (c .before .before .b .given .1) .1
+loop-less c =
+    let args = c .before .before .before .before .before .before .before .before .before .before .args in
+    let loop = c .before .before .before .before .before .loop in
+    let next-byte = c .before .before .before .before .next-byte in
+    byte-in (now (args .s)) (loop .i) (loop .h) (next-byte .ensures .1) (c .before .before .b .given .1) .1
 
 loop-again : tie.Need-loop-again Inv-loop μ-loop
-loop-again c = let u = one-left (now (c .before .before .before .before .before .before .before .before .before .before .args .s)) (c .before .before .before .before .next-byte .ensures .0) _ (c .before .before .before .before .before .loop .inv .1 .1) (c .before .before .b .given .1) in (byte-in (now (c .before .before .before .before .before .before .before .before .before .before .args .s)) (c .before .before .before .before .before .loop .i) (c .before .before .before .before .before .loop .h) (c .before .before .before .before .next-byte .ensures .1) (c .before .before .b .given .1) .0, (u .0, u .1, rest-byte (rest-as (u .2) (c .before .before .before .before .before .loop .inv .1 .2)) (c .if2 .left)))
+loop-again c =
+    let args = c .before .before .before .before .before .before .before .before .before .before .args in
+    let loop = c .before .before .before .before .before .loop in
+    let next-byte = c .before .before .before .before .next-byte in
+    let b = c .before .before .b in
+    let u = one-left (now (args .s)) (next-byte .ensures .0) _ (loop .inv .1 .1) (b .given .1) in (
+      byte-in (now (args .s)) (loop .i) (loop .h) (next-byte .ensures .1) (b .given .1) .0,
+      (u .0, u .1, rest-byte (rest-as (u .2) (loop .inv .1 .2)) (c .if2 .left)),
+    )
 
 pub decode-into-spec : {M : Type 1} → statement M
 decode-into-spec =

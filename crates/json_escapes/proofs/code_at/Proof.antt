@@ -42,22 +42,62 @@ enum-known-d : tie.Need-enum-known-d
 enum-known-d c = search needs
 
 mul-t23 : tie.Need-mul-t23
-mul-t23 c = let p = tells-as (c .before .before .before .before .before .before .before .before .before .before .before .before .before .before .before .digit-at .ensures) (c .before .before .before .before .before .before .before .before .before .before .before .before .before .a .given .1) in omega (arith, p .within .2)
+mul-t23 c =
+    let digit-at = c .before .before .before .before .before .before .before .before .before .before .before .before .before .before .before .digit-at in
+    let a = c .before .before .before .before .before .before .before .before .before .before .before .before .before .a in
+    let p = tells-as (digit-at .ensures) (a .given .1) in omega (arith, p .within .2)
 
 mul-t24 : tie.Need-mul-t24
-mul-t24 c = let p = tells-as (c .before .before .before .before .before .before .before .before .before .before .before .before .before .before .before .digit-at .ensures) (c .before .before .before .before .before .before .before .before .before .before .before .before .before .a .given .1) in let q = tells-as (c .before .before .before .before .before .before .before .before .before .before .before .digit-at2 .ensures) (c .before .before .before .before .before .before .before .before .before .b .given .1) in omega (arith, q .within .2)
+mul-t24 c =
+    let digit-at = c .before .before .before .before .before .before .before .before .before .before .before .before .before .before .before .digit-at in
+    let a = c .before .before .before .before .before .before .before .before .before .before .before .before .before .a in
+    let digit-at2 = c .before .before .before .before .before .before .before .before .before .before .before .digit-at2 in
+    let b = c .before .before .before .before .before .before .before .before .before .b in
+    let p = tells-as (digit-at .ensures) (a .given .1) in let q = tells-as (digit-at2 .ensures) (b .given .1) in omega (arith, q .within .2)
 
 add-t25 : tie.Need-add-t25
-add-t25 c = let p = tells-as (c .before .before .before .before .before .before .before .before .before .before .before .before .before .before .before .digit-at .ensures) (c .before .before .before .before .before .before .before .before .before .before .before .before .before .a .given .1) in let q = tells-as (c .before .before .before .before .before .before .before .before .before .before .before .digit-at2 .ensures) (c .before .before .before .before .before .before .before .before .before .b .given .1) in omega (arith, p .within .2, q .within .2)
+add-t25 c =
+    let digit-at = c .before .before .before .before .before .before .before .before .before .before .before .before .before .before .before .digit-at in
+    let a = c .before .before .before .before .before .before .before .before .before .before .before .before .before .a in
+    let digit-at2 = c .before .before .before .before .before .before .before .before .before .before .before .digit-at2 in
+    let b = c .before .before .before .before .before .before .before .before .before .b in
+    let p = tells-as (digit-at .ensures) (a .given .1) in let q = tells-as (digit-at2 .ensures) (b .given .1) in omega
+    (arith, p .within .2, q .within .2)
 
 mul-t26 : tie.Need-mul-t26
-mul-t26 c = let p = tells-as (c .before .before .before .before .before .before .before .before .before .before .before .before .before .before .before .digit-at .ensures) (c .before .before .before .before .before .before .before .before .before .before .before .before .before .a .given .1) in let q = tells-as (c .before .before .before .before .before .before .before .before .before .before .before .digit-at2 .ensures) (c .before .before .before .before .before .before .before .before .before .b .given .1) in let r = tells-as (c .before .before .before .before .before .before .before .digit-at3 .ensures) (c .before .before .before .before .before .c .given .1) in omega (arith, r .within .2)
+mul-t26 c =
+    let digit-at = c .before .before .before .before .before .before .before .before .before .before .before .before .before .before .before .digit-at in
+    let a = c .before .before .before .before .before .before .before .before .before .before .before .before .before .a in
+    let digit-at2 = c .before .before .before .before .before .before .before .before .before .before .before .digit-at2 in
+    let b = c .before .before .before .before .before .before .before .before .before .b in
+    let digit-at3 = c .before .before .before .before .before .before .before .digit-at3 in
+    let c′ = c .before .before .before .before .before .c in
+    let p = tells-as (digit-at .ensures) (a .given .1) in let q = tells-as (digit-at2 .ensures) (b .given .1) in let r = tells-as (digit-at3 .ensures)
+    (c′ .given .1) in omega (arith, r .within .2)
 
 add-t27 : tie.Need-add-t27
-add-t27 c = let p = tells-as (c .before .before .before .before .before .before .before .before .before .before .before .before .before .before .before .digit-at .ensures) (c .before .before .before .before .before .before .before .before .before .before .before .before .before .a .given .1) in let q = tells-as (c .before .before .before .before .before .before .before .before .before .before .before .digit-at2 .ensures) (c .before .before .before .before .before .before .before .before .before .b .given .1) in let r = tells-as (c .before .before .before .before .before .before .before .digit-at3 .ensures) (c .before .before .before .before .before .c .given .1) in omega (arith, p .within .2, q .within .2, r .within .2)
+add-t27 c =
+    let digit-at = c .before .before .before .before .before .before .before .before .before .before .before .before .before .before .before .digit-at in
+    let a = c .before .before .before .before .before .before .before .before .before .before .before .before .before .a in
+    let digit-at2 = c .before .before .before .before .before .before .before .before .before .before .before .digit-at2 in
+    let b = c .before .before .before .before .before .before .before .before .before .b in
+    let digit-at3 = c .before .before .before .before .before .before .before .digit-at3 in
+    let c′ = c .before .before .before .before .before .c in
+    let p = tells-as (digit-at .ensures) (a .given .1) in let q = tells-as (digit-at2 .ensures) (b .given .1) in let r = tells-as (digit-at3 .ensures)
+    (c′ .given .1) in omega (arith, p .within .2, q .within .2, r .within .2)
 
 add-t28 : tie.Need-add-t28
-add-t28 c = let p = tells-as (c .before .before .before .before .before .before .before .before .before .before .before .before .before .before .before .digit-at .ensures) (c .before .before .before .before .before .before .before .before .before .before .before .before .before .a .given .1) in let q = tells-as (c .before .before .before .before .before .before .before .before .before .before .before .digit-at2 .ensures) (c .before .before .before .before .before .before .before .before .before .b .given .1) in let r = tells-as (c .before .before .before .before .before .before .before .digit-at3 .ensures) (c .before .before .before .before .before .c .given .1) in let t = tells-as (c .before .before .before .digit-at4 .ensures) (c .before .d .given .1) in omega (arith, p .within .2, q .within .2, r .within .2, t .within .2)
+add-t28 c =
+    let digit-at = c .before .before .before .before .before .before .before .before .before .before .before .before .before .before .before .digit-at in
+    let a = c .before .before .before .before .before .before .before .before .before .before .before .before .before .a in
+    let digit-at2 = c .before .before .before .before .before .before .before .before .before .before .before .digit-at2 in
+    let b = c .before .before .before .before .before .before .before .before .before .b in
+    let digit-at3 = c .before .before .before .before .before .before .before .digit-at3 in
+    let c′ = c .before .before .before .before .before .c in
+    let digit-at4 = c .before .before .before .digit-at4 in
+    let p = tells-as (digit-at .ensures) (a .given .1) in let q = tells-as (digit-at2 .ensures) (b .given .1) in let r = tells-as (digit-at3 .ensures)
+    (c′ .given .1) in let t = tells-as (digit-at4 .ensures) (c .before .d .given .1) in omega
+    (arith, p .within .2, q .within .2, r .within .2, t .within .2)
 
 returns : tie.Need-returns
 unfolding hex4
@@ -65,19 +105,51 @@ returns c = let w = tells-as (c .before .before .before .digit-at .ensures) (c .
 
 returns-2 : tie.Need-returns-2
 unfolding hex4
-returns-2 c = let p = tells-as (c .before .before .before .before .before .before .before .digit-at .ensures) (c .before .before .before .before .before .a .given .1) in let w = tells-as (c .before .before .before .digit-at2 .ensures) (c .before .x2 .given .1) in record { is = rw (p .is, w .is); within = omega (arith, p .within, w .within) }
+returns-2 c =
+    let digit-at = c .before .before .before .before .before .before .before .digit-at in
+    let a = c .before .before .before .before .before .a in
+    let digit-at2 = c .before .before .before .digit-at2 in
+    let p = tells-as (digit-at .ensures) (a .given .1) in let w = tells-as (digit-at2 .ensures) (c .before .x2 .given .1) in record
+    { is = rw (p .is, w .is); within = omega (arith, p .within, w .within) }
 
 returns-3 : tie.Need-returns-3
 unfolding hex4
-returns-3 c = let p = tells-as (c .before .before .before .before .before .before .before .before .before .before .before .digit-at .ensures) (c .before .before .before .before .before .before .before .before .before .a .given .1) in let q = tells-as (c .before .before .before .before .before .before .before .digit-at2 .ensures) (c .before .before .before .before .before .b .given .1) in let w = tells-as (c .before .before .before .digit-at3 .ensures) (c .before .x3 .given .1) in record { is = rw (p .is, q .is, w .is); within = omega (arith, p .within, q .within, w .within) }
+returns-3 c =
+    let digit-at = c .before .before .before .before .before .before .before .before .before .before .before .digit-at in
+    let a = c .before .before .before .before .before .before .before .before .before .a in
+    let digit-at2 = c .before .before .before .before .before .before .before .digit-at2 in
+    let b = c .before .before .before .before .before .b in
+    let digit-at3 = c .before .before .before .digit-at3 in
+    let p = tells-as (digit-at .ensures) (a .given .1) in let q = tells-as (digit-at2 .ensures) (b .given .1) in let w = tells-as (digit-at3 .ensures)
+    (c .before .x3 .given .1) in record { is = rw (p .is, q .is, w .is); within = omega (arith, p .within, q .within, w .within) }
 
 returns-4 : tie.Need-returns-4
 unfolding hex4
-returns-4 c = let p = tells-as (c .before .before .before .before .before .before .before .before .before .before .before .before .before .before .before .digit-at .ensures) (c .before .before .before .before .before .before .before .before .before .before .before .before .before .a .given .1) in let q = tells-as (c .before .before .before .before .before .before .before .before .before .before .before .digit-at2 .ensures) (c .before .before .before .before .before .before .before .before .before .b .given .1) in let r = tells-as (c .before .before .before .before .before .before .before .digit-at3 .ensures) (c .before .before .before .before .before .c .given .1) in let w = tells-as (c .before .before .before .digit-at4 .ensures) (c .before .x4 .given .1) in record { is = rw (p .is, q .is, r .is, w .is); within = omega (arith, p .within, q .within, r .within, w .within) }
+returns-4 c =
+    let digit-at = c .before .before .before .before .before .before .before .before .before .before .before .before .before .before .before .digit-at in
+    let a = c .before .before .before .before .before .before .before .before .before .before .before .before .before .a in
+    let digit-at2 = c .before .before .before .before .before .before .before .before .before .before .before .digit-at2 in
+    let b = c .before .before .before .before .before .before .before .before .before .b in
+    let digit-at3 = c .before .before .before .before .before .before .before .digit-at3 in
+    let c′ = c .before .before .before .before .before .c in
+    let digit-at4 = c .before .before .before .digit-at4 in
+    let p = tells-as (digit-at .ensures) (a .given .1) in let q = tells-as (digit-at2 .ensures) (b .given .1) in let r = tells-as (digit-at3 .ensures)
+    (c′ .given .1) in let w = tells-as (digit-at4 .ensures) (c .before .x4 .given .1) in record
+    { is = rw (p .is, q .is, r .is, w .is); within = omega (arith, p .within, q .within, r .within, w .within) }
 
 returns-5 : tie.Need-returns-5
 unfolding hex4
-returns-5 c = let p = tells-as (c .before .before .before .before .before .before .before .before .before .before .before .before .before .before .before .digit-at .ensures) (c .before .before .before .before .before .before .before .before .before .before .before .before .before .a .given .1) in let q = tells-as (c .before .before .before .before .before .before .before .before .before .before .before .digit-at2 .ensures) (c .before .before .before .before .before .before .before .before .before .b .given .1) in let r = tells-as (c .before .before .before .before .before .before .before .digit-at3 .ensures) (c .before .before .before .before .before .c .given .1) in let t = tells-as (c .before .before .before .digit-at4 .ensures) (c .before .d .given .1) in record { is = rw (p .is, q .is, r .is, t .is); within = omega (arith, p .within, q .within, r .within, t .within) }
+returns-5 c =
+    let digit-at = c .before .before .before .before .before .before .before .before .before .before .before .before .before .before .before .digit-at in
+    let a = c .before .before .before .before .before .before .before .before .before .before .before .before .before .a in
+    let digit-at2 = c .before .before .before .before .before .before .before .before .before .before .before .digit-at2 in
+    let b = c .before .before .before .before .before .before .before .before .before .b in
+    let digit-at3 = c .before .before .before .before .before .before .before .digit-at3 in
+    let c′ = c .before .before .before .before .before .c in
+    let digit-at4 = c .before .before .before .digit-at4 in
+    let p = tells-as (digit-at .ensures) (a .given .1) in let q = tells-as (digit-at2 .ensures) (b .given .1) in let r = tells-as (digit-at3 .ensures)
+    (c′ .given .1) in let t = tells-as (digit-at4 .ensures) (c .before .d .given .1) in record
+    { is = rw (p .is, q .is, r .is, t .is); within = omega (arith, p .within, q .within, r .within, t .within) }
 
 pub code-at-spec : {M : Type 1} → statement M
 code-at-spec =

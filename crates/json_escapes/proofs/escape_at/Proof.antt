@@ -30,10 +30,28 @@ add-t11 : tie.Need-add-t11
 add-t11 c = let w = tells-as (c .before .before .before .code-at .ensures) (c .before .v .given .1) in omega (arith, w .within .2)
 
 returns : tie.Need-returns
-returns c = let w = tells-as (c .before .before .before .code-at .ensures) (c .before .x .given .1) in record { is = esc-u (now (c .before .before .before .before .before .before .before .args .s)) (c .before .before .before .before .before .before .before .args .at) (c .before .before .before .before .before .look .result) (c .before .before .before .before .before .look .ensures .0) (c .before .before .before .before .if1 .taken) ∙ ap (under (λ v. 256 + v)) (w .is); within = omega (arith, w .within) }
+returns c =
+    let args = c .before .before .before .before .before .before .before .args in
+    let look = c .before .before .before .before .before .look in
+    let if1 = c .before .before .before .before .if1 in
+    let code-at = c .before .before .before .code-at in
+    let w = tells-as (code-at .ensures) (c .before .x .given .1) in record {
+      is = esc-u (now (args .s)) (args .at) (look .result) (look .ensures .0) (if1 .taken) ∙ ap (under (λ v. 256 + v)) (w .is);
+      within = omega
+          (arith, w .within);
+    }
 
 returns-2 : tie.Need-returns-2
-returns-2 c = let w = tells-as (c .before .before .before .code-at .ensures) (c .before .v .given .1) in record { is = esc-u (now (c .before .before .before .before .before .before .before .args .s)) (c .before .before .before .before .before .before .before .args .at) (c .before .before .before .before .before .look .result) (c .before .before .before .before .before .look .ensures .0) (c .before .before .before .before .if1 .taken) ∙ ap (under (λ v. 256 + v)) (w .is); within = omega (arith, w .within) }
+returns-2 c =
+    let args = c .before .before .before .before .before .before .before .args in
+    let look = c .before .before .before .before .before .look in
+    let if1 = c .before .before .before .before .if1 in
+    let code-at = c .before .before .before .code-at in
+    let w = tells-as (code-at .ensures) (c .before .v .given .1) in record {
+      is = esc-u (now (args .s)) (args .at) (look .result) (look .ensures .0) (if1 .taken) ∙ ap (under (λ v. 256 + v)) (w .is);
+      within = omega
+          (arith, w .within);
+    }
 
 is-short-requires : tie.Need-is-short-requires
 is-short-requires c κs = search needs
@@ -45,12 +63,27 @@ add-t14 : tie.Need-add-t14
 add-t14 c = search needs
 
 returns-3 : tie.Need-returns-3
-returns-3 c = let t = sym (c .before .before .is-short .ensures) ∙ (c .before .if2 .taken) in
-    let l = inside-at isShort (now (c .before .before .before .before .before .before .args .s)) (c .before .before .before .before .before .before .args .at) (c .before .before .before .before .look .result) short-256 (c .before .before .before .before .before .before .pre) (c .before .before .before .before .look .ensures .0) t in
-    record { is = esc-short (now (c .before .before .before .before .before .before .args .s)) (c .before .before .before .before .before .before .args .at) (c .before .before .before .before .look .result) (c .before .before .before .before .look .ensures .0) (c .before .before .before .if1 .left) t _ (c .short-of .ensures .0); within = omega (arith, c .short-of .ensures .1) }
+returns-3 c =
+    let args = c .before .before .before .before .before .before .args in
+    let pre = c .before .before .before .before .before .before .pre in
+    let look = c .before .before .before .before .look in
+    let if1 = c .before .before .before .if1 in
+    let t = sym (c .before .before .is-short .ensures) ∙ (c .before .if2 .taken) in let l = inside-at isShort (now (args .s)) (args .at)
+    (look .result) short-256 (pre) (look .ensures .0) t in record {
+      is = esc-short (now (args .s)) (args .at) (look .result) (look .ensures .0) (if1 .left) t _ (c .short-of .ensures .0);
+      within = omega
+          (arith, c .short-of .ensures .1);
+    }
 
 returns-4 : tie.Need-returns-4
-returns-4 c = record { is = esc-none (now (c .before .before .before .before .before .args .s)) (c .before .before .before .before .before .args .at) (c .before .before .before .look .result) (c .before .before .before .look .ensures .0) (c .before .before .if1 .left) (sym (c .before .is-short .ensures) ∙ (c .if2 .left)); within = omega arith }
+returns-4 c =
+    let args = c .before .before .before .before .before .args in
+    let look = c .before .before .before .look in
+    record {
+      is = esc-none (now (args .s)) (args .at) (look .result) (look .ensures .0) (c .before .before .if1 .left)
+          (sym (c .before .is-short .ensures) ∙ (c .if2 .left));
+      within = omega arith;
+    }
 
 pub escape-at-spec : {M : Type 1} → statement M
 escape-at-spec =

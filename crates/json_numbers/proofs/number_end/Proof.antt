@@ -44,12 +44,25 @@ returns-2 c = then-next _ (gives-as (c .before .before .before .before .before .
 
 returns-3 : tie.Need-returns-3
 unfolding number
-returns-3 c = then-next _ (gives-as (c .before .before .before .before .before .before .before .before .before .before .before .opt-end .ensures) (c .before .before .before .before .before .before .before .before .before .k .given .1)) λ x. then-next _ (gives-as (c .before .before .before .before .before .before .before .int-end .ensures) (c .before .before .before .before .before .j .given .1)) λ y. then-bad _ (gives-as (c .before .before .before .frac-end .ensures) (c .before .b3 .given .1))
+returns-3 c =
+    let opt-end = c .before .before .before .before .before .before .before .before .before .before .before .opt-end in
+    let k = c .before .before .before .before .before .before .before .before .before .k in
+    let int-end = c .before .before .before .before .before .before .before .int-end in
+    let j = c .before .before .before .before .before .j in
+    let frac-end = c .before .before .before .frac-end in
+    then-next _ (gives-as (opt-end .ensures) (k .given .1)) λ x. then-next _ (gives-as (int-end .ensures) (j .given .1)) λ y. then-bad _
+    (gives-as (frac-end .ensures) (c .before .b3 .given .1))
 
 returns-4 : tie.Need-returns-4
 unfolding number
-returns-4 c = then-next _ (gives-as (c .before .before .before .before .before .before .before .before .before .before .before .before .opt-end .ensures) (c .before .before .before .before .before .before .before .before .before .before .k .given .1)) λ x. then-next _ (gives-as (c .before .before .before .before .before .before .before .before .int-end .ensures) (c .before .before .before .before .before .before .j .given .1)) λ y.
-    then-next _ (gives-as (c .before .before .before .before .frac-end .ensures) (c .before .before .i .given .1)) λ z. then-end _ (c .exp-end .ensures)
+returns-4 c =
+    let opt-end = c .before .before .before .before .before .before .before .before .before .before .before .before .opt-end in
+    let k = c .before .before .before .before .before .before .before .before .before .before .k in
+    let int-end = c .before .before .before .before .before .before .before .before .int-end in
+    let j = c .before .before .before .before .before .before .j in
+    let frac-end = c .before .before .before .before .frac-end in
+    then-next _ (gives-as (opt-end .ensures) (k .given .1)) λ x. then-next _ (gives-as (int-end .ensures) (j .given .1)) λ y. then-next _
+    (gives-as (frac-end .ensures) (c .before .before .i .given .1)) λ z. then-end _ (c .exp-end .ensures)
 
 pub number-end-spec : {M : Type 1} → statement M
 number-end-spec =

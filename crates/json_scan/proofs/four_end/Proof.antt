@@ -44,12 +44,25 @@ returns-2 c = then-next _ (gives-as (c .before .before .before .before .before .
 
 returns-3 : tie.Need-returns-3
 unfolding four
-returns-3 c = then-next _ (gives-as (c .before .before .before .before .before .before .before .before .before .before .before .byte .ensures) (c .before .before .before .before .before .before .before .before .before .k .given .1)) λ p. then-next _ (gives-as (c .before .before .before .before .before .before .before .byte2 .ensures) (c .before .before .before .before .before .j .given .1)) λ q. then-bad _ (gives-as (c .before .before .before .byte3 .ensures) (c .before .x3 .given .1))
+returns-3 c =
+    let byte = c .before .before .before .before .before .before .before .before .before .before .before .byte in
+    let k = c .before .before .before .before .before .before .before .before .before .k in
+    let byte2 = c .before .before .before .before .before .before .before .byte2 in
+    let j = c .before .before .before .before .before .j in
+    let byte3 = c .before .before .before .byte3 in
+    then-next _ (gives-as (byte .ensures) (k .given .1)) λ p. then-next _ (gives-as (byte2 .ensures) (j .given .1)) λ q. then-bad _
+    (gives-as (byte3 .ensures) (c .before .x3 .given .1))
 
 returns-4 : tie.Need-returns-4
 unfolding four
-returns-4 c = then-next _ (gives-as (c .before .before .before .before .before .before .before .before .before .before .before .before .byte .ensures) (c .before .before .before .before .before .before .before .before .before .before .k .given .1)) λ p. then-next _ (gives-as (c .before .before .before .before .before .before .before .before .byte2 .ensures) (c .before .before .before .before .before .before .j .given .1)) λ q.
-    then-next _ (gives-as (c .before .before .before .before .byte3 .ensures) (c .before .before .i .given .1)) λ r. then-end _ (c .byte4 .ensures)
+returns-4 c =
+    let byte = c .before .before .before .before .before .before .before .before .before .before .before .before .byte in
+    let k = c .before .before .before .before .before .before .before .before .before .before .k in
+    let byte2 = c .before .before .before .before .before .before .before .before .byte2 in
+    let j = c .before .before .before .before .before .before .j in
+    let byte3 = c .before .before .before .before .byte3 in
+    then-next _ (gives-as (byte .ensures) (k .given .1)) λ p. then-next _ (gives-as (byte2 .ensures) (j .given .1)) λ q. then-next _
+    (gives-as (byte3 .ensures) (c .before .before .i .given .1)) λ r. then-end _ (c .byte4 .ensures)
 
 pub four-end-spec : {M : Type 1} → statement M
 four-end-spec =

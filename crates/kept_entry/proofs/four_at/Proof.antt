@@ -48,7 +48,16 @@ look-requires-2 c κs = search needs
 
 -- src/lib.rt:78:9
 returns-2 : tie.Need-returns-2
-returns-2 c = (tt, four-empty (now (c .before .before .before .before .before .before .before .args .s)) (c .before .before .before .before .before .before .before .args .at) (c .before .before .before .before .before .skip-space .result) (c .before .before .before .before .look .result) (c .before .before .before .before .before .skip-space .ensures) (c .before .before .before .before .look .ensures .0) (c .before .before .before .if1 .left) (c .before .before .skip-space2 .result) (c .before .look2 .result) (c .before .before .skip-space2 .ensures) (c .before .look2 .ensures .0) (c .if2 .taken))
+returns-2 c =
+    let args = c .before .before .before .before .before .before .before .args in
+    let skip-space = c .before .before .before .before .before .skip-space in
+    let look = c .before .before .before .before .look in
+    let if1 = c .before .before .before .if1 in
+    let skip-space2 = c .before .before .skip-space2 in
+    let look2 = c .before .look2 in (
+      tt,
+      four-empty (now (args .s)) (args .at) (skip-space .result) (look .result) (skip-space .ensures) (look .ensures .0) (if1 .left) (skip-space2 .result) (look2 .result) (skip-space2 .ensures) (look2 .ensures .0) (c .if2 .taken),
+    )
 
 -- src/lib.rt:80:9
 element-at-requires : tie.Need-element-at-requires
@@ -68,7 +77,18 @@ enum-told c = search needs
 
 -- src/lib.rt:84:9
 returns-3 : tie.Need-returns-3
-returns-3 c = (tt, by-elems (now (c .before .before .before .before .before .before .before .before .before .before .before .args .s)) (c .before .before .before .before .before .before .before .before .before .before .before .args .at) (c .before .before .before .before .before .before .before .before .before .skip-space .result) (c .before .before .before .before .before .before .before .before .look .result) (c .before .before .before .before .before .before .before .before .before .skip-space .ensures) (c .before .before .before .before .before .before .before .before .look .ensures .0) (c .before .before .before .before .before .before .before .if1 .left) (c .before .before .before .before .before .before .skip-space2 .result) (c .before .before .before .before .before .look2 .result) (c .before .before .before .before .before .before .skip-space2 .ensures) (c .before .before .before .before .before .look2 .ensures .0) (c .before .before .before .before .if2 .left) Bad (four-1 (now (c .before .before .before .before .before .before .before .before .before .before .before .args .s)) (c .before .before .before .before .before .before .skip-space2 .result) (c .before .before .before .element-at .result) (c .before .before .before .element-at .ensures .1) _ (turn-as (c .before .before .separator .ensures) (c .enum-told .given .1))))
+returns-3 c =
+    let args = c .before .before .before .before .before .before .before .before .before .before .before .args in
+    let skip-space = c .before .before .before .before .before .before .before .before .before .skip-space in
+    let look = c .before .before .before .before .before .before .before .before .look in
+    let if1 = c .before .before .before .before .before .before .before .if1 in
+    let skip-space2 = c .before .before .before .before .before .before .skip-space2 in
+    let look2 = c .before .before .before .before .before .look2 in
+    let if2 = c .before .before .before .before .if2 in
+    let element-at = c .before .before .before .element-at in (
+      tt,
+      by-elems (now (args .s)) (args .at) (skip-space .result) (look .result) (skip-space .ensures) (look .ensures .0) (if1 .left) (skip-space2 .result) (look2 .result) (skip-space2 .ensures) (look2 .ensures .0) (if2 .left) Bad (four-1 (now (args .s)) (skip-space2 .result) (element-at .result) (element-at .ensures .1) _ (turn-as (c .before .before .separator .ensures) (c .enum-told .given .1))),
+    )
 
 -- src/lib.rt:86:9
 element-at-requires-2 : tie.Need-element-at-requires-2
@@ -88,7 +108,21 @@ enum-told-2 c = search needs
 
 -- src/lib.rt:90:9
 returns-4 : tie.Need-returns-4
-returns-4 c = (tt, by-elems (now (c .before .before .before .before .before .before .before .before .before .before .before .before .before .before .before .before .args .s)) (c .before .before .before .before .before .before .before .before .before .before .before .before .before .before .before .before .args .at) (c .before .before .before .before .before .before .before .before .before .before .before .before .before .before .skip-space .result) (c .before .before .before .before .before .before .before .before .before .before .before .before .before .look .result) (c .before .before .before .before .before .before .before .before .before .before .before .before .before .before .skip-space .ensures) (c .before .before .before .before .before .before .before .before .before .before .before .before .before .look .ensures .0) (c .before .before .before .before .before .before .before .before .before .before .before .before .if1 .left) (c .before .before .before .before .before .before .before .before .before .before .before .skip-space2 .result) (c .before .before .before .before .before .before .before .before .before .before .look2 .result) (c .before .before .before .before .before .before .before .before .before .before .before .skip-space2 .ensures) (c .before .before .before .before .before .before .before .before .before .before .look2 .ensures .0) (c .before .before .before .before .before .before .before .before .before .if2 .left) Bad (four-2 (now (c .before .before .before .before .before .before .before .before .before .before .before .before .before .before .before .before .args .s)) (c .before .before .before .before .before .before .before .before .before .before .before .skip-space2 .result) (c .before .before .before .before .before .before .before .before .element-at .result) (c .before .before .before .before .before .before .before .before .element-at .ensures .1) _ (turn-as (c .before .before .before .before .before .before .before .separator .ensures) (c .before .before .before .before .before .j2 .given .1)) (c .before .before .before .element-at2 .result) (c .before .before .before .element-at2 .ensures .1) _ (turn-as (c .before .before .separator2 .ensures) (c .enum-told2 .given .1))))
+returns-4 c =
+    let args = c .before .before .before .before .before .before .before .before .before .before .before .before .before .before .before .before .args in
+    let skip-space = c .before .before .before .before .before .before .before .before .before .before .before .before .before .before .skip-space in
+    let look = c .before .before .before .before .before .before .before .before .before .before .before .before .before .look in
+    let if1 = c .before .before .before .before .before .before .before .before .before .before .before .before .if1 in
+    let skip-space2 = c .before .before .before .before .before .before .before .before .before .before .before .skip-space2 in
+    let look2 = c .before .before .before .before .before .before .before .before .before .before .look2 in
+    let if2 = c .before .before .before .before .before .before .before .before .before .if2 in
+    let element-at = c .before .before .before .before .before .before .before .before .element-at in
+    let separator = c .before .before .before .before .before .before .before .separator in
+    let j2 = c .before .before .before .before .before .j2 in
+    let element-at2 = c .before .before .before .element-at2 in (
+      tt,
+      by-elems (now (args .s)) (args .at) (skip-space .result) (look .result) (skip-space .ensures) (look .ensures .0) (if1 .left) (skip-space2 .result) (look2 .result) (skip-space2 .ensures) (look2 .ensures .0) (if2 .left) Bad (four-2 (now (args .s)) (skip-space2 .result) (element-at .result) (element-at .ensures .1) _ (turn-as (separator .ensures) (j2 .given .1)) (element-at2 .result) (element-at2 .ensures .1) _ (turn-as (c .before .before .separator2 .ensures) (c .enum-told2 .given .1))),
+    )
 
 -- src/lib.rt:92:9
 element-at-requires-3 : tie.Need-element-at-requires-3
@@ -108,7 +142,24 @@ enum-told-3 c = search needs
 
 -- src/lib.rt:96:9
 returns-5 : tie.Need-returns-5
-returns-5 c = (tt, by-elems (now (c .before .before .before .before .before .before .before .before .before .before .before .before .before .before .before .before .before .before .before .before .before .args .s)) (c .before .before .before .before .before .before .before .before .before .before .before .before .before .before .before .before .before .before .before .before .before .args .at) (c .before .before .before .before .before .before .before .before .before .before .before .before .before .before .before .before .before .before .before .skip-space .result) (c .before .before .before .before .before .before .before .before .before .before .before .before .before .before .before .before .before .before .look .result) (c .before .before .before .before .before .before .before .before .before .before .before .before .before .before .before .before .before .before .before .skip-space .ensures) (c .before .before .before .before .before .before .before .before .before .before .before .before .before .before .before .before .before .before .look .ensures .0) (c .before .before .before .before .before .before .before .before .before .before .before .before .before .before .before .before .before .if1 .left) (c .before .before .before .before .before .before .before .before .before .before .before .before .before .before .before .before .skip-space2 .result) (c .before .before .before .before .before .before .before .before .before .before .before .before .before .before .before .look2 .result) (c .before .before .before .before .before .before .before .before .before .before .before .before .before .before .before .before .skip-space2 .ensures) (c .before .before .before .before .before .before .before .before .before .before .before .before .before .before .before .look2 .ensures .0) (c .before .before .before .before .before .before .before .before .before .before .before .before .before .before .if2 .left) Bad (four-3 (now (c .before .before .before .before .before .before .before .before .before .before .before .before .before .before .before .before .before .before .before .before .before .args .s)) (c .before .before .before .before .before .before .before .before .before .before .before .before .before .before .before .before .skip-space2 .result) (c .before .before .before .before .before .before .before .before .before .before .before .before .before .element-at .result) (c .before .before .before .before .before .before .before .before .before .before .before .before .before .element-at .ensures .1) _ (turn-as (c .before .before .before .before .before .before .before .before .before .before .before .before .separator .ensures) (c .before .before .before .before .before .before .before .before .before .before .j2 .given .1)) (c .before .before .before .before .before .before .before .before .element-at2 .result) (c .before .before .before .before .before .before .before .before .element-at2 .ensures .1) _ (turn-as (c .before .before .before .before .before .before .before .separator2 .ensures) (c .before .before .before .before .before .j3 .given .1)) (c .before .before .before .element-at3 .result) (c .before .before .before .element-at3 .ensures .1) _ (turn-as (c .before .before .separator3 .ensures) (c .enum-told3 .given .1))))
+returns-5 c =
+    let args = c .before .before .before .before .before .before .before .before .before .before .before .before .before .before .before .before .before .before .before .before .before .args in
+    let skip-space = c .before .before .before .before .before .before .before .before .before .before .before .before .before .before .before .before .before .before .before .skip-space in
+    let look = c .before .before .before .before .before .before .before .before .before .before .before .before .before .before .before .before .before .before .look in
+    let if1 = c .before .before .before .before .before .before .before .before .before .before .before .before .before .before .before .before .before .if1 in
+    let skip-space2 = c .before .before .before .before .before .before .before .before .before .before .before .before .before .before .before .before .skip-space2 in
+    let look2 = c .before .before .before .before .before .before .before .before .before .before .before .before .before .before .before .look2 in
+    let if2 = c .before .before .before .before .before .before .before .before .before .before .before .before .before .before .if2 in
+    let element-at = c .before .before .before .before .before .before .before .before .before .before .before .before .before .element-at in
+    let separator = c .before .before .before .before .before .before .before .before .before .before .before .before .separator in
+    let j2 = c .before .before .before .before .before .before .before .before .before .before .j2 in
+    let element-at2 = c .before .before .before .before .before .before .before .before .element-at2 in
+    let separator2 = c .before .before .before .before .before .before .before .separator2 in
+    let j3 = c .before .before .before .before .before .j3 in
+    let element-at3 = c .before .before .before .element-at3 in (
+      tt,
+      by-elems (now (args .s)) (args .at) (skip-space .result) (look .result) (skip-space .ensures) (look .ensures .0) (if1 .left) (skip-space2 .result) (look2 .result) (skip-space2 .ensures) (look2 .ensures .0) (if2 .left) Bad (four-3 (now (args .s)) (skip-space2 .result) (element-at .result) (element-at .ensures .1) _ (turn-as (separator .ensures) (j2 .given .1)) (element-at2 .result) (element-at2 .ensures .1) _ (turn-as (separator2 .ensures) (j3 .given .1)) (element-at3 .result) (element-at3 .ensures .1) _ (turn-as (c .before .before .separator3 .ensures) (c .enum-told3 .given .1))),
+    )
 
 -- src/lib.rt:98:9
 element-at-requires-4 : tie.Need-element-at-requires-4
@@ -128,11 +179,52 @@ enum-told-4 c = search needs
 
 -- src/lib.rt:102:9
 returns-6 : tie.Need-returns-6
-returns-6 c = (tt, by-elems (now (c .before .before .before .before .before .before .before .before .before .before .before .before .before .before .before .before .before .before .before .before .before .before .before .before .before .before .args .s)) (c .before .before .before .before .before .before .before .before .before .before .before .before .before .before .before .before .before .before .before .before .before .before .before .before .before .before .args .at) (c .before .before .before .before .before .before .before .before .before .before .before .before .before .before .before .before .before .before .before .before .before .before .before .before .skip-space .result) (c .before .before .before .before .before .before .before .before .before .before .before .before .before .before .before .before .before .before .before .before .before .before .before .look .result) (c .before .before .before .before .before .before .before .before .before .before .before .before .before .before .before .before .before .before .before .before .before .before .before .before .skip-space .ensures) (c .before .before .before .before .before .before .before .before .before .before .before .before .before .before .before .before .before .before .before .before .before .before .before .look .ensures .0) (c .before .before .before .before .before .before .before .before .before .before .before .before .before .before .before .before .before .before .before .before .before .before .if1 .left) (c .before .before .before .before .before .before .before .before .before .before .before .before .before .before .before .before .before .before .before .before .before .skip-space2 .result) (c .before .before .before .before .before .before .before .before .before .before .before .before .before .before .before .before .before .before .before .before .look2 .result) (c .before .before .before .before .before .before .before .before .before .before .before .before .before .before .before .before .before .before .before .before .before .skip-space2 .ensures) (c .before .before .before .before .before .before .before .before .before .before .before .before .before .before .before .before .before .before .before .before .look2 .ensures .0) (c .before .before .before .before .before .before .before .before .before .before .before .before .before .before .before .before .before .before .before .if2 .left) Bad (four-more (now (c .before .before .before .before .before .before .before .before .before .before .before .before .before .before .before .before .before .before .before .before .before .before .before .before .before .before .args .s)) (c .before .before .before .before .before .before .before .before .before .before .before .before .before .before .before .before .before .before .before .before .before .skip-space2 .result) (c .before .before .before .before .before .before .before .before .before .before .before .before .before .before .before .before .before .before .element-at .result) (c .before .before .before .before .before .before .before .before .before .before .before .before .before .before .before .before .before .before .element-at .ensures .1) _ (turn-as (c .before .before .before .before .before .before .before .before .before .before .before .before .before .before .before .before .before .separator .ensures) (c .before .before .before .before .before .before .before .before .before .before .before .before .before .before .before .j2 .given .1)) (c .before .before .before .before .before .before .before .before .before .before .before .before .before .element-at2 .result) (c .before .before .before .before .before .before .before .before .before .before .before .before .before .element-at2 .ensures .1) _ (turn-as (c .before .before .before .before .before .before .before .before .before .before .before .before .separator2 .ensures) (c .before .before .before .before .before .before .before .before .before .before .j3 .given .1)) (c .before .before .before .before .before .before .before .before .element-at3 .result) (c .before .before .before .before .before .before .before .before .element-at3 .ensures .1) _ (turn-as (c .before .before .before .before .before .before .before .separator3 .ensures) (c .before .before .before .before .before .j4 .given .1)) (c .before .before .before .element-at4 .result) (c .before .before .before .element-at4 .ensures .1) _ (turn-as (c .before .before .separator4 .ensures) (c .enum-told4 .given .1))))
+returns-6 c =
+    let args = c .before .before .before .before .before .before .before .before .before .before .before .before .before .before .before .before .before .before .before .before .before .before .before .before .before .before .args in
+    let skip-space = c .before .before .before .before .before .before .before .before .before .before .before .before .before .before .before .before .before .before .before .before .before .before .before .before .skip-space in
+    let look = c .before .before .before .before .before .before .before .before .before .before .before .before .before .before .before .before .before .before .before .before .before .before .before .look in
+    let if1 = c .before .before .before .before .before .before .before .before .before .before .before .before .before .before .before .before .before .before .before .before .before .before .if1 in
+    let skip-space2 = c .before .before .before .before .before .before .before .before .before .before .before .before .before .before .before .before .before .before .before .before .before .skip-space2 in
+    let look2 = c .before .before .before .before .before .before .before .before .before .before .before .before .before .before .before .before .before .before .before .before .look2 in
+    let if2 = c .before .before .before .before .before .before .before .before .before .before .before .before .before .before .before .before .before .before .before .if2 in
+    let element-at = c .before .before .before .before .before .before .before .before .before .before .before .before .before .before .before .before .before .before .element-at in
+    let separator = c .before .before .before .before .before .before .before .before .before .before .before .before .before .before .before .before .before .separator in
+    let j2 = c .before .before .before .before .before .before .before .before .before .before .before .before .before .before .before .j2 in
+    let element-at2 = c .before .before .before .before .before .before .before .before .before .before .before .before .before .element-at2 in
+    let separator2 = c .before .before .before .before .before .before .before .before .before .before .before .before .separator2 in
+    let j3 = c .before .before .before .before .before .before .before .before .before .before .j3 in
+    let element-at3 = c .before .before .before .before .before .before .before .before .element-at3 in
+    let separator3 = c .before .before .before .before .before .before .before .separator3 in
+    let j4 = c .before .before .before .before .before .j4 in
+    let element-at4 = c .before .before .before .element-at4 in (
+      tt,
+      by-elems (now (args .s)) (args .at) (skip-space .result) (look .result) (skip-space .ensures) (look .ensures .0) (if1 .left) (skip-space2 .result) (look2 .result) (skip-space2 .ensures) (look2 .ensures .0) (if2 .left) Bad (four-more (now (args .s)) (skip-space2 .result) (element-at .result) (element-at .ensures .1) _ (turn-as (separator .ensures) (j2 .given .1)) (element-at2 .result) (element-at2 .ensures .1) _ (turn-as (separator2 .ensures) (j3 .given .1)) (element-at3 .result) (element-at3 .ensures .1) _ (turn-as (separator3 .ensures) (j4 .given .1)) (element-at4 .result) (element-at4 .ensures .1) _ (turn-as (c .before .before .separator4 .ensures) (c .enum-told4 .given .1))),
+    )
 
 -- src/lib.rt:67:1
 returns-7 : tie.Need-returns-7
-returns-7 c = ((omega (arith, c .before .before .before .before .before .before .before .before .before .before .before .before .before .before .before .before .before .before .before .element-at .ensures .0 .ordered, c .before .before .before .before .before .before .before .before .before .before .before .before .before .before .before .before .before .before .before .element-at .ensures .0 .end-in), omega (arith, c .before .before .before .before .before .before .before .before .before .before .before .before .before .before .element-at2 .ensures .0 .ordered, c .before .before .before .before .before .before .before .before .before .before .before .before .before .before .element-at2 .ensures .0 .end-in), omega (arith, c .before .before .before .before .before .before .before .before .before .element-at3 .ensures .0 .ordered, c .before .before .before .before .before .before .before .before .before .element-at3 .ensures .0 .end-in), omega (arith, c .before .before .before .before .element-at4 .ensures .0 .ordered, c .before .before .before .before .element-at4 .ensures .0 .end-in)), by-elems (now (c .before .before .before .before .before .before .before .before .before .before .before .before .before .before .before .before .before .before .before .before .before .before .before .before .before .before .before .args .s)) (c .before .before .before .before .before .before .before .before .before .before .before .before .before .before .before .before .before .before .before .before .before .before .before .before .before .before .before .args .at) (c .before .before .before .before .before .before .before .before .before .before .before .before .before .before .before .before .before .before .before .before .before .before .before .before .before .skip-space .result) (c .before .before .before .before .before .before .before .before .before .before .before .before .before .before .before .before .before .before .before .before .before .before .before .before .look .result) (c .before .before .before .before .before .before .before .before .before .before .before .before .before .before .before .before .before .before .before .before .before .before .before .before .before .skip-space .ensures) (c .before .before .before .before .before .before .before .before .before .before .before .before .before .before .before .before .before .before .before .before .before .before .before .before .look .ensures .0) (c .before .before .before .before .before .before .before .before .before .before .before .before .before .before .before .before .before .before .before .before .before .before .before .if1 .left) (c .before .before .before .before .before .before .before .before .before .before .before .before .before .before .before .before .before .before .before .before .before .before .skip-space2 .result) (c .before .before .before .before .before .before .before .before .before .before .before .before .before .before .before .before .before .before .before .before .before .look2 .result) (c .before .before .before .before .before .before .before .before .before .before .before .before .before .before .before .before .before .before .before .before .before .before .skip-space2 .ensures) (c .before .before .before .before .before .before .before .before .before .before .before .before .before .before .before .before .before .before .before .before .before .look2 .ensures .0) (c .before .before .before .before .before .before .before .before .before .before .before .before .before .before .before .before .before .before .before .before .if2 .left) _ (four-here (now (c .before .before .before .before .before .before .before .before .before .before .before .before .before .before .before .before .before .before .before .before .before .before .before .before .before .before .before .args .s)) (c .before .before .before .before .before .before .before .before .before .before .before .before .before .before .before .before .before .before .before .before .before .before .skip-space2 .result) (c .before .before .before .before .before .before .before .before .before .before .before .before .before .before .before .before .before .before .before .element-at .result) (c .before .before .before .before .before .before .before .before .before .before .before .before .before .before .before .before .before .before .before .element-at .ensures .1) _ (turn-as (c .before .before .before .before .before .before .before .before .before .before .before .before .before .before .before .before .before .before .separator .ensures) (c .before .before .before .before .before .before .before .before .before .before .before .before .before .before .before .before .j2 .given .1)) (c .before .before .before .before .before .before .before .before .before .before .before .before .before .before .element-at2 .result) (c .before .before .before .before .before .before .before .before .before .before .before .before .before .before .element-at2 .ensures .1) _ (turn-as (c .before .before .before .before .before .before .before .before .before .before .before .before .before .separator2 .ensures) (c .before .before .before .before .before .before .before .before .before .before .before .j3 .given .1)) (c .before .before .before .before .before .before .before .before .before .element-at3 .result) (c .before .before .before .before .before .before .before .before .before .element-at3 .ensures .1) _ (turn-as (c .before .before .before .before .before .before .before .before .separator3 .ensures) (c .before .before .before .before .before .before .j4 .given .1)) (c .before .before .before .before .element-at4 .result) (c .before .before .before .before .element-at4 .ensures .1) _ (turn-as (c .before .before .before .separator4 .ensures) (c .before .r .given .1))))
+returns-7 c =
+    let args = c .before .before .before .before .before .before .before .before .before .before .before .before .before .before .before .before .before .before .before .before .before .before .before .before .before .before .before .args in
+    let skip-space = c .before .before .before .before .before .before .before .before .before .before .before .before .before .before .before .before .before .before .before .before .before .before .before .before .before .skip-space in
+    let look = c .before .before .before .before .before .before .before .before .before .before .before .before .before .before .before .before .before .before .before .before .before .before .before .before .look in
+    let if1 = c .before .before .before .before .before .before .before .before .before .before .before .before .before .before .before .before .before .before .before .before .before .before .before .if1 in
+    let skip-space2 = c .before .before .before .before .before .before .before .before .before .before .before .before .before .before .before .before .before .before .before .before .before .before .skip-space2 in
+    let look2 = c .before .before .before .before .before .before .before .before .before .before .before .before .before .before .before .before .before .before .before .before .before .look2 in
+    let if2 = c .before .before .before .before .before .before .before .before .before .before .before .before .before .before .before .before .before .before .before .before .if2 in
+    let element-at = c .before .before .before .before .before .before .before .before .before .before .before .before .before .before .before .before .before .before .before .element-at in
+    let separator = c .before .before .before .before .before .before .before .before .before .before .before .before .before .before .before .before .before .before .separator in
+    let j2 = c .before .before .before .before .before .before .before .before .before .before .before .before .before .before .before .before .j2 in
+    let element-at2 = c .before .before .before .before .before .before .before .before .before .before .before .before .before .before .element-at2 in
+    let separator2 = c .before .before .before .before .before .before .before .before .before .before .before .before .before .separator2 in
+    let j3 = c .before .before .before .before .before .before .before .before .before .before .before .j3 in
+    let element-at3 = c .before .before .before .before .before .before .before .before .before .element-at3 in
+    let separator3 = c .before .before .before .before .before .before .before .before .separator3 in
+    let j4 = c .before .before .before .before .before .before .j4 in
+    let element-at4 = c .before .before .before .before .element-at4 in
+    let separator4 = c .before .before .before .separator4 in (
+      (omega (arith, element-at .ensures .0 .ordered, element-at .ensures .0 .end-in), omega (arith, element-at2 .ensures .0 .ordered, element-at2 .ensures .0 .end-in), omega (arith, element-at3 .ensures .0 .ordered, element-at3 .ensures .0 .end-in), omega (arith, element-at4 .ensures .0 .ordered, element-at4 .ensures .0 .end-in)),
+      by-elems (now (args .s)) (args .at) (skip-space .result) (look .result) (skip-space .ensures) (look .ensures .0) (if1 .left) (skip-space2 .result) (look2 .result) (skip-space2 .ensures) (look2 .ensures .0) (if2 .left) _ (four-here (now (args .s)) (skip-space2 .result) (element-at .result) (element-at .ensures .1) _ (turn-as (separator .ensures) (j2 .given .1)) (element-at2 .result) (element-at2 .ensures .1) _ (turn-as (separator2 .ensures) (j3 .given .1)) (element-at3 .result) (element-at3 .ensures .1) _ (turn-as (separator3 .ensures) (j4 .given .1)) (element-at4 .result) (element-at4 .ensures .1) _ (turn-as (separator4 .ensures) (c .before .r .given .1))),
+    )
 
 pub four-at-spec : {M : Type 1} → statement M
 four-at-spec =

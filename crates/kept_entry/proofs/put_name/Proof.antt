@@ -27,7 +27,10 @@ string-in-requires c κs = search needs
 
 -- src/lib.rt:58:9
 returns : tie.Need-returns
-returns c = (refl, (tt, name-none (now (c .before .before .before .before .args .b)) (c .before .before .before .before .args .n) (now (c .before .before .before .before .args .s)) (c .before .before .before .before .args .at) (c .before .string-in .result) (c .before .string-in .ensures) (c .if1 .taken) _))
+returns c =
+    let args = c .before .before .before .before .args in
+    let string-in = c .before .string-in in
+    (refl, (tt, name-none (now (args .b)) (args .n) (now (args .s)) (args .at) (string-in .result) (string-in .ensures) (c .if1 .taken) _))
 
 -- src/lib.rt:60:25
 slice-aggregate-which-name : tie.Need-slice-aggregate-which-name
@@ -39,7 +42,14 @@ which-name-requires c κs = search needs
 
 -- src/lib.rt:61:9
 returns-2 : tie.Need-returns-2
-returns-2 c = (refl, (tt, name-never (now (c .before .before .before .before .before .before .before .args .b)) (c .before .before .before .before .before .before .before .args .n) (now (c .before .before .before .before .before .before .before .args .s)) (c .before .before .before .before .before .before .before .args .at) (c .before .before .before .before .string-in .result) (c .before .before .before .before .string-in .ensures) (c .before .before .before .if1 .left) (c .before .which-name .result) (c .before .which-name .ensures) (c .if2 .taken) _))
+returns-2 c =
+    let args = c .before .before .before .before .before .before .before .args in
+    let string-in = c .before .before .before .before .string-in in
+    let if1 = c .before .before .before .if1 in
+    let which-name = c .before .which-name in (
+      refl,
+      (tt, name-never (now (args .b)) (args .n) (now (args .s)) (args .at) (string-in .result) (string-in .ensures) (if1 .left) (which-name .result) (which-name .ensures) (c .if2 .taken) _),
+    )
 
 -- src/lib.rt:63:5
 put-word-requires : tie.Need-put-word-requires
@@ -51,7 +61,16 @@ same-length c = search needs
 
 -- src/lib.rt:50:1
 returns-3 : tie.Need-returns-3
-returns-3 c = (c .before .before .put-word .ensures .0, (c .before .before .put-word .ensures .1 .0, name-word (now (c .before .before .before .before .before .before .before .before .before .before .before .args .b)) (c .before .before .before .before .before .before .before .before .before .before .before .args .n) (now (c .before .before .before .before .before .before .before .before .before .before .before .args .s)) (c .before .before .before .before .before .before .before .before .before .before .before .args .at) (c .before .before .before .before .before .before .before .before .string-in .result) (c .before .before .before .before .before .before .before .before .string-in .ensures) (c .before .before .before .before .before .before .before .if1 .left) (c .before .before .before .before .before .which-name .result) (c .before .before .before .before .before .which-name .ensures) (c .before .before .before .before .if2 .left) (c .before .before .put-word .result) _ (c .before .before .put-word .ensures .1 .1)))
+returns-3 c =
+    let args = c .before .before .before .before .before .before .before .before .before .before .before .args in
+    let string-in = c .before .before .before .before .before .before .before .before .string-in in
+    let if1 = c .before .before .before .before .before .before .before .if1 in
+    let which-name = c .before .before .before .before .before .which-name in
+    let if2 = c .before .before .before .before .if2 in
+    let put-word = c .before .before .put-word in (
+      put-word .ensures .0,
+      (put-word .ensures .1 .0, name-word (now (args .b)) (args .n) (now (args .s)) (args .at) (string-in .result) (string-in .ensures) (if1 .left) (which-name .result) (which-name .ensures) (if2 .left) (put-word .result) _ (put-word .ensures .1 .1)),
+    )
 
 pub put-name-spec : {M : Type 1} → statement M
 put-name-spec =

@@ -27,7 +27,13 @@ string-in-requires c κs = search needs
 
 -- src/lib.rt:162:9
 returns : tie.Need-returns
-returns c = (record { long = refl; wide = refl }, (tt, type-none (now (c .before .before .before .before .before .args .b)) (c .before .before .before .before .before .args .n) (now (c .before .before .before .before .before .args .t)) (c .before .before .before .before .before .args .m) (c .before .before .before .before .before .args .count) (now (c .before .before .before .before .before .args .s)) (c .before .before .before .before .before .args .at) (c .before .string-in .result) (c .before .string-in .ensures) (c .before .before .before .before .before .pre .0) (c .if1 .taken) _ _))
+returns c =
+    let args = c .before .before .before .before .before .args in
+    let pre = c .before .before .before .before .before .pre in
+    let string-in = c .before .string-in in (
+      record { long = refl; wide = refl },
+      (tt, type-none (now (args .b)) (args .n) (now (args .t)) (args .m) (args .count) (now (args .s)) (args .at) (string-in .result) (string-in .ensures) (pre .0) (c .if1 .taken) _ _),
+    )
 
 -- src/lib.rt:164:21
 slice-aggregate-equals : tie.Need-slice-aggregate-equals
@@ -39,15 +45,36 @@ equals-requires c κs = search needs
 
 -- src/lib.rt:166:13
 returns-2 : tie.Need-returns-2
-returns-2 c = (record { long = refl; wide = refl }, (tt, unknown-many (now (c .before .before .before .before .before .before .before .before .before .args .b)) (c .before .before .before .before .before .before .before .before .before .args .n) (now (c .before .before .before .before .before .before .before .before .before .args .t)) (c .before .before .before .before .before .before .before .before .before .args .m) (c .before .before .before .before .before .before .before .before .before .args .count) (now (c .before .before .before .before .before .before .before .before .before .args .s)) (c .before .before .before .before .before .before .before .before .before .args .at) (c .before .before .before .before .before .string-in .result) (c .before .before .before .before .before .string-in .ensures) (c .before .before .before .before .before .before .before .before .before .pre .0) (c .before .before .before .before .if1 .left) (sym (c .before .before .equals .ensures) ∙ (c .before .if2 .taken)) (c .if3 .taken)))
+returns-2 c =
+    let args = c .before .before .before .before .before .before .before .before .before .args in
+    let pre = c .before .before .before .before .before .before .before .before .before .pre in
+    let string-in = c .before .before .before .before .before .string-in in
+    let if1 = c .before .before .before .before .if1 in (
+      record { long = refl; wide = refl },
+      (tt, unknown-many (now (args .b)) (args .n) (now (args .t)) (args .m) (args .count) (now (args .s)) (args .at) (string-in .result) (string-in .ensures) (pre .0) (if1 .left) (sym (c .before .before .equals .ensures) ∙ (c .before .if2 .taken)) (c .if3 .taken)),
+    )
 
 -- src/lib.rt:168:9
 returns-3 : tie.Need-returns-3
-returns-3 c = (record { long = refl; wide = refl }, ((omega arith, c .before .before .before .before .before .before .before .before .before .pre .0, c .before .before .before .before .before .before .before .before .before .pre .1 .1), unknown-fits (now (c .before .before .before .before .before .before .before .before .before .args .b)) (c .before .before .before .before .before .before .before .before .before .args .n) (now (c .before .before .before .before .before .before .before .before .before .args .t)) (c .before .before .before .before .before .before .before .before .before .args .m) (c .before .before .before .before .before .before .before .before .before .args .count) (now (c .before .before .before .before .before .before .before .before .before .args .s)) (c .before .before .before .before .before .before .before .before .before .args .at) (c .before .before .before .before .before .string-in .result) (c .before .before .before .before .before .string-in .ensures) (c .before .before .before .before .before .before .before .before .before .pre .0) (c .before .before .before .before .if1 .left) (sym (c .before .before .equals .ensures) ∙ (c .before .if2 .taken)) (c .if3 .left)))
+returns-3 c =
+    let args = c .before .before .before .before .before .before .before .before .before .args in
+    let pre = c .before .before .before .before .before .before .before .before .before .pre in
+    let string-in = c .before .before .before .before .before .string-in in
+    let if1 = c .before .before .before .before .if1 in (
+      record { long = refl; wide = refl },
+      ((omega arith, pre .0, pre .1 .1), unknown-fits (now (args .b)) (args .n) (now (args .t)) (args .m) (args .count) (now (args .s)) (args .at) (string-in .result) (string-in .ensures) (pre .0) (if1 .left) (sym (c .before .before .equals .ensures) ∙ (c .before .if2 .taken)) (c .if3 .left)),
+    )
 
 -- src/lib.rt:171:9
 returns-4 : tie.Need-returns-4
-returns-4 c = (record { long = refl; wide = refl }, (tt, value-many (now (c .before .before .before .before .before .before .before .before .before .args .b)) (c .before .before .before .before .before .before .before .before .before .args .n) (now (c .before .before .before .before .before .before .before .before .before .args .t)) (c .before .before .before .before .before .before .before .before .before .args .m) (c .before .before .before .before .before .before .before .before .before .args .count) (now (c .before .before .before .before .before .before .before .before .before .args .s)) (c .before .before .before .before .before .before .before .before .before .args .at) (c .before .before .before .before .before .string-in .result) (c .before .before .before .before .before .string-in .ensures) (c .before .before .before .before .before .before .before .before .before .pre .0) (c .before .before .before .before .if1 .left) (sym (c .before .before .equals .ensures) ∙ (c .before .if2 .left)) (c .if4 .taken)))
+returns-4 c =
+    let args = c .before .before .before .before .before .before .before .before .before .args in
+    let pre = c .before .before .before .before .before .before .before .before .before .pre in
+    let string-in = c .before .before .before .before .before .string-in in
+    let if1 = c .before .before .before .before .if1 in (
+      record { long = refl; wide = refl },
+      (tt, value-many (now (args .b)) (args .n) (now (args .t)) (args .m) (args .count) (now (args .s)) (args .at) (string-in .result) (string-in .ensures) (pre .0) (if1 .left) (sym (c .before .before .equals .ensures) ∙ (c .before .if2 .left)) (c .if4 .taken)),
+    )
 
 -- src/lib.rt:173:5
 put-typed-requires : tie.Need-put-typed-requires
@@ -63,7 +90,18 @@ same-length-2 c = search needs
 
 -- src/lib.rt:144:1
 returns-5 : tie.Need-returns-5
-returns-5 c = (c .before .before .before .before .put-typed .ensures .0, (c .before .before .before .before .put-typed .ensures .1 .0, value-typed (now (c .before .before .before .before .before .before .before .before .before .before .before .before .before .before .before .before .args .b)) (c .before .before .before .before .before .before .before .before .before .before .before .before .before .before .before .before .args .n) (now (c .before .before .before .before .before .before .before .before .before .before .before .before .before .before .before .before .args .t)) (c .before .before .before .before .before .before .before .before .before .before .before .before .before .before .before .before .args .m) (c .before .before .before .before .before .before .before .before .before .before .before .before .before .before .before .before .args .count) (now (c .before .before .before .before .before .before .before .before .before .before .before .before .before .before .before .before .args .s)) (c .before .before .before .before .before .before .before .before .before .before .before .before .before .before .before .before .args .at) (c .before .before .before .before .before .before .before .before .before .before .before .before .string-in .result) (c .before .before .before .before .before .before .before .before .before .before .before .before .string-in .ensures) (c .before .before .before .before .before .before .before .before .before .before .before .before .before .before .before .before .pre .0) (c .before .before .before .before .before .before .before .before .before .before .before .if1 .left) (sym (c .before .before .before .before .before .before .before .before .before .equals .ensures) ∙ (c .before .before .before .before .before .before .before .before .if2 .left)) (c .before .before .before .before .before .before .before .if4 .left) (c .before .before .before .before .put-typed .result) _ _ (c .before .before .before .before .put-typed .ensures .1 .1)))
+returns-5 c =
+    let args = c .before .before .before .before .before .before .before .before .before .before .before .before .before .before .before .before .args in
+    let pre = c .before .before .before .before .before .before .before .before .before .before .before .before .before .before .before .before .pre in
+    let string-in = c .before .before .before .before .before .before .before .before .before .before .before .before .string-in in
+    let if1 = c .before .before .before .before .before .before .before .before .before .before .before .if1 in
+    let equals = c .before .before .before .before .before .before .before .before .before .equals in
+    let if2 = c .before .before .before .before .before .before .before .before .if2 in
+    let if4 = c .before .before .before .before .before .before .before .if4 in
+    let put-typed = c .before .before .before .before .put-typed in (
+      put-typed .ensures .0,
+      (put-typed .ensures .1 .0, value-typed (now (args .b)) (args .n) (now (args .t)) (args .m) (args .count) (now (args .s)) (args .at) (string-in .result) (string-in .ensures) (pre .0) (if1 .left) (sym (equals .ensures) ∙ (if2 .left)) (if4 .left) (put-typed .result) _ _ (put-typed .ensures .1 .1)),
+    )
 
 pub put-type-spec : {M : Type 1} → statement M
 put-type-spec =

@@ -55,15 +55,36 @@ same-length c = search needs
 
 -- src/lib.rt:128:9
 returns : tie.Need-returns
-returns c = let z = no-room (now (c .before .before .before .before .before .before .before .before .before .before .args .b)) (c .before .before .before .before .before .before .before .before .before .before .args .n) (c .before .before .before .before .before .before .before .before .before .before .pre .0) (ascii "value") _ (c .before .before .before .before .put-text .result) (c .before .before .before .before .put-text .ensures) (c .enum-told .given .1) in (record { long = z .0; wide = refl }, (tt, typed-full (now (c .before .before .before .before .before .before .before .before .before .before .args .b)) (c .before .before .before .before .before .before .before .before .before .before .args .n) (now (c .before .before .before .before .before .before .before .before .before .before .args .t)) (c .before .before .before .before .before .before .before .before .before .before .args .m) (now (c .before .before .before .before .before .before .before .before .before .before .args .s)) (c .before .before .before .before .before .before .before .before .before .before .args .at) (z .1) _ _))
+returns c =
+    let args = c .before .before .before .before .before .before .before .before .before .before .args in
+    let pre = c .before .before .before .before .before .before .before .before .before .before .pre in
+    let put-text = c .before .before .before .before .put-text in
+    let z = no-room (now (args .b)) (args .n) (pre .0) (ascii "value") _ (put-text .result) (put-text .ensures) (c .enum-told .given .1) in (
+      record { long = z .0; wide = refl },
+      (tt, typed-full (now (args .b)) (args .n) (now (args .t)) (args .m) (now (args .s)) (args .at) (z .1) _ _),
+    )
 
 -- src/lib.rt:130:13
 add-a : tie.Need-add-a
-add-a c = record { fits = let g = grew (now (c .before .before .before .before .before .before .before .before .before .before .before .args .b)) (c .before .before .before .before .before .before .before .before .before .before .before .args .n) (c .before .before .before .before .before .before .before .before .before .before .before .pre .0) (ascii "value") _ (c .before .before .before .before .before .put-text .result) (c .before .before .before .before .before .put-text .ensures) (c .before .k .given .1) in omega (arith, g .within, c .before .before .before .before .before .before .before .before .before .before .before .good .0 .0) }
+add-a c =
+    let good = c .before .before .before .before .before .before .before .before .before .before .before .good in
+    let args = c .before .before .before .before .before .before .before .before .before .before .before .args in
+    let pre = c .before .before .before .before .before .before .before .before .before .before .before .pre in
+    let put-text = c .before .before .before .before .before .put-text in
+    record {
+      fits = let g = grew (now (args .b)) (args .n) (pre .0) (ascii "value") _ (put-text .result) (put-text .ensures) (c .before .k .given .1)
+          in omega (arith, g .within, good .0 .0);
+    }
 
 -- src/lib.rt:131:37
 put-value-requires : tie.Need-put-value-requires
-put-value-requires c κs = let g = grew (now (c .before .before .before .before .before .before .before .before .before .before .before .before .before .args .b)) (c .before .before .before .before .before .before .before .before .before .before .before .before .before .args .n) (c .before .before .before .before .before .before .before .before .before .before .before .before .before .pre .0) (ascii "value") _ (c .before .before .before .before .before .before .before .put-text .result) (c .before .before .before .before .before .before .before .put-text .ensures) (c .before .before .before .k .given .1) in (omega (arith, g .within, g .long), c .before .before .before .before .before .before .before .before .before .before .before .before .before .pre .1)
+put-value-requires c κs =
+    let args = c .before .before .before .before .before .before .before .before .before .before .before .before .before .args in
+    let pre = c .before .before .before .before .before .before .before .before .before .before .before .before .before .pre in
+    let put-text = c .before .before .before .before .before .before .before .put-text in
+    let k = c .before .before .before .k in
+    let g = grew (now (args .b)) (args .n) (pre .0) (ascii "value") _ (put-text .result) (put-text .ensures) (k .given .1) in
+    (omega (arith, g .within, g .long), pre .1)
 
 -- src/lib.rt:131:22
 enum-known-end : tie.Need-enum-known-end
@@ -83,7 +104,15 @@ same-length-3 c = search needs
 
 -- src/lib.rt:132:9
 returns-2 : tie.Need-returns-2
-returns-2 c = (record { long = c .before .before .before .before .before .before .put-value .ensures .0 .long ∙ part-same (now (c .before .before .before .before .before .before .before .before .before .before .before .before .before .before .before .before .before .before .before .before .args .b)) (c .before .before .before .before .before .before .before .before .before .before .before .before .before .before .before .before .before .before .before .before .args .n) (c .before .before .before .before .before .before .before .before .before .before .before .before .before .before .before .before .before .before .before .before .pre .0) (ascii "value") _ (c .before .before .before .before .before .before .before .before .before .before .before .before .before .before .put-text .result) (c .before .before .before .before .before .before .before .before .before .before .before .before .before .before .put-text .ensures); wide = c .before .before .before .before .before .before .put-value .ensures .0 .wide }, (tt, typed-wrong (now (c .before .before .before .before .before .before .before .before .before .before .before .before .before .before .before .before .before .before .before .before .args .b)) (c .before .before .before .before .before .before .before .before .before .before .before .before .before .before .before .before .before .before .before .before .args .n) (now (c .before .before .before .before .before .before .before .before .before .before .before .before .before .before .before .before .before .before .before .before .args .t)) (c .before .before .before .before .before .before .before .before .before .before .before .before .before .before .before .before .before .before .before .before .args .m) (now (c .before .before .before .before .before .before .before .before .before .before .before .before .before .before .before .before .before .before .before .before .args .s)) (c .before .before .before .before .before .before .before .before .before .before .before .before .before .before .before .before .before .before .before .before .args .at) (c .before .before .before .before .before .before .before .before .before .before .before .before .before .before .before .before .before .before .before .before .pre .0) _ _ (grew (now (c .before .before .before .before .before .before .before .before .before .before .before .before .before .before .before .before .before .before .before .before .args .b)) (c .before .before .before .before .before .before .before .before .before .before .before .before .before .before .before .before .before .before .before .before .args .n) (c .before .before .before .before .before .before .before .before .before .before .before .before .before .before .before .before .before .before .before .before .pre .0) (ascii "value") _ (c .before .before .before .before .before .before .before .before .before .before .before .before .before .before .put-text .result) (c .before .before .before .before .before .before .before .before .before .before .before .before .before .before .put-text .ensures) (c .before .before .before .before .before .before .before .before .before .before .k .given .1)) (c .before .before .before .before .before .before .put-value .result) _ _ (c .before .before .before .before .before .before .put-value .ensures .1 .1) (c .enum-told2 .given .1)))
+returns-2 c =
+    let args = c .before .before .before .before .before .before .before .before .before .before .before .before .before .before .before .before .before .before .before .before .args in
+    let pre = c .before .before .before .before .before .before .before .before .before .before .before .before .before .before .before .before .before .before .before .before .pre in
+    let put-text = c .before .before .before .before .before .before .before .before .before .before .before .before .before .before .put-text in
+    let k = c .before .before .before .before .before .before .before .before .before .before .k in
+    let put-value = c .before .before .before .before .before .before .put-value in (
+      record { long = put-value .ensures .0 .long ∙ part-same (now (args .b)) (args .n) (pre .0) (ascii "value") _ (put-text .result) (put-text .ensures); wide = put-value .ensures .0 .wide },
+      (tt, typed-wrong (now (args .b)) (args .n) (now (args .t)) (args .m) (now (args .s)) (args .at) (pre .0) _ _ (grew (now (args .b)) (args .n) (pre .0) (ascii "value") _ (put-text .result) (put-text .ensures) (k .given .1)) (put-value .result) _ _ (put-value .ensures .1 .1) (c .enum-told2 .given .1)),
+    )
 
 -- src/lib.rt:134:17
 sub-is-word : tie.Need-sub-is-word
@@ -111,7 +140,16 @@ same-length-5 c = search needs
 
 -- src/lib.rt:135:9
 returns-3 : tie.Need-returns-3
-returns-3 c = (record { long = c .before .before .before .before .before .before .before .before .before .before .before .put-value .ensures .0 .long ∙ part-same (now (c .before .before .before .before .before .before .before .before .before .before .before .before .before .before .before .before .before .before .before .before .before .before .before .before .before .args .b)) (c .before .before .before .before .before .before .before .before .before .before .before .before .before .before .before .before .before .before .before .before .before .before .before .before .before .args .n) (c .before .before .before .before .before .before .before .before .before .before .before .before .before .before .before .before .before .before .before .before .before .before .before .before .before .pre .0) (ascii "value") _ (c .before .before .before .before .before .before .before .before .before .before .before .before .before .before .before .before .before .before .before .put-text .result) (c .before .before .before .before .before .before .before .before .before .before .before .before .before .before .before .before .before .before .before .put-text .ensures); wide = c .before .before .before .before .before .before .before .before .before .before .before .put-value .ensures .0 .wide }, (tt, typed-other (now (c .before .before .before .before .before .before .before .before .before .before .before .before .before .before .before .before .before .before .before .before .before .before .before .before .before .args .b)) (c .before .before .before .before .before .before .before .before .before .before .before .before .before .before .before .before .before .before .before .before .before .before .before .before .before .args .n) (now (c .before .before .before .before .before .before .before .before .before .before .before .before .before .before .before .before .before .before .before .before .before .before .before .before .before .args .t)) (c .before .before .before .before .before .before .before .before .before .before .before .before .before .before .before .before .before .before .before .before .before .before .before .before .before .args .m) (now (c .before .before .before .before .before .before .before .before .before .before .before .before .before .before .before .before .before .before .before .before .before .before .before .before .before .args .s)) (c .before .before .before .before .before .before .before .before .before .before .before .before .before .before .before .before .before .before .before .before .before .before .before .before .before .args .at) (c .before .before .before .before .before .before .before .before .before .before .before .before .before .before .before .before .before .before .before .before .before .before .before .before .before .pre .0) _ _ (grew (now (c .before .before .before .before .before .before .before .before .before .before .before .before .before .before .before .before .before .before .before .before .before .before .before .before .before .args .b)) (c .before .before .before .before .before .before .before .before .before .before .before .before .before .before .before .before .before .before .before .before .before .before .before .before .before .args .n) (c .before .before .before .before .before .before .before .before .before .before .before .before .before .before .before .before .before .before .before .before .before .before .before .before .before .pre .0) (ascii "value") _ (c .before .before .before .before .before .before .before .before .before .before .before .before .before .before .before .before .before .before .before .put-text .result) (c .before .before .before .before .before .before .before .before .before .before .before .before .before .before .before .before .before .before .before .put-text .ensures) (c .before .before .before .before .before .before .before .before .before .before .before .before .before .before .before .k .given .1)) (c .before .before .before .before .before .before .before .before .before .before .before .put-value .result) _ _ (c .before .before .before .before .before .before .before .before .before .before .before .put-value .ensures .1 .1) _ _ (c .before .before .before .before .before .end .given .1) (sym (c .before .is-word .ensures) ∙ not-true _ (c .if1 .taken))))
+returns-3 c =
+    let args = c .before .before .before .before .before .before .before .before .before .before .before .before .before .before .before .before .before .before .before .before .before .before .before .before .before .args in
+    let pre = c .before .before .before .before .before .before .before .before .before .before .before .before .before .before .before .before .before .before .before .before .before .before .before .before .before .pre in
+    let put-text = c .before .before .before .before .before .before .before .before .before .before .before .before .before .before .before .before .before .before .before .put-text in
+    let k = c .before .before .before .before .before .before .before .before .before .before .before .before .before .before .before .k in
+    let put-value = c .before .before .before .before .before .before .before .before .before .before .before .put-value in
+    let end = c .before .before .before .before .before .end in (
+      record { long = put-value .ensures .0 .long ∙ part-same (now (args .b)) (args .n) (pre .0) (ascii "value") _ (put-text .result) (put-text .ensures); wide = put-value .ensures .0 .wide },
+      (tt, typed-other (now (args .b)) (args .n) (now (args .t)) (args .m) (now (args .s)) (args .at) (pre .0) _ _ (grew (now (args .b)) (args .n) (pre .0) (ascii "value") _ (put-text .result) (put-text .ensures) (k .given .1)) (put-value .result) _ _ (put-value .ensures .1 .1) _ _ (end .given .1) (sym (c .before .is-word .ensures) ∙ not-true _ (c .if1 .taken))),
+    )
 
 -- src/lib.rt:113:1
 same-length-6 : tie.Need-same-length-6
@@ -123,7 +161,17 @@ same-length-7 c = search needs
 
 -- src/lib.rt:113:1
 returns-4 : tie.Need-returns-4
-returns-4 c = let g = grew (now (c .before .before .before .before .before .before .before .before .before .before .before .before .before .before .before .before .before .before .before .before .before .before .before .before .before .args .b)) (c .before .before .before .before .before .before .before .before .before .before .before .before .before .before .before .before .before .before .before .before .before .before .before .before .before .args .n) (c .before .before .before .before .before .before .before .before .before .before .before .before .before .before .before .before .before .before .before .before .before .before .before .before .before .pre .0) (ascii "value") _ (c .before .before .before .before .before .before .before .before .before .before .before .before .before .before .before .before .before .before .before .put-text .result) (c .before .before .before .before .before .before .before .before .before .before .before .before .before .before .before .before .before .before .before .put-text .ensures) (c .before .before .before .before .before .before .before .before .before .before .before .before .before .before .before .k .given .1) in (record { long = c .before .before .before .before .before .before .before .before .before .before .before .put-value .ensures .0 .long ∙ part-same (now (c .before .before .before .before .before .before .before .before .before .before .before .before .before .before .before .before .before .before .before .before .before .before .before .before .before .args .b)) (c .before .before .before .before .before .before .before .before .before .before .before .before .before .before .before .before .before .before .before .before .before .before .before .before .before .args .n) (c .before .before .before .before .before .before .before .before .before .before .before .before .before .before .before .before .before .before .before .before .before .before .before .before .before .pre .0) (ascii "value") _ (c .before .before .before .before .before .before .before .before .before .before .before .before .before .before .before .before .before .before .before .put-text .result) (c .before .before .before .before .before .before .before .before .before .before .before .before .before .before .before .before .before .before .before .put-text .ensures); wide = c .before .before .before .before .before .before .before .before .before .before .before .put-value .ensures .0 .wide }, (typed-rows g (rows-in (c .before .before .before .before .before .before .before .before .before .before .before .put-value .ensures .1 .0) (c .before .before .before .before .before .end .given .1)), typed-all (now (c .before .before .before .before .before .before .before .before .before .before .before .before .before .before .before .before .before .before .before .before .before .before .before .before .before .args .b)) (c .before .before .before .before .before .before .before .before .before .before .before .before .before .before .before .before .before .before .before .before .before .before .before .before .before .args .n) (now (c .before .before .before .before .before .before .before .before .before .before .before .before .before .before .before .before .before .before .before .before .before .before .before .before .before .args .t)) (c .before .before .before .before .before .before .before .before .before .before .before .before .before .before .before .before .before .before .before .before .before .before .before .before .before .args .m) (now (c .before .before .before .before .before .before .before .before .before .before .before .before .before .before .before .before .before .before .before .before .before .before .before .before .before .args .s)) (c .before .before .before .before .before .before .before .before .before .before .before .before .before .before .before .before .before .before .before .before .before .before .before .before .before .args .at) (c .before .before .before .before .before .before .before .before .before .before .before .before .before .before .before .before .before .before .before .before .before .before .before .before .before .pre .0) _ _ (grew (now (c .before .before .before .before .before .before .before .before .before .before .before .before .before .before .before .before .before .before .before .before .before .before .before .before .before .args .b)) (c .before .before .before .before .before .before .before .before .before .before .before .before .before .before .before .before .before .before .before .before .before .before .before .before .before .args .n) (c .before .before .before .before .before .before .before .before .before .before .before .before .before .before .before .before .before .before .before .before .before .before .before .before .before .pre .0) (ascii "value") _ (c .before .before .before .before .before .before .before .before .before .before .before .before .before .before .before .before .before .before .before .put-text .result) (c .before .before .before .before .before .before .before .before .before .before .before .before .before .before .before .before .before .before .before .put-text .ensures) (c .before .before .before .before .before .before .before .before .before .before .before .before .before .before .before .k .given .1)) (c .before .before .before .before .before .before .before .before .before .before .before .put-value .result) _ _ (c .before .before .before .before .before .before .before .before .before .before .before .put-value .ensures .1 .1) _ _ (c .before .before .before .before .before .end .given .1) (sym (c .before .is-word .ensures) ∙ not-false _ (c .if1 .left))))
+returns-4 c =
+    let args = c .before .before .before .before .before .before .before .before .before .before .before .before .before .before .before .before .before .before .before .before .before .before .before .before .before .args in
+    let pre = c .before .before .before .before .before .before .before .before .before .before .before .before .before .before .before .before .before .before .before .before .before .before .before .before .before .pre in
+    let put-text = c .before .before .before .before .before .before .before .before .before .before .before .before .before .before .before .before .before .before .before .put-text in
+    let k = c .before .before .before .before .before .before .before .before .before .before .before .before .before .before .before .k in
+    let put-value = c .before .before .before .before .before .before .before .before .before .before .before .put-value in
+    let end = c .before .before .before .before .before .end in
+    let g = grew (now (args .b)) (args .n) (pre .0) (ascii "value") _ (put-text .result) (put-text .ensures) (k .given .1) in (
+      record { long = put-value .ensures .0 .long ∙ part-same (now (args .b)) (args .n) (pre .0) (ascii "value") _ (put-text .result) (put-text .ensures); wide = put-value .ensures .0 .wide },
+      (typed-rows g (rows-in (put-value .ensures .1 .0) (end .given .1)), typed-all (now (args .b)) (args .n) (now (args .t)) (args .m) (now (args .s)) (args .at) (pre .0) _ _ (grew (now (args .b)) (args .n) (pre .0) (ascii "value") _ (put-text .result) (put-text .ensures) (k .given .1)) (put-value .result) _ _ (put-value .ensures .1 .1) _ _ (end .given .1) (sym (c .before .is-word .ensures) ∙ not-false _ (c .if1 .left))),
+    )
 
 pub put-typed-spec : {M : Type 1} → statement M
 put-typed-spec =

@@ -38,19 +38,40 @@ same-length c = search needs
 
 -- src/lib.rt:41:9
 returns : tie.Need-returns
-returns c = (puts-long (now (c .before .before .before .before .before .before .before .before .args .b)) (c .before .before .before .before .before .before .before .before .args .n) (textAt (now (c .before .before .before .before .before .before .before .before .args .s)) (c .before .before .before .before .before .before .before .before .args .q)) (c .before .before .before .before .put-decoded .result) _ (c .before .before .before .before .put-decoded .ensures), (tt, word-full (now (c .before .before .before .before .before .before .before .before .args .b)) (c .before .before .before .before .before .before .before .before .args .n) (now (c .before .before .before .before .before .before .before .before .args .s)) (c .before .before .before .before .before .before .before .before .args .q) (c .before .before .before .before .before .before .before .before .pre) (c .before .before .before .before .put-decoded .result) _ (c .before .before .before .before .put-decoded .ensures) (c .enum-told .given .1)))
+returns c =
+    let args = c .before .before .before .before .before .before .before .before .args in
+    let pre = c .before .before .before .before .before .before .before .before .pre in
+    let put-decoded = c .before .before .before .before .put-decoded in (
+      puts-long (now (args .b)) (args .n) (textAt (now (args .s)) (args .q)) (put-decoded .result) _ (put-decoded .ensures),
+      (tt, word-full (now (args .b)) (args .n) (now (args .s)) (args .q) (pre) (put-decoded .result) _ (put-decoded .ensures) (c .enum-told .given .1)),
+    )
 
 -- src/lib.rt:43:17
 sub-is-word : tie.Need-sub-is-word
-sub-is-word c = let g = word-in (now (c .before .before .before .before .before .before .before .before .before .args .b)) (c .before .before .before .before .before .before .before .before .before .args .n) (now (c .before .before .before .before .before .before .before .before .before .args .s)) (c .before .before .before .before .before .before .before .before .before .args .q) (c .before .before .before .before .before .before .before .before .before .pre) (c .before .before .before .before .before .put-decoded .result) _ (c .before .before .before .before .before .put-decoded .ensures) _ (c .before .k .given .1) in omega (arith, g .to, g .within, g .long)
+sub-is-word c =
+    let args = c .before .before .before .before .before .before .before .before .before .args in
+    let pre = c .before .before .before .before .before .before .before .before .before .pre in
+    let put-decoded = c .before .before .before .before .before .put-decoded in
+    let g = word-in (now (args .b)) (args .n) (now (args .s)) (args .q) (pre) (put-decoded .result) _ (put-decoded .ensures) _
+    (c .before .k .given .1) in omega (arith, g .to, g .within, g .long)
 
 -- src/lib.rt:43:17
 part-is-word-start : tie.Need-part-is-word-start
-part-is-word-start c = let g = word-in (now (c .before .before .before .before .before .before .before .before .before .before .args .b)) (c .before .before .before .before .before .before .before .before .before .before .args .n) (now (c .before .before .before .before .before .before .before .before .before .before .args .s)) (c .before .before .before .before .before .before .before .before .before .before .args .q) (c .before .before .before .before .before .before .before .before .before .before .pre) (c .before .before .before .before .before .before .put-decoded .result) _ (c .before .before .before .before .before .before .put-decoded .ensures) _ (c .before .before .k .given .1) in omega (arith, g .to, g .within, g .long)
+part-is-word-start c =
+    let args = c .before .before .before .before .before .before .before .before .before .before .args in
+    let pre = c .before .before .before .before .before .before .before .before .before .before .pre in
+    let put-decoded = c .before .before .before .before .before .before .put-decoded in
+    let g = word-in (now (args .b)) (args .n) (now (args .s)) (args .q) (pre) (put-decoded .result) _ (put-decoded .ensures) _
+    (c .before .before .k .given .1) in omega (arith, g .to, g .within, g .long)
 
 -- src/lib.rt:43:17
 part-is-word-end : tie.Need-part-is-word-end
-part-is-word-end c = let g = word-in (now (c .before .before .before .before .before .before .before .before .before .before .args .b)) (c .before .before .before .before .before .before .before .before .before .before .args .n) (now (c .before .before .before .before .before .before .before .before .before .before .args .s)) (c .before .before .before .before .before .before .before .before .before .before .args .q) (c .before .before .before .before .before .before .before .before .before .before .pre) (c .before .before .before .before .before .before .put-decoded .result) _ (c .before .before .before .before .before .before .put-decoded .ensures) _ (c .before .before .k .given .1) in omega (arith, g .to, g .within, g .long)
+part-is-word-end c =
+    let args = c .before .before .before .before .before .before .before .before .before .before .args in
+    let pre = c .before .before .before .before .before .before .before .before .before .before .pre in
+    let put-decoded = c .before .before .before .before .before .before .put-decoded in
+    let g = word-in (now (args .b)) (args .n) (now (args .s)) (args .q) (pre) (put-decoded .result) _ (put-decoded .ensures) _
+    (c .before .before .k .given .1) in omega (arith, g .to, g .within, g .long)
 
 -- src/lib.rt:43:9
 is-word-requires : tie.Need-is-word-requires
@@ -62,7 +83,14 @@ same-length-2 c = search needs
 
 -- src/lib.rt:44:9
 returns-2 : tie.Need-returns-2
-returns-2 c = (puts-long (now (c .before .before .before .before .before .before .before .before .before .before .before .before .before .args .b)) (c .before .before .before .before .before .before .before .before .before .before .before .before .before .args .n) (textAt (now (c .before .before .before .before .before .before .before .before .before .before .before .before .before .args .s)) (c .before .before .before .before .before .before .before .before .before .before .before .before .before .args .q)) (c .before .before .before .before .before .before .before .before .before .put-decoded .result) _ (c .before .before .before .before .before .before .before .before .before .put-decoded .ensures), (tt, word-other (now (c .before .before .before .before .before .before .before .before .before .before .before .before .before .args .b)) (c .before .before .before .before .before .before .before .before .before .before .before .before .before .args .n) (now (c .before .before .before .before .before .before .before .before .before .before .before .before .before .args .s)) (c .before .before .before .before .before .before .before .before .before .before .before .before .before .args .q) (c .before .before .before .before .before .before .before .before .before .before .before .before .before .pre) (c .before .before .before .before .before .before .before .before .before .put-decoded .result) _ (c .before .before .before .before .before .before .before .before .before .put-decoded .ensures) _ (c .before .before .before .before .before .k .given .1) (sym (c .before .is-word .ensures) ∙ not-true _ (c .if1 .taken))))
+returns-2 c =
+    let args = c .before .before .before .before .before .before .before .before .before .before .before .before .before .args in
+    let pre = c .before .before .before .before .before .before .before .before .before .before .before .before .before .pre in
+    let put-decoded = c .before .before .before .before .before .before .before .before .before .put-decoded in
+    let k = c .before .before .before .before .before .k in (
+      puts-long (now (args .b)) (args .n) (textAt (now (args .s)) (args .q)) (put-decoded .result) _ (put-decoded .ensures),
+      (tt, word-other (now (args .b)) (args .n) (now (args .s)) (args .q) (pre) (put-decoded .result) _ (put-decoded .ensures) _ (k .given .1) (sym (c .before .is-word .ensures) ∙ not-true _ (c .if1 .taken))),
+    )
 
 -- src/lib.rt:34:1
 same-length-3 : tie.Need-same-length-3
@@ -70,7 +98,15 @@ same-length-3 c = search needs
 
 -- src/lib.rt:34:1
 returns-3 : tie.Need-returns-3
-returns-3 c = let g = word-in (now (c .before .before .before .before .before .before .before .before .before .before .before .before .before .args .b)) (c .before .before .before .before .before .before .before .before .before .before .before .before .before .args .n) (now (c .before .before .before .before .before .before .before .before .before .before .before .before .before .args .s)) (c .before .before .before .before .before .before .before .before .before .before .before .before .before .args .q) (c .before .before .before .before .before .before .before .before .before .before .before .before .before .pre) (c .before .before .before .before .before .before .before .before .before .put-decoded .result) _ (c .before .before .before .before .before .before .before .before .before .put-decoded .ensures) _ (c .before .before .before .before .before .k .given .1) in (puts-long (now (c .before .before .before .before .before .before .before .before .before .before .before .before .before .args .b)) (c .before .before .before .before .before .before .before .before .before .before .before .before .before .args .n) (textAt (now (c .before .before .before .before .before .before .before .before .before .before .before .before .before .args .s)) (c .before .before .before .before .before .before .before .before .before .before .before .before .before .args .q)) (c .before .before .before .before .before .before .before .before .before .put-decoded .result) _ (c .before .before .before .before .before .before .before .before .before .put-decoded .ensures), ((omega (arith, g .to), g .within), word-is (now (c .before .before .before .before .before .before .before .before .before .before .before .before .before .args .b)) (c .before .before .before .before .before .before .before .before .before .before .before .before .before .args .n) (now (c .before .before .before .before .before .before .before .before .before .before .before .before .before .args .s)) (c .before .before .before .before .before .before .before .before .before .before .before .before .before .args .q) (c .before .before .before .before .before .before .before .before .before .before .before .before .before .pre) (c .before .before .before .before .before .before .before .before .before .put-decoded .result) _ (c .before .before .before .before .before .before .before .before .before .put-decoded .ensures) _ (c .before .before .before .before .before .k .given .1) (sym (c .before .is-word .ensures) ∙ not-false _ (c .if1 .left))))
+returns-3 c =
+    let args = c .before .before .before .before .before .before .before .before .before .before .before .before .before .args in
+    let pre = c .before .before .before .before .before .before .before .before .before .before .before .before .before .pre in
+    let put-decoded = c .before .before .before .before .before .before .before .before .before .put-decoded in
+    let k = c .before .before .before .before .before .k in
+    let g = word-in (now (args .b)) (args .n) (now (args .s)) (args .q) (pre) (put-decoded .result) _ (put-decoded .ensures) _ (k .given .1) in (
+      puts-long (now (args .b)) (args .n) (textAt (now (args .s)) (args .q)) (put-decoded .result) _ (put-decoded .ensures),
+      ((omega (arith, g .to), g .within), word-is (now (args .b)) (args .n) (now (args .s)) (args .q) (pre) (put-decoded .result) _ (put-decoded .ensures) _ (k .given .1) (sym (c .before .is-word .ensures) ∙ not-false _ (c .if1 .left))),
+    )
 
 pub put-word-spec : {M : Type 1} → statement M
 put-word-spec =

@@ -27,7 +27,18 @@ abbrev μ-loop : tie.MeasureT-loop
 
 -- src/lib.rt:130:5
 loop-holds : tie.Need-loop-holds Inv-loop μ-loop
-loop-holds c = (c .before .before .before .pre .1 .1, c .before .before .before .pre .0, refl, refl, omega arith, omega arith, omega arith, going-first (now (c .before .before .before .args .b)) (c .before .before .before .args .n) (now (c .before .before .before .args .t)) (now (c .before .before .before .args .s)) (c .before .before .before .args .at) (c .before .before .before .pre .0))
+loop-holds c =
+    let args = c .before .before .before .args in
+    let pre = c .before .before .before .pre in (
+      pre .1 .1,
+      pre .0,
+      refl,
+      refl,
+      omega arith,
+      omega arith,
+      omega arith,
+      going-first (now (args .b)) (args .n) (now (args .t)) (now (args .s)) (args .at) (pre .0),
+    )
 
 -- src/lib.rt:131:13
 member-at-requires : tie.Need-member-at-requires Inv-loop μ-loop
@@ -35,7 +46,13 @@ member-at-requires c κs = tt
 
 -- src/lib.rt:135:27
 put-member-requires : tie.Need-put-member-requires Inv-loop μ-loop
-put-member-requires c κs = (c .before .before .before .loop .inv .1, (omega (arith, c .before .before .before .loop .inv .3, c .before .before .before .before .before .before .before .pre .1 .0), (omega (arith, c .before .before .member-at .ensures .1 .0 .ordered, c .before .before .member-at .ensures .1 .0 .end-in), (omega (arith, c .before .before .before .loop .inv .6, c .before .before .before .loop .inv .0), c .before .before .before .loop .inv .5))))
+put-member-requires c κs =
+    let pre = c .before .before .before .before .before .before .before .pre in
+    let loop = c .before .before .before .loop in
+    let member-at = c .before .before .member-at in (
+      loop .inv .1,
+      (omega (arith, loop .inv .3, pre .1 .0), (omega (arith, member-at .ensures .1 .0 .ordered, member-at .ensures .1 .0 .end-in), (omega (arith, loop .inv .6, loop .inv .0), loop .inv .5))),
+    )
 
 -- src/lib.rt:135:22
 enum-known-g : tie.Need-enum-known-g Inv-loop μ-loop
@@ -55,7 +72,14 @@ same-length-2 c = c .before .before .before .before .before .before .put-member 
 
 -- src/lib.rt:136:13
 returns : tie.Need-returns Inv-loop μ-loop
-returns c = (record { long = c .before .before .before .before .before .before .put-member .ensures .0 .long ∙ (c .before .before .before .before .before .before .before .before .before .before .loop .inv .2); wide = c .before .before .before .before .before .before .put-member .ensures .0 .wide ∙ (c .before .before .before .before .before .before .before .before .before .before .loop .inv .3) }, (tt, from-bad (now (c .before .before .before .before .before .before .before .before .before .before .before .before .before .before .args .b)) (c .before .before .before .before .before .before .before .before .before .before .before .before .before .before .args .n) (now (c .before .before .before .before .before .before .before .before .before .before .before .before .before .before .args .s)) (c .before .before .before .before .before .before .before .before .before .before .before .before .before .before .args .at) (c .before .before .before .before .before .before .before .before .before .before .loop .i) (c .before .before .before .before .before .before .before .before .before .before .loop .f) (c .before .before .before .before .before .before .before .before .before .before .loop .b) (c .before .before .before .before .before .before .before .before .before .before .loop .t) (c .before .before .before .before .before .before .before .before .before .before .loop .inv .7) (c .before .before .before .before .before .before .before .before .before .member-at .result) (c .before .before .before .before .before .before .before .before .before .member-at .ensures .1 .1) (c .before .before .before .before .before .before .put-member .result) _ _ (c .before .before .before .before .before .before .put-member .ensures .1 .1) (c .enum-told .given .1) _ _))
+returns c =
+    let args = c .before .before .before .before .before .before .before .before .before .before .before .before .before .before .args in
+    let loop = c .before .before .before .before .before .before .before .before .before .before .loop in
+    let member-at = c .before .before .before .before .before .before .before .before .before .member-at in
+    let put-member = c .before .before .before .before .before .before .put-member in (
+      record { long = put-member .ensures .0 .long ∙ (loop .inv .2); wide = put-member .ensures .0 .wide ∙ (loop .inv .3) },
+      (tt, from-bad (now (args .b)) (args .n) (now (args .s)) (args .at) (loop .i) (loop .f) (loop .b) (loop .t) (loop .inv .7) (member-at .result) (member-at .ensures .1 .1) (put-member .result) _ _ (put-member .ensures .1 .1) (c .enum-told .given .1) _ _),
+    )
 
 -- src/lib.rt:139:15
 separator-requires : tie.Need-separator-requires Inv-loop μ-loop
@@ -67,11 +91,32 @@ enum-known-j c = search needs
 
 -- src/lib.rt:130:5
 loop-less : tie.Need-loop-less Inv-loop μ-loop
-loop-less c = let h = turn-as (c .before .before .before .separator .ensures) (c .before .j .given .1) in omega (arith, h .within .0, h .within .1, c .before .before .before .before .before .before .before .before .before .before .before .before .before .before .member-at .ensures .1 .0 .from (c .before .before .before .before .before .before .before .before .before .before .before .before .before .before .before .loop .inv .0), c .before .before .before .before .before .before .before .before .before .before .before .before .before .before .member-at .ensures .1 .0 .ordered)
+loop-less c =
+    let loop = c .before .before .before .before .before .before .before .before .before .before .before .before .before .before .before .loop in
+    let member-at = c .before .before .before .before .before .before .before .before .before .before .before .before .before .before .member-at in
+    let separator = c .before .before .before .separator in
+    let h = turn-as (separator .ensures) (c .before .j .given .1) in omega
+    (arith, h .within .0, h .within .1, member-at .ensures .1 .0 .from (loop .inv .0), member-at .ensures .1 .0 .ordered)
 
 -- src/lib.rt:130:5
 loop-again : tie.Need-loop-again Inv-loop μ-loop
-loop-again c = let h = turn-as (c .before .before .before .separator .ensures) (c .before .j .given .1) in let k = step-in (c .before .before .before .before .before .before .before .before .before .before .before .put-member .ensures .1 .0) (c .before .before .before .before .before .g .given .1) in (h .within .1, omega (arith, k .1, c .before .before .before .before .before .before .before .before .before .before .before .put-member .ensures .0 .long), c .before .before .before .before .before .before .before .before .before .before .before .put-member .ensures .0 .long ∙ (c .before .before .before .before .before .before .before .before .before .before .before .before .before .before .before .loop .inv .2), c .before .before .before .before .before .before .before .before .before .before .before .put-member .ensures .0 .wide ∙ (c .before .before .before .before .before .before .before .before .before .before .before .before .before .before .before .loop .inv .3), omega (arith, k .0, c .before .before .before .before .before .before .before .before .before .before .before .before .before .before .before .loop .inv .4), k .2, omega (arith, k .3, c .before .before .before .before .before .before .before .before .before .before .before .before .before .before .before .loop .inv .6, h .within .0, c .before .before .before .before .before .before .before .before .before .before .before .before .before .before .member-at .ensures .1 .0 .from (c .before .before .before .before .before .before .before .before .before .before .before .before .before .before .before .loop .inv .0), c .before .before .before .before .before .before .before .before .before .before .before .before .before .before .member-at .ensures .1 .0 .ordered), from-on (now (c .before .before .before .before .before .before .before .before .before .before .before .before .before .before .before .before .before .before .before .args .b)) (c .before .before .before .before .before .before .before .before .before .before .before .before .before .before .before .before .before .before .before .args .n) (now (c .before .before .before .before .before .before .before .before .before .before .before .before .before .before .before .before .before .before .before .args .s)) (c .before .before .before .before .before .before .before .before .before .before .before .before .before .before .before .before .before .before .before .args .at) (c .before .before .before .before .before .before .before .before .before .before .before .before .before .before .before .loop .i) (c .before .before .before .before .before .before .before .before .before .before .before .before .before .before .before .loop .f) (c .before .before .before .before .before .before .before .before .before .before .before .before .before .before .before .loop .b) (c .before .before .before .before .before .before .before .before .before .before .before .before .before .before .before .loop .t) (c .before .before .before .before .before .before .before .before .before .before .before .before .before .before .before .loop .inv .7) (c .before .before .before .before .before .before .before .before .before .before .before .before .before .before .member-at .result) (c .before .before .before .before .before .before .before .before .before .before .before .before .before .before .member-at .ensures .1 .1) (c .before .before .before .before .before .before .before .before .before .before .before .put-member .result) _ _ (c .before .before .before .before .before .before .before .before .before .before .before .put-member .ensures .1 .1) _ (c .before .before .before .before .before .g .given .1) _ h)
+loop-again c =
+    let args = c .before .before .before .before .before .before .before .before .before .before .before .before .before .before .before .before .before .before .before .args in
+    let loop = c .before .before .before .before .before .before .before .before .before .before .before .before .before .before .before .loop in
+    let member-at = c .before .before .before .before .before .before .before .before .before .before .before .before .before .before .member-at in
+    let put-member = c .before .before .before .before .before .before .before .before .before .before .before .put-member in
+    let g = c .before .before .before .before .before .g in
+    let separator = c .before .before .before .separator in
+    let h = turn-as (separator .ensures) (c .before .j .given .1) in let k = step-in (put-member .ensures .1 .0) (g .given .1) in (
+      h .within .1,
+      omega (arith, k .1, put-member .ensures .0 .long),
+      put-member .ensures .0 .long ∙ (loop .inv .2),
+      put-member .ensures .0 .wide ∙ (loop .inv .3),
+      omega (arith, k .0, loop .inv .4),
+      k .2,
+      omega (arith, k .3, loop .inv .6, h .within .0, member-at .ensures .1 .0 .from (loop .inv .0), member-at .ensures .1 .0 .ordered),
+      from-on (now (args .b)) (args .n) (now (args .s)) (args .at) (loop .i) (loop .f) (loop .b) (loop .t) (loop .inv .7) (member-at .result) (member-at .ensures .1 .1) (put-member .result) _ _ (put-member .ensures .1 .1) _ (g .given .1) _ h,
+    )
 
 -- src/lib.rt:143:24
 enum-known-r : tie.Need-enum-known-r Inv-loop μ-loop
@@ -87,7 +132,17 @@ same-length-4 c = c .before .before .before .before .before .before .before .bef
 
 -- src/lib.rt:144:17
 returns-2 : tie.Need-returns-2 Inv-loop μ-loop
-returns-2 c = let k = step-in (c .before .before .before .before .before .before .before .before .before .before .before .put-member .ensures .1 .0) (c .before .before .before .before .before .g .given .1) in (record { long = c .before .before .before .before .before .before .before .before .before .before .before .put-member .ensures .0 .long ∙ (c .before .before .before .before .before .before .before .before .before .before .before .before .before .before .before .loop .inv .2); wide = c .before .before .before .before .before .before .before .before .before .before .before .put-member .ensures .0 .wide ∙ (c .before .before .before .before .before .before .before .before .before .before .before .before .before .before .before .loop .inv .3) }, ((omega (arith, k .0, c .before .before .before .before .before .before .before .before .before .before .before .before .before .before .before .loop .inv .4), omega (arith, k .1, c .before .before .before .before .before .before .before .before .before .before .before .before .before .before .before .loop .inv .2), k .2, omega (arith, k .3, c .before .before .before .before .before .before .before .before .before .before .before .before .before .before .before .loop .inv .6, c .before .before .before .before .before .before .before .before .before .before .before .before .before .before .before .loop .inv .0)), from-all (now (c .before .before .before .before .before .before .before .before .before .before .before .before .before .before .before .before .before .before .before .args .b)) (c .before .before .before .before .before .before .before .before .before .before .before .before .before .before .before .before .before .before .before .args .n) (now (c .before .before .before .before .before .before .before .before .before .before .before .before .before .before .before .before .before .before .before .args .s)) (c .before .before .before .before .before .before .before .before .before .before .before .before .before .before .before .before .before .before .before .args .at) (c .before .before .before .before .before .before .before .before .before .before .before .before .before .before .before .loop .i) (c .before .before .before .before .before .before .before .before .before .before .before .before .before .before .before .loop .f) (c .before .before .before .before .before .before .before .before .before .before .before .before .before .before .before .loop .b) (c .before .before .before .before .before .before .before .before .before .before .before .before .before .before .before .loop .t) (c .before .before .before .before .before .before .before .before .before .before .before .before .before .before .before .loop .inv .7) (c .before .before .before .before .before .before .before .before .before .before .before .before .before .before .member-at .result) (c .before .before .before .before .before .before .before .before .before .before .before .before .before .before .member-at .ensures .1 .1) (c .before .before .before .before .before .before .before .before .before .before .before .put-member .result) _ _ (c .before .before .before .before .before .before .before .before .before .before .before .put-member .ensures .1 .1) _ (c .before .before .before .before .before .g .given .1) _ (turn-as (c .before .before .before .separator .ensures) (c .before .r .given .1))))
+returns-2 c =
+    let args = c .before .before .before .before .before .before .before .before .before .before .before .before .before .before .before .before .before .before .before .args in
+    let loop = c .before .before .before .before .before .before .before .before .before .before .before .before .before .before .before .loop in
+    let member-at = c .before .before .before .before .before .before .before .before .before .before .before .before .before .before .member-at in
+    let put-member = c .before .before .before .before .before .before .before .before .before .before .before .put-member in
+    let g = c .before .before .before .before .before .g in
+    let separator = c .before .before .before .separator in
+    let k = step-in (put-member .ensures .1 .0) (g .given .1) in (
+      record { long = put-member .ensures .0 .long ∙ (loop .inv .2); wide = put-member .ensures .0 .wide ∙ (loop .inv .3) },
+      ((omega (arith, k .0, loop .inv .4), omega (arith, k .1, loop .inv .2), k .2, omega (arith, k .3, loop .inv .6, loop .inv .0)), from-all (now (args .b)) (args .n) (now (args .s)) (args .at) (loop .i) (loop .f) (loop .b) (loop .t) (loop .inv .7) (member-at .result) (member-at .ensures .1 .1) (put-member .result) _ _ (put-member .ensures .1 .1) _ (g .given .1) _ (turn-as (separator .ensures) (c .before .r .given .1))),
+    )
 
 pub put-from-spec : {M : Type 1} → statement M
 put-from-spec =

@@ -29,7 +29,11 @@ equals-requires c κs = search needs
 
 -- src/lib.rt:88:13
 returns : tie.Need-returns
-returns c = (record { long = refl; wide = refl }, (tt, member-again (now (c .before .before .before .before .before .before .before .args .b)) (now (c .before .before .before .before .before .before .before .args .t)) (c .before .before .before .before .before .before .before .args .f) (now (c .before .before .before .before .before .before .before .args .s)) (c .before .before .before .before .before .before .before .args .q) (c .before .before .before .before .before .before .before .args .at) (sym (c .before .before .equals .ensures) ∙ (c .before .if1 .taken)) (c .if2 .taken)))
+returns c =
+    let args = c .before .before .before .before .before .before .before .args in (
+      record { long = refl; wide = refl },
+      (tt, member-again (now (args .b)) (now (args .t)) (args .f) (now (args .s)) (args .q) (args .at) (sym (c .before .before .equals .ensures) ∙ (c .before .if1 .taken)) (c .if2 .taken)),
+    )
 
 -- src/lib.rt:90:26
 put-group-requires : tie.Need-put-group-requires
@@ -49,7 +53,15 @@ same-length c = search needs
 
 -- src/lib.rt:91:13
 returns-2 : tie.Need-returns-2
-returns-2 c = (record { long = c .before .before .before .before .put-group .ensures .0; wide = refl }, (tt, member-nogroup (now (c .before .before .before .before .before .before .before .before .before .before .before .before .before .args .b)) (now (c .before .before .before .before .before .before .before .before .before .before .before .before .before .args .t)) (c .before .before .before .before .before .before .before .before .before .before .before .before .before .args .f) (now (c .before .before .before .before .before .before .before .before .before .before .before .before .before .args .s)) (c .before .before .before .before .before .before .before .before .before .before .before .before .before .args .q) (c .before .before .before .before .before .before .before .before .before .before .before .before .before .args .at) (sym (c .before .before .before .before .before .before .before .before .equals .ensures) ∙ (c .before .before .before .before .before .before .before .if1 .taken)) (c .before .before .before .before .before .before .if2 .left) (c .before .before .before .before .put-group .result) _ (c .before .before .before .before .put-group .ensures .1 .1) (c .enum-told .given .1)))
+returns-2 c =
+    let args = c .before .before .before .before .before .before .before .before .before .before .before .before .before .args in
+    let equals = c .before .before .before .before .before .before .before .before .equals in
+    let if1 = c .before .before .before .before .before .before .before .if1 in
+    let if2 = c .before .before .before .before .before .before .if2 in
+    let put-group = c .before .before .before .before .put-group in (
+      record { long = put-group .ensures .0; wide = refl },
+      (tt, member-nogroup (now (args .b)) (now (args .t)) (args .f) (now (args .s)) (args .q) (args .at) (sym (equals .ensures) ∙ (if1 .taken)) (if2 .left) (put-group .result) _ (put-group .ensures .1 .1) (c .enum-told .given .1)),
+    )
 
 -- src/lib.rt:93:9
 same-length-2 : tie.Need-same-length-2
@@ -57,7 +69,18 @@ same-length-2 c = search needs
 
 -- src/lib.rt:93:9
 returns-3 : tie.Need-returns-3
-returns-3 c = let g = to-in (c .before .before .before .before .before .put-group .ensures .1 .0) (c .before .k .given .1) in (record { long = c .before .before .before .before .before .put-group .ensures .0; wide = refl }, ((g .0, g .1, c .before .before .before .before .before .before .before .before .before .before .before .before .before .before .pre .1 .1 .1 .1, omega arith), member-group (now (c .before .before .before .before .before .before .before .before .before .before .before .before .before .before .args .b)) (now (c .before .before .before .before .before .before .before .before .before .before .before .before .before .before .args .t)) (c .before .before .before .before .before .before .before .before .before .before .before .before .before .before .args .f) (now (c .before .before .before .before .before .before .before .before .before .before .before .before .before .before .args .s)) (c .before .before .before .before .before .before .before .before .before .before .before .before .before .before .args .q) (c .before .before .before .before .before .before .before .before .before .before .before .before .before .before .args .at) (sym (c .before .before .before .before .before .before .before .before .before .equals .ensures) ∙ (c .before .before .before .before .before .before .before .before .if1 .taken)) (c .before .before .before .before .before .before .before .if2 .left) (c .before .before .before .before .before .put-group .result) _ (c .before .before .before .before .before .put-group .ensures .1 .1) (c .before .before .before .before .before .before .before .before .before .before .before .before .before .before .pre .0) _ (c .before .k .given .1)))
+returns-3 c =
+    let args = c .before .before .before .before .before .before .before .before .before .before .before .before .before .before .args in
+    let pre = c .before .before .before .before .before .before .before .before .before .before .before .before .before .before .pre in
+    let equals = c .before .before .before .before .before .before .before .before .before .equals in
+    let if1 = c .before .before .before .before .before .before .before .before .if1 in
+    let if2 = c .before .before .before .before .before .before .before .if2 in
+    let put-group = c .before .before .before .before .before .put-group in
+    let k = c .before .k in
+    let g = to-in (put-group .ensures .1 .0) (k .given .1) in (
+      record { long = put-group .ensures .0; wide = refl },
+      ((g .0, g .1, pre .1 .1 .1 .1, omega arith), member-group (now (args .b)) (now (args .t)) (args .f) (now (args .s)) (args .q) (args .at) (sym (equals .ensures) ∙ (if1 .taken)) (if2 .left) (put-group .result) _ (put-group .ensures .1 .1) (pre .0) _ (k .given .1)),
+    )
 
 -- src/lib.rt:101:43
 put-param-requires : tie.Need-put-param-requires
@@ -81,7 +104,14 @@ same-length-4 c = search needs
 
 -- src/lib.rt:102:9
 returns-4 : tie.Need-returns-4
-returns-4 c = (c .before .before .before .before .before .before .put-param .ensures .0, (tt, member-wrong (now (c .before .before .before .before .before .before .before .before .before .before .before .before .before .before .before .args .b)) (now (c .before .before .before .before .before .before .before .before .before .before .before .before .before .before .before .args .t)) (c .before .before .before .before .before .before .before .before .before .before .before .before .before .before .before .args .f) (now (c .before .before .before .before .before .before .before .before .before .before .before .before .before .before .before .args .s)) (c .before .before .before .before .before .before .before .before .before .before .before .before .before .before .before .args .q) (c .before .before .before .before .before .before .before .before .before .before .before .before .before .before .before .args .at) (sym (c .before .before .before .before .before .before .before .before .before .before .equals .ensures) ∙ (c .before .before .before .before .before .before .before .before .before .if1 .left)) (c .before .before .before .before .before .before .put-param .result) _ _ (c .before .before .before .before .before .before .put-param .ensures .1 .1) (c .enum-told2 .given .1)))
+returns-4 c =
+    let args = c .before .before .before .before .before .before .before .before .before .before .before .before .before .before .before .args in
+    let equals = c .before .before .before .before .before .before .before .before .before .before .equals in
+    let if1 = c .before .before .before .before .before .before .before .before .before .if1 in
+    let put-param = c .before .before .before .before .before .before .put-param in (
+      put-param .ensures .0,
+      (tt, member-wrong (now (args .b)) (now (args .t)) (args .f) (now (args .s)) (args .q) (args .at) (sym (equals .ensures) ∙ (if1 .left)) (put-param .result) _ _ (put-param .ensures .1 .1) (c .enum-told2 .given .1)),
+    )
 
 -- src/lib.rt:107:16
 add-t29 : tie.Need-add-t29
@@ -97,7 +127,17 @@ same-length-6 c = search needs
 
 -- src/lib.rt:64:1
 returns-5 : tie.Need-returns-5
-returns-5 c = let g = rows-in (c .before .before .before .before .before .before .before .put-param .ensures .1 .0) (c .before .end .given .1) in (c .before .before .before .before .before .before .before .put-param .ensures .0, ((g .0, g .1, g .2, omega arith), member-param (now (c .before .before .before .before .before .before .before .before .before .before .before .before .before .before .before .before .args .b)) (now (c .before .before .before .before .before .before .before .before .before .before .before .before .before .before .before .before .args .t)) (c .before .before .before .before .before .before .before .before .before .before .before .before .before .before .before .before .args .f) (now (c .before .before .before .before .before .before .before .before .before .before .before .before .before .before .before .before .args .s)) (c .before .before .before .before .before .before .before .before .before .before .before .before .before .before .before .before .args .q) (c .before .before .before .before .before .before .before .before .before .before .before .before .before .before .before .before .args .at) (sym (c .before .before .before .before .before .before .before .before .before .before .before .equals .ensures) ∙ (c .before .before .before .before .before .before .before .before .before .before .if1 .left)) (c .before .before .before .before .before .before .before .put-param .result) _ _ (c .before .before .before .before .before .before .before .put-param .ensures .1 .1) (c .before .before .before .before .before .before .before .before .before .before .before .before .before .before .before .before .pre .0) _ _ (c .before .end .given .1)))
+returns-5 c =
+    let args = c .before .before .before .before .before .before .before .before .before .before .before .before .before .before .before .before .args in
+    let pre = c .before .before .before .before .before .before .before .before .before .before .before .before .before .before .before .before .pre in
+    let equals = c .before .before .before .before .before .before .before .before .before .before .before .equals in
+    let if1 = c .before .before .before .before .before .before .before .before .before .before .if1 in
+    let put-param = c .before .before .before .before .before .before .before .put-param in
+    let end = c .before .end in
+    let g = rows-in (put-param .ensures .1 .0) (end .given .1) in (
+      put-param .ensures .0,
+      ((g .0, g .1, g .2, omega arith), member-param (now (args .b)) (now (args .t)) (args .f) (now (args .s)) (args .q) (args .at) (sym (equals .ensures) ∙ (if1 .left)) (put-param .result) _ _ (put-param .ensures .1 .1) (pre .0) _ _ (end .given .1)),
+    )
 
 pub put-member-spec : {M : Type 1} → statement M
 put-member-spec =

@@ -21,7 +21,13 @@ look-requires c κs = search needs
 
 -- src/lib.rt:167:9
 returns : tie.Need-returns
-returns c = (record { long = refl; wide = refl }, (tt, object-none (now (c .before .before .before .before .before .before .args .b)) (c .before .before .before .before .before .before .args .n) (now (c .before .before .before .before .before .before .args .t)) (now (c .before .before .before .before .before .before .args .s)) (c .before .before .before .before .before .before .args .at) (c .before .before .skip-space .result) (c .before .look .result) (c .before .before .skip-space .ensures) (c .before .look .ensures .0) (c .if1 .taken)))
+returns c =
+    let args = c .before .before .before .before .before .before .args in
+    let skip-space = c .before .before .skip-space in
+    let look = c .before .look in (
+      record { long = refl; wide = refl },
+      (tt, object-none (now (args .b)) (args .n) (now (args .t)) (now (args .s)) (args .at) (skip-space .result) (look .result) (skip-space .ensures) (look .ensures .0) (c .if1 .taken)),
+    )
 
 -- src/lib.rt:169:27
 add-skip-space : tie.Need-add-skip-space
@@ -37,7 +43,17 @@ look-requires-2 c κs = search needs
 
 -- src/lib.rt:171:9
 returns-2 : tie.Need-returns-2
-returns-2 c = (record { long = refl; wide = refl }, ((omega arith, c .before .before .before .before .before .before .before .before .before .pre .0, omega arith, omega arith), object-empty (now (c .before .before .before .before .before .before .before .before .before .args .b)) (c .before .before .before .before .before .before .before .before .before .args .n) (now (c .before .before .before .before .before .before .before .before .before .args .t)) (now (c .before .before .before .before .before .before .before .before .before .args .s)) (c .before .before .before .before .before .before .before .before .before .args .at) (c .before .before .before .before .before .skip-space .result) (c .before .before .before .before .look .result) (c .before .before .before .before .before .skip-space .ensures) (c .before .before .before .before .look .ensures .0) (c .before .before .before .if1 .left) (c .before .before .skip-space2 .result) (c .before .look2 .result) (c .before .before .skip-space2 .ensures) (c .before .look2 .ensures .0) (c .before .before .before .before .before .before .before .before .before .pre .0) (c .if2 .taken)))
+returns-2 c =
+    let pre = c .before .before .before .before .before .before .before .before .before .pre in
+    let args = c .before .before .before .before .before .before .before .before .before .args in
+    let skip-space = c .before .before .before .before .before .skip-space in
+    let look = c .before .before .before .before .look in
+    let if1 = c .before .before .before .if1 in
+    let skip-space2 = c .before .before .skip-space2 in
+    let look2 = c .before .look2 in (
+      record { long = refl; wide = refl },
+      ((omega arith, pre .0, omega arith, omega arith), object-empty (now (args .b)) (args .n) (now (args .t)) (now (args .s)) (args .at) (skip-space .result) (look .result) (skip-space .ensures) (look .ensures .0) (if1 .left) (skip-space2 .result) (look2 .result) (skip-space2 .ensures) (look2 .ensures .0) (pre .0) (c .if2 .taken)),
+    )
 
 -- src/lib.rt:179:5
 put-from-requires : tie.Need-put-from-requires
@@ -53,7 +69,18 @@ same-length-2 c = search needs
 
 -- src/lib.rt:151:1
 returns-3 : tie.Need-returns-3
-returns-3 c = (c .before .before .before .before .put-from .ensures .0, (c .before .before .before .before .put-from .ensures .1 .0, object-all (now (c .before .before .before .before .before .before .before .before .before .before .before .before .before .before .before .before .args .b)) (c .before .before .before .before .before .before .before .before .before .before .before .before .before .before .before .before .args .n) (now (c .before .before .before .before .before .before .before .before .before .before .before .before .before .before .before .before .args .t)) (now (c .before .before .before .before .before .before .before .before .before .before .before .before .before .before .before .before .args .s)) (c .before .before .before .before .before .before .before .before .before .before .before .before .before .before .before .before .args .at) (c .before .before .before .before .before .before .before .before .before .before .before .before .skip-space .result) (c .before .before .before .before .before .before .before .before .before .before .before .look .result) (c .before .before .before .before .before .before .before .before .before .before .before .before .skip-space .ensures) (c .before .before .before .before .before .before .before .before .before .before .before .look .ensures .0) (c .before .before .before .before .before .before .before .before .before .before .if1 .left) (c .before .before .before .before .before .before .before .before .before .skip-space2 .result) (c .before .before .before .before .before .before .before .before .look2 .result) (c .before .before .before .before .before .before .before .before .before .skip-space2 .ensures) (c .before .before .before .before .before .before .before .before .look2 .ensures .0) (c .before .before .before .before .before .before .before .if2 .left) (c .before .before .before .before .put-from .result) _ _ (c .before .before .before .before .put-from .ensures .1 .1)))
+returns-3 c =
+    let args = c .before .before .before .before .before .before .before .before .before .before .before .before .before .before .before .before .args in
+    let skip-space = c .before .before .before .before .before .before .before .before .before .before .before .before .skip-space in
+    let look = c .before .before .before .before .before .before .before .before .before .before .before .look in
+    let if1 = c .before .before .before .before .before .before .before .before .before .before .if1 in
+    let skip-space2 = c .before .before .before .before .before .before .before .before .before .skip-space2 in
+    let look2 = c .before .before .before .before .before .before .before .before .look2 in
+    let if2 = c .before .before .before .before .before .before .before .if2 in
+    let put-from = c .before .before .before .before .put-from in (
+      put-from .ensures .0,
+      (put-from .ensures .1 .0, object-all (now (args .b)) (args .n) (now (args .t)) (now (args .s)) (args .at) (skip-space .result) (look .result) (skip-space .ensures) (look .ensures .0) (if1 .left) (skip-space2 .result) (look2 .result) (skip-space2 .ensures) (look2 .ensures .0) (if2 .left) (put-from .result) _ _ (put-from .ensures .1 .1)),
+    )
 
 pub put-object-spec : {M : Type 1} → statement M
 put-object-spec =

@@ -38,19 +38,40 @@ same-length c = search needs
 
 -- src/lib.rt:52:9
 returns : tie.Need-returns
-returns c = (record { long = puts-long (now (c .before .before .before .before .before .before .before .before .before .args .b)) (c .before .before .before .before .before .before .before .before .before .args .n) (textAt (now (c .before .before .before .before .before .before .before .before .before .args .s)) (c .before .before .before .before .before .before .before .before .before .args .q)) (c .before .before .before .before .put-decoded .result) _ (c .before .before .before .before .put-decoded .ensures); wide = refl }, (tt, param-full (now (c .before .before .before .before .before .before .before .before .before .args .b)) (c .before .before .before .before .before .before .before .before .before .args .n) (now (c .before .before .before .before .before .before .before .before .before .args .t)) (c .before .before .before .before .before .before .before .before .before .args .m) (now (c .before .before .before .before .before .before .before .before .before .args .s)) (c .before .before .before .before .before .before .before .before .before .args .q) (c .before .before .before .before .before .before .before .before .before .args .at) (c .before .before .before .before .before .before .before .before .before .pre .0) (c .before .before .before .before .put-decoded .result) _ (c .before .before .before .before .put-decoded .ensures) (c .enum-told .given .1)))
+returns c =
+    let args = c .before .before .before .before .before .before .before .before .before .args in
+    let pre = c .before .before .before .before .before .before .before .before .before .pre in
+    let put-decoded = c .before .before .before .before .put-decoded in (
+      record { long = puts-long (now (args .b)) (args .n) (textAt (now (args .s)) (args .q)) (put-decoded .result) _ (put-decoded .ensures); wide = refl },
+      (tt, param-full (now (args .b)) (args .n) (now (args .t)) (args .m) (now (args .s)) (args .q) (args .at) (pre .0) (put-decoded .result) _ (put-decoded .ensures) (c .enum-told .given .1)),
+    )
 
 -- src/lib.rt:54:17
 sub-is-word : tie.Need-sub-is-word
-sub-is-word c = let g = name-in (now (c .before .before .before .before .before .before .before .before .before .before .args .b)) (c .before .before .before .before .before .before .before .before .before .before .args .n) (now (c .before .before .before .before .before .before .before .before .before .before .args .t)) (c .before .before .before .before .before .before .before .before .before .before .args .m) (now (c .before .before .before .before .before .before .before .before .before .before .args .s)) (c .before .before .before .before .before .before .before .before .before .before .args .q) (c .before .before .before .before .before .before .before .before .before .before .args .at) (c .before .before .before .before .before .before .before .before .before .before .pre .0) (c .before .before .before .before .before .put-decoded .result) _ (c .before .before .before .before .before .put-decoded .ensures) _ (c .before .k .given .1) in omega (arith, g .to, g .within, g .long)
+sub-is-word c =
+    let args = c .before .before .before .before .before .before .before .before .before .before .args in
+    let pre = c .before .before .before .before .before .before .before .before .before .before .pre in
+    let put-decoded = c .before .before .before .before .before .put-decoded in
+    let g = name-in (now (args .b)) (args .n) (now (args .t)) (args .m) (now (args .s)) (args .q) (args .at) (pre .0) (put-decoded .result) _
+    (put-decoded .ensures) _ (c .before .k .given .1) in omega (arith, g .to, g .within, g .long)
 
 -- src/lib.rt:54:17
 part-is-word-start : tie.Need-part-is-word-start
-part-is-word-start c = let g = name-in (now (c .before .before .before .before .before .before .before .before .before .before .before .args .b)) (c .before .before .before .before .before .before .before .before .before .before .before .args .n) (now (c .before .before .before .before .before .before .before .before .before .before .before .args .t)) (c .before .before .before .before .before .before .before .before .before .before .before .args .m) (now (c .before .before .before .before .before .before .before .before .before .before .before .args .s)) (c .before .before .before .before .before .before .before .before .before .before .before .args .q) (c .before .before .before .before .before .before .before .before .before .before .before .args .at) (c .before .before .before .before .before .before .before .before .before .before .before .pre .0) (c .before .before .before .before .before .before .put-decoded .result) _ (c .before .before .before .before .before .before .put-decoded .ensures) _ (c .before .before .k .given .1) in omega (arith, g .to, g .within, g .long)
+part-is-word-start c =
+    let args = c .before .before .before .before .before .before .before .before .before .before .before .args in
+    let pre = c .before .before .before .before .before .before .before .before .before .before .before .pre in
+    let put-decoded = c .before .before .before .before .before .before .put-decoded in
+    let g = name-in (now (args .b)) (args .n) (now (args .t)) (args .m) (now (args .s)) (args .q) (args .at) (pre .0) (put-decoded .result) _
+    (put-decoded .ensures) _ (c .before .before .k .given .1) in omega (arith, g .to, g .within, g .long)
 
 -- src/lib.rt:54:17
 part-is-word-end : tie.Need-part-is-word-end
-part-is-word-end c = let g = name-in (now (c .before .before .before .before .before .before .before .before .before .before .before .args .b)) (c .before .before .before .before .before .before .before .before .before .before .before .args .n) (now (c .before .before .before .before .before .before .before .before .before .before .before .args .t)) (c .before .before .before .before .before .before .before .before .before .before .before .args .m) (now (c .before .before .before .before .before .before .before .before .before .before .before .args .s)) (c .before .before .before .before .before .before .before .before .before .before .before .args .q) (c .before .before .before .before .before .before .before .before .before .before .before .args .at) (c .before .before .before .before .before .before .before .before .before .before .before .pre .0) (c .before .before .before .before .before .before .put-decoded .result) _ (c .before .before .before .before .before .before .put-decoded .ensures) _ (c .before .before .k .given .1) in omega (arith, g .to, g .within, g .long)
+part-is-word-end c =
+    let args = c .before .before .before .before .before .before .before .before .before .before .before .args in
+    let pre = c .before .before .before .before .before .before .before .before .before .before .before .pre in
+    let put-decoded = c .before .before .before .before .before .before .put-decoded in
+    let g = name-in (now (args .b)) (args .n) (now (args .t)) (args .m) (now (args .s)) (args .q) (args .at) (pre .0) (put-decoded .result) _
+    (put-decoded .ensures) _ (c .before .before .k .given .1) in omega (arith, g .to, g .within, g .long)
 
 -- src/lib.rt:54:9
 is-word-requires : tie.Need-is-word-requires
@@ -62,7 +83,14 @@ same-length-2 c = search needs
 
 -- src/lib.rt:55:9
 returns-2 : tie.Need-returns-2
-returns-2 c = (record { long = puts-long (now (c .before .before .before .before .before .before .before .before .before .before .before .before .before .before .args .b)) (c .before .before .before .before .before .before .before .before .before .before .before .before .before .before .args .n) (textAt (now (c .before .before .before .before .before .before .before .before .before .before .before .before .before .before .args .s)) (c .before .before .before .before .before .before .before .before .before .before .before .before .before .before .args .q)) (c .before .before .before .before .before .before .before .before .before .put-decoded .result) _ (c .before .before .before .before .before .before .before .before .before .put-decoded .ensures); wide = refl }, (tt, param-other (now (c .before .before .before .before .before .before .before .before .before .before .before .before .before .before .args .b)) (c .before .before .before .before .before .before .before .before .before .before .before .before .before .before .args .n) (now (c .before .before .before .before .before .before .before .before .before .before .before .before .before .before .args .t)) (c .before .before .before .before .before .before .before .before .before .before .before .before .before .before .args .m) (now (c .before .before .before .before .before .before .before .before .before .before .before .before .before .before .args .s)) (c .before .before .before .before .before .before .before .before .before .before .before .before .before .before .args .q) (c .before .before .before .before .before .before .before .before .before .before .before .before .before .before .args .at) (c .before .before .before .before .before .before .before .before .before .before .before .before .before .before .pre .0) (c .before .before .before .before .before .before .before .before .before .put-decoded .result) _ (c .before .before .before .before .before .before .before .before .before .put-decoded .ensures) _ (c .before .before .before .before .before .k .given .1) (sym (c .before .is-word .ensures) ∙ not-true _ (c .if1 .taken))))
+returns-2 c =
+    let args = c .before .before .before .before .before .before .before .before .before .before .before .before .before .before .args in
+    let pre = c .before .before .before .before .before .before .before .before .before .before .before .before .before .before .pre in
+    let put-decoded = c .before .before .before .before .before .before .before .before .before .put-decoded in
+    let k = c .before .before .before .before .before .k in (
+      record { long = puts-long (now (args .b)) (args .n) (textAt (now (args .s)) (args .q)) (put-decoded .result) _ (put-decoded .ensures); wide = refl },
+      (tt, param-other (now (args .b)) (args .n) (now (args .t)) (args .m) (now (args .s)) (args .q) (args .at) (pre .0) (put-decoded .result) _ (put-decoded .ensures) _ (k .given .1) (sym (c .before .is-word .ensures) ∙ not-true _ (c .if1 .taken))),
+    )
 
 -- src/lib.rt:57:21
 slice-aggregate-equals : tie.Need-slice-aggregate-equals
@@ -78,11 +106,24 @@ same-length-3 c = search needs
 
 -- src/lib.rt:58:9
 returns-3 : tie.Need-returns-3
-returns-3 c = (record { long = puts-long (now (c .before .before .before .before .before .before .before .before .before .before .before .before .before .before .before .before .before .args .b)) (c .before .before .before .before .before .before .before .before .before .before .before .before .before .before .before .before .before .args .n) (textAt (now (c .before .before .before .before .before .before .before .before .before .before .before .before .before .before .before .before .before .args .s)) (c .before .before .before .before .before .before .before .before .before .before .before .before .before .before .before .before .before .args .q)) (c .before .before .before .before .before .before .before .before .before .before .before .before .put-decoded .result) _ (c .before .before .before .before .before .before .before .before .before .before .before .before .put-decoded .ensures); wide = refl }, (tt, param-value (now (c .before .before .before .before .before .before .before .before .before .before .before .before .before .before .before .before .before .args .b)) (c .before .before .before .before .before .before .before .before .before .before .before .before .before .before .before .before .before .args .n) (now (c .before .before .before .before .before .before .before .before .before .before .before .before .before .before .before .before .before .args .t)) (c .before .before .before .before .before .before .before .before .before .before .before .before .before .before .before .before .before .args .m) (now (c .before .before .before .before .before .before .before .before .before .before .before .before .before .before .before .before .before .args .s)) (c .before .before .before .before .before .before .before .before .before .before .before .before .before .before .before .before .before .args .q) (c .before .before .before .before .before .before .before .before .before .before .before .before .before .before .before .before .before .args .at) (c .before .before .before .before .before .before .before .before .before .before .before .before .before .before .before .before .before .pre .0) (c .before .before .before .before .before .before .before .before .before .before .before .before .put-decoded .result) _ (c .before .before .before .before .before .before .before .before .before .before .before .before .put-decoded .ensures) _ (c .before .before .before .before .before .before .before .before .k .given .1) (sym (c .before .equals .ensures) ∙ (c .if2 .taken))))
+returns-3 c =
+    let pre = c .before .before .before .before .before .before .before .before .before .before .before .before .before .before .before .before .before .pre in
+    let args = c .before .before .before .before .before .before .before .before .before .before .before .before .before .before .before .before .before .args in
+    let put-decoded = c .before .before .before .before .before .before .before .before .before .before .before .before .put-decoded in
+    let k = c .before .before .before .before .before .before .before .before .k in (
+      record { long = puts-long (now (args .b)) (args .n) (textAt (now (args .s)) (args .q)) (put-decoded .result) _ (put-decoded .ensures); wide = refl },
+      (tt, param-value (now (args .b)) (args .n) (now (args .t)) (args .m) (now (args .s)) (args .q) (args .at) (pre .0) (put-decoded .result) _ (put-decoded .ensures) _ (k .given .1) (sym (c .before .equals .ensures) ∙ (c .if2 .taken))),
+    )
 
 -- src/lib.rt:60:5
 put-values-requires : tie.Need-put-values-requires
-put-values-requires c κs = let g = name-in (now (c .before .before .before .before .before .before .before .before .before .before .before .before .before .before .before .before .before .before .before .args .b)) (c .before .before .before .before .before .before .before .before .before .before .before .before .before .before .before .before .before .before .before .args .n) (now (c .before .before .before .before .before .before .before .before .before .before .before .before .before .before .before .before .before .before .before .args .t)) (c .before .before .before .before .before .before .before .before .before .before .before .before .before .before .before .before .before .before .before .args .m) (now (c .before .before .before .before .before .before .before .before .before .before .before .before .before .before .before .before .before .before .before .args .s)) (c .before .before .before .before .before .before .before .before .before .before .before .before .before .before .before .before .before .before .before .args .q) (c .before .before .before .before .before .before .before .before .before .before .before .before .before .before .before .before .before .before .before .args .at) (c .before .before .before .before .before .before .before .before .before .before .before .before .before .before .before .before .before .before .before .pre .0) (c .before .before .before .before .before .before .before .before .before .before .before .before .before .before .put-decoded .result) _ (c .before .before .before .before .before .before .before .before .before .before .before .before .before .before .put-decoded .ensures) _ (c .before .before .before .before .before .before .before .before .before .before .k .given .1) in (omega (arith, g .within, g .long), (c .before .before .before .before .before .before .before .before .before .before .before .before .before .before .before .before .before .before .before .pre .1 .0, c .before .before .before .before .before .before .before .before .before .before .before .before .before .before .before .before .before .before .before .pre .1 .1))
+put-values-requires c κs =
+    let args = c .before .before .before .before .before .before .before .before .before .before .before .before .before .before .before .before .before .before .before .args in
+    let pre = c .before .before .before .before .before .before .before .before .before .before .before .before .before .before .before .before .before .before .before .pre in
+    let put-decoded = c .before .before .before .before .before .before .before .before .before .before .before .before .before .before .put-decoded in
+    let k = c .before .before .before .before .before .before .before .before .before .before .k in
+    let g = name-in (now (args .b)) (args .n) (now (args .t)) (args .m) (now (args .s)) (args .q) (args .at) (pre .0) (put-decoded .result) _
+    (put-decoded .ensures) _ (k .given .1) in (omega (arith, g .within, g .long), (pre .1 .0, pre .1 .1))
 
 -- src/lib.rt:35:1
 same-length-4 : tie.Need-same-length-4
@@ -94,7 +135,21 @@ same-length-5 c = search needs
 
 -- src/lib.rt:35:1
 returns-4 : tie.Need-returns-4
-returns-4 c = let g = name-in (now (c .before .before .before .before .before .before .before .before .before .before .before .before .before .before .before .before .before .before .before .before .before .before .before .before .args .b)) (c .before .before .before .before .before .before .before .before .before .before .before .before .before .before .before .before .before .before .before .before .before .before .before .before .args .n) (now (c .before .before .before .before .before .before .before .before .before .before .before .before .before .before .before .before .before .before .before .before .before .before .before .before .args .t)) (c .before .before .before .before .before .before .before .before .before .before .before .before .before .before .before .before .before .before .before .before .before .before .before .before .args .m) (now (c .before .before .before .before .before .before .before .before .before .before .before .before .before .before .before .before .before .before .before .before .before .before .before .before .args .s)) (c .before .before .before .before .before .before .before .before .before .before .before .before .before .before .before .before .before .before .before .before .before .before .before .before .args .q) (c .before .before .before .before .before .before .before .before .before .before .before .before .before .before .before .before .before .before .before .before .before .before .before .before .args .at) (c .before .before .before .before .before .before .before .before .before .before .before .before .before .before .before .before .before .before .before .before .before .before .before .before .pre .0) (c .before .before .before .before .before .before .before .before .before .before .before .before .before .before .before .before .before .before .before .put-decoded .result) _ (c .before .before .before .before .before .before .before .before .before .before .before .before .before .before .before .before .before .before .before .put-decoded .ensures) _ (c .before .before .before .before .before .before .before .before .before .before .before .before .before .before .before .k .given .1) in (record { long = c .before .before .before .before .put-values .ensures .0 .long ∙ g .long; wide = c .before .before .before .before .put-values .ensures .0 .wide }, (rows-lower (c .before .before .before .before .before .before .before .before .before .before .before .before .before .before .before .before .before .before .before .before .before .before .before .before .args .n) _ _ (length (now (c .before .before .before .before .before .before .before .before .before .before .before .before .before .before .before .before .before .before .before .before .before .before .before .before .args .b))) (c .before .before .before .before .put-values .result) (omega (arith, g .to)) (g .long) (c .before .before .before .before .put-values .ensures .1 .0), param-all (now (c .before .before .before .before .before .before .before .before .before .before .before .before .before .before .before .before .before .before .before .before .before .before .before .before .args .b)) (c .before .before .before .before .before .before .before .before .before .before .before .before .before .before .before .before .before .before .before .before .before .before .before .before .args .n) (now (c .before .before .before .before .before .before .before .before .before .before .before .before .before .before .before .before .before .before .before .before .before .before .before .before .args .t)) (c .before .before .before .before .before .before .before .before .before .before .before .before .before .before .before .before .before .before .before .before .before .before .before .before .args .m) (now (c .before .before .before .before .before .before .before .before .before .before .before .before .before .before .before .before .before .before .before .before .before .before .before .before .args .s)) (c .before .before .before .before .before .before .before .before .before .before .before .before .before .before .before .before .before .before .before .before .before .before .before .before .args .q) (c .before .before .before .before .before .before .before .before .before .before .before .before .before .before .before .before .before .before .before .before .before .before .before .before .args .at) (c .before .before .before .before .before .before .before .before .before .before .before .before .before .before .before .before .before .before .before .before .before .before .before .before .pre .0) (c .before .before .before .before .before .before .before .before .before .before .before .before .before .before .before .before .before .before .before .put-decoded .result) _ (c .before .before .before .before .before .before .before .before .before .before .before .before .before .before .before .before .before .before .before .put-decoded .ensures) _ (c .before .before .before .before .before .before .before .before .before .before .before .before .before .before .before .k .given .1) (sym (c .before .before .before .before .before .before .before .before .before .before .before .is-word .ensures) ∙ not-false _ (c .before .before .before .before .before .before .before .before .before .before .if1 .left)) (sym (c .before .before .before .before .before .before .before .before .equals .ensures) ∙ (c .before .before .before .before .before .before .before .if2 .left)) (c .before .before .before .before .put-values .result) _ _ (c .before .before .before .before .put-values .ensures .1 .1)))
+returns-4 c =
+    let args = c .before .before .before .before .before .before .before .before .before .before .before .before .before .before .before .before .before .before .before .before .before .before .before .before .args in
+    let pre = c .before .before .before .before .before .before .before .before .before .before .before .before .before .before .before .before .before .before .before .before .before .before .before .before .pre in
+    let put-decoded = c .before .before .before .before .before .before .before .before .before .before .before .before .before .before .before .before .before .before .before .put-decoded in
+    let k = c .before .before .before .before .before .before .before .before .before .before .before .before .before .before .before .k in
+    let is-word = c .before .before .before .before .before .before .before .before .before .before .before .is-word in
+    let if1 = c .before .before .before .before .before .before .before .before .before .before .if1 in
+    let equals = c .before .before .before .before .before .before .before .before .equals in
+    let if2 = c .before .before .before .before .before .before .before .if2 in
+    let put-values = c .before .before .before .before .put-values in
+    let g = name-in (now (args .b)) (args .n) (now (args .t)) (args .m) (now (args .s)) (args .q) (args .at) (pre .0) (put-decoded .result) _
+    (put-decoded .ensures) _ (k .given .1) in (
+      record { long = put-values .ensures .0 .long ∙ g .long; wide = put-values .ensures .0 .wide },
+      (rows-lower (args .n) _ _ (length (now (args .b))) (put-values .result) (omega (arith, g .to)) (g .long) (put-values .ensures .1 .0), param-all (now (args .b)) (args .n) (now (args .t)) (args .m) (now (args .s)) (args .q) (args .at) (pre .0) (put-decoded .result) _ (put-decoded .ensures) _ (k .given .1) (sym (is-word .ensures) ∙ not-false _ (if1 .left)) (sym (equals .ensures) ∙ (if2 .left)) (put-values .result) _ _ (put-values .ensures .1 .1)),
+    )
 
 pub put-param-spec : {M : Type 1} → statement M
 put-param-spec =

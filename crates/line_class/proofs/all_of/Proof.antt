@@ -33,8 +33,14 @@ marked-requires c κs = search needs
 
 returns : tie.Need-returns Inv-loop μ-loop
 returns c =
-    sym (all-not _ (now (c .before .before .before .before .before .before .before .before .before .args .s)) (c .before .before .before .before .before .loop .i) (c .before .before .before .before .loop-test .taken) (sym (c .before .marked .ensures) ∙ not-true _ (c .if1 .taken))) ∙ (c .before .before .before .before .before .loop .inv)
-    ∙ all-by-class _ (c .before .before .before .before .before .before .before .classes .ensures) (c .before .before .before .before .before .before .before .before .before .args .class) _ (c .before .before .before .before .before .before .bit .ensures) (now (c .before .before .before .before .before .before .before .before .before .args .s)) (c .before .before .before .before .before .before .before .before .shared-slice-known .given)
+    let args = c .before .before .before .before .before .before .before .before .before .args in
+    let shared-slice-known = c .before .before .before .before .before .before .before .before .shared-slice-known in
+    let classes = c .before .before .before .before .before .before .before .classes in
+    let bit = c .before .before .before .before .before .before .bit in
+    let loop = c .before .before .before .before .before .loop in
+    let loop-test = c .before .before .before .before .loop-test in
+    sym (all-not _ (now (args .s)) (loop .i) (loop-test .taken) (sym (c .before .marked .ensures) ∙ not-true _ (c .if1 .taken))) ∙ (loop .inv) ∙
+    all-by-class _ (classes .ensures) (args .class) _ (bit .ensures) (now (args .s)) (shared-slice-known .given)
 
 add-i : tie.Need-add-i Inv-loop μ-loop
 add-i c = search needs
@@ -43,7 +49,11 @@ loop-less : tie.Need-loop-less Inv-loop μ-loop
 loop-less c = search needs
 
 loop-again : tie.Need-loop-again Inv-loop μ-loop
-loop-again c = sym (all-later _ (now (c .before .before .before .before .before .before .before .before .before .args .s)) (c .before .before .before .before .before .loop .i) (c .before .before .before .before .loop-test .taken) (sym (c .before .marked .ensures) ∙ not-false _ (c .if1 .left))) ∙ (c .before .before .before .before .before .loop .inv)
+loop-again c =
+    let args = c .before .before .before .before .before .before .before .before .before .args in
+    let loop = c .before .before .before .before .before .loop in
+    let loop-test = c .before .before .before .before .loop-test in
+    sym (all-later _ (now (args .s)) (loop .i) (loop-test .taken) (sym (c .before .marked .ensures) ∙ not-false _ (c .if1 .left))) ∙ (loop .inv)
 
 returns-2 : tie.Need-returns-2 Inv-loop μ-loop
 returns-2 c =

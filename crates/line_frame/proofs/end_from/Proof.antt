@@ -36,10 +36,22 @@ is-end-requires : tie.Need-is-end-requires Inv-loop μ-loop
 is-end-requires c κs = search needs
 
 returns : tie.Need-returns Inv-loop μ-loop
-returns c = c .before .before .before .before .before .before .loop .inv Missing (ends-early (now (c .before .before .before .before .before .before .before .before .args .s)) (c .before .before .before .before .before .before .loop .i) _ (c .before .before .before .before .next-line .ensures) (sym (c .before .before .is-end .ensures) ∙ (c .before .if1 .taken)) (c .if2 .taken))
+returns c =
+    let args = c .before .before .before .before .before .before .before .before .args in
+    let loop = c .before .before .before .before .before .before .loop in
+    let next-line = c .before .before .before .before .next-line in
+    loop .inv Missing
+    (ends-early (now (args .s)) (loop .i) _ (next-line .ensures) (sym (c .before .before .is-end .ensures) ∙ (c .before .if1 .taken))
+    (c .if2 .taken))
 
 returns-2 : tie.Need-returns-2 Inv-loop μ-loop
-returns-2 c = c .before .before .before .before .before .before .loop .inv (At (c .before .before .before .before .before .before .loop .i)) (ends-here (now (c .before .before .before .before .before .before .before .before .args .s)) (c .before .before .before .before .before .before .loop .i) _ (c .before .before .before .before .next-line .ensures) (sym (c .before .before .is-end .ensures) ∙ (c .before .if1 .taken)) (c .if2 .left))
+returns-2 c =
+    let args = c .before .before .before .before .before .before .before .before .args in
+    let loop = c .before .before .before .before .before .before .loop in
+    let next-line = c .before .before .before .before .next-line in
+    loop .inv (At (loop .i))
+    (ends-here (now (args .s)) (loop .i) _ (next-line .ensures) (sym (c .before .before .is-end .ensures) ∙ (c .before .if1 .taken))
+    (c .if2 .left))
 
 sub-is-begin : tie.Need-sub-is-begin Inv-loop μ-loop
 sub-is-begin c = omega (arith, c .before .before .before .next-line .ensures .from, c .before .before .before .next-line .ensures .ordered, c .before .before .before .next-line .ensures .within)
@@ -54,13 +66,29 @@ is-begin-requires : tie.Need-is-begin-requires Inv-loop μ-loop
 is-begin-requires c κs = search needs
 
 returns-3 : tie.Need-returns-3 Inv-loop μ-loop
-returns-3 c = c .before .before .before .before .before .before .before .before .loop .inv Missing (begins-again (now (c .before .before .before .before .before .before .before .before .before .before .args .s)) (c .before .before .before .before .before .before .before .before .loop .i) _ (c .before .before .before .before .before .before .next-line .ensures) (sym (c .before .before .before .before .is-end .ensures) ∙ (c .before .before .before .if1 .left)) (sym (c .before .is-begin .ensures) ∙ (c .if3 .taken)))
+returns-3 c =
+    let args = c .before .before .before .before .before .before .before .before .before .before .args in
+    let loop = c .before .before .before .before .before .before .before .before .loop in
+    let next-line = c .before .before .before .before .before .before .next-line in
+    let is-end = c .before .before .before .before .is-end in
+    let if1 = c .before .before .before .if1 in
+    loop .inv Missing
+    (begins-again (now (args .s)) (loop .i) _ (next-line .ensures) (sym (is-end .ensures) ∙ (if1 .left))
+    (sym (c .before .is-begin .ensures) ∙ (c .if3 .taken)))
 
 loop-less : tie.Need-loop-less Inv-loop μ-loop
 loop-less c = omega (arith, c .before .before .before .before .before .before .next-line .ensures .onward, c .before .before .before .before .before .before .next-line .ensures .within)
 
 loop-again : tie.Need-loop-again Inv-loop μ-loop
-loop-again c = λ f p. c .before .before .before .before .before .before .before .before .loop .inv f (ends-on (now (c .before .before .before .before .before .before .before .before .before .before .args .s)) (c .before .before .before .before .before .before .before .before .loop .i) _ (c .before .before .before .before .before .before .next-line .ensures) f (sym (c .before .before .before .before .is-end .ensures) ∙ (c .before .before .before .if1 .left)) (sym (c .before .is-begin .ensures) ∙ (c .if3 .left)) p)
+loop-again c =
+    let args = c .before .before .before .before .before .before .before .before .before .before .args in
+    let loop = c .before .before .before .before .before .before .before .before .loop in
+    let next-line = c .before .before .before .before .before .before .next-line in
+    let is-end = c .before .before .before .before .is-end in
+    let if1 = c .before .before .before .if1 in
+    λ f p. loop .inv f
+    (ends-on (now (args .s)) (loop .i) _ (next-line .ensures) f (sym (is-end .ensures) ∙ (if1 .left))
+    (sym (c .before .is-begin .ensures) ∙ (c .if3 .left)) p)
 
 returns-4 : tie.Need-returns-4 Inv-loop μ-loop
 returns-4 c = c .before .loop .inv Missing (ends-out (now (c .before .before .before .args .s)) (c .before .loop .i) (c .loop-test .left))

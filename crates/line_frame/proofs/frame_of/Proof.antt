@@ -38,10 +38,23 @@ enum-told : tie.Need-enum-told
 enum-told c = search needs
 
 returns-3 : tie.Need-returns-3
-returns-3 c = not-ended (now (c .before .before .before .before .before .before .before .before .before .args .s)) _ (c .before .before .before .before .before .before .next-line .ensures) (sym (c .before .before .before .before .is-begin .ensures) ∙ not-false _ (c .before .before .before .if2 .left)) (rw (c .enum-told .given .1) at (c .before .before .end-from .ensures))
+returns-3 c =
+    let args = c .before .before .before .before .before .before .before .before .before .args in
+    let next-line = c .before .before .before .before .before .before .next-line in
+    let is-begin = c .before .before .before .before .is-begin in
+    let if2 = c .before .before .before .if2 in
+    not-ended (now (args .s)) _ (next-line .ensures) (sym (is-begin .ensures) ∙ not-false _ (if2 .left))
+    (rw (c .enum-told .given .1) at (c .before .before .end-from .ensures))
 
 returns-4 : tie.Need-returns-4
-returns-4 c = one-card (now (c .before .before .before .before .before .before .before .before .before .before .args .s)) _ (c .before .before .before .before .before .before .before .next-line .ensures) _ (sym (c .before .before .before .before .before .is-begin .ensures) ∙ not-false _ (c .before .before .before .before .if2 .left)) (rw (c .before .stop .given .1) at (c .before .before .before .end-from .ensures))
+returns-4 c =
+    let args = c .before .before .before .before .before .before .before .before .before .before .args in
+    let next-line = c .before .before .before .before .before .before .before .next-line in
+    let is-begin = c .before .before .before .before .before .is-begin in
+    let if2 = c .before .before .before .before .if2 in
+    let end-from = c .before .before .before .end-from in
+    one-card (now (args .s)) _ (next-line .ensures) _ (sym (is-begin .ensures) ∙ not-false _ (if2 .left))
+    (rw (c .before .stop .given .1) at (end-from .ensures))
 
 pub frame-of-spec : {M : Type 1} → statement M
 frame-of-spec =

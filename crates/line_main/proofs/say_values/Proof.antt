@@ -48,7 +48,11 @@ say-requires-4 : tie.Need-say-requires-4
 say-requires-4 c κs = search needs
 
 there : (c : tie.After-say4) → ValueNamed (now (c .before .before .before .before .before .before .before .before .before .before .before .before .before .before .before .before .before .before .args .line)) (c .before .before .before .before .before .before .before .before .before .before .before .before .before .before .before .before .before .before .args .at) (now (c .before .before .before .before .before .before .before .before .before .before .before .before .before .before .before .before .before .before .args .name)) (c .before .before .before .a .given .0 .0) (c .before .before .before .a .given .0 .1 .0)
-there c = subst (FirstValueAt (now (c .before .before .before .before .before .before .before .before .before .before .before .before .before .before .before .before .before .before .args .line)) (c .before .before .before .before .before .before .before .before .before .before .before .before .before .before .before .before .before .before .args .at) (now (c .before .before .before .before .before .before .before .before .before .before .before .before .before .before .before .before .before .before .args .name))) (c .before .before .before .a .given .1) (c .before .before .before .before .before .first-value .ensures)
+there c =
+    let args = c .before .before .before .before .before .before .before .before .before .before .before .before .before .before .before .before .before .before .args in
+    let first-value = c .before .before .before .before .before .first-value in
+    let a = c .before .before .before .a in
+    subst (FirstValueAt (now (args .line)) (args .at) (now (args .name))) (a .given .1) (first-value .ensures)
 
 sub-say : tie.Need-sub-say
 sub-say c = there c .ordered

@@ -34,7 +34,15 @@ shared-slice-read-if2 : tie.Need-shared-slice-read-if2 Inv-loop μ-loop
 shared-slice-read-if2 c = search needs
 
 returns-2 : tie.Need-returns-2 Inv-loop μ-loop
-returns-2 c = sym (same-not (lowered (now (c .before .before .before .before .before .before .before .before .before .args .s))) (now (c .before .before .before .before .before .before .before .before .before .args .name)) (c .before .before .before .before .before .loop .i) (low (c .before .before .before .before)) (omega (arith, c .before .before .before .before .before .before .if1 .left)) (λ e. c .if2 .taken (c .before .before .lower-of .ensures ∙ sym (lowered-at _ _ (c .before .before .before .before .loop-test .taken)) ∙ e))) ∙ (c .before .before .before .before .before .loop .inv .1)
+returns-2 c =
+    let args = c .before .before .before .before .before .before .before .before .before .args in
+    let if1 = c .before .before .before .before .before .before .if1 in
+    let loop = c .before .before .before .before .before .loop in
+    let loop-test = c .before .before .before .before .loop-test in
+    sym
+    (same-not (lowered (now (args .s))) (now (args .name)) (loop .i) (low (c .before .before .before .before)) (omega (arith, if1 .left))
+    (λ e. c .if2 .taken (c .before .before .lower-of .ensures ∙ sym (lowered-at _ _ (loop-test .taken)) ∙ e)))
+    ∙ (loop .inv .1)
 
 add-i : tie.Need-add-i Inv-loop μ-loop
 add-i c = search needs
@@ -43,10 +51,23 @@ loop-less : tie.Need-loop-less Inv-loop μ-loop
 loop-less c = search needs
 
 loop-again : tie.Need-loop-again Inv-loop μ-loop
-loop-again c = (omega arith, sym (same-one (lowered (now (c .before .before .before .before .before .before .before .before .before .args .s))) (now (c .before .before .before .before .before .before .before .before .before .args .name)) (c .before .before .before .before .before .loop .i) (low (c .before .before .before .before)) (omega (arith, c .before .before .before .before .before .before .if1 .left)) (lowered-at _ _ (c .before .before .before .before .loop-test .taken) ∙ sym (c .before .before .lower-of .ensures) ∙ (c .if2 .left))) ∙ (c .before .before .before .before .before .loop .inv .1))
+loop-again c =
+    let args = c .before .before .before .before .before .before .before .before .before .args in
+    let if1 = c .before .before .before .before .before .before .if1 in
+    let loop = c .before .before .before .before .before .loop in
+    let loop-test = c .before .before .before .before .loop-test in (
+      omega arith,
+      sym (same-one (lowered (now (args .s))) (now (args .name)) (loop .i) (low (c .before .before .before .before)) (omega (arith, if1 .left)) (lowered-at _ _ (loop-test .taken) ∙ sym (c .before .before .lower-of .ensures) ∙ (c .if2 .left))) ∙ (loop .inv .1),
+    )
 
 returns-3 : tie.Need-returns-3 Inv-loop μ-loop
-returns-3 c = sym (same-out (lowered (now (c .before .before .before .before .before .args .s))) (now (c .before .before .before .before .before .args .name)) (c .before .loop .i) (omega (arith, lowered-length (now (c .before .before .before .before .before .args .s)))) (omega (arith, c .before .before .if1 .left))) ∙ (c .before .loop .inv .1)
+returns-3 c =
+    let args = c .before .before .before .before .before .args in
+    let loop = c .before .loop in
+    sym
+    (same-out (lowered (now (args .s))) (now (args .name)) (loop .i) (omega (arith, lowered-length (now (args .s))))
+    (omega (arith, c .before .before .if1 .left)))
+    ∙ (loop .inv .1)
 
 pub is-named-spec : {M : Type 1} → statement M
 is-named-spec =

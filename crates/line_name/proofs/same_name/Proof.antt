@@ -43,7 +43,18 @@ lower-of-requires-2 : tie.Need-lower-of-requires-2 Inv-loop μ-loop
 lower-of-requires-2 c κs = search needs
 
 returns-2 : tie.Need-returns-2 Inv-loop μ-loop
-returns-2 c = sym (same-not (lowered (now (c .before .before .before .before .before .before .before .before .before .before .args .a))) (lowered (now (c .before .before .before .before .before .before .before .before .before .before .args .b))) (c .before .before .before .before .before .before .loop .i) (in-a (c .before .before .before .before .before)) (in-b (c .before .before .before .before .before)) (λ e. c .if2 .taken (c .before .before .before .lower-of .ensures ∙ sym (lowered-at _ _ (c .before .before .before .before .before .loop-test .taken)) ∙ e ∙ at-b (c .before .before .before .before .before) ∙ sym (c .before .lower-of2 .ensures)))) ∙ (c .before .before .before .before .before .before .loop .inv .1)
+returns-2 c =
+    let args = c .before .before .before .before .before .before .before .before .before .before .args in
+    let loop = c .before .before .before .before .before .before .loop in
+    let loop-test = c .before .before .before .before .before .loop-test in
+    let lower-of = c .before .before .before .lower-of in
+    sym
+    (same-not (lowered (now (args .a))) (lowered (now (args .b))) (loop .i) (in-a (c .before .before .before .before .before))
+    (in-b (c .before .before .before .before .before))
+    (λ e. c .if2 .taken
+    (lower-of .ensures ∙ sym (lowered-at _ _ (loop-test .taken)) ∙ e ∙ at-b (c .before .before .before .before .before) ∙ sym
+    (c .before .lower-of2 .ensures))))
+    ∙ (loop .inv .1)
 
 add-i : tie.Need-add-i Inv-loop μ-loop
 add-i c = search needs
@@ -52,10 +63,23 @@ loop-less : tie.Need-loop-less Inv-loop μ-loop
 loop-less c = search needs
 
 loop-again : tie.Need-loop-again Inv-loop μ-loop
-loop-again c = (omega arith, sym (same-one (lowered (now (c .before .before .before .before .before .before .before .before .before .before .args .a))) (lowered (now (c .before .before .before .before .before .before .before .before .before .before .args .b))) (c .before .before .before .before .before .before .loop .i) (in-a (c .before .before .before .before .before)) (in-b (c .before .before .before .before .before)) (lowered-at _ _ (c .before .before .before .before .before .loop-test .taken) ∙ sym (c .before .before .before .lower-of .ensures) ∙ (c .if2 .left) ∙ (c .before .lower-of2 .ensures) ∙ sym (at-b (c .before .before .before .before .before)))) ∙ (c .before .before .before .before .before .before .loop .inv .1))
+loop-again c =
+    let args = c .before .before .before .before .before .before .before .before .before .before .args in
+    let loop = c .before .before .before .before .before .before .loop in
+    let loop-test = c .before .before .before .before .before .loop-test in
+    let lower-of = c .before .before .before .lower-of in (
+      omega arith,
+      sym (same-one (lowered (now (args .a))) (lowered (now (args .b))) (loop .i) (in-a (c .before .before .before .before .before)) (in-b (c .before .before .before .before .before)) (lowered-at _ _ (loop-test .taken) ∙ sym (lower-of .ensures) ∙ (c .if2 .left) ∙ (c .before .lower-of2 .ensures) ∙ sym (at-b (c .before .before .before .before .before)))) ∙ (loop .inv .1),
+    )
 
 returns-3 : tie.Need-returns-3 Inv-loop μ-loop
-returns-3 c = sym (same-out (lowered (now (c .before .before .before .before .before .args .a))) (lowered (now (c .before .before .before .before .before .args .b))) (c .before .loop .i) (omega (arith, lowered-length (now (c .before .before .before .before .before .args .a)))) (omega (arith, lowered-length (now (c .before .before .before .before .before .args .b)), c .before .before .if1 .left))) ∙ (c .before .loop .inv .1)
+returns-3 c =
+    let args = c .before .before .before .before .before .args in
+    let loop = c .before .loop in
+    sym
+    (same-out (lowered (now (args .a))) (lowered (now (args .b))) (loop .i) (omega (arith, lowered-length (now (args .a))))
+    (omega (arith, lowered-length (now (args .b)), c .before .before .if1 .left)))
+    ∙ (loop .inv .1)
 
 pub same-name-spec : {M : Type 1} → statement M
 same-name-spec =

@@ -29,16 +29,52 @@ returns : tie.Need-returns Inv-loop μ-loop
 returns c = λ ps t f. count-none (now (c .before .before .before .before .before .before .args .name)) _ ps (left-none (c .before .before .before .loop .inv .1) (c .before .before .next-param .ensures) (c .enum-told .given .1) ps t f)
 
 add-a : tie.Need-add-a Inv-loop μ-loop
-add-a c = omega (arith, next-param (c .before .before .before .before .loop .inv .1) (c .before .before .before .next-param .ensures) (c .before .e .given .1) .from, next-param (c .before .before .before .before .loop .inv .1) (c .before .before .before .next-param .ensures) (c .before .e .given .1) .after, next-param (c .before .before .before .before .loop .inv .1) (c .before .before .before .next-param .ensures) (c .before .e .given .1) .within)
+add-a c =
+    let loop = c .before .before .before .before .loop in
+    let next-param′ = c .before .before .before .next-param in
+    let e = c .before .e in
+    omega (
+      arith,
+      next-param (loop .inv .1) (next-param′ .ensures) (e .given .1) .from,
+      next-param (loop .inv .1) (next-param′ .ensures) (e .given .1) .after,
+      next-param (loop .inv .1) (next-param′ .ensures) (e .given .1) .within,
+    )
 
 sub-is-named : tie.Need-sub-is-named Inv-loop μ-loop
-sub-is-named c = omega (arith, next-param (c .before .before .before .before .loop .inv .1) (c .before .before .before .next-param .ensures) (c .before .e .given .1) .from, next-param (c .before .before .before .before .loop .inv .1) (c .before .before .before .next-param .ensures) (c .before .e .given .1) .after, next-param (c .before .before .before .before .loop .inv .1) (c .before .before .before .next-param .ensures) (c .before .e .given .1) .within)
+sub-is-named c =
+    let loop = c .before .before .before .before .loop in
+    let next-param′ = c .before .before .before .next-param in
+    let e = c .before .e in
+    omega (
+      arith,
+      next-param (loop .inv .1) (next-param′ .ensures) (e .given .1) .from,
+      next-param (loop .inv .1) (next-param′ .ensures) (e .given .1) .after,
+      next-param (loop .inv .1) (next-param′ .ensures) (e .given .1) .within,
+    )
 
 part-is-named-start : tie.Need-part-is-named-start Inv-loop μ-loop
-part-is-named-start c = omega (arith, next-param (c .before .before .before .before .loop .inv .1) (c .before .before .before .next-param .ensures) (c .before .e .given .1) .from, next-param (c .before .before .before .before .loop .inv .1) (c .before .before .before .next-param .ensures) (c .before .e .given .1) .after, next-param (c .before .before .before .before .loop .inv .1) (c .before .before .before .next-param .ensures) (c .before .e .given .1) .within)
+part-is-named-start c =
+    let loop = c .before .before .before .before .loop in
+    let next-param′ = c .before .before .before .next-param in
+    let e = c .before .e in
+    omega (
+      arith,
+      next-param (loop .inv .1) (next-param′ .ensures) (e .given .1) .from,
+      next-param (loop .inv .1) (next-param′ .ensures) (e .given .1) .after,
+      next-param (loop .inv .1) (next-param′ .ensures) (e .given .1) .within,
+    )
 
 part-is-named-end : tie.Need-part-is-named-end Inv-loop μ-loop
-part-is-named-end c = omega (arith, next-param (c .before .before .before .before .loop .inv .1) (c .before .before .before .next-param .ensures) (c .before .e .given .1) .from, next-param (c .before .before .before .before .loop .inv .1) (c .before .before .before .next-param .ensures) (c .before .e .given .1) .after, next-param (c .before .before .before .before .loop .inv .1) (c .before .before .before .next-param .ensures) (c .before .e .given .1) .within)
+part-is-named-end c =
+    let loop = c .before .before .before .before .loop in
+    let next-param′ = c .before .before .before .next-param in
+    let e = c .before .e in
+    omega (
+      arith,
+      next-param (loop .inv .1) (next-param′ .ensures) (e .given .1) .from,
+      next-param (loop .inv .1) (next-param′ .ensures) (e .given .1) .after,
+      next-param (loop .inv .1) (next-param′ .ensures) (e .given .1) .within,
+    )
 
 is-named-requires : tie.Need-is-named-requires Inv-loop μ-loop
 is-named-requires c κs = search needs
@@ -47,16 +83,40 @@ counted-requires : tie.Need-counted-requires Inv-loop μ-loop
 counted-requires c κs = search needs
 
 add-n : tie.Need-add-n Inv-loop μ-loop
-add-n c = omega (arith, c .before .before .before .before .before .before .before .loop .inv .0, next-param (c .before .before .before .before .before .before .before .loop .inv .1) (c .before .before .before .before .before .before .next-param .ensures) (c .before .before .before .before .e .given .1) .few, next-param (c .before .before .before .before .before .before .before .loop .inv .1) (c .before .before .before .before .before .before .next-param .ensures) (c .before .before .before .before .e .given .1) .within, picked-few (c .before .is-named .result) (c .before .before .before .before .e .given .0 .1 .1 .0) (c .counted .result) (c .counted .ensures))
+add-n c =
+    let loop = c .before .before .before .before .before .before .before .loop in
+    let next-param′ = c .before .before .before .before .before .before .next-param in
+    let e = c .before .before .before .before .e in
+    omega (
+      arith,
+      loop .inv .0,
+      next-param (loop .inv .1) (next-param′ .ensures) (e .given .1) .few,
+      next-param (loop .inv .1) (next-param′ .ensures) (e .given .1) .within,
+      picked-few (c .before .is-named .result) (e .given .0 .1 .1 .0) (c .counted .result) (c .counted .ensures),
+    )
 
 loop-less : tie.Need-loop-less Inv-loop μ-loop
-loop-less c = omega (arith, next-param (c .before .before .before .before .before .before .before .loop .inv .1) (c .before .before .before .before .before .before .next-param .ensures) (c .before .before .before .before .e .given .1) .from, next-param (c .before .before .before .before .before .before .before .loop .inv .1) (c .before .before .before .before .before .before .next-param .ensures) (c .before .before .before .before .e .given .1) .after, next-param (c .before .before .before .before .before .before .before .loop .inv .1) (c .before .before .before .before .before .before .next-param .ensures) (c .before .before .before .before .e .given .1) .within)
+loop-less c =
+    let loop = c .before .before .before .before .before .before .before .loop in
+    let next-param′ = c .before .before .before .before .before .before .next-param in
+    let e = c .before .before .before .before .e in
+    omega (
+      arith,
+      next-param (loop .inv .1) (next-param′ .ensures) (e .given .1) .from,
+      next-param (loop .inv .1) (next-param′ .ensures) (e .given .1) .after,
+      next-param (loop .inv .1) (next-param′ .ensures) (e .given .1) .within,
+    )
 
 loop-again : tie.Need-loop-again Inv-loop μ-loop
-loop-again c = (
-  omega (arith, c .before .before .before .before .before .before .before .loop .inv .0, next-param (c .before .before .before .before .before .before .before .loop .inv .1) (c .before .before .before .before .before .before .next-param .ensures) (c .before .before .before .before .e .given .1) .few, picked-few (c .before .is-named .result) (c .before .before .before .before .e .given .0 .1 .1 .0) (c .counted .result) (c .counted .ensures)),
-  left-next (c .before .before .before .before .before .before .before .loop .inv .1) (c .before .before .before .before .before .before .next-param .ensures) (c .before .before .before .before .e .given .1) (λ ps vs qs k h. count-on (now (c .before .before .before .before .before .before .before .before .before .before .args .name)) _ vs ps qs _ _ _ _ (c .before .is-named .ensures) k (c .counted .ensures) h),
-)
+loop-again c =
+    let args = c .before .before .before .before .before .before .before .before .before .before .args in
+    let loop = c .before .before .before .before .before .before .before .loop in
+    let next-param′ = c .before .before .before .before .before .before .next-param in
+    let e = c .before .before .before .before .e in
+    let is-named = c .before .is-named in (
+      omega (arith, loop .inv .0, next-param (loop .inv .1) (next-param′ .ensures) (e .given .1) .few, picked-few (is-named .result) (e .given .0 .1 .1 .0) (c .counted .result) (c .counted .ensures)),
+      left-next (loop .inv .1) (next-param′ .ensures) (e .given .1) (λ ps vs qs k h. count-on (now (args .name)) _ vs ps qs _ _ _ _ (is-named .ensures) k (c .counted .ensures) h),
+    )
 
 pub count-values-spec : {M : Type 1} → statement M
 count-values-spec =

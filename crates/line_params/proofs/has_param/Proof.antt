@@ -30,16 +30,52 @@ returns : tie.Need-returns Inv-loop μ-loop
 returns c = λ ps t f. sym (any-none (now (c .before .before .before .before .before .before .args .name)) ps (left-none (c .before .before .before .loop .inv) (c .before .before .next-param .ensures) (c .enum-told .given .1) ps t f))
 
 add-a : tie.Need-add-a Inv-loop μ-loop
-add-a c = omega (arith, next-param (c .before .before .before .before .loop .inv) (c .before .before .before .next-param .ensures) (c .before .e .given .1) .from, next-param (c .before .before .before .before .loop .inv) (c .before .before .before .next-param .ensures) (c .before .e .given .1) .after, next-param (c .before .before .before .before .loop .inv) (c .before .before .before .next-param .ensures) (c .before .e .given .1) .within)
+add-a c =
+    let loop = c .before .before .before .before .loop in
+    let next-param′ = c .before .before .before .next-param in
+    let e = c .before .e in
+    omega (
+      arith,
+      next-param (loop .inv) (next-param′ .ensures) (e .given .1) .from,
+      next-param (loop .inv) (next-param′ .ensures) (e .given .1) .after,
+      next-param (loop .inv) (next-param′ .ensures) (e .given .1) .within,
+    )
 
 sub-is-named : tie.Need-sub-is-named Inv-loop μ-loop
-sub-is-named c = omega (arith, next-param (c .before .before .before .before .loop .inv) (c .before .before .before .next-param .ensures) (c .before .e .given .1) .from, next-param (c .before .before .before .before .loop .inv) (c .before .before .before .next-param .ensures) (c .before .e .given .1) .after, next-param (c .before .before .before .before .loop .inv) (c .before .before .before .next-param .ensures) (c .before .e .given .1) .within)
+sub-is-named c =
+    let loop = c .before .before .before .before .loop in
+    let next-param′ = c .before .before .before .next-param in
+    let e = c .before .e in
+    omega (
+      arith,
+      next-param (loop .inv) (next-param′ .ensures) (e .given .1) .from,
+      next-param (loop .inv) (next-param′ .ensures) (e .given .1) .after,
+      next-param (loop .inv) (next-param′ .ensures) (e .given .1) .within,
+    )
 
 part-is-named-start : tie.Need-part-is-named-start Inv-loop μ-loop
-part-is-named-start c = omega (arith, next-param (c .before .before .before .before .loop .inv) (c .before .before .before .next-param .ensures) (c .before .e .given .1) .from, next-param (c .before .before .before .before .loop .inv) (c .before .before .before .next-param .ensures) (c .before .e .given .1) .after, next-param (c .before .before .before .before .loop .inv) (c .before .before .before .next-param .ensures) (c .before .e .given .1) .within)
+part-is-named-start c =
+    let loop = c .before .before .before .before .loop in
+    let next-param′ = c .before .before .before .next-param in
+    let e = c .before .e in
+    omega (
+      arith,
+      next-param (loop .inv) (next-param′ .ensures) (e .given .1) .from,
+      next-param (loop .inv) (next-param′ .ensures) (e .given .1) .after,
+      next-param (loop .inv) (next-param′ .ensures) (e .given .1) .within,
+    )
 
 part-is-named-end : tie.Need-part-is-named-end Inv-loop μ-loop
-part-is-named-end c = omega (arith, next-param (c .before .before .before .before .loop .inv) (c .before .before .before .next-param .ensures) (c .before .e .given .1) .from, next-param (c .before .before .before .before .loop .inv) (c .before .before .before .next-param .ensures) (c .before .e .given .1) .after, next-param (c .before .before .before .before .loop .inv) (c .before .before .before .next-param .ensures) (c .before .e .given .1) .within)
+part-is-named-end c =
+    let loop = c .before .before .before .before .loop in
+    let next-param′ = c .before .before .before .next-param in
+    let e = c .before .e in
+    omega (
+      arith,
+      next-param (loop .inv) (next-param′ .ensures) (e .given .1) .from,
+      next-param (loop .inv) (next-param′ .ensures) (e .given .1) .after,
+      next-param (loop .inv) (next-param′ .ensures) (e .given .1) .within,
+    )
 
 is-named-requires : tie.Need-is-named-requires Inv-loop μ-loop
 is-named-requires c κs = search needs
@@ -50,10 +86,25 @@ returns-2 c = λ ps t f.
     sym (any-here (now (c .before .before .before .before .before .before .before .before .before .before .args .name)) _ (x .0) ps (x .1) (sym (c .before .is-named .ensures) ∙ (c .if1 .taken)) (x .3))
 
 loop-less : tie.Need-loop-less Inv-loop μ-loop
-loop-less c = omega (arith, next-param (c .before .before .before .before .before .before .before .loop .inv) (c .before .before .before .before .before .before .next-param .ensures) (c .before .before .before .before .e .given .1) .from, next-param (c .before .before .before .before .before .before .before .loop .inv) (c .before .before .before .before .before .before .next-param .ensures) (c .before .before .before .before .e .given .1) .after, next-param (c .before .before .before .before .before .before .before .loop .inv) (c .before .before .before .before .before .before .next-param .ensures) (c .before .before .before .before .e .given .1) .within)
+loop-less c =
+    let loop = c .before .before .before .before .before .before .before .loop in
+    let next-param′ = c .before .before .before .before .before .before .next-param in
+    let e = c .before .before .before .before .e in
+    omega (
+      arith,
+      next-param (loop .inv) (next-param′ .ensures) (e .given .1) .from,
+      next-param (loop .inv) (next-param′ .ensures) (e .given .1) .after,
+      next-param (loop .inv) (next-param′ .ensures) (e .given .1) .within,
+    )
 
 loop-again : tie.Need-loop-again Inv-loop μ-loop
-loop-again c = left-next (c .before .before .before .before .before .before .before .loop .inv) (c .before .before .before .before .before .before .next-param .ensures) (c .before .before .before .before .e .given .1) (λ ps vs qs k h. any-later (now (c .before .before .before .before .before .before .before .before .before .before .args .name)) _ vs ps qs (sym (c .before .is-named .ensures) ∙ (c .if1 .left)) h)
+loop-again c =
+    let args = c .before .before .before .before .before .before .before .before .before .before .args in
+    let loop = c .before .before .before .before .before .before .before .loop in
+    let next-param = c .before .before .before .before .before .before .next-param in
+    let e = c .before .before .before .before .e in
+    left-next (loop .inv) (next-param .ensures) (e .given .1)
+    (λ ps vs qs k h. any-later (now (args .name)) _ vs ps qs (sym (c .before .is-named .ensures) ∙ (c .if1 .left)) h)
 
 pub has-param-spec : {M : Type 1} → statement M
 has-param-spec =

@@ -33,10 +33,25 @@ enum-told : tie.Need-enum-told
 enum-told c = search needs
 
 returns-3 : tie.Need-returns-3
-returns-3 c = no-values (now (c .before .before .before .before .before .before .before .before .args .s)) (c .before .before .before .before .before .before .before .before .args .at) _ _ (c .before .before .before .before .before .before .run-end .ensures) (c .before .before .before .before .before .if1 .left) (c .before .before .before .before .look .ensures .0) (c .before .before .values-at .ensures) (c .before .before .before .if2 .left) (c .enum-told .given .1)
+returns-3 c =
+    let args = c .before .before .before .before .before .before .before .before .args in
+    let run-end = c .before .before .before .before .before .before .run-end in
+    let if1 = c .before .before .before .before .before .if1 in
+    let look = c .before .before .before .before .look in
+    let if2 = c .before .before .before .if2 in
+    no-values (now (args .s)) (args .at) _ _ (run-end .ensures) (if1 .left) (look .ensures .0) (c .before .before .values-at .ensures) (if2 .left)
+    (c .enum-told .given .1)
 
 returns-4 : tie.Need-returns-4
-returns-4 c = param-read (now (c .before .before .before .before .before .before .before .before .before .args .s)) (c .before .before .before .before .before .before .before .before .before .args .at) _ _ (c .before .before .before .before .before .before .before .run-end .ensures) (c .before .before .before .before .before .before .if1 .left) (c .before .before .before .before .before .look .ensures .0) (c .before .before .before .values-at .ensures) (c .before .before .before .before .if2 .left) (c .before .next .given .1)
+returns-4 c =
+    let args = c .before .before .before .before .before .before .before .before .before .args in
+    let run-end = c .before .before .before .before .before .before .before .run-end in
+    let if1 = c .before .before .before .before .before .before .if1 in
+    let look = c .before .before .before .before .before .look in
+    let if2 = c .before .before .before .before .if2 in
+    let values-at = c .before .before .before .values-at in
+    param-read (now (args .s)) (args .at) _ _ (run-end .ensures) (if1 .left) (look .ensures .0) (values-at .ensures) (if2 .left)
+    (c .before .next .given .1)
 
 pub param-at-spec : {M : Type 1} → statement M
 param-at-spec =

@@ -43,13 +43,35 @@ returns-3 : tie.Need-returns-3 Inv-loop μ-loop
 returns-3 c = params-bad (c .before .before .before .before .before .before .loop .inv) (c .before .before .before .before .before .look .ensures .0) (c .before .before .param-at .ensures) (c .before .before .before .if2 .left) (c .enum-told .given .1)
 
 add-n : tie.Need-add-n Inv-loop μ-loop
-add-n c = omega (arith, c .before .before .before .before .before .before .before .loop .inv .few, param-within (c .before .before .before .before .before .before .before .loop .inv) (c .before .before .before .before .before .before .look .ensures .0) (c .before .before .before .param-at .ensures) (c .before .before .before .before .if2 .left) (c .before .next .given .1), c .before .before .before .before .before .before .before .before .before .good .0)
+add-n c =
+    let good = c .before .before .before .before .before .before .before .before .before .good in
+    let loop = c .before .before .before .before .before .before .before .loop in
+    let look = c .before .before .before .before .before .before .look in
+    let if2 = c .before .before .before .before .if2 in
+    let param-at = c .before .before .before .param-at in
+    omega (arith, loop .inv .few, param-within (loop .inv) (look .ensures .0) (param-at .ensures) (if2 .left) (c .before .next .given .1), good .0)
 
 add-m : tie.Need-add-m Inv-loop μ-loop
-add-m c = omega (arith, c .before .before .before .before .before .before .before .loop .inv .few-values, param-within (c .before .before .before .before .before .before .before .loop .inv) (c .before .before .before .before .before .before .look .ensures .0) (c .before .before .before .param-at .ensures) (c .before .before .before .before .if2 .left) (c .before .next .given .1), c .before .before .before .before .before .before .before .before .before .good .0)
+add-m c =
+    let good = c .before .before .before .before .before .before .before .before .before .good in
+    let loop = c .before .before .before .before .before .before .before .loop in
+    let look = c .before .before .before .before .before .before .look in
+    let if2 = c .before .before .before .before .if2 in
+    let param-at = c .before .before .before .param-at in
+    omega (
+      arith,
+      loop .inv .few-values,
+      param-within (loop .inv) (look .ensures .0) (param-at .ensures) (if2 .left) (c .before .next .given .1),
+      good .0,
+    )
 
 loop-less : tie.Need-loop-less Inv-loop μ-loop
-loop-less c = omega (arith, param-within (c .before .before .before .before .before .before .before .loop .inv) (c .before .before .before .before .before .before .look .ensures .0) (c .before .before .before .param-at .ensures) (c .before .before .before .before .if2 .left) (c .before .next .given .1))
+loop-less c =
+    let loop = c .before .before .before .before .before .before .before .loop in
+    let look = c .before .before .before .before .before .before .look in
+    let if2 = c .before .before .before .before .if2 in
+    let param-at = c .before .before .before .param-at in
+    omega (arith, param-within (loop .inv) (look .ensures .0) (param-at .ensures) (if2 .left) (c .before .next .given .1))
 
 loop-again : tie.Need-loop-again Inv-loop μ-loop
 loop-again c = params-on (c .before .before .before .before .before .before .before .loop .inv) (c .before .before .before .before .before .before .look .ensures .0) (c .before .before .before .param-at .ensures) (c .before .before .before .before .if2 .left) (c .before .next .given .1)

@@ -24,19 +24,43 @@ run-end-requires-2 : tie.Need-run-end-requires-2
 run-end-requires-2 c κs = search needs
 
 returns-2 : tie.Need-returns-2
-returns-2 c = no-name (now (c .before .before .before .before .before .before .before .args .s)) _ (c .before .before .before .before .before .run-end .ensures) _ (c .before .before .before .before .if1 .left) (c .before .before .before .look .ensures .0) _ (c .before .run-end2 .ensures) (c .before .before .if2 .taken) (c .if3 .taken)
+returns-2 c =
+    let args = c .before .before .before .before .before .before .before .args in
+    let run-end = c .before .before .before .before .before .run-end in
+    let if1 = c .before .before .before .before .if1 in
+    let look = c .before .before .before .look in
+    no-name (now (args .s)) _ (run-end .ensures) _ (if1 .left) (look .ensures .0) _ (c .before .run-end2 .ensures) (c .before .before .if2 .taken)
+    (c .if3 .taken)
 
 rest-of-line-requires : tie.Need-rest-of-line-requires
-rest-of-line-requires c κs = (run-from isName (now (c .before .before .before .before .before .before .before .args .s)) _ _ (c .before .run-end2 .ensures), run-within isName (now (c .before .before .before .before .before .before .before .args .s)) _ _ (c .before .run-end2 .ensures) (omega (arith, c .before .before .before .look .ensures .1, c .before .before .if2 .taken)))
+rest-of-line-requires c κs =
+    let args = c .before .before .before .before .before .before .before .args in
+    let look = c .before .before .before .look in
+    let run-end2 = c .before .run-end2 in (
+      run-from isName (now (args .s)) _ _ (run-end2 .ensures),
+      run-within isName (now (args .s)) _ _ (run-end2 .ensures) (omega (arith, look .ensures .1, c .before .before .if2 .taken)),
+    )
 
 returns-3 : tie.Need-returns-3
-returns-3 c = with-group (now (c .before .before .before .before .before .before .before .before .args .s)) _ (c .before .before .before .before .before .before .run-end .ensures) _ (c .before .before .before .before .before .if1 .left) (c .before .before .before .before .look .ensures .0) _ (c .before .before .run-end2 .ensures) (c .before .before .before .if2 .taken) (c .rest-of-line .result) (c .before .if3 .left) (c .rest-of-line .ensures)
+returns-3 c =
+    let args = c .before .before .before .before .before .before .before .before .args in
+    let run-end = c .before .before .before .before .before .before .run-end in
+    let if1 = c .before .before .before .before .before .if1 in
+    let look = c .before .before .before .before .look in
+    let if2 = c .before .before .before .if2 in
+    with-group (now (args .s)) _ (run-end .ensures) _ (if1 .left) (look .ensures .0) _ (c .before .before .run-end2 .ensures) (if2 .taken)
+    (c .rest-of-line .result) (c .before .if3 .left) (c .rest-of-line .ensures)
 
 rest-of-line-requires-2 : tie.Need-rest-of-line-requires-2
 rest-of-line-requires-2 c κs = (omega arith, run-within isName (now (c .before .before .before .before .before .args .s)) 0 _ (c .before .before .before .run-end .ensures) (omega arith))
 
 returns-4 : tie.Need-returns-4
-returns-4 c = no-group (now (c .before .before .before .before .before .before .args .s)) _ (c .before .before .before .before .run-end .ensures) _ (c .before .before .before .if1 .left) (c .before .before .look .ensures .0) (c .rest-of-line2 .result) (c .before .if2 .left) (c .rest-of-line2 .ensures)
+returns-4 c =
+    let args = c .before .before .before .before .before .before .args in
+    let run-end = c .before .before .before .before .run-end in
+    let if1 = c .before .before .before .if1 in
+    no-group (now (args .s)) _ (run-end .ensures) _ (if1 .left) (c .before .before .look .ensures .0) (c .rest-of-line2 .result)
+    (c .before .if2 .left) (c .rest-of-line2 .ensures)
 
 pub parse-line-spec : {M : Type 1} → statement M
 parse-line-spec =

@@ -24,10 +24,21 @@ add-t11 : tie.Need-add-t11
 add-t11 c = search needs
 
 returns : tie.Need-returns
-returns c = quoted (now (c .before .before .before .before .before .before .args .s)) (c .before .before .before .before .before .before .args .at) _ (c .before .before .before .before .look .ensures .0) _ _ (c .before .before .run-end .ensures) (c .before .look2 .ensures .0) (c .before .before .before .if1 .taken) (c .if2 .taken) (omega (arith, c .before .before .before .before .look .ensures .1)) (omega (arith, c .before .look2 .ensures .1))
+returns c =
+    let args = c .before .before .before .before .before .before .args in
+    let look = c .before .before .before .before .look in
+    let if1 = c .before .before .before .if1 in
+    let look2 = c .before .look2 in
+    quoted (now (args .s)) (args .at) _ (look .ensures .0) _ _ (c .before .before .run-end .ensures) (look2 .ensures .0) (if1 .taken) (c .if2 .taken)
+    (omega (arith, look .ensures .1)) (omega (arith, look2 .ensures .1))
 
 returns-2 : tie.Need-returns-2
-returns-2 c = unclosed (now (c .before .before .before .before .before .before .args .s)) (c .before .before .before .before .before .before .args .at) _ (c .before .before .before .before .look .ensures .0) _ _ (c .before .before .run-end .ensures) (c .before .look2 .ensures .0) (c .before .before .before .if1 .taken) (c .if2 .left)
+returns-2 c =
+    let args = c .before .before .before .before .before .before .args in
+    let look = c .before .before .before .before .look in
+    let if1 = c .before .before .before .if1 in
+    unclosed (now (args .s)) (args .at) _ (look .ensures .0) _ _ (c .before .before .run-end .ensures) (c .before .look2 .ensures .0) (if1 .taken)
+    (c .if2 .left)
 
 run-end-requires-2 : tie.Need-run-end-requires-2
 run-end-requires-2 c κs = search needs

@@ -36,7 +36,13 @@ unfolding escaped
 returns-6 c = escape-is (now (c .before .before .before .before .before .before .before .args .s)) (c .before .before .before .before .before .before .before .args .at) _ (c .before .before .before .before .before .before .if1 .left) (λ r. rw (c .if6 .taken))
 
 returns-7 : tie.Need-returns-7
-returns-7 c = escape-bad (now (c .before .before .before .before .before .before .before .args .s)) (c .before .before .before .before .before .before .before .args .at) (c .before .before .before .before .before .before .if1 .left) (no-escape _ (c .before .before .before .before .if2 .left) (c .before .before .before .if3 .left) (c .before .before .if4 .left) (c .before .if5 .left) (c .if6 .left))
+returns-7 c =
+    let args = c .before .before .before .before .before .before .before .args in
+    let if1 = c .before .before .before .before .before .before .if1 in
+    let if2 = c .before .before .before .before .if2 in
+    let if3 = c .before .before .before .if3 in
+    escape-bad (now (args .s)) (args .at) (if1 .left)
+    (no-escape _ (if2 .left) (if3 .left) (c .before .before .if4 .left) (c .before .if5 .left) (c .if6 .left))
 
 pub escaped-char-spec : {M : Type 1} → statement M
 escaped-char-spec =

@@ -56,7 +56,13 @@ same-length-4 : tie.Need-same-length-4
 same-length-4 c = search needs
 
 returns-4 : tie.Need-returns-4
-returns-4 c = puts-as (sym (escape-semi (c .before .before .before .before .before .before .before .before .before .before .args .semi) _ (c .before .before .before .before .before .before .before .before .if1 .left) (c .before .before .before .before .before .before .before .if2 .left) (c .before .before .before .before .before .before .if3 .left) (c .before .before .before .before .before .if4 .taken))) (c .before .before .put-text4 .ensures)
+returns-4 c =
+    let args = c .before .before .before .before .before .before .before .before .before .before .args in
+    let if1 = c .before .before .before .before .before .before .before .before .if1 in
+    let if2 = c .before .before .before .before .before .before .before .if2 in
+    let if3 = c .before .before .before .before .before .before .if3 in
+    let if4 = c .before .before .before .before .before .if4 in
+    puts-as (sym (escape-semi (args .semi) _ (if1 .left) (if2 .left) (if3 .left) (if4 .taken))) (c .before .before .put-text4 .ensures)
 
 put-byte-requires : tie.Need-put-byte-requires
 put-byte-requires c κs = search needs
@@ -65,7 +71,13 @@ same-length-5 : tie.Need-same-length-5
 same-length-5 c = search needs
 
 returns-5 : tie.Need-returns-5
-returns-5 c = puts-as (sym (escape-none (c .before .before .before .before .before .before .before .before .before .args .semi) _ (c .before .before .before .before .before .before .before .if1 .left) (c .before .before .before .before .before .before .if2 .left) (c .before .before .before .before .before .if3 .left) (c .before .before .before .before .if4 .left))) (c .before .before .put-byte .ensures)
+returns-5 c =
+    let args = c .before .before .before .before .before .before .before .before .before .args in
+    let if1 = c .before .before .before .before .before .before .before .if1 in
+    let if2 = c .before .before .before .before .before .before .if2 in
+    let if3 = c .before .before .before .before .before .if3 in
+    let if4 = c .before .before .before .before .if4 in
+    puts-as (sym (escape-none (args .semi) _ (if1 .left) (if2 .left) (if3 .left) (if4 .left))) (c .before .before .put-byte .ensures)
 
 pub put-escape-spec : {M : Type 1} → statement M
 put-escape-spec =

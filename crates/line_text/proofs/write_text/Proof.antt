@@ -18,7 +18,13 @@ abbrev μ-loop : tie.MeasureT-loop
 
 -- after a byte's piece
 abbrev wrote : tie.After-known-told Inv-loop μ-loop → Going
-wrote c = going (rest-next _ (rest-as (write-one _ (now (c .before .before .before .before .before .before .before .before .before .before .before .before .args .s)) (c .before .before .before .before .before .before .before .before .before .loop .i) (c .before .before .before .before .before .before .before .before .loop-test .taken)) (c .before .before .before .before .before .before .before .before .before .loop .inv)) (c .before .before .before .before .before .put-escape .ensures) (c .before .n .given .1))
+wrote c =
+    let args = c .before .before .before .before .before .before .before .before .before .before .before .before .args in
+    let loop = c .before .before .before .before .before .before .before .before .before .loop in
+    let loop-test = c .before .before .before .before .before .before .before .before .loop-test in
+    let put-escape = c .before .before .before .before .before .put-escape in
+    going
+    (rest-next _ (rest-as (write-one _ (now (args .s)) (loop .i) (loop-test .taken)) (loop .inv)) (put-escape .ensures) (c .before .n .given .1))
 
 loop-holds : tie.Need-loop-holds Inv-loop μ-loop
 loop-holds c = rest-all _ _
@@ -48,7 +54,12 @@ same-length : tie.Need-same-length Inv-loop μ-loop
 same-length c = search needs
 
 returns : tie.Need-returns Inv-loop μ-loop
-returns c = rest-stop _ (rest-as (write-one _ (now (c .before .before .before .before .before .before .before .before .before .before .before .args .s)) (c .before .before .before .before .before .before .before .before .loop .i) (c .before .before .before .before .before .before .before .loop-test .taken)) (c .before .before .before .before .before .before .before .before .loop .inv)) (c .before .before .before .before .put-escape .ensures) (c .enum-told .given .1)
+returns c =
+    let args = c .before .before .before .before .before .before .before .before .before .before .before .args in
+    let loop = c .before .before .before .before .before .before .before .before .loop in
+    let loop-test = c .before .before .before .before .before .before .before .loop-test in
+    let put-escape = c .before .before .before .before .put-escape in
+    rest-stop _ (rest-as (write-one _ (now (args .s)) (loop .i) (loop-test .taken)) (loop .inv)) (put-escape .ensures) (c .enum-told .given .1)
 
 add-at : tie.Need-add-at Inv-loop μ-loop
 add-at c = rest-fit (wrote c .left) (c .before .before .before .before .before .before .before .before .before .before .before .before .good .0 .0)

@@ -34,7 +34,14 @@ loop-less : tie.Need-loop-less Inv-loop μ-loop
 loop-less c = search needs
 
 loop-again : tie.Need-loop-again Inv-loop μ-loop
-loop-again c = (omega arith, simp length-set (c .before .before .loop .inv .1), adds-more (now (c .before .before .before .args .out)) (now (c .before .before .before .args .src)) (c .before .before .before .args .at) (c .before .before .loop .out) (c .before .before .loop .i) (c .before .before .loop .inv .2) (c .before .loop-test .taken) (omega (arith, c .before .before .before .pre, c .before .before .loop .inv .1)))
+loop-again c =
+    let pre = c .before .before .before .pre in
+    let args = c .before .before .before .args in
+    let loop = c .before .before .loop in (
+      omega arith,
+      simp length-set (loop .inv .1),
+      adds-more (now (args .out)) (now (args .src)) (args .at) (loop .out) (loop .i) (loop .inv .2) (c .before .loop-test .taken) (omega (arith, pre, loop .inv .1)),
+    )
 
 add-result : tie.Need-add-result Inv-loop μ-loop
 add-result c = omega (arith, c .before .before .pre, c .before .before .good .0 .0, c .before .loop .inv .0)

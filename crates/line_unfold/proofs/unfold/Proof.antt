@@ -50,28 +50,86 @@ add-from : tie.Need-add-from Inv-loop μ-loop
 add-from c = search needs
 
 sub-append : tie.Need-sub-append Inv-loop μ-loop
-sub-append c = omega (arith, c .before .before .before .before .next-line .ensures .from, c .before .before .before .before .next-line .ensures .ordered, c .before .before .before .before .next-line .ensures .onward, c .before .before .before .before .next-line .ensures .within, blank-fold (now (c .before .before .before .before .before .before .before .before .before .before .args .s)) (c .before .before .before .before .before .before .loop .i) _ (c .before .before .before .before .next-line .ensures) (c .before .before .before .before .before .before .loop .k) (sym (ap (λ b. ltb 0 (c .before .before .before .before .before .before .loop .k) && b) (c .before .before .folds .ensures)) ∙ (c .before .if1 .taken)))
+sub-append c =
+    let args = c .before .before .before .before .before .before .before .before .before .before .args in
+    let loop = c .before .before .before .before .before .before .loop in
+    let next-line = c .before .before .before .before .next-line in
+    omega (
+      arith,
+      next-line .ensures .from,
+      next-line .ensures .ordered,
+      next-line .ensures .onward,
+      next-line .ensures .within,
+      blank-fold (now (args .s)) (loop .i) _ (next-line .ensures) (loop .k) (sym (ap (λ b. ltb 0 (loop .k) && b) (c .before .before .folds .ensures)) ∙ (c .before .if1 .taken)),
+    )
 
 part-append-start : tie.Need-part-append-start Inv-loop μ-loop
-part-append-start c = omega (arith, c .before .before .before .before .next-line .ensures .from, c .before .before .before .before .next-line .ensures .ordered, c .before .before .before .before .next-line .ensures .onward, c .before .before .before .before .next-line .ensures .within, blank-fold (now (c .before .before .before .before .before .before .before .before .before .before .args .s)) (c .before .before .before .before .before .before .loop .i) _ (c .before .before .before .before .next-line .ensures) (c .before .before .before .before .before .before .loop .k) (sym (ap (λ b. ltb 0 (c .before .before .before .before .before .before .loop .k) && b) (c .before .before .folds .ensures)) ∙ (c .before .if1 .taken)))
+part-append-start c =
+    let args = c .before .before .before .before .before .before .before .before .before .before .args in
+    let loop = c .before .before .before .before .before .before .loop in
+    let next-line = c .before .before .before .before .next-line in
+    omega (
+      arith,
+      next-line .ensures .from,
+      next-line .ensures .ordered,
+      next-line .ensures .onward,
+      next-line .ensures .within,
+      blank-fold (now (args .s)) (loop .i) _ (next-line .ensures) (loop .k) (sym (ap (λ b. ltb 0 (loop .k) && b) (c .before .before .folds .ensures)) ∙ (c .before .if1 .taken)),
+    )
 
 part-append-end : tie.Need-part-append-end Inv-loop μ-loop
-part-append-end c = omega (arith, c .before .before .before .before .next-line .ensures .from, c .before .before .before .before .next-line .ensures .ordered, c .before .before .before .before .next-line .ensures .onward, c .before .before .before .before .next-line .ensures .within, blank-fold (now (c .before .before .before .before .before .before .before .before .before .before .args .s)) (c .before .before .before .before .before .before .loop .i) _ (c .before .before .before .before .next-line .ensures) (c .before .before .before .before .before .before .loop .k) (sym (ap (λ b. ltb 0 (c .before .before .before .before .before .before .loop .k) && b) (c .before .before .folds .ensures)) ∙ (c .before .if1 .taken)))
+part-append-end c =
+    let args = c .before .before .before .before .before .before .before .before .before .before .args in
+    let loop = c .before .before .before .before .before .before .loop in
+    let next-line = c .before .before .before .before .next-line in
+    omega (
+      arith,
+      next-line .ensures .from,
+      next-line .ensures .ordered,
+      next-line .ensures .onward,
+      next-line .ensures .within,
+      blank-fold (now (args .s)) (loop .i) _ (next-line .ensures) (loop .k) (sym (ap (λ b. ltb 0 (loop .k) && b) (c .before .before .folds .ensures)) ∙ (c .before .if1 .taken)),
+    )
 
 append-requires : tie.Need-append-requires Inv-loop μ-loop
-append-requires c κs = omega (arith, c .before .before .before .before .before .next-line .ensures .from, c .before .before .before .before .before .next-line .ensures .ordered, c .before .before .before .before .before .next-line .ensures .onward, c .before .before .before .before .before .next-line .ensures .within, blank-fold (now (c .before .before .before .before .before .before .before .before .before .before .before .args .s)) (c .before .before .before .before .before .before .before .loop .i) _ (c .before .before .before .before .before .next-line .ensures) (c .before .before .before .before .before .before .before .loop .k) (sym (ap (λ b. ltb 0 (c .before .before .before .before .before .before .before .loop .k) && b) (c .before .before .before .folds .ensures)) ∙ (c .before .before .if1 .taken)), part-short (now (c .before .before .before .before .before .before .before .before .before .before .before .args .s)) (c .before .before .before .before .before .before .before .loop .i + 1) (c .before .before .before .before .before .next-line .result .end), c .before .before .before .before .before .before .before .loop .inv .1, c .before .before .before .before .before .before .before .before .before .before .before .pre .0, rest-same (c .before .before .before .before .before .before .before .loop .inv .3))
+append-requires c κs =
+    let args = c .before .before .before .before .before .before .before .before .before .before .before .args in
+    let pre = c .before .before .before .before .before .before .before .before .before .before .before .pre in
+    let loop = c .before .before .before .before .before .before .before .loop in
+    let next-line = c .before .before .before .before .before .next-line in
+    let folds = c .before .before .before .folds in
+    omega (
+      arith,
+      next-line .ensures .from,
+      next-line .ensures .ordered,
+      next-line .ensures .onward,
+      next-line .ensures .within,
+      blank-fold (now (args .s)) (loop .i) _ (next-line .ensures) (loop .k) (sym (ap (λ b. ltb 0 (loop .k) && b) (folds .ensures)) ∙ (c .before .before .if1 .taken)),
+      part-short (now (args .s)) (loop .i + 1) (next-line .result .end),
+      loop .inv .1,
+      pre .0,
+      rest-same (loop .inv .3),
+    )
 
 loop-less : tie.Need-loop-less Inv-loop μ-loop
-loop-less c = omega (arith, c .before .before .before .before .before .before .before .before .next-line .ensures .from, c .before .before .before .before .before .before .before .before .next-line .ensures .ordered, c .before .before .before .before .before .before .before .before .next-line .ensures .onward, c .before .before .before .before .before .before .before .before .next-line .ensures .within)
+loop-less c =
+    let next-line = c .before .before .before .before .before .before .before .before .next-line in
+    omega (arith, next-line .ensures .from, next-line .ensures .ordered, next-line .ensures .onward, next-line .ensures .within)
 
 loop-again : tie.Need-loop-again Inv-loop μ-loop
-loop-again c = (
-  c .before .before .before .before .before .before .before .before .next-line .ensures .within,
-  omega (arith, c .before .before .before .before .before .before .before .before .next-line .ensures .from, c .before .before .before .before .before .before .before .before .next-line .ensures .ordered, c .before .before .before .before .before .before .before .before .next-line .ensures .onward, c .before .before .before .before .before .before .before .before .next-line .ensures .within, blank-fold (now (c .before .before .before .before .before .before .before .before .before .before .before .before .before .before .args .s)) (c .before .before .before .before .before .before .before .before .before .before .loop .i) _ (c .before .before .before .before .before .before .before .before .next-line .ensures) (c .before .before .before .before .before .before .before .before .before .before .loop .k) (sym (ap (λ b. ltb 0 (c .before .before .before .before .before .before .before .before .before .before .loop .k) && b) (c .before .before .before .before .before .before .folds .ensures)) ∙ (c .before .before .before .before .before .if1 .taken)), c .before .before .append .ensures .is, part-short (now (c .before .before .before .before .before .before .before .before .before .before .before .before .before .before .args .s)) (c .before .before .before .before .before .before .before .before .before .before .loop .i + 1) (c .before .before .before .before .before .before .before .before .next-line .result .end), c .before .before .before .before .before .before .before .before .before .before .loop .inv .1),
-  c .before .before .before .before .before .before .before .before .before .before .loop .inv .2,
-  fold-bytes (now (c .before .before .before .before .before .before .before .before .before .before .before .before .before .before .args .s)) (c .before .before .before .before .before .before .before .before .before .before .loop .i) _ (c .before .before .before .before .before .before .before .before .next-line .ensures) (c .before .before .before .before .before .before .before .before .before .before .loop .k) (c .before .before .before .before .before .before .before .before .before .before .loop .n) _ (sym (ap (λ b. ltb 0 (c .before .before .before .before .before .before .before .before .before .before .loop .k) && b) (c .before .before .before .before .before .before .folds .ensures)) ∙ (c .before .before .before .before .before .if1 .taken)) (c .before .before .append .ensures) (c .before .before .before .before .before .before .before .before .before .before .loop .inv .3),
-  fold-marks (now (c .before .before .before .before .before .before .before .before .before .before .before .before .before .before .args .s)) (c .before .before .before .before .before .before .before .before .before .before .loop .i) _ (c .before .before .before .before .before .before .before .before .next-line .ensures) (c .before .before .before .before .before .before .before .before .before .before .loop .k) (c .before .before .before .before .before .before .before .before .before .before .loop .n) _ (sym (ap (λ b. ltb 0 (c .before .before .before .before .before .before .before .before .before .before .loop .k) && b) (c .before .before .before .before .before .before .folds .ensures)) ∙ (c .before .before .before .before .before .if1 .taken)) (c .before .before .append .ensures) (c .before .before .before .before .before .before .before .before .before .before .loop .inv .4),
-)
+loop-again c =
+    let args = c .before .before .before .before .before .before .before .before .before .before .before .before .before .before .args in
+    let loop = c .before .before .before .before .before .before .before .before .before .before .loop in
+    let next-line = c .before .before .before .before .before .before .before .before .next-line in
+    let folds = c .before .before .before .before .before .before .folds in
+    let if1 = c .before .before .before .before .before .if1 in
+    let append = c .before .before .append in (
+      next-line .ensures .within,
+      omega (arith, next-line .ensures .from, next-line .ensures .ordered, next-line .ensures .onward, next-line .ensures .within, blank-fold (now (args .s)) (loop .i) _ (next-line .ensures) (loop .k) (sym (ap (λ b. ltb 0 (loop .k) && b) (folds .ensures)) ∙ (if1 .taken)), append .ensures .is, part-short (now (args .s)) (loop .i + 1) (next-line .result .end), loop .inv .1),
+      loop .inv .2,
+      fold-bytes (now (args .s)) (loop .i) _ (next-line .ensures) (loop .k) (loop .n) _ (sym (ap (λ b. ltb 0 (loop .k) && b) (folds .ensures)) ∙ (if1 .taken)) (append .ensures) (loop .inv .3),
+      fold-marks (now (args .s)) (loop .i) _ (next-line .ensures) (loop .k) (loop .n) _ (sym (ap (λ b. ltb 0 (loop .k) && b) (folds .ensures)) ∙ (if1 .taken)) (append .ensures) (loop .inv .4),
+    )
 
 same-length : tie.Need-same-length Inv-loop μ-loop
 same-length c = rest-same (c .before .before .before .before .before .before .loop .inv .3)
@@ -80,7 +138,15 @@ same-length-2 : tie.Need-same-length-2 Inv-loop μ-loop
 same-length-2 c = rest-same (c .before .before .before .before .before .before .loop .inv .4)
 
 returns : tie.Need-returns Inv-loop μ-loop
-returns c = omega (arith, c .if2 .taken, too-many (now (c .before .before .before .before .before .before .before .before .before .before .args .s)) (c .before .before .before .before .before .before .loop .i) _ (c .before .before .before .before .next-line .ensures) (c .before .before .before .before .before .before .loop .k) (c .before .before .before .before .before .before .loop .n) 0 _ (sym (ap (λ b. ltb 0 (c .before .before .before .before .before .before .loop .k) && b) (c .before .before .folds .ensures)) ∙ (c .before .if1 .left)) (c .before .before .before .before .before .before .loop .inv .4))
+returns c =
+    let args = c .before .before .before .before .before .before .before .before .before .before .args in
+    let loop = c .before .before .before .before .before .before .loop in
+    let next-line = c .before .before .before .before .next-line in
+    omega (
+      arith,
+      c .if2 .taken,
+      too-many (now (args .s)) (loop .i) _ (next-line .ensures) (loop .k) (loop .n) 0 _ (sym (ap (λ b. ltb 0 (loop .k) && b) (c .before .before .folds .ensures)) ∙ (c .before .if1 .left)) (loop .inv .4),
+    )
 
 mul-table : tie.Need-mul-table Inv-loop μ-loop
 mul-table c = omega (arith, c .if2 .left)
@@ -92,28 +158,59 @@ add-k : tie.Need-add-k Inv-loop μ-loop
 add-k c = omega (arith, c .if2 .left)
 
 sub-append-2 : tie.Need-sub-append-2 Inv-loop μ-loop
-sub-append-2 c = omega (arith, c .before .before .before .before .before .next-line .ensures .from, c .before .before .before .before .before .next-line .ensures .ordered, c .before .before .before .before .before .next-line .ensures .onward, c .before .before .before .before .before .next-line .ensures .within)
+sub-append-2 c =
+    let next-line = c .before .before .before .before .before .next-line in
+    omega (arith, next-line .ensures .from, next-line .ensures .ordered, next-line .ensures .onward, next-line .ensures .within)
 
 part-append-start-2 : tie.Need-part-append-start-2 Inv-loop μ-loop
-part-append-start-2 c = omega (arith, c .before .before .before .before .before .next-line .ensures .from, c .before .before .before .before .before .next-line .ensures .ordered, c .before .before .before .before .before .next-line .ensures .onward, c .before .before .before .before .before .next-line .ensures .within)
+part-append-start-2 c =
+    let next-line = c .before .before .before .before .before .next-line in
+    omega (arith, next-line .ensures .from, next-line .ensures .ordered, next-line .ensures .onward, next-line .ensures .within)
 
 part-append-end-2 : tie.Need-part-append-end-2 Inv-loop μ-loop
-part-append-end-2 c = omega (arith, c .before .before .before .before .before .next-line .ensures .from, c .before .before .before .before .before .next-line .ensures .ordered, c .before .before .before .before .before .next-line .ensures .onward, c .before .before .before .before .before .next-line .ensures .within)
+part-append-end-2 c =
+    let next-line = c .before .before .before .before .before .next-line in
+    omega (arith, next-line .ensures .from, next-line .ensures .ordered, next-line .ensures .onward, next-line .ensures .within)
 
 append-requires-2 : tie.Need-append-requires-2 Inv-loop μ-loop
-append-requires-2 c κs = omega (arith, c .before .before .before .before .before .before .next-line .ensures .from, c .before .before .before .before .before .before .next-line .ensures .ordered, c .before .before .before .before .before .before .next-line .ensures .onward, c .before .before .before .before .before .before .next-line .ensures .within, part-short (now (c .before .before .before .before .before .before .before .before .before .before .before .before .args .s)) (c .before .before .before .before .before .before .before .before .loop .i) (c .before .before .before .before .before .before .next-line .result .end), c .before .before .before .before .before .before .before .before .loop .inv .1, c .before .before .before .before .before .before .before .before .before .before .before .before .pre .0, rest-same (c .before .before .before .before .before .before .before .before .loop .inv .3))
+append-requires-2 c κs =
+    let pre = c .before .before .before .before .before .before .before .before .before .before .before .before .pre in
+    let args = c .before .before .before .before .before .before .before .before .before .before .before .before .args in
+    let loop = c .before .before .before .before .before .before .before .before .loop in
+    let next-line = c .before .before .before .before .before .before .next-line in
+    omega (
+      arith,
+      next-line .ensures .from,
+      next-line .ensures .ordered,
+      next-line .ensures .onward,
+      next-line .ensures .within,
+      part-short (now (args .s)) (loop .i) (next-line .result .end),
+      loop .inv .1,
+      pre .0,
+      rest-same (loop .inv .3),
+    )
 
 loop-less-2 : tie.Need-loop-less-2 Inv-loop μ-loop
-loop-less-2 c = omega (arith, c .before .before .before .before .before .before .before .before .before .next-line .ensures .from, c .before .before .before .before .before .before .before .before .before .next-line .ensures .ordered, c .before .before .before .before .before .before .before .before .before .next-line .ensures .onward, c .before .before .before .before .before .before .before .before .before .next-line .ensures .within)
+loop-less-2 c =
+    let next-line = c .before .before .before .before .before .before .before .before .before .next-line in
+    omega (arith, next-line .ensures .from, next-line .ensures .ordered, next-line .ensures .onward, next-line .ensures .within)
 
 loop-again-2 : tie.Need-loop-again-2 Inv-loop μ-loop
-loop-again-2 c = (
-  c .before .before .before .before .before .before .before .before .before .next-line .ensures .within,
-  omega (arith, c .before .before .before .before .before .before .before .before .before .next-line .ensures .from, c .before .before .before .before .before .before .before .before .before .next-line .ensures .ordered, c .before .before .before .before .before .before .before .before .before .next-line .ensures .onward, c .before .before .before .before .before .before .before .before .before .next-line .ensures .within, c .before .before .append2 .ensures .is, part-short (now (c .before .before .before .before .before .before .before .before .before .before .before .before .before .before .before .args .s)) (c .before .before .before .before .before .before .before .before .before .before .before .loop .i) (c .before .before .before .before .before .before .before .before .before .next-line .result .end), c .before .before .before .before .before .before .before .before .before .before .before .loop .inv .1),
-  omega (arith, c .before .before .before .before .before .if2 .left),
-  begin-bytes (now (c .before .before .before .before .before .before .before .before .before .before .before .before .before .before .before .args .s)) (c .before .before .before .before .before .before .before .before .before .before .before .loop .i) _ (c .before .before .before .before .before .before .before .before .before .next-line .ensures) (c .before .before .before .before .before .before .before .before .before .before .before .loop .k) (c .before .before .before .before .before .before .before .before .before .before .before .loop .n) _ (sym (ap (λ b. ltb 0 (c .before .before .before .before .before .before .before .before .before .before .before .loop .k) && b) (c .before .before .before .before .before .before .before .folds .ensures)) ∙ (c .before .before .before .before .before .before .if1 .left)) (c .before .before .append2 .ensures) (c .before .before .before .before .before .before .before .before .before .before .before .loop .inv .3),
-  begin-marks (now (c .before .before .before .before .before .before .before .before .before .before .before .before .before .before .before .args .s)) (c .before .before .before .before .before .before .before .before .before .before .before .loop .i) _ (c .before .before .before .before .before .before .before .before .before .next-line .ensures) (c .before .before .before .before .before .before .before .before .before .before .before .loop .k) (c .before .before .before .before .before .before .before .before .before .before .before .loop .n) _ (sym (ap (λ b. ltb 0 (c .before .before .before .before .before .before .before .before .before .before .before .loop .k) && b) (c .before .before .before .before .before .before .before .folds .ensures)) ∙ (c .before .before .before .before .before .before .if1 .left)) (c .before .before .append2 .ensures) (omega (arith, c .before .before .before .before .before .if2 .left, c .before .before .before .before .before .before .before .before .before .before .before .before .before .before .before .pre .1, rest-same (c .before .before .before .before .before .before .before .before .before .before .before .loop .inv .4))) (c .before .before .before .before .before .before .before .before .before .before .before .loop .inv .4),
-)
+loop-again-2 c =
+    let args = c .before .before .before .before .before .before .before .before .before .before .before .before .before .before .before .args in
+    let pre = c .before .before .before .before .before .before .before .before .before .before .before .before .before .before .before .pre in
+    let loop = c .before .before .before .before .before .before .before .before .before .before .before .loop in
+    let next-line = c .before .before .before .before .before .before .before .before .before .next-line in
+    let folds = c .before .before .before .before .before .before .before .folds in
+    let if1 = c .before .before .before .before .before .before .if1 in
+    let if2 = c .before .before .before .before .before .if2 in
+    let append2 = c .before .before .append2 in (
+      next-line .ensures .within,
+      omega (arith, next-line .ensures .from, next-line .ensures .ordered, next-line .ensures .onward, next-line .ensures .within, append2 .ensures .is, part-short (now (args .s)) (loop .i) (next-line .result .end), loop .inv .1),
+      omega (arith, if2 .left),
+      begin-bytes (now (args .s)) (loop .i) _ (next-line .ensures) (loop .k) (loop .n) _ (sym (ap (λ b. ltb 0 (loop .k) && b) (folds .ensures)) ∙ (if1 .left)) (append2 .ensures) (loop .inv .3),
+      begin-marks (now (args .s)) (loop .i) _ (next-line .ensures) (loop .k) (loop .n) _ (sym (ap (λ b. ltb 0 (loop .k) && b) (folds .ensures)) ∙ (if1 .left)) (append2 .ensures) (omega (arith, if2 .left, pre .1, rest-same (loop .inv .4))) (loop .inv .4),
+    )
 
 mul-table-2 : tie.Need-mul-table-2 Inv-loop μ-loop
 mul-table-2 c = omega (arith, c .before .loop .inv .2)
@@ -128,7 +225,12 @@ same-length-4 : tie.Need-same-length-4 Inv-loop μ-loop
 same-length-4 c = search needs
 
 returns-2 : tie.Need-returns-2 Inv-loop μ-loop
-returns-2 c = laid (now (c .before .before .before .before .before .args .s)) (c .before .loop .i) (c .before .loop .k) (c .before .loop .n) (c .loop-test .left) (c .before .loop .inv .2) (omega (arith, c .before .loop .inv .2, c .before .before .before .before .before .pre .1, rest-same (c .before .loop .inv .4))) (c .before .loop .inv .3) (c .before .loop .inv .4)
+returns-2 c =
+    let args = c .before .before .before .before .before .args in
+    let pre = c .before .before .before .before .before .pre in
+    let loop = c .before .loop in
+    laid (now (args .s)) (loop .i) (loop .k) (loop .n) (c .loop-test .left) (loop .inv .2)
+    (omega (arith, loop .inv .2, pre .1, rest-same (loop .inv .4))) (loop .inv .3) (loop .inv .4)
 
 pub unfold-spec : {M : Type 1} → statement M
 unfold-spec =

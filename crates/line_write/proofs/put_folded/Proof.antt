@@ -20,7 +20,15 @@ abbrev μ-loop : tie.MeasureT-loop
 
 -- after a byte's piece
 abbrev wrote : (c : tie.After-known-told Inv-loop μ-loop) → Going
-wrote c = going (rest-next _ (rest-as (fold-one (c .before .before .before .before .before .before .before .before .before .before .loop .column) (now (c .before .before .before .before .before .before .before .before .before .before .before .before .before .args .s)) (c .before .before .before .before .before .before .before .before .before .before .loop .i) _ (c .before .before .before .before .before .before .before .before .before .loop-test .taken) (c .before .before .before .before .before .before .before .folds-before .ensures)) (c .before .before .before .before .before .before .before .before .before .before .loop .inv .1)) (c .before .before .before .before .before .put-piece .ensures) (c .before .n .given .1))
+wrote c =
+    let args = c .before .before .before .before .before .before .before .before .before .before .before .before .before .args in
+    let loop = c .before .before .before .before .before .before .before .before .before .before .loop in
+    let loop-test = c .before .before .before .before .before .before .before .before .before .loop-test in
+    let folds-before = c .before .before .before .before .before .before .before .folds-before in
+    let put-piece = c .before .before .before .before .before .put-piece in
+    going
+    (rest-next _ (rest-as (fold-one (loop .column) (now (args .s)) (loop .i) _ (loop-test .taken) (folds-before .ensures)) (loop .inv .1))
+    (put-piece .ensures) (c .before .n .given .1))
 
 loop-holds : tie.Need-loop-holds Inv-loop μ-loop
 loop-holds c = (omega arith, rest-as (fold-all _) (rest-all _ _))
@@ -53,7 +61,14 @@ same-length : tie.Need-same-length Inv-loop μ-loop
 same-length c = search needs
 
 returns : tie.Need-returns Inv-loop μ-loop
-returns c = rest-stop _ (rest-as (fold-one (c .before .before .before .before .before .before .before .before .before .loop .column) (now (c .before .before .before .before .before .before .before .before .before .before .before .before .args .s)) (c .before .before .before .before .before .before .before .before .before .loop .i) _ (c .before .before .before .before .before .before .before .before .loop-test .taken) (c .before .before .before .before .before .before .folds-before .ensures)) (c .before .before .before .before .before .before .before .before .before .loop .inv .1)) (c .before .before .before .before .put-piece .ensures) (c .enum-told .given .1)
+returns c =
+    let args = c .before .before .before .before .before .before .before .before .before .before .before .before .args in
+    let loop = c .before .before .before .before .before .before .before .before .before .loop in
+    let loop-test = c .before .before .before .before .before .before .before .before .loop-test in
+    let folds-before = c .before .before .before .before .before .before .folds-before in
+    let put-piece = c .before .before .before .before .put-piece in
+    rest-stop _ (rest-as (fold-one (loop .column) (now (args .s)) (loop .i) _ (loop-test .taken) (folds-before .ensures)) (loop .inv .1))
+    (put-piece .ensures) (c .enum-told .given .1)
 
 add-at : tie.Need-add-at Inv-loop μ-loop
 add-at c = rest-fit (wrote c .left) (c .before .before .before .before .before .before .before .before .before .before .before .before .before .good .0 .0)
@@ -68,7 +83,12 @@ loop-less : tie.Need-loop-less Inv-loop μ-loop
 loop-less c = search needs
 
 loop-again : tie.Need-loop-again Inv-loop μ-loop
-loop-again c = (rw (c .next-column .ensures) (column-few _ (c .before .before .before .before .before .before .before .before .before .before .before .loop .column) (c .before .before .before .before .before .before .before .before .before .before .before .loop .i) (c .before .before .before .before .before .before .before .before .before .before .before .loop .inv .0)), rest-as (ap (λ m. foldFrom m (drop (c .before .before .before .before .before .before .before .before .before .before .before .loop .i + 1) (now (c .before .before .before .before .before .before .before .before .before .before .before .before .before .before .args .s)))) (sym (c .next-column .ensures))) (wrote (c .before) .left))
+loop-again c =
+    let args = c .before .before .before .before .before .before .before .before .before .before .before .before .before .before .args in
+    let loop = c .before .before .before .before .before .before .before .before .before .before .before .loop in (
+      rw (c .next-column .ensures) (column-few _ (loop .column) (loop .i) (loop .inv .0)),
+      rest-as (ap (λ m. foldFrom m (drop (loop .i + 1) (now (args .s)))) (sym (c .next-column .ensures))) (wrote (c .before) .left),
+    )
 
 same-length-2 : tie.Need-same-length-2 Inv-loop μ-loop
 same-length-2 c = rest-same (c .before .loop .inv .1)

@@ -42,7 +42,16 @@ loop-less : tie.Need-loop-less Inv-loop μ-loop
 loop-less c = search needs
 
 loop-again : tie.Need-loop-again Inv-loop μ-loop
-loop-again c = rest-byte (rest-as (upper-one (now (c .before .before .before .before .before .before .before .args .name)) (c .before .before .before .before .loop .i) (c .before .before .before .loop-test .taken) ∙ ap (λ b. b ∷ uppered (drop (c .before .before .before .before .loop .i + 1) (now (c .before .before .before .before .before .before .before .args .name)))) (sym (c .upper-of .ensures))) (c .before .before .before .before .loop .inv)) (c .before .before .if1 .left)
+loop-again c =
+    let args = c .before .before .before .before .before .before .before .args in
+    let loop = c .before .before .before .before .loop in
+    let loop-test = c .before .before .before .loop-test in
+    rest-byte
+    (rest-as
+    (upper-one (now (args .name)) (loop .i) (loop-test .taken) ∙ ap (λ b. b ∷ uppered (drop (loop .i + 1) (now (args .name))))
+    (sym (c .upper-of .ensures)))
+    (loop .inv))
+    (c .before .before .if1 .left)
 
 same-length-2 : tie.Need-same-length-2 Inv-loop μ-loop
 same-length-2 c = rest-same (c .before .loop .inv)

@@ -28,8 +28,12 @@ same-length-3 c = search needs
 
 returns : tie.Need-returns
 returns c =
-    let a = c .before .before .before .before .before .before .before .before .before .before .before .before .before .before .before .before .before .before .before .before .before .before .args in
-    call-told (piece (now (a .stem)) (now (a .piece))) (now (a .state)) (now (a .buffer)) (now (a .out)) _ (c .before .before .before .before .before .before .before .before .before .before .before .before .before .before .before .state-in .ensures) (c .before .before .before .before .before .before .before .before .before .before .before .before .step .result) _ _ (c .before .before .before .before .before .before .before .before .before .before .before .before .step .ensures) _ (c .tell .ensures) _ (c .before .before .before .before .before .put-state .ensures)
+    let args = c .before .before .before .before .before .before .before .before .before .before .before .before .before .before .before .before .before .before .before .before .before .before .args in
+    let state-in = c .before .before .before .before .before .before .before .before .before .before .before .before .before .before .before .state-in in
+    let step = c .before .before .before .before .before .before .before .before .before .before .before .before .step in
+    let put-state = c .before .before .before .before .before .put-state in
+    let a = args in call-told (piece (now (a .stem)) (now (a .piece))) (now (a .state)) (now (a .buffer)) (now (a .out)) _ (state-in .ensures)
+    (step .result) _ _ (step .ensures) _ (c .tell .ensures) _ (put-state .ensures)
 
 pub thymebarrel-stream-step-spec : {M : Type 1} → statement M
 thymebarrel-stream-step-spec =

@@ -17,16 +17,34 @@ string-in-requires : tie.Need-string-in-requires
 string-in-requires c κs = search needs
 
 returns-2 : tie.Need-returns-2
-returns-2 c = filled-there (now (c .before .before .before .before .args .s)) (c .before .before .before .before .args .slot) (c .before .before .if1 .left) 0 (λ v w. test-none filled (now (c .before .before .before .before .args .s)) (c .before .before .before .before .args .slot) (c .before .string-in .result) (c .before .string-in .ensures) 15 v w (c .if2 .taken))
+returns-2 c =
+    let args = c .before .before .before .before .args in
+    let string-in = c .before .string-in in
+    filled-there (now (args .s)) (args .slot) (c .before .before .if1 .left) 0
+    (λ v w. test-none filled (now (args .s)) (args .slot) (string-in .result) (string-in .ensures) 15 v w (c .if2 .taken))
 
 is-filled-requires : tie.Need-is-filled-requires
 is-filled-requires c κs = search needs
 
 returns-3 : tie.Need-returns-3
-returns-3 c = filled-there (now (c .before .before .before .before .before .before .args .s)) (c .before .before .before .before .before .before .args .slot) (c .before .before .before .before .if1 .left) 0 (λ v w. test-fails filled (now (c .before .before .before .before .before .before .args .s)) (c .before .before .before .before .before .before .args .slot) (c .before .before .before .string-in .result) (c .before .before .before .string-in .ensures) 15 v w (c .before .before .if2 .left) (c .before .is-filled .result) (c .before .is-filled .ensures) (not-true _ (c .if3 .taken)))
+returns-3 c =
+    let args = c .before .before .before .before .before .before .args in
+    let if1 = c .before .before .before .before .if1 in
+    let string-in = c .before .before .before .string-in in
+    let is-filled = c .before .is-filled in
+    filled-there (now (args .s)) (args .slot) (if1 .left) 0
+    (λ v w. test-fails filled (now (args .s)) (args .slot) (string-in .result) (string-in .ensures) 15 v w (c .before .before .if2 .left)
+    (is-filled .result) (is-filled .ensures) (not-true _ (c .if3 .taken)))
 
 returns-4 : tie.Need-returns-4
-returns-4 c = filled-there (now (c .before .before .before .before .before .before .args .s)) (c .before .before .before .before .before .before .args .slot) (c .before .before .before .before .if1 .left) (c .before .before .before .string-in .result) (λ v w. test-holds filled (now (c .before .before .before .before .before .before .args .s)) (c .before .before .before .before .before .before .args .slot) (c .before .before .before .string-in .result) (c .before .before .before .string-in .ensures) 15 v w (c .before .before .if2 .left) (c .before .is-filled .result) (c .before .is-filled .ensures) (not-false _ (c .if3 .left)))
+returns-4 c =
+    let args = c .before .before .before .before .before .before .args in
+    let if1 = c .before .before .before .before .if1 in
+    let string-in = c .before .before .before .string-in in
+    let is-filled = c .before .is-filled in
+    filled-there (now (args .s)) (args .slot) (if1 .left) (string-in .result)
+    (λ v w. test-holds filled (now (args .s)) (args .slot) (string-in .result) (string-in .ensures) 15 v w (c .before .before .if2 .left)
+    (is-filled .result) (is-filled .ensures) (not-false _ (c .if3 .left)))
 
 pub filled-in-spec : {M : Type 1} → statement M
 filled-in-spec =

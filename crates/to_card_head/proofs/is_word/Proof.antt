@@ -42,7 +42,11 @@ enum-told-2 : tie.Need-enum-told-2 Inv-loop μ-loop
 enum-told-2 c = search needs
 
 returns-3 : tie.Need-returns-3 Inv-loop μ-loop
-returns-3 c = word-end (c .before .before .before .loop .begun) ∙ sym (c .before .before .before .loop .inv .1 ∙ ap (wordFrom (c .before .before .before .loop .begun)) (is-end (now (c .before .before .before .before .before .before .args .s)) (c .before .before .next-byte .ensures .0) (c .enum-told2 .given .1)))
+returns-3 c =
+    let args = c .before .before .before .before .before .before .args in
+    let loop = c .before .before .before .loop in
+    word-end (loop .begun) ∙ sym
+    (loop .inv .1 ∙ ap (wordFrom (loop .begun)) (is-end (now (args .s)) (c .before .before .next-byte .ensures .0) (c .enum-told2 .given .1)))
 
 enum-known-b : tie.Need-enum-known-b Inv-loop μ-loop
 enum-known-b c = search needs
@@ -51,17 +55,32 @@ is-lower-name-requires : tie.Need-is-lower-name-requires Inv-loop μ-loop
 is-lower-name-requires c κs = tt
 
 returns-4 : tie.Need-returns-4 Inv-loop μ-loop
-returns-4 c = word-bad (c .before .before .before .before .before .before .loop .begun) (c .before .before .before .b .given .0 .0) (left (now (c .before .before .before .before .before .before .before .before .before .args .s)) (c .before .before .before .b .given .0 .1 .0) (c .before .before .before .b .given .0 .1 .1 .0)) (sym (c .before .is-lower-name .ensures) ∙ not-true _ (c .if2 .taken)) ∙ sym (c .before .before .before .before .before .before .loop .inv .1 ∙ ap (wordFrom (c .before .before .before .before .before .before .loop .begun)) (is-one (now (c .before .before .before .before .before .before .before .before .before .args .s)) (c .before .before .before .before .before .next-byte .ensures .0) (c .before .before .before .b .given .1)))
+returns-4 c =
+    let args = c .before .before .before .before .before .before .before .before .before .args in
+    let loop = c .before .before .before .before .before .before .loop in
+    let next-byte = c .before .before .before .before .before .next-byte in
+    let b = c .before .before .before .b in
+    word-bad (loop .begun) (b .given .0 .0) (left (now (args .s)) (b .given .0 .1 .0) (b .given .0 .1 .1 .0))
+    (sym (c .before .is-lower-name .ensures) ∙ not-true _ (c .if2 .taken)) ∙ sym
+    (loop .inv .1 ∙ ap (wordFrom (loop .begun)) (is-one (now (args .s)) (next-byte .ensures .0) (b .given .1)))
 
 loop-less : tie.Need-loop-less Inv-loop μ-loop
-loop-less c = byte-in (now (c .before .before .before .before .before .before .before .before .before .args .s)) (c .before .before .before .before .before .before .loop .i) (c .before .before .before .before .before .before .loop .h) (c .before .before .before .before .before .next-byte .ensures .1) (c .before .before .before .b .given .1) .1
+loop-less c =
+    let args = c .before .before .before .before .before .before .before .before .before .args in
+    let loop = c .before .before .before .before .before .before .loop in
+    let next-byte = c .before .before .before .before .before .next-byte in
+    let b = c .before .before .before .b in
+    byte-in (now (args .s)) (loop .i) (loop .h) (next-byte .ensures .1) (b .given .1) .1
 
 loop-again : tie.Need-loop-again Inv-loop μ-loop
-loop-again c = (
-  byte-in (now (c .before .before .before .before .before .before .before .before .before .args .s)) (c .before .before .before .before .before .before .loop .i) (c .before .before .before .before .before .before .loop .h) (c .before .before .before .before .before .next-byte .ensures .1) (c .before .before .before .b .given .1) .0,
-  c .before .before .before .before .before .before .loop .inv .1 ∙ ap (wordFrom (c .before .before .before .before .before .before .loop .begun)) (is-one (now (c .before .before .before .before .before .before .before .before .before .args .s)) (c .before .before .before .before .before .next-byte .ensures .0) (c .before .before .before .b .given .1))
-      ∙ word-on (c .before .before .before .before .before .before .loop .begun) (c .before .before .before .b .given .0 .0) (left (now (c .before .before .before .before .before .before .before .before .before .args .s)) (c .before .before .before .b .given .0 .1 .0) (c .before .before .before .b .given .0 .1 .1 .0)) (sym (c .before .is-lower-name .ensures) ∙ not-false _ (c .if2 .left)),
-)
+loop-again c =
+    let args = c .before .before .before .before .before .before .before .before .before .args in
+    let loop = c .before .before .before .before .before .before .loop in
+    let next-byte = c .before .before .before .before .before .next-byte in
+    let b = c .before .before .before .b in (
+      byte-in (now (args .s)) (loop .i) (loop .h) (next-byte .ensures .1) (b .given .1) .0,
+      loop .inv .1 ∙ ap (wordFrom (loop .begun)) (is-one (now (args .s)) (next-byte .ensures .0) (b .given .1)) ∙ word-on (loop .begun) (b .given .0 .0) (left (now (args .s)) (b .given .0 .1 .0) (b .given .0 .1 .1 .0)) (sym (c .before .is-lower-name .ensures) ∙ not-false _ (c .if2 .left)),
+    )
 
 pub is-word-spec : {M : Type 1} → statement M
 is-word-spec =

@@ -23,7 +23,12 @@ holds-requires : tie.Need-holds-requires
 holds-requires c κs = search needs
 
 returns : tie.Need-returns
-returns c = (tt, (refl, no-card (now (c .before .before .before .before .before .args .s)) (c .before .before .before .before .before .args .card) (c .before .before .before .before .before .args .version) (c .before .before .before .before .before .args .uid) (c .before .before .before .before .before .args .kind) (now (c .before .before .before .before .before .args .out)) (c .before .holds .result) (c .before .holds .ensures) (not-true _ (c .if1 .taken)) _))
+returns c =
+    let args = c .before .before .before .before .before .args in
+    let holds = c .before .holds in (
+      tt,
+      (refl, no-card (now (args .s)) (args .card) (args .version) (args .uid) (args .kind) (now (args .out)) (holds .result) (holds .ensures) (not-true _ (c .if1 .taken)) _),
+    )
 
 slice-aggregate-holds-2 : tie.Need-slice-aggregate-holds-2
 slice-aggregate-holds-2 c = search needs
@@ -32,13 +37,22 @@ holds-requires-2 : tie.Need-holds-requires-2
 holds-requires-2 c κs = search needs
 
 returns-2 : tie.Need-returns-2
-returns-2 c = (tt, (refl, no-version (now (c .before .before .before .before .before .before .before .before .args .s)) (c .before .before .before .before .before .before .before .before .args .card) (c .before .before .before .before .before .before .before .before .args .version) (c .before .before .before .before .before .before .before .before .args .uid) (c .before .before .before .before .before .before .before .before .args .kind) (now (c .before .before .before .before .before .before .before .before .args .out)) (c .before .holds2 .result) (c .before .holds2 .ensures) (not-true _ (c .if2 .taken)) _))
+returns-2 c =
+    let args = c .before .before .before .before .before .before .before .before .args in
+    let holds2 = c .before .holds2 in (
+      tt,
+      (refl, no-version (now (args .s)) (args .card) (args .version) (args .uid) (args .kind) (now (args .out)) (holds2 .result) (holds2 .ensures) (not-true _ (c .if2 .taken)) _),
+    )
 
 filled-in-requires : tie.Need-filled-in-requires
 filled-in-requires c κs = search needs
 
 returns-3 : tie.Need-returns-3
-returns-3 c = (tt, (refl, no-uid (now (c .before .before .before .before .before .before .before .before .before .before .args .s)) (c .before .before .before .before .before .before .before .before .before .before .args .card) (c .before .before .before .before .before .before .before .before .before .before .args .version) (c .before .before .before .before .before .before .before .before .before .before .args .uid) (c .before .before .before .before .before .before .before .before .before .before .args .kind) (now (c .before .before .before .before .before .before .before .before .before .before .args .out)) (subst (λ (q : ℕ). FilledIn (now (c .before .before .before .before .before .before .before .before .before .before .args .s)) (c .before .before .before .before .before .before .before .before .before .before .args .uid) q) (c .if3 .taken) (c .before .filled-in .ensures)) _))
+returns-3 c =
+    let args = c .before .before .before .before .before .before .before .before .before .before .args in (
+      tt,
+      (refl, no-uid (now (args .s)) (args .card) (args .version) (args .uid) (args .kind) (now (args .out)) (subst (λ (q : ℕ). FilledIn (now (args .s)) (args .uid) q) (c .if3 .taken) (c .before .filled-in .ensures)) _),
+    )
 
 put-start-requires : tie.Need-put-start-requires
 put-start-requires c κs = search needs
@@ -47,13 +61,30 @@ same-length : tie.Need-same-length
 same-length c = search needs
 
 returns-4 : tie.Need-returns-4
-returns-4 c = let w = c .before .before .put-start .ensures in (fills-in (w .fills), (fills-length (w .fills), head-plain (now (c .before .before .before .before .before .before .before .before .before .before .before .before .before .before .before .args .s)) (c .before .before .before .before .before .before .before .before .before .before .before .before .before .before .before .args .card) (c .before .before .before .before .before .before .before .before .before .before .before .before .before .before .before .args .version) (c .before .before .before .before .before .before .before .before .before .before .before .before .before .before .before .args .uid) (c .before .before .before .before .before .before .before .before .before .before .before .before .before .before .before .args .kind) (now (c .before .before .before .before .before .before .before .before .before .before .before .before .before .before .before .args .out)) (c .before .before .before .before .before .before .before .before .before .before .before .holds .result) (c .before .before .before .before .before .before .before .before .before .before .before .holds .ensures) (not-false _ (c .before .before .before .before .before .before .before .before .before .before .if1 .left)) (c .before .before .before .before .before .before .before .before .holds2 .result) (c .before .before .before .before .before .before .before .before .holds2 .ensures) (not-false _ (c .before .before .before .before .before .before .before .if2 .left)) (c .before .before .before .before .before .before .filled-in .result) (c .before .before .before .before .before .before .filled-in .ensures) (c .before .before .before .before .before .if3 .left) (c .before .before .put-start .result) _ w (c .before .before .before .before .if4 .taken)))
+returns-4 c =
+    let args = c .before .before .before .before .before .before .before .before .before .before .before .before .before .before .before .args in
+    let holds = c .before .before .before .before .before .before .before .before .before .before .before .holds in
+    let if1 = c .before .before .before .before .before .before .before .before .before .before .if1 in
+    let holds2 = c .before .before .before .before .before .before .before .before .holds2 in
+    let if2 = c .before .before .before .before .before .before .before .if2 in
+    let filled-in = c .before .before .before .before .before .before .filled-in in
+    let if3 = c .before .before .before .before .before .if3 in
+    let if4 = c .before .before .before .before .if4 in
+    let put-start = c .before .before .put-start in
+    let w = put-start .ensures in (
+      fills-in (w .fills),
+      (fills-length (w .fills), head-plain (now (args .s)) (args .card) (args .version) (args .uid) (args .kind) (now (args .out)) (holds .result) (holds .ensures) (not-false _ (if1 .left)) (holds2 .result) (holds2 .ensures) (not-false _ (if2 .left)) (filled-in .result) (filled-in .ensures) (if3 .left) (put-start .result) _ w (if4 .taken)),
+    )
 
 word-in-requires : tie.Need-word-in-requires
 word-in-requires c κs = search needs
 
 returns-5 : tie.Need-returns-5
-returns-5 c = (tt, (refl, no-kind (now (c .before .before .before .before .before .before .before .before .before .before .before .before .before .args .s)) (c .before .before .before .before .before .before .before .before .before .before .before .before .before .args .card) (c .before .before .before .before .before .before .before .before .before .before .before .before .before .args .version) (c .before .before .before .before .before .before .before .before .before .before .before .before .before .args .uid) (c .before .before .before .before .before .before .before .before .before .before .before .before .before .args .kind) (now (c .before .before .before .before .before .before .before .before .before .before .before .before .before .args .out)) (c .before .before .if4 .left) (subst (λ (q : ℕ). WordIn (now (c .before .before .before .before .before .before .before .before .before .before .before .before .before .args .s)) (c .before .before .before .before .before .before .before .before .before .before .before .before .before .args .kind) q) (c .if5 .taken) (c .before .word-in .ensures)) _))
+returns-5 c =
+    let args = c .before .before .before .before .before .before .before .before .before .before .before .before .before .args in (
+      tt,
+      (refl, no-kind (now (args .s)) (args .card) (args .version) (args .uid) (args .kind) (now (args .out)) (c .before .before .if4 .left) (subst (λ (q : ℕ). WordIn (now (args .s)) (args .kind) q) (c .if5 .taken) (c .before .word-in .ensures)) _),
+    )
 
 put-start-requires-2 : tie.Need-put-start-requires-2
 put-start-requires-2 c κs = search needs
@@ -74,16 +105,36 @@ put-string-line-requires : tie.Need-put-string-line-requires
 put-string-line-requires c κs = search needs
 
 add-m : tie.Need-add-m
-add-m c = row-fits (onto (begun (c .before .before .before .before .before .before .before .before .put-start2 .ensures .fills)) (c .before .before .before .put-string-line .ensures .fills)) (c .before .before .before .before .before .before .before .before .before .before .before .before .before .before .before .before .before .before .before .before .before .before .before .good .0 .0)
+add-m c =
+    let good = c .before .before .before .before .before .before .before .before .before .before .before .before .before .before .before .before .before .before .before .before .before .before .before .good in
+    let put-start2 = c .before .before .before .before .before .before .before .before .put-start2 in
+    let put-string-line = c .before .before .before .put-string-line in
+    row-fits (onto (begun (put-start2 .ensures .fills)) (put-string-line .ensures .fills)) (good .0 .0)
 
 same-length-2 : tie.Need-same-length-2
 same-length-2 c = search needs
 
 returns-6 : tie.Need-returns-6
-returns-6 c = let w = c .before .before .before .before .before .before .before .before .put-start2 .ensures in
-    let l = c .before .before .before .put-string-line .ensures in
-    let f = kind-row (now (c .before .before .before .before .before .before .before .before .before .before .before .before .before .before .before .before .before .before .before .before .before .before .before .args .s)) (c .before .before .before .before .before .before .before .before .before .before .before .before .before .before .before .before .before .before .before .before .before .before .before .args .card) (c .before .before .before .before .before .before .before .before .before .before .before .before .before .before .before .before .before .before .before .before .before .before .before .args .version) (c .before .before .before .before .before .before .before .before .before .before .before .before .before .before .before .before .before .before .before .before .before .before .before .args .uid) (c .before .before .before .before .before .before .before .before .before .before .before .before .before .before .before .before .before .before .before .before .before .before .before .args .kind) (now (c .before .before .before .before .before .before .before .before .before .before .before .before .before .before .before .before .before .before .before .before .before .before .before .args .out)) (c .before .before .before .before .before .before .before .before .before .before .before .before .before .before .before .before .before .before .before .holds .result) (c .before .before .before .before .before .before .before .before .before .before .before .before .before .before .before .before .before .before .before .holds .ensures) (not-false _ (c .before .before .before .before .before .before .before .before .before .before .before .before .before .before .before .before .before .before .if1 .left)) (c .before .before .before .before .before .before .before .before .before .before .before .before .before .before .before .before .holds2 .result) (c .before .before .before .before .before .before .before .before .before .before .before .before .before .before .before .before .holds2 .ensures) (not-false _ (c .before .before .before .before .before .before .before .before .before .before .before .before .before .before .before .if2 .left)) (c .before .before .before .before .before .before .before .before .before .before .before .before .before .before .filled-in .result) (c .before .before .before .before .before .before .before .before .before .before .before .before .before .before .filled-in .ensures) (c .before .before .before .before .before .before .before .before .before .before .before .before .before .if3 .left) (c .before .before .before .before .before .before .before .before .put-start2 .result) _ w (c .before .before .before .before .before .before .before .before .before .before .before .before .if4 .left) (c .before .before .before .before .before .before .before .before .before .before .before .word-in .result) (c .before .before .before .before .before .before .before .before .before .before .before .word-in .ensures) (c .before .before .before .before .before .before .before .before .before .before .if5 .left) (c .before .before .before .put-string-line .result) _ l in
-    (fills-in f, (fills-length f, head-kind (now (c .before .before .before .before .before .before .before .before .before .before .before .before .before .before .before .before .before .before .before .before .before .before .before .args .s)) (c .before .before .before .before .before .before .before .before .before .before .before .before .before .before .before .before .before .before .before .before .before .before .before .args .card) (c .before .before .before .before .before .before .before .before .before .before .before .before .before .before .before .before .before .before .before .before .before .before .before .args .version) (c .before .before .before .before .before .before .before .before .before .before .before .before .before .before .before .before .before .before .before .before .before .before .before .args .uid) (c .before .before .before .before .before .before .before .before .before .before .before .before .before .before .before .before .before .before .before .before .before .before .before .args .kind) (now (c .before .before .before .before .before .before .before .before .before .before .before .before .before .before .before .before .before .before .before .before .before .before .before .args .out)) (c .before .before .before .before .before .before .before .before .before .before .before .before .before .before .before .before .before .before .before .holds .result) (c .before .before .before .before .before .before .before .before .before .before .before .before .before .before .before .before .before .before .before .holds .ensures) (not-false _ (c .before .before .before .before .before .before .before .before .before .before .before .before .before .before .before .before .before .before .if1 .left)) (c .before .before .before .before .before .before .before .before .before .before .before .before .before .before .before .before .holds2 .result) (c .before .before .before .before .before .before .before .before .before .before .before .before .before .before .before .before .holds2 .ensures) (not-false _ (c .before .before .before .before .before .before .before .before .before .before .before .before .before .before .before .if2 .left)) (c .before .before .before .before .before .before .before .before .before .before .before .before .before .before .filled-in .result) (c .before .before .before .before .before .before .before .before .before .before .before .before .before .before .filled-in .ensures) (c .before .before .before .before .before .before .before .before .before .before .before .before .before .if3 .left) (c .before .before .before .before .before .before .before .before .put-start2 .result) _ w (c .before .before .before .before .before .before .before .before .before .before .before .before .if4 .left) (c .before .before .before .before .before .before .before .before .before .before .before .word-in .result) (c .before .before .before .before .before .before .before .before .before .before .before .word-in .ensures) (c .before .before .before .before .before .before .before .before .before .before .if5 .left) (c .before .before .before .put-string-line .result) _ l))
+returns-6 c =
+    let args = c .before .before .before .before .before .before .before .before .before .before .before .before .before .before .before .before .before .before .before .before .before .before .before .args in
+    let holds = c .before .before .before .before .before .before .before .before .before .before .before .before .before .before .before .before .before .before .before .holds in
+    let if1 = c .before .before .before .before .before .before .before .before .before .before .before .before .before .before .before .before .before .before .if1 in
+    let holds2 = c .before .before .before .before .before .before .before .before .before .before .before .before .before .before .before .before .holds2 in
+    let if2 = c .before .before .before .before .before .before .before .before .before .before .before .before .before .before .before .if2 in
+    let filled-in = c .before .before .before .before .before .before .before .before .before .before .before .before .before .before .filled-in in
+    let if3 = c .before .before .before .before .before .before .before .before .before .before .before .before .before .if3 in
+    let if4 = c .before .before .before .before .before .before .before .before .before .before .before .before .if4 in
+    let word-in = c .before .before .before .before .before .before .before .before .before .before .before .word-in in
+    let if5 = c .before .before .before .before .before .before .before .before .before .before .if5 in
+    let put-start2 = c .before .before .before .before .before .before .before .before .put-start2 in
+    let put-string-line = c .before .before .before .put-string-line in
+    let w = put-start2 .ensures in let l = put-string-line .ensures in let f = kind-row (now (args .s)) (args .card) (args .version) (args .uid)
+    (args .kind) (now (args .out)) (holds .result) (holds .ensures) (not-false _ (if1 .left)) (holds2 .result) (holds2 .ensures)
+    (not-false _ (if2 .left)) (filled-in .result) (filled-in .ensures) (if3 .left) (put-start2 .result) _ w (if4 .left) (word-in .result)
+    (word-in .ensures) (if5 .left) (put-string-line .result) _ l in (
+      fills-in f,
+      (fills-length f, head-kind (now (args .s)) (args .card) (args .version) (args .uid) (args .kind) (now (args .out)) (holds .result) (holds .ensures) (not-false _ (if1 .left)) (holds2 .result) (holds2 .ensures) (not-false _ (if2 .left)) (filled-in .result) (filled-in .ensures) (if3 .left) (put-start2 .result) _ w (if4 .left) (word-in .result) (word-in .ensures) (if5 .left) (put-string-line .result) _ l),
+    )
 
 pub put-head-spec : {M : Type 1} → statement M
 put-head-spec =

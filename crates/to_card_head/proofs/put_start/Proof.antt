@@ -36,7 +36,11 @@ same-length : tie.Need-same-length
 same-length c = search needs
 
 returns : tie.Need-returns
-returns c = starts (now (c .before .before .before .before .before .before .before .before .before .before .before .before .before .args .s)) (c .before .before .before .before .before .before .before .before .before .before .before .before .before .args .uid) (now (c .before .before .before .before .before .before .before .before .before .before .before .before .before .args .out)) _ _ (c .before .before .before .before .before .before .before .before .fill .ensures) (c .before .before .before .put-string-line .result) _ (c .before .before .before .put-string-line .ensures)
+returns c =
+    let args = c .before .before .before .before .before .before .before .before .before .before .before .before .before .args in
+    let fill = c .before .before .before .before .before .before .before .before .fill in
+    let put-string-line = c .before .before .before .put-string-line in
+    starts (now (args .s)) (args .uid) (now (args .out)) _ _ (fill .ensures) (put-string-line .result) _ (put-string-line .ensures)
 
 pub put-start-spec : {M : Type 1} → statement M
 put-start-spec =

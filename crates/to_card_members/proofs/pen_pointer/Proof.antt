@@ -39,7 +39,12 @@ same-length : tie.Need-same-length Inv-loop μ-loop
 same-length c = pens-length (c .before .before .before .loop .inv .1 .pens)
 
 returns-2 : tie.Need-returns-2 Inv-loop μ-loop
-returns-2 c = far-alone (now (c .before .before .before .before .before .before .before .args .s)) (c .before .before .before .before .before .before .before .args .at) (now (c .before .before .before .before .before .before .before .args .out)) (c .before .before .before .before .before .before .before .args .column) (c .before .before .before .loop .n) (c .before .before .before .loop .k) (c .before .before .before .loop .ok) (c .before .before .before .loop .i) (c .before .before .before .loop .h) (c .before .before .before .loop .out) (c .before .before .before .loop .inv .1) (c .before .before .next-byte .result) (c .before .before .next-byte .ensures .0) (c .enum-told .given .1)
+returns-2 c =
+    let args = c .before .before .before .before .before .before .before .args in
+    let loop = c .before .before .before .loop in
+    let next-byte = c .before .before .next-byte in
+    far-alone (now (args .s)) (args .at) (now (args .out)) (args .column) (loop .n) (loop .k) (loop .ok) (loop .i) (loop .h) (loop .out)
+    (loop .inv .1) (next-byte .result) (next-byte .ensures .0) (c .enum-told .given .1)
 
 enum-told-2 : tie.Need-enum-told-2 Inv-loop μ-loop
 enum-told-2 c = search needs
@@ -48,7 +53,12 @@ same-length-2 : tie.Need-same-length-2 Inv-loop μ-loop
 same-length-2 c = pens-length (c .before .before .before .loop .inv .1 .pens)
 
 returns-3 : tie.Need-returns-3 Inv-loop μ-loop
-returns-3 c = far-end (now (c .before .before .before .before .before .before .before .args .s)) (c .before .before .before .before .before .before .before .args .at) (now (c .before .before .before .before .before .before .before .args .out)) (c .before .before .before .before .before .before .before .args .column) (c .before .before .before .loop .n) (c .before .before .before .loop .k) (c .before .before .before .loop .ok) (c .before .before .before .loop .i) (c .before .before .before .loop .h) (c .before .before .before .loop .out) (c .before .before .before .loop .inv .1) (c .before .before .next-byte .result) (c .before .before .next-byte .ensures .0) (c .enum-told2 .given .1)
+returns-3 c =
+    let args = c .before .before .before .before .before .before .before .args in
+    let loop = c .before .before .before .loop in
+    let next-byte = c .before .before .next-byte in
+    far-end (now (args .s)) (args .at) (now (args .out)) (args .column) (loop .n) (loop .k) (loop .ok) (loop .i) (loop .h) (loop .out) (loop .inv .1)
+    (next-byte .result) (next-byte .ensures .0) (c .enum-told2 .given .1)
 
 enum-known-b : tie.Need-enum-known-b Inv-loop μ-loop
 enum-known-b c = search needs
@@ -66,16 +76,33 @@ pen-pointed-requires : tie.Need-pen-pointed-requires Inv-loop μ-loop
 pen-pointed-requires c κs = tt
 
 add-n : tie.Need-add-n Inv-loop μ-loop
-add-n c = record { fits = omega (arith, pens-in (pens-then (c .before .before .before .before .before .before .before .before .before .loop .inv .1 .pens) (c .before .before .before .pen-pointed .ensures)), c .before .before .before .before .before .before .before .before .before .before .before .before .before .good .0 .0) }
+add-n c =
+    let good = c .before .before .before .before .before .before .before .before .before .before .before .before .before .good in
+    let loop = c .before .before .before .before .before .before .before .before .before .loop in
+    let pen-pointed = c .before .before .before .pen-pointed in
+    record { fits = omega (arith, pens-in (pens-then (loop .inv .1 .pens) (pen-pointed .ensures)), good .0 .0) }
 
 can-stand-requires : tie.Need-can-stand-requires Inv-loop μ-loop
 can-stand-requires c κs = tt
 
 loop-less : tie.Need-loop-less Inv-loop μ-loop
-loop-less c = byte-in (now (c .before .before .before .before .before .before .before .before .before .before .before .before .before .before .args .s)) (c .before .before .before .before .before .before .before .before .before .before .loop .i) (c .before .before .before .before .before .before .before .before .before .before .loop .h) (c .before .before .before .before .before .before .before .before .before .next-byte .ensures .1) (c .before .before .before .before .before .before .before .b .given .1) .1
+loop-less c =
+    let args = c .before .before .before .before .before .before .before .before .before .before .before .before .before .before .args in
+    let loop = c .before .before .before .before .before .before .before .before .before .before .loop in
+    let next-byte = c .before .before .before .before .before .before .before .before .before .next-byte in
+    let b = c .before .before .before .before .before .before .before .b in
+    byte-in (now (args .s)) (loop .i) (loop .h) (next-byte .ensures .1) (b .given .1) .1
 
 loop-again : tie.Need-loop-again Inv-loop μ-loop
-loop-again c = (byte-in (now (c .before .before .before .before .before .before .before .before .before .before .before .before .before .before .args .s)) (c .before .before .before .before .before .before .before .before .before .before .loop .i) (c .before .before .before .before .before .before .before .before .before .before .loop .h) (c .before .before .before .before .before .before .before .before .before .next-byte .ensures .1) (c .before .before .before .before .before .before .before .b .given .1) .0, far-one (now (c .before .before .before .before .before .before .before .before .before .before .before .before .before .before .args .s)) (c .before .before .before .before .before .before .before .before .before .before .before .before .before .before .args .at) (now (c .before .before .before .before .before .before .before .before .before .before .before .before .before .before .args .out)) (c .before .before .before .before .before .before .before .before .before .before .before .before .before .before .args .column) (c .before .before .before .before .before .before .before .before .before .before .loop .n) (c .before .before .before .before .before .before .before .before .before .before .loop .k) (c .before .before .before .before .before .before .before .before .before .before .loop .ok) (c .before .before .before .before .before .before .before .before .before .before .loop .i) (c .before .before .before .before .before .before .before .before .before .before .loop .h) (c .before .before .before .before .before .before .before .before .before .before .loop .out) (c .before .before .before .before .before .before .before .before .before .before .loop .inv .1) (c .before .before .before .before .before .before .before .before .before .next-byte .result) (c .before .before .before .before .before .before .before .before .before .next-byte .ensures .0) (c .before .before .before .before .before .before .before .b .given .1) (c .before .before .before .before .pen-pointed .ensures) (c .can-stand .ensures))
+loop-again c =
+    let args = c .before .before .before .before .before .before .before .before .before .before .before .before .before .before .args in
+    let loop = c .before .before .before .before .before .before .before .before .before .before .loop in
+    let next-byte = c .before .before .before .before .before .before .before .before .before .next-byte in
+    let b = c .before .before .before .before .before .before .before .b in
+    let pen-pointed = c .before .before .before .before .pen-pointed in (
+      byte-in (now (args .s)) (loop .i) (loop .h) (next-byte .ensures .1) (b .given .1) .0,
+      far-one (now (args .s)) (args .at) (now (args .out)) (args .column) (loop .n) (loop .k) (loop .ok) (loop .i) (loop .h) (loop .out) (loop .inv .1) (next-byte .result) (next-byte .ensures .0) (b .given .1) (pen-pointed .ensures) (c .can-stand .ensures),
+    )
 
 pub pen-pointer-spec : {M : Type 1} → statement M
 pen-pointer-spec =

@@ -51,7 +51,14 @@ loop-less : tie.Need-loop-less Inv-loop μ-loop
 loop-less c = search needs
 
 loop-again : tie.Need-loop-again Inv-loop μ-loop
-loop-again c = (omega (arith, c .before .before .before .before .before .before .loop-test .taken), pens-as (text-more (now (c .before .before .before .before .before .before .before .before .before .before .args .s)) (c .before .before .before .before .before .before .before .loop .i) (c .before .before .before .before .before .before .loop-test .taken)) (pens-then (c .before .before .before .before .before .before .before .loop .inv .1) (c .before .before .before .pen-escape .ensures)))
+loop-again c =
+    let args = c .before .before .before .before .before .before .before .before .before .before .args in
+    let loop = c .before .before .before .before .before .before .before .loop in
+    let loop-test = c .before .before .before .before .before .before .loop-test in
+    let pen-escape = c .before .before .before .pen-escape in (
+      omega (arith, loop-test .taken),
+      pens-as (text-more (now (args .s)) (loop .i) (loop-test .taken)) (pens-then (loop .inv .1) (pen-escape .ensures)),
+    )
 
 same-length : tie.Need-same-length Inv-loop μ-loop
 same-length c = pens-length (c .before .loop .inv .1)

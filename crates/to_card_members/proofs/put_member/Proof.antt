@@ -53,10 +53,17 @@ pen-bytes-requires-2 : tie.Need-pen-bytes-requires-2
 pen-bytes-requires-2 c κs = tt
 
 add-n3 : tie.Need-add-n3
-add-n3 c = fit! (next! (next! (first! (c .before .before .before .before .before .before .before .before .before .before .before .before .before .pen-bytes .ensures)) (c .before .before .before .before .before .before .before .before .before .pen-pointer .ensures .pens)) (c .before .before .before .pen-bytes2 .ensures)) (c .before .before .before .before .before .before .before .before .before .before .before .before .before .before .before .before .before .before .before .good .0 .0)
+add-n3 c =
+    let good = c .before .before .before .before .before .before .before .before .before .before .before .before .before .before .before .before .before .before .before .good in
+    let pen-bytes = c .before .before .before .before .before .before .before .before .before .before .before .before .before .pen-bytes in
+    let pen-pointer = c .before .before .before .before .before .before .before .before .before .pen-pointer in
+    let pen-bytes2 = c .before .before .before .pen-bytes2 in
+    fit! (next! (next! (first! (pen-bytes .ensures)) (pen-pointer .ensures .pens)) (pen-bytes2 .ensures)) (good .0 .0)
 
 put-value-requires : tie.Need-put-value-requires
-put-value-requires c κs = (c .before .before .before .before .before .before .before .before .before .before .before .before .before .before .before .before .before .before .before .before .pre .0, c .before .before .before .before .before .before .before .before .before .before .before .before .before .before .before .before .before .before .before .before .pre .1 .0)
+put-value-requires c κs =
+    let pre = c .before .before .before .before .before .before .before .before .before .before .before .before .before .before .before .before .before .before .before .before .pre in
+    (pre .0, pre .1 .0)
 
 sub-pen-text : tie.Need-sub-pen-text
 sub-pen-text c = search needs
@@ -80,13 +87,29 @@ pen-text-requires : tie.Need-pen-text-requires
 pen-text-requires c κs = tt
 
 add-n4 : tie.Need-add-n4
-add-n4 c = fit! (next! (next! (next! (first! (c .before .before .before .before .before .before .before .before .before .before .before .before .before .before .before .before .before .before .before .before .before .before .before .before .pen-bytes .ensures)) (c .before .before .before .before .before .before .before .before .before .before .before .before .before .before .before .before .before .before .before .before .pen-pointer .ensures .pens)) (c .before .before .before .before .before .before .before .before .before .before .before .before .before .before .pen-bytes2 .ensures)) (c .before .before .before .pen-text .ensures)) (c .before .before .before .before .before .before .before .before .before .before .before .before .before .before .before .before .before .before .before .before .before .before .before .before .before .before .before .before .before .before .good .0 .0)
+add-n4 c =
+    let good = c .before .before .before .before .before .before .before .before .before .before .before .before .before .before .before .before .before .before .before .before .before .before .before .before .before .before .before .before .before .before .good in
+    let pen-bytes = c .before .before .before .before .before .before .before .before .before .before .before .before .before .before .before .before .before .before .before .before .before .before .before .before .pen-bytes in
+    let pen-pointer = c .before .before .before .before .before .before .before .before .before .before .before .before .before .before .before .before .before .before .before .before .pen-pointer in
+    let pen-bytes2 = c .before .before .before .before .before .before .before .before .before .before .before .before .before .before .pen-bytes2 in
+    let pen-text = c .before .before .before .pen-text in
+    fit! (next! (next! (next! (first! (pen-bytes .ensures)) (pen-pointer .ensures .pens)) (pen-bytes2 .ensures)) (pen-text .ensures)) (good .0 .0)
 
 sub-fill : tie.Need-sub-fill
-sub-fill c = in! (next! (next! (next! (first! (c .before .before .before .before .before .before .before .before .before .before .before .before .before .before .before .before .before .before .before .before .before .before .before .before .pen-bytes .ensures)) (c .before .before .before .before .before .before .before .before .before .before .before .before .before .before .before .before .before .before .before .before .pen-pointer .ensures .pens)) (c .before .before .before .before .before .before .before .before .before .before .before .before .before .before .pen-bytes2 .ensures)) (c .before .before .before .pen-text .ensures))
+sub-fill c =
+    let pen-bytes = c .before .before .before .before .before .before .before .before .before .before .before .before .before .before .before .before .before .before .before .before .before .before .before .before .pen-bytes in
+    let pen-pointer = c .before .before .before .before .before .before .before .before .before .before .before .before .before .before .before .before .before .before .before .before .pen-pointer in
+    let pen-bytes2 = c .before .before .before .before .before .before .before .before .before .before .before .before .before .before .pen-bytes2 in
+    let pen-text = c .before .before .before .pen-text in
+    in! (next! (next! (next! (first! (pen-bytes .ensures)) (pen-pointer .ensures .pens)) (pen-bytes2 .ensures)) (pen-text .ensures))
 
 part-fill-start : tie.Need-part-fill-start
-part-fill-start c = in! (next! (next! (next! (first! (c .before .before .before .before .before .before .before .before .before .before .before .before .before .before .before .before .before .before .before .before .before .before .before .before .pen-bytes .ensures)) (c .before .before .before .before .before .before .before .before .before .before .before .before .before .before .before .before .before .before .before .before .pen-pointer .ensures .pens)) (c .before .before .before .before .before .before .before .before .before .before .before .before .before .before .pen-bytes2 .ensures)) (c .before .before .before .pen-text .ensures))
+part-fill-start c =
+    let pen-bytes = c .before .before .before .before .before .before .before .before .before .before .before .before .before .before .before .before .before .before .before .before .before .before .before .before .pen-bytes in
+    let pen-pointer = c .before .before .before .before .before .before .before .before .before .before .before .before .before .before .before .before .before .before .before .before .pen-pointer in
+    let pen-bytes2 = c .before .before .before .before .before .before .before .before .before .before .before .before .before .before .pen-bytes2 in
+    let pen-text = c .before .before .before .pen-text in
+    in! (next! (next! (next! (first! (pen-bytes .ensures)) (pen-pointer .ensures .pens)) (pen-bytes2 .ensures)) (pen-text .ensures))
 
 part-fill-end : tie.Need-part-fill-end
 part-fill-end c = le-refl _
@@ -98,16 +121,51 @@ fill-requires : tie.Need-fill-requires
 fill-requires c κs = tt
 
 add-n5 : tie.Need-add-n5
-add-n5 c = row-fits (begun (then (filled ((next! (next! (next! (first! (c .before .before .before .before .before .before .before .before .before .before .before .before .before .before .before .before .before .before .before .before .before .before .before .before .before .before .before .before .before .pen-bytes .ensures)) (c .before .before .before .before .before .before .before .before .before .before .before .before .before .before .before .before .before .before .before .before .before .before .before .before .before .pen-pointer .ensures .pens)) (c .before .before .before .before .before .before .before .before .before .before .before .before .before .before .before .before .before .before .before .pen-bytes2 .ensures)) (c .before .before .before .before .before .before .before .before .pen-text .ensures)) .so)) (c .before .before .fill .ensures))) (c .before .before .before .before .before .before .before .before .before .before .before .before .before .before .before .before .before .before .before .before .before .before .before .before .before .before .before .before .before .before .before .before .before .before .before .good .0 .0)
+add-n5 c =
+    let good = c .before .before .before .before .before .before .before .before .before .before .before .before .before .before .before .before .before .before .before .before .before .before .before .before .before .before .before .before .before .before .before .before .before .before .before .good in
+    let pen-bytes = c .before .before .before .before .before .before .before .before .before .before .before .before .before .before .before .before .before .before .before .before .before .before .before .before .before .before .before .before .before .pen-bytes in
+    let pen-pointer = c .before .before .before .before .before .before .before .before .before .before .before .before .before .before .before .before .before .before .before .before .before .before .before .before .before .pen-pointer in
+    let pen-bytes2 = c .before .before .before .before .before .before .before .before .before .before .before .before .before .before .before .before .before .before .before .pen-bytes2 in
+    let pen-text = c .before .before .before .before .before .before .before .before .pen-text in
+    row-fits
+    (begun
+    (then
+    (filled
+    ((next! (next! (next! (first! (pen-bytes .ensures)) (pen-pointer .ensures .pens)) (pen-bytes2 .ensures))
+    (pen-text .ensures))
+    .so))
+    (c .before .before .fill .ensures)))
+    (good .0 .0)
 
 same-length : tie.Need-same-length
-same-length c = fills-length (then (filled ((next! (next! (next! (first! (c .before .before .before .before .before .before .before .before .before .before .before .before .before .before .before .before .before .before .before .before .before .before .before .before .before .before .before .before .before .pen-bytes .ensures)) (c .before .before .before .before .before .before .before .before .before .before .before .before .before .before .before .before .before .before .before .before .before .before .before .before .before .pen-pointer .ensures .pens)) (c .before .before .before .before .before .before .before .before .before .before .before .before .before .before .before .before .before .before .before .pen-bytes2 .ensures)) (c .before .before .before .before .before .before .before .before .pen-text .ensures)) .so)) (c .before .before .fill .ensures))
+same-length c =
+    let pen-bytes = c .before .before .before .before .before .before .before .before .before .before .before .before .before .before .before .before .before .before .before .before .before .before .before .before .before .before .before .before .before .pen-bytes in
+    let pen-pointer = c .before .before .before .before .before .before .before .before .before .before .before .before .before .before .before .before .before .before .before .before .before .before .before .before .before .pen-pointer in
+    let pen-bytes2 = c .before .before .before .before .before .before .before .before .before .before .before .before .before .before .before .before .before .before .before .pen-bytes2 in
+    let pen-text = c .before .before .before .before .before .before .before .before .pen-text in
+    fills-length
+    (then
+    (filled
+    ((next! (next! (next! (first! (pen-bytes .ensures)) (pen-pointer .ensures .pens)) (pen-bytes2 .ensures))
+    (pen-text .ensures))
+    .so))
+    (c .before .before .fill .ensures))
 
 same-length-2 : tie.Need-same-length-2
 same-length-2 c = search needs
 
 returns : tie.Need-returns
-returns c = (member-line (now (c .before .before .before .before .before .before .before .before .before .before .before .before .before .before .before .before .before .before .before .before .before .before .before .before .before .before .before .before .before .before .before .before .before .before .before .args .s)) (c .before .before .before .before .before .before .before .before .before .before .before .before .before .before .before .before .before .before .before .before .before .before .before .before .before .before .before .before .before .before .before .before .before .before .before .args .name) (c .before .before .before .before .before .before .before .before .before .before .before .before .before .before .before .before .before .before .before .before .before .before .before .before .before .before .before .before .before .before .before .before .before .before .before .args .a) (c .before .before .before .before .before .before .before .before .before .before .before .before .before .before .before .before .before .before .before .before .before .before .before .before .before .before .before .before .before .before .before .before .before .before .before .args .e) (now (c .before .before .before .before .before .before .before .before .before .before .before .before .before .before .before .before .before .before .before .before .before .before .before .before .before .before .before .before .before .before .before .before .before .before .before .args .out)) (c .before .before .before .before .before .before .before .before .before .before .before .before .before .before .before .before .before .before .before .before .before .before .before .before .before .pen-pointer .ensures .text) (c .before .before .before .before .before .before .before .before .before .before .before .before .before .before .before .before .before .before .before .before .before .before .before .before .before .pen-pointer .ensures .is) _ (c .before .before .before .before .before .before .before .before .before .before .before .before .before .before .before .before .before .before .before .before .before .before .before .before .before .pen-pointer .ensures .carried) _ _ _ (c .before .before .before .before .before .before .before .before .before .before .before .before .before .before .before .before .before .before .before .before .before .before .before .before .before .before .before .before .before .before .before .before .before .before .before .pre .1 .1) (c .before .before .before .before .before .before .before .before .before .before .before .before .before .before .put-value .ensures) _ _ (then (filled ((next! (next! (next! (first! (c .before .before .before .before .before .before .before .before .before .before .before .before .before .before .before .before .before .before .before .before .before .before .before .before .before .before .before .before .before .pen-bytes .ensures)) (c .before .before .before .before .before .before .before .before .before .before .before .before .before .before .before .before .before .before .before .before .before .before .before .before .before .pen-pointer .ensures .pens)) (c .before .before .before .before .before .before .before .before .before .before .before .before .before .before .before .before .before .before .before .pen-bytes2 .ensures)) (c .before .before .before .before .before .before .before .before .pen-text .ensures)) .so)) (c .before .before .fill .ensures)), fills-length (c .before .before .before .before .before .before .before .before .before .before .before .before .before .before .put-value .ensures))
+returns c =
+    let args = c .before .before .before .before .before .before .before .before .before .before .before .before .before .before .before .before .before .before .before .before .before .before .before .before .before .before .before .before .before .before .before .before .before .before .before .args in
+    let pre = c .before .before .before .before .before .before .before .before .before .before .before .before .before .before .before .before .before .before .before .before .before .before .before .before .before .before .before .before .before .before .before .before .before .before .before .pre in
+    let pen-bytes = c .before .before .before .before .before .before .before .before .before .before .before .before .before .before .before .before .before .before .before .before .before .before .before .before .before .before .before .before .before .pen-bytes in
+    let pen-pointer = c .before .before .before .before .before .before .before .before .before .before .before .before .before .before .before .before .before .before .before .before .before .before .before .before .before .pen-pointer in
+    let pen-bytes2 = c .before .before .before .before .before .before .before .before .before .before .before .before .before .before .before .before .before .before .before .pen-bytes2 in
+    let put-value = c .before .before .before .before .before .before .before .before .before .before .before .before .before .before .put-value in
+    let pen-text = c .before .before .before .before .before .before .before .before .pen-text in (
+      member-line (now (args .s)) (args .name) (args .a) (args .e) (now (args .out)) (pen-pointer .ensures .text) (pen-pointer .ensures .is) _ (pen-pointer .ensures .carried) _ _ _ (pre .1 .1) (put-value .ensures) _ _ (then (filled ((next! (next! (next! (first! (pen-bytes .ensures)) (pen-pointer .ensures .pens)) (pen-bytes2 .ensures)) (pen-text .ensures)) .so)) (c .before .before .fill .ensures)),
+      fills-length (put-value .ensures),
+    )
 
 pub put-member-spec : {M : Type 1} → statement M
 put-member-spec =

@@ -30,7 +30,14 @@ look-requires-2 : tie.Need-look-requires-2
 look-requires-2 c κs = search needs
 
 returns-2 : tie.Need-returns-2
-returns-2 c = (omega arith, (refl, members-empty (now (c .before .before .before .before .before .before .before .before .before .args .s)) (now (c .before .before .before .before .before .before .before .before .before .args .out)) _ _ (c .before .before .before .before .before .skip-space .ensures) (c .before .before .before .before .look .ensures .0) (c .before .before .before .if1 .left) _ _ (c .before .before .skip-space2 .ensures) (c .before .look2 .ensures .0) (c .if2 .taken)))
+returns-2 c =
+    let args = c .before .before .before .before .before .before .before .before .before .args in
+    let skip-space = c .before .before .before .before .before .skip-space in
+    let look = c .before .before .before .before .look in
+    let if1 = c .before .before .before .if1 in (
+      omega arith,
+      (refl, members-empty (now (args .s)) (now (args .out)) _ _ (skip-space .ensures) (look .ensures .0) (if1 .left) _ _ (c .before .before .skip-space2 .ensures) (c .before .look2 .ensures .0) (c .if2 .taken)),
+    )
 
 put-from-requires : tie.Need-put-from-requires
 put-from-requires c κs = search needs
@@ -42,7 +49,18 @@ same-length-2 : tie.Need-same-length-2
 same-length-2 c = search needs
 
 returns-3 : tie.Need-returns-3
-returns-3 c = (c .before .before .before .before .put-from .ensures .0, (c .before .before .before .before .put-from .ensures .1 .0, members-full (now (c .before .before .before .before .before .before .before .before .before .before .before .before .before .before .before .before .args .s)) (now (c .before .before .before .before .before .before .before .before .before .before .before .before .before .before .before .before .args .out)) _ _ (c .before .before .before .before .before .before .before .before .before .before .before .before .skip-space .ensures) (c .before .before .before .before .before .before .before .before .before .before .before .look .ensures .0) (c .before .before .before .before .before .before .before .before .before .before .if1 .left) _ _ (c .before .before .before .before .before .before .before .before .before .skip-space2 .ensures) (c .before .before .before .before .before .before .before .before .look2 .ensures .0) (c .before .before .before .before .before .before .before .if2 .left) _ _ (c .before .before .before .before .put-from .ensures .1 .1)))
+returns-3 c =
+    let args = c .before .before .before .before .before .before .before .before .before .before .before .before .before .before .before .before .args in
+    let skip-space = c .before .before .before .before .before .before .before .before .before .before .before .before .skip-space in
+    let look = c .before .before .before .before .before .before .before .before .before .before .before .look in
+    let if1 = c .before .before .before .before .before .before .before .before .before .before .if1 in
+    let skip-space2 = c .before .before .before .before .before .before .before .before .before .skip-space2 in
+    let look2 = c .before .before .before .before .before .before .before .before .look2 in
+    let if2 = c .before .before .before .before .before .before .before .if2 in
+    let put-from = c .before .before .before .before .put-from in (
+      put-from .ensures .0,
+      (put-from .ensures .1 .0, members-full (now (args .s)) (now (args .out)) _ _ (skip-space .ensures) (look .ensures .0) (if1 .left) _ _ (skip-space2 .ensures) (look2 .ensures .0) (if2 .left) _ _ (put-from .ensures .1 .1)),
+    )
 
 pub put-members-spec : {M : Type 1} → statement M
 put-members-spec =

@@ -21,16 +21,29 @@ which-name-requires : tie.Need-which-name-requires
 which-name-requires c κs = tt
 
 returns : tie.Need-returns
-returns c = ((omega arith, omega arith), (refl, (refl, other-said (now (c .before .before .before .before .before .before .args .s)) (c .before .before .before .before .before .before .args .name) (c .before .before .before .before .before .before .args .a) (c .before .before .before .before .before .before .args .e) (now (c .before .before .before .before .before .before .args .out)) (c .before .which-name .result) _ is-reserved (c .before .which-name .ensures) (c .if1 .taken))))
+returns c =
+    let args = c .before .before .before .before .before .before .args in
+    let which-name = c .before .which-name in (
+      (omega arith, omega arith),
+      (refl, (refl, other-said (now (args .s)) (args .name) (args .a) (args .e) (now (args .out)) (which-name .result) _ is-reserved (which-name .ensures) (c .if1 .taken))),
+    )
 
 is-filled-requires : tie.Need-is-filled-requires
 is-filled-requires c κs = tt
 
 returns-2 : tie.Need-returns-2
-returns-2 c = (tt, (refl, (refl, other-empty (now (c .before .before .before .before .before .before .before .before .args .s)) (c .before .before .before .before .before .before .before .before .args .name) (c .before .before .before .before .before .before .before .before .args .a) (c .before .before .before .before .before .before .before .before .args .e) (now (c .before .before .before .before .before .before .before .before .args .out)) (c .before .before .before .which-name .result) _ is-reserved (c .before .before .before .which-name .ensures) (c .before .before .if1 .left) (c .before .is-filled .result) (c .before .is-filled .ensures) (not-true _ (c .if2 .taken)) _)))
+returns-2 c =
+    let args = c .before .before .before .before .before .before .before .before .args in
+    let which-name = c .before .before .before .which-name in
+    let is-filled = c .before .is-filled in (
+      tt,
+      (refl, (refl, other-empty (now (args .s)) (args .name) (args .a) (args .e) (now (args .out)) (which-name .result) _ is-reserved (which-name .ensures) (c .before .before .if1 .left) (is-filled .result) (is-filled .ensures) (not-true _ (c .if2 .taken)) _)),
+    )
 
 put-member-requires : tie.Need-put-member-requires
-put-member-requires c κs = (c .before .before .before .before .before .before .before .before .before .before .pre .0, (c .before .before .before .before .before .before .before .before .before .before .pre .1 .0, c .before .before .before .before .before .before .before .before .before .before .pre .1 .1))
+put-member-requires c κs =
+    let pre = c .before .before .before .before .before .before .before .before .before .before .pre in
+    (pre .0, (pre .1 .0, pre .1 .1))
 
 same-length : tie.Need-same-length
 same-length c = fills-length (c .before .before .before .before .put-member .ensures .0 .fills)
@@ -39,7 +52,16 @@ same-length-2 : tie.Need-same-length-2
 same-length-2 c = c .before .before .before .before .put-member .ensures .1
 
 returns-3 : tie.Need-returns-3
-returns-3 c = ((fills-in (c .before .before .before .before .put-member .ensures .0 .fills), omega arith), (fills-length (c .before .before .before .before .put-member .ensures .0 .fills), (c .before .before .before .before .put-member .ensures .1, other-line (now (c .before .before .before .before .before .before .before .before .before .before .before .before .before .before .before .args .s)) (c .before .before .before .before .before .before .before .before .before .before .before .before .before .before .before .args .name) (c .before .before .before .before .before .before .before .before .before .before .before .before .before .before .before .args .a) (c .before .before .before .before .before .before .before .before .before .before .before .before .before .before .before .args .e) (now (c .before .before .before .before .before .before .before .before .before .before .before .before .before .before .before .args .out)) (c .before .before .before .before .before .before .before .before .before .before .which-name .result) _ is-reserved (c .before .before .before .before .before .before .before .before .before .before .which-name .ensures) (c .before .before .before .before .before .before .before .before .before .if1 .left) (c .before .before .before .before .before .before .before .before .is-filled .result) (c .before .before .before .before .before .before .before .before .is-filled .ensures) (not-false _ (c .before .before .before .before .before .before .before .if2 .left)) (c .before .before .before .before .put-member .result) _ (c .before .before .before .before .put-member .ensures .0))))
+returns-3 c =
+    let args = c .before .before .before .before .before .before .before .before .before .before .before .before .before .before .before .args in
+    let which-name = c .before .before .before .before .before .before .before .before .before .before .which-name in
+    let if1 = c .before .before .before .before .before .before .before .before .before .if1 in
+    let is-filled = c .before .before .before .before .before .before .before .before .is-filled in
+    let if2 = c .before .before .before .before .before .before .before .if2 in
+    let put-member = c .before .before .before .before .put-member in (
+      (fills-in (put-member .ensures .0 .fills), omega arith),
+      (fills-length (put-member .ensures .0 .fills), (put-member .ensures .1, other-line (now (args .s)) (args .name) (args .a) (args .e) (now (args .out)) (which-name .result) _ is-reserved (which-name .ensures) (if1 .left) (is-filled .result) (is-filled .ensures) (not-false _ (if2 .left)) (put-member .result) _ (put-member .ensures .0))),
+    )
 
 pub put-other-spec : {M : Type 1} → statement M
 put-other-spec =

@@ -15,9 +15,9 @@ shared-slice-read-if1 c = search needs
 
 returns : tie.Need-returns
 returns c =
-    let pre = c .before .before .before .before .pre in
-    let args = c .before .before .before .before .args in
-    apart-no-one (now (args .s)) (args .at) (now (args .marks)) (args .one) (args .other) (pre .1 .1 .0) (c .if1 .taken)
+    let pre = c .before .before .before .before .before .before .pre in
+    let args = c .before .before .before .before .before .before .args in
+    apart-no-one (now (args .s)) (args .at) (now (args .marks)) (args .one) (args .other) (pre .1 .1 .1 .1 .1 .0) (c .if1 .taken)
 
 mul-if2 : tie.Need-mul-if2
 mul-if2 c = search needs
@@ -27,16 +27,18 @@ shared-slice-read-if2 c = search needs
 
 returns-2 : tie.Need-returns-2
 returns-2 c =
-    let args = c .before .before .before .before .before .before .args in
-    let pre = c .before .before .before .before .before .before .pre in
-    apart-no-other (now (args .s)) (args .at) (now (args .marks)) (args .one) (args .other) (pre .1 .1 .1) (c .if2 .taken)
+    let args = c .before .before .before .before .before .before .before .before .args in
+    let pre = c .before .before .before .before .before .before .before .before .pre in
+    apart-no-other (now (args .s)) (args .at) (now (args .marks)) (args .one) (args .other) (pre .1 .1 .1 .1 .1 .1) (c .if2 .taken)
 
 are-apart-requires : tie.Need-are-apart-requires
-are-apart-requires c κs = c .before .before .before .before .before .before .pre .0
+are-apart-requires c κs =
+    let pre = c .before .before .before .before .before .before .before .before .pre in
+    (pre .0, (pre .1 .1 .0, (pre .1 .1 .1 .0, pre .1 .1 .1 .1 .0)))
 
 returns-3 : tie.Need-returns-3
 returns-3 c =
-    let args = c .before .before .before .before .before .before .before .args in
+    let args = c .before .before .before .before .before .before .before .before .before .args in
     apart-told (now (args .s)) (args .at) (now (args .marks)) (args .one) (args .other) (c .are-apart .result) (c .are-apart .ensures)
 
 pub apart-in-spec : {M : Type 1} → statement M

@@ -1,21 +1,22 @@
 use denote.Ref.{now}
 use native.Mathlib.Omega.{arith}
-use Rattle.text.proofs.Cases.{not-true, not-false}
 use Rattle.to_card_name.proofs.Members.{list-absent, list-past, list-wrong, list-empty, list-bad, list-at, array-in}
 use borrow.Author.Needs.{needs}
 use Rattle.to_card_name.proofs.list_components.Statement.{statement}
 use Rattle.to_card_name.proofs.list_components.Tie as tie
 use Rattle.to_card_name.proofs.list_components.Reads as reads
 use Rattle.to_card_name.proofs.list_components.Lts as lts
-use Rattle.to_card_parts.proofs.check_components.Reads as check-components-reads
+use Rattle.to_card_parts.proofs.list_rows.Reads as list-rows-reads
 use Rattle.to_card_parts.proofs.open_array.Reads as open-array-reads
 
 returns : tie.Need-returns
-returns c = (tt, list-absent (now (c .before .before .before .args .s)) (c .before .before .before .args .slot) (now (c .before .before .before .args .marks)) (c .if1 .taken))
+returns c =
+    let args = c .before .before .before .before .before .args in
+    (tt, list-absent (now (args .s)) (args .slot) (now (args .marks)) (c .if1 .taken))
 
 returns-2 : tie.Need-returns-2
 returns-2 c =
-    let args = c .before .before .before .before .args in
+    let args = c .before .before .before .before .before .before .args in
     (tt, list-past (now (args .s)) (args .slot) (now (args .marks)) (c .before .if1 .left) (c .if2 .taken))
 
 open-array-requires : tie.Need-open-array-requires
@@ -30,29 +31,35 @@ enum-told-2 c = search needs
 enum-known-j : tie.Need-enum-known-j
 enum-known-j c = search needs
 
-check-components-requires : tie.Need-check-components-requires
-check-components-requires c κs =
-    let pre = c .before .before .before .before .before .before .before .before .before .pre in
-    let open-array = c .before .before .before .before .open-array in
-    (array-in (open-array .result) (open-array .ensures .0) (c .before .before .j .given .1), (pre .0, pre .1))
+list-rows-requires : tie.Need-list-rows-requires
+list-rows-requires c κs =
+    let pre = c .before .before .before .before .before .before .before .before .before .before .before .before .before .pre in
+    let open-array = c .before .before .before .before .before .before .open-array in
+    (array-in (open-array .result) (open-array .ensures .0) (c .before .before .before .before .j .given .1), pre)
 
 same-length : tie.Need-same-length
 same-length c = search needs
 
+same-length-2 : tie.Need-same-length-2
+same-length-2 c = search needs
+
+same-length-3 : tie.Need-same-length-3
+same-length-3 c = search needs
+
 returns-3 : tie.Need-returns-3
 returns-3 c =
-    let args = c .before .before .before .before .before .before .before .before .before .before .before .before .before .args in
-    let if1 = c .before .before .before .before .before .before .before .before .before .before .if1 in
-    let open-array = c .before .before .before .before .before .before .before .before .open-array in
-    let j = c .before .before .before .before .before .before .j in
-    let check-components = c .before .before .before .check-components in (
+    let args = c .before .before .before .before .before .before .before .before .before .before .before .before .before .before .before .before .before .before .before .before .before .args in
+    let if1 = c .before .before .before .before .before .before .before .before .before .before .before .before .before .before .before .before .if1 in
+    let open-array = c .before .before .before .before .before .before .before .before .before .before .before .before .before .before .open-array in
+    let j = c .before .before .before .before .before .before .before .before .before .before .before .before .j in
+    let list-rows = c .before .before .before .before .before .before .before .list-rows in (
       tt,
-      list-bad (now (args .s)) (args .slot) _ (if1 .left) (open-array .result) (open-array .ensures .1) _ (j .given .1) (check-components .result) (check-components .ensures) (not-true _ (c .if3 .taken)),
+      list-bad (now (args .s)) (args .slot) _ (if1 .left) (open-array .result) (open-array .ensures .1) _ (j .given .1) (list-rows .result) (list-rows .ensures .0) (c .if3 .taken),
     )
 
 returns-4 : tie.Need-returns-4
 returns-4 c =
-    let args = c .before .before .before .before .before .before .before .args in
+    let args = c .before .before .before .before .before .before .before .before .before .args in
     let if1 = c .before .before .before .before .if1 in
     let open-array = c .before .before .open-array in (
       tt,
@@ -61,25 +68,31 @@ returns-4 c =
 
 returns-5 : tie.Need-returns-5
 returns-5 c =
-    let args = c .before .before .before .before .before .before .before .args in
+    let args = c .before .before .before .before .before .before .before .before .before .args in
     let if1 = c .before .before .before .before .if1 in
     let open-array = c .before .before .open-array in (
       tt,
       list-empty (now (args .s)) (args .slot) (now (args .marks)) (if1 .left) (open-array .result) (open-array .ensures .1) (c .enum-told2 .given .1),
     )
 
-same-length-2 : tie.Need-same-length-2
-same-length-2 c = search needs
+same-length-4 : tie.Need-same-length-4
+same-length-4 c = search needs
+
+same-length-5 : tie.Need-same-length-5
+same-length-5 c = search needs
+
+same-length-6 : tie.Need-same-length-6
+same-length-6 c = search needs
 
 returns-6 : tie.Need-returns-6
 returns-6 c =
-    let args = c .before .before .before .before .before .before .before .before .before .before .before .before .before .args in
-    let if1 = c .before .before .before .before .before .before .before .before .before .before .if1 in
-    let open-array = c .before .before .before .before .before .before .before .before .open-array in
-    let j = c .before .before .before .before .before .before .j in
-    let check-components = c .before .before .before .check-components in (
-      array-in (open-array .result) (open-array .ensures .0) (j .given .1),
-      list-at (now (args .s)) (args .slot) _ (if1 .left) (open-array .result) (open-array .ensures .1) _ (j .given .1) (check-components .result) (check-components .ensures) (not-false _ (c .if3 .left)),
+    let args = c .before .before .before .before .before .before .before .before .before .before .before .before .before .before .before .before .before .before .before .before .before .args in
+    let if1 = c .before .before .before .before .before .before .before .before .before .before .before .before .before .before .before .before .if1 in
+    let open-array = c .before .before .before .before .before .before .before .before .before .before .before .before .before .before .open-array in
+    let j = c .before .before .before .before .before .before .before .before .before .before .before .before .j in
+    let list-rows = c .before .before .before .before .before .before .before .list-rows in (
+      (array-in (open-array .result) (open-array .ensures .0) (j .given .1), list-rows .ensures .1),
+      list-at (now (args .s)) (args .slot) _ (if1 .left) (open-array .result) (open-array .ensures .1) _ (j .given .1) (list-rows .result) (list-rows .ensures .0) (c .if3 .left),
     )
 
 pub list-components-spec : {M : Type 1} → statement M
@@ -92,10 +105,14 @@ list-components-spec =
     enum-told
     enum-told-2
     enum-known-j
-    check-components-requires
+    list-rows-requires
     same-length
+    same-length-2
+    same-length-3
     returns-3
     returns-4
     returns-5
-    same-length-2
+    same-length-4
+    same-length-5
+    same-length-6
     returns-6)

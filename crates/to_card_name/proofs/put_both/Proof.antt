@@ -12,7 +12,7 @@ use Rattle.to_card_name.proofs.put_fn.Reads as put-fn-reads
 use Rattle.to_card_name.proofs.put_n.Reads as put-n-reads
 
 put-fn-requires : tie.Need-put-fn-requires
-put-fn-requires c κs = (c .before .before .before .before .pre .0, c .before .before .before .before .pre .1)
+put-fn-requires c κs = c .before .before .before .before .before .before .pre
 
 sub-put-n : tie.Need-sub-put-n
 sub-put-n c = row-in (begun (c .before .before .put-fn .ensures .fills))
@@ -24,11 +24,11 @@ part-put-n-end : tie.Need-part-put-n-end
 part-put-n-end c = le-refl _
 
 put-n-requires : tie.Need-put-n-requires
-put-n-requires c κs = (c .before .before .before .before .before .before .before .before .pre .0, c .before .before .before .before .before .before .before .before .pre .1)
+put-n-requires c κs = c .before .before .before .before .before .before .before .before .before .before .pre
 
 add-m : tie.Need-add-m
 add-m c =
-    let good = c .before .before .before .before .before .before .before .before .before .before .before .before .good in
+    let good = c .before .before .before .before .before .before .before .before .before .before .before .before .before .before .good in
     let put-fn = c .before .before .before .before .before .before .before .put-fn in
     let put-n = c .before .before .before .put-n in
     row-fits (onto (begun (put-fn .ensures .fills)) (put-n .ensures .fills)) (good .0 .0)
@@ -44,7 +44,7 @@ same-length c =
 
 returns : tie.Need-returns
 returns c =
-    let args = c .before .before .before .before .before .before .before .before .before .before .before .before .before .before .before .args in
+    let args = c .before .before .before .before .before .before .before .before .before .before .before .before .before .before .before .before .before .args in
     let put-fn = c .before .before .before .before .before .before .before .before .before .before .put-fn in
     let put-n = c .before .before .before .before .before .before .put-n in
     let row = both-row (now (args .s)) (args .full) (now (args .out)) (args .at) (now (args .marks)) (put-fn .result) _ (put-fn .ensures) (put-n .result) _ (put-n .ensures) in (

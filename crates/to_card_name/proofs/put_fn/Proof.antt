@@ -20,7 +20,7 @@ same-length c = fills-length (c .before .before .put-string-line .ensures .fills
 
 returns : tie.Need-returns
 returns c =
-    let args = c .before .before .before .before .before .before .before .before .before .args in
+    let args = c .before .before .before .before .before .before .before .before .before .before .before .args in
     let if1 = c .before .before .before .before .before .if1 in
     let put-string-line = c .before .before .put-string-line in
     fn-full (now (args .s)) (args .full) (args .at) (now (args .marks)) (now (args .out)) (if1 .taken) (put-string-line .result) _
@@ -33,14 +33,14 @@ slice-aggregate-put-order-line-2 : tie.Need-slice-aggregate-put-order-line-2
 slice-aggregate-put-order-line-2 c = search needs
 
 put-order-line-requires : tie.Need-put-order-line-requires
-put-order-line-requires c κs = (c .before .before .before .before .before .before .before .pre .0, c .before .before .before .before .before .before .before .pre .1)
+put-order-line-requires c κs = c .before .before .before .before .before .before .before .before .before .pre
 
 same-length-2 : tie.Need-same-length-2
 same-length-2 c = fills-length (c .before .before .put-order-line .ensures .fills)
 
 returns-2 : tie.Need-returns-2
 returns-2 c =
-    let args = c .before .before .before .before .before .before .before .before .before .before .args in
+    let args = c .before .before .before .before .before .before .before .before .before .before .before .before .args in
     let if1 = c .before .before .before .before .before .before .if1 in
     let put-order-line = c .before .before .put-order-line in
     fn-derived (now (args .s)) (args .full) (args .at) (now (args .marks)) (now (args .out)) (if1 .left) (put-order-line .result) _

@@ -14,8 +14,14 @@ use Rattle.to_card_name.proofs.put_both.Reads as put-both-reads
 slice-aggregate-list-components : tie.Need-slice-aggregate-list-components
 slice-aggregate-list-components c = search needs
 
+slice-aggregate-list-components-2 : tie.Need-slice-aggregate-list-components-2
+slice-aggregate-list-components-2 c = search needs
+
+slice-aggregate-list-components-3 : tie.Need-slice-aggregate-list-components-3
+slice-aggregate-list-components-3 c = search needs
+
 list-components-requires : tie.Need-list-components-requires
-list-components-requires c κs = (omega arith, clear-seven)
+list-components-requires c κs = (omega arith, (clear-seven, (omega arith, omega arith)))
 
 enum-told : tie.Need-enum-told
 enum-told c = search needs
@@ -32,16 +38,23 @@ enum-known-j c = search needs
 slice-aggregate-put-both : tie.Need-slice-aggregate-put-both
 slice-aggregate-put-both c = search needs
 
+slice-aggregate-put-both-2 : tie.Need-slice-aggregate-put-both-2
+slice-aggregate-put-both-2 c = search needs
+
+slice-aggregate-put-both-3 : tie.Need-slice-aggregate-put-both-3
+slice-aggregate-put-both-3 c = search needs
+
 put-both-requires : tie.Need-put-both-requires
 put-both-requires c κs =
-    let list-components = c .before .before .before .before .before .before .list-components in
-    let j = c .before .before .before .j in
-    (listed-in (list-components .result) (list-components .ensures .0) (j .given .1), search needs)
+    let list-components = c .before .before .before .before .before .before .before .before .before .before .list-components in
+    let j = c .before .before .before .before .before .j in
+    let rows = listed-in (list-components .result) (list-components .ensures .0) (j .given .1) in
+    (rows .0, (omega arith, (omega arith, (omega arith, rows .1))))
 
 returns : tie.Need-returns
 returns c =
-    let args = c .before .before .before .before .before .before .before .args in
-    let list-components = c .before .before .before .list-components in (
+    let args = c .before .before .before .before .before .before .before .before .before .before .before .args in
+    let list-components = c .before .before .before .before .before .list-components in (
       tt,
       (refl, list-twelve (now (args .s)) (args .full) (args .components) (now (args .out)) _ (list-components .result) (list-components .ensures .1) (c .enum-told .given .1) _),
     )
@@ -51,8 +64,8 @@ same-length c = search needs
 
 returns-2 : tie.Need-returns-2
 returns-2 c =
-    let args = c .before .before .before .before .before .before .before .before .before .before .before .args in
-    let list-components = c .before .before .before .before .before .before .before .list-components in
+    let args = c .before .before .before .before .before .before .before .before .before .before .before .before .before .before .before .args in
+    let list-components = c .before .before .before .before .before .before .before .before .before .list-components in
     let enum-told2 = c .before .before .before .before .enum-told2 in
     let put-alone = c .before .before .put-alone in (
       put-alone .ensures .0,
@@ -64,12 +77,12 @@ same-length-2 c = search needs
 
 returns-3 : tie.Need-returns-3
 returns-3 c =
-    let args = c .before .before .before .before .before .before .before .before .before .before .before .before .before .args in
-    let list-components = c .before .before .before .before .before .before .before .before .before .list-components in
-    let j = c .before .before .before .before .before .before .j in
+    let args = c .before .before .before .before .before .before .before .before .before .before .before .before .before .before .before .before .before .before .before .args in
+    let list-components = c .before .before .before .before .before .before .before .before .before .before .before .before .before .list-components in
+    let j = c .before .before .before .before .before .before .before .before .j in
     let put-both = c .before .before .put-both in (
       put-both .ensures .0,
-      (put-both .ensures .1 .0, list-both (now (args .s)) (args .full) (args .components) (now (args .out)) _ (list-components .result) (list-components .ensures .1) _ (j .given .1) (put-both .result) _ (put-both .ensures .1 .1)),
+      (put-both .ensures .1 .0, list-both (now (args .s)) (args .full) (args .components) (now (args .out)) _ (list-components .result) (list-components .ensures .1) _ _ (j .given .1) (put-both .result) _ (put-both .ensures .1 .1)),
     )
 
 pub put-list-spec : {M : Type 1} → statement M
@@ -77,12 +90,16 @@ put-list-spec =
     tie.close
     (tie.spec
     slice-aggregate-list-components
+    slice-aggregate-list-components-2
+    slice-aggregate-list-components-3
     list-components-requires
     enum-told
     enum-told-2
     put-alone-requires
     enum-known-j
     slice-aggregate-put-both
+    slice-aggregate-put-both-2
+    slice-aggregate-put-both-3
     put-both-requires
     returns
     same-length

@@ -13,11 +13,11 @@ use Rattle.to_card_name.proofs.has_parts.Reads as has-parts-reads
 use Rattle.to_card_name.proofs.put_order_line.Reads as put-order-line-reads
 
 has-parts-requires : tie.Need-has-parts-requires
-has-parts-requires c κs = c .before .before .before .pre .1
+has-parts-requires c κs = c .before .before .before .before .before .pre .1 .0
 
 returns : tie.Need-returns
 returns c =
-    let args = c .before .before .before .before .before .args in
+    let args = c .before .before .before .before .before .before .before .args in
     let has-parts = c .before .has-parts in
     n-none (now (args .s)) (args .at) (now (args .marks)) (now (args .out)) (has-parts .result) (has-parts .ensures) (not-true _ (c .if1 .taken))
 
@@ -28,26 +28,24 @@ slice-aggregate-put-order-line-2 : tie.Need-slice-aggregate-put-order-line-2
 slice-aggregate-put-order-line-2 c = search needs
 
 put-order-line-requires : tie.Need-put-order-line-requires
-put-order-line-requires c κs =
-    let pre = c .before .before .before .before .before .before .before .before .pre in
-    (pre .0, pre .1)
+put-order-line-requires c κs = c .before .before .before .before .before .before .before .before .before .before .pre
 
 apart-in-requires : tie.Need-apart-in-requires
 apart-in-requires c κs =
-    let pre = c .before .before .before .before .before .before .before .before .before .before .before .pre in
-    (pre .0, (pre .1, (omega arith, omega arith)))
+    let pre = c .before .before .before .before .before .before .before .before .before .before .before .before .before .pre in
+    (pre .0, (pre .1 .0, (pre .1 .1 .0, (pre .1 .1 .1 .0, (pre .1 .1 .1 .1, (omega arith, omega arith))))))
 
 apart-in-requires-2 : tie.Need-apart-in-requires-2
 apart-in-requires-2 c κs =
-    let pre = c .before .before .before .before .before .before .before .before .before .before .before .before .pre in
-    (pre .0, (pre .1, (omega arith, omega arith)))
+    let pre = c .before .before .before .before .before .before .before .before .before .before .before .before .before .before .pre in
+    (pre .0, (pre .1 .0, (pre .1 .1 .0, (pre .1 .1 .1 .0, (pre .1 .1 .1 .1, (omega arith, omega arith))))))
 
 same-length : tie.Need-same-length
 same-length c = fills-length (c .before .before .before .before .put-order-line .ensures .fills)
 
 returns-2 : tie.Need-returns-2
 returns-2 c =
-    let args = c .before .before .before .before .before .before .before .before .before .before .before .before .before .args in
+    let args = c .before .before .before .before .before .before .before .before .before .before .before .before .before .before .before .args in
     let has-parts = c .before .before .before .before .before .before .before .before .before .has-parts in
     let if1 = c .before .before .before .before .before .before .before .before .if1 in
     let put-order-line = c .before .before .before .before .put-order-line in

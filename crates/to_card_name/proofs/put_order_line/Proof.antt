@@ -24,13 +24,11 @@ part-pen-order-end : tie.Need-part-pen-order-end
 part-pen-order-end c = le-refl _
 
 pen-order-requires : tie.Need-pen-order-requires
-pen-order-requires c κs =
-    let pre = c .before .before .before .before .before .before .before .before .before .before .pre in
-    (pre .0, pre .1)
+pen-order-requires c κs = c .before .before .before .before .before .before .before .before .before .before .before .before .pre
 
 add-n2 : tie.Need-add-n2
 add-n2 c =
-    let good = c .before .before .before .before .before .before .before .before .before .before .before .before .before .before .good in
+    let good = c .before .before .before .before .before .before .before .before .before .before .before .before .before .before .before .before .good in
     let pen-bytes = c .before .before .before .before .before .before .before .pen-bytes in
     let pen-order = c .before .before .before .pen-order in
     fit! (next! (first! (pen-bytes .ensures)) (pen-order .ensures .pens)) (good .0 .0)
@@ -52,7 +50,7 @@ fill-requires c κs = tt
 
 add-n3 : tie.Need-add-n3
 add-n3 c =
-    let good = c .before .before .before .before .before .before .before .before .before .before .before .before .before .before .before .before .before .before .before .good in
+    let good = c .before .before .before .before .before .before .before .before .before .before .before .before .before .before .before .before .before .before .before .before .before .good in
     let pen-bytes = c .before .before .before .before .before .before .before .before .before .before .before .before .pen-bytes in
     let pen-order = c .before .before .before .before .before .before .before .before .pen-order in
     row-fits (begun (then (filled ((next! (first! (pen-bytes .ensures)) (pen-order .ensures .pens)) .so)) (c .before .before .fill .ensures)))

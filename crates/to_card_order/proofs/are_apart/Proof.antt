@@ -1,63 +1,63 @@
-use borrow.Author.Needs.{needs}
 use native.Mathlib.Omega.{arith}
 use denote.Ref.{now}
-use Prim.Native.Nat.{_≤_, _-_}
-use lib.ListN.{length}
-use Rattle.text.proofs.Places.{turn-as}
-use Rattle.to_card_order.proofs.Apart.{Parting, parting-first, parts-wrong, parting-on, parts-all}
+use Prim.Native.Nat.{_-_}
+use Rattle.to_card_order.proofs.Apart.{PartingTo, parting-none, parting-row, parts-rows}
 use Rattle.to_card_order.proofs.are_apart.Statement.{statement}
 use Rattle.to_card_order.proofs.are_apart.Tie as tie
 use Rattle.to_card_order.proofs.are_apart.Reads as reads
 use Rattle.to_card_order.proofs.are_apart.Lts as lts
-use Rattle.json_access.proofs.element_at.Reads as element-at-reads
-use Rattle.json_marks.proofs.separator.Reads as separator-reads
 use Rattle.to_card_order.proofs.clashes.Reads as clashes-reads
-use Rattle.to_card_parts.proofs.component_at.Reads as component-at-reads
+use Rattle.to_card_order.proofs.walk_apart.Reads as walk-apart-reads
 
 abbrev Inv-loop : tie.InvT-loop
-Inv-loop s at one other i₀ ok₀ i ok = (i ≤ length s) × Parting s at one other i ok
+Inv-loop s at kinds values rows one other i₀ ok₀ i ok = PartingTo s at one other i ok
 
 abbrev μ-loop : tie.MeasureT-loop
-μ-loop s at one other i₀ ok₀ i ok = length s - i
+μ-loop s at kinds values rows one other i₀ ok₀ i ok = rows - i
 
-loop-holds : tie.Need-loop-holds Inv-loop μ-loop
-loop-holds c = (c .before .pre, parting-first (now (c .before .args .s)) (c .before .args .at) (c .before .args .one) (c .before .args .other))
-
-element-at-requires : tie.Need-element-at-requires Inv-loop μ-loop
-element-at-requires c κs = tt
-
-component-at-requires : tie.Need-component-at-requires Inv-loop μ-loop
-component-at-requires c κs = omega (arith, c .element-at .ensures .0 .ordered, c .element-at .ensures .0 .end-in)
-
-enum-known-k : tie.Need-enum-known-k Inv-loop μ-loop
-enum-known-k c = search needs
-
-enum-told : tie.Need-enum-told Inv-loop μ-loop
-enum-told c = search needs
+walk-apart-requires : tie.Need-walk-apart-requires Inv-loop μ-loop
+walk-apart-requires c κs = c .before .before .before .before .pre
 
 returns : tie.Need-returns Inv-loop μ-loop
-returns c = parts-wrong (now (c .before .before .before .before .before .before .args .s)) (c .before .before .before .before .before .before .args .at) (c .before .before .before .before .before .before .args .one) (c .before .before .before .before .before .before .args .other) (c .before .before .before .before .loop .i) (c .before .before .before .before .loop .ok) (c .before .before .before .before .loop .inv .1) (c .before .before .before .element-at .result) (c .before .before .before .element-at .ensures .1) (c .before .before .component-at .result) (c .before .before .component-at .ensures .1) (c .enum-told .given .1)
+returns c = c .walk-apart .ensures
+
+loop-holds : tie.Need-loop-holds Inv-loop μ-loop
+loop-holds c = parting-none (now (c .before .before .before .before .args .s)) (c .before .before .before .before .args .at) (c .before .before .before .before .args .one) (c .before .before .before .before .args .other)
+
+mul-clashes : tie.Need-mul-clashes Inv-loop μ-loop
+mul-clashes c = omega (arith, c .loop-test .taken, c .before .before .if1 .left, c .before .before .before .before .before .before .pre .1 .0, c .before .before .before .before .before .before .pre .1 .1 .0)
+
+shared-slice-read-clashes : tie.Need-shared-slice-read-clashes Inv-loop μ-loop
+shared-slice-read-clashes c = omega (arith, c .before .loop-test .taken, c .before .before .before .if1 .left, c .before .before .before .before .before .before .before .pre .1 .0, c .before .before .before .before .before .before .before .pre .1 .1 .0)
+
+mul-clashes-2 : tie.Need-mul-clashes-2 Inv-loop μ-loop
+mul-clashes-2 c = omega (arith, c .before .loop-test .taken, c .before .before .before .if1 .left, c .before .before .before .before .before .before .before .pre .1 .0, c .before .before .before .before .before .before .before .pre .1 .1 .0)
+
+shared-slice-read-clashes-2 : tie.Need-shared-slice-read-clashes-2 Inv-loop μ-loop
+shared-slice-read-clashes-2 c = omega (arith, c .before .before .loop-test .taken, c .before .before .before .before .if1 .left, c .before .before .before .before .before .before .before .before .pre .1 .0, c .before .before .before .before .before .before .before .before .pre .1 .1 .0)
 
 clashes-requires : tie.Need-clashes-requires Inv-loop μ-loop
-clashes-requires c κs = c .before .before .before .before .before .before .before .pre
+clashes-requires c κs = c .before .before .before .before .before .before .before .before .pre
 
-separator-requires : tie.Need-separator-requires Inv-loop μ-loop
-separator-requires c κs = (c .before .before .before .before .before .element-at .ensures .0 .end-in, omega arith)
-
-enum-known-j : tie.Need-enum-known-j Inv-loop μ-loop
-enum-known-j c = search needs
+add-i : tie.Need-add-i Inv-loop μ-loop
+add-i c = omega (arith, c .before .before .before .loop-test .taken, c .before .before .before .before .before .if1 .left)
 
 loop-less : tie.Need-loop-less Inv-loop μ-loop
-loop-less c = let h = turn-as (c .before .before .before .separator .ensures) (c .before .j .given .1) in omega (arith, h .within .0, h .within .1, c .before .before .before .before .before .before .before .before .before .element-at .ensures .0 .from (c .before .before .before .before .before .before .before .before .before .before .loop .inv .0), c .before .before .before .before .before .before .before .before .before .element-at .ensures .0 .ordered)
+loop-less c = omega (arith, c .before .before .before .loop-test .taken)
 
 loop-again : tie.Need-loop-again Inv-loop μ-loop
-loop-again c = let h = turn-as (c .before .before .before .separator .ensures) (c .before .j .given .1) in (h .within .1, parting-on (now (c .before .before .before .before .before .before .before .before .before .before .before .before .args .s)) (c .before .before .before .before .before .before .before .before .before .before .before .before .args .at) (c .before .before .before .before .before .before .before .before .before .before .before .before .args .one) (c .before .before .before .before .before .before .before .before .before .before .before .before .args .other) (c .before .before .before .before .before .before .before .before .before .before .loop .i) (c .before .before .before .before .before .before .before .before .before .before .loop .ok) (c .before .before .before .before .before .before .before .before .before .before .loop .inv .1) (c .before .before .before .before .before .before .before .before .before .element-at .result) (c .before .before .before .before .before .before .before .before .before .element-at .ensures .1) (c .before .before .before .before .before .before .before .before .component-at .result) (c .before .before .before .before .before .before .before .before .component-at .ensures .1) _ _ (c .before .before .before .before .before .before .k .given .1) (c .before .before .before .before .clashes .result) (c .before .before .before .before .clashes .ensures) _ h)
-
-enum-known-r : tie.Need-enum-known-r Inv-loop μ-loop
-enum-known-r c = search needs
+loop-again c =
+    let args = c .before .before .before .before .before .before .before .before .before .args in
+    let loop = c .before .before .before .before .loop in
+    parting-row (now (args .s)) (args .at) (args .one) (args .other) (now (args .kinds)) (now (args .values)) (args .rows) (omega (arith, c .before .before .before .before .before .if1 .left)) (c .before .before .before .before .before .before .before .before .before .pre .1 .1 .1) (loop .i) (loop .ok) (loop .inv)
+    (c .before .before .before .loop-test .taken) (c .clashes .result) (c .clashes .ensures)
 
 returns-2 : tie.Need-returns-2 Inv-loop μ-loop
-returns-2 c = parts-all (now (c .before .before .before .before .before .before .before .before .before .before .before .before .args .s)) (c .before .before .before .before .before .before .before .before .before .before .before .before .args .at) (c .before .before .before .before .before .before .before .before .before .before .before .before .args .one) (c .before .before .before .before .before .before .before .before .before .before .before .before .args .other) (c .before .before .before .before .before .before .before .before .before .before .loop .i) (c .before .before .before .before .before .before .before .before .before .before .loop .ok) (c .before .before .before .before .before .before .before .before .before .before .loop .inv .1) (c .before .before .before .before .before .before .before .before .before .element-at .result) (c .before .before .before .before .before .before .before .before .before .element-at .ensures .1) (c .before .before .before .before .before .before .before .before .component-at .result) (c .before .before .before .before .before .before .before .before .component-at .ensures .1) _ _ (c .before .before .before .before .before .before .k .given .1) (c .before .before .before .before .clashes .result) (c .before .before .before .before .clashes .ensures) _ (turn-as (c .before .before .before .separator .ensures) (c .before .r .given .1))
+returns-2 c =
+    let args = c .before .before .before .before .before .before .args in
+    let loop = c .before .loop in
+    parts-rows (now (args .s)) (args .at) (args .one) (args .other) (now (args .kinds)) (now (args .values)) (args .rows) (omega (arith, c .before .before .if1 .left)) (c .before .before .before .before .before .before .pre .1 .1 .1) (loop .i) (loop .ok) (loop .inv)
+    (c .loop-test .left)
 
 pub are-apart-spec : {M : Type 1} → statement M
 are-apart-spec =
@@ -65,16 +65,15 @@ are-apart-spec =
     (tie.spec
     Inv-loop
     μ-loop
-    loop-holds
-    element-at-requires
-    component-at-requires
-    enum-known-k
-    enum-told
+    walk-apart-requires
     returns
+    loop-holds
+    mul-clashes
+    shared-slice-read-clashes
+    mul-clashes-2
+    shared-slice-read-clashes-2
     clashes-requires
-    separator-requires
-    enum-known-j
+    add-i
     loop-less
     loop-again
-    enum-known-r
     returns-2)

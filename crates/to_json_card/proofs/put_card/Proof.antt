@@ -34,19 +34,30 @@ enum-told : tie.Need-enum-told
 enum-told c = c .match .keys2
 
 same-length : tie.Need-same-length
-same-length c = length-puts (none (flat (restPieces (c .before .before .before .before .before .before .before .before .before .before .before .before .before .before .before .before .pre .lines .0)) ∷ []) (c .before .before .before .before .before .before .put-top .ensures (c .before .before .before .before .before .before .before .before .before .before .before .before .before .before .before .before .pre .lines .0) (c .before .before .before .before .before .before .before .before .before .before .before .before .before .before .before .before .pre .lines .1)) (c .enum-told .given .1))
+same-length c =
+    let pre = c .before .before .before .before .before .before .before .before .before .before .before .before .before .before .before .before .pre in
+    let put-top = c .before .before .before .before .before .before .put-top in
+    length-puts (none (flat (restPieces (pre .lines .0)) ∷ []) (put-top .ensures (pre .lines .0) (pre .lines .1)) (c .enum-told .given .1))
 
 same-length-2 : tie.Need-same-length-2
 same-length-2 c = search needs
 
 returns : tie.Need-returns
-returns c = λ cs h. puts-as (groups-print (now (c .before .before .before .before .before .before .before .before .before .before .before .before .before .before .before .before .args .stem)) (c .before .before .before .before .before .before .before .before .before .before .before .before .before .before .before .before .args .number) cs) (none (flat (restPieces cs) ∷ []) (c .before .before .before .before .before .before .put-top .ensures cs h) (c .enum-told .given .1))
+returns c =
+    let args = c .before .before .before .before .before .before .before .before .before .before .before .before .before .before .before .before .args in
+    let put-top = c .before .before .before .before .before .before .put-top in
+    λ cs h. puts-as (groups-print (now (args .stem)) (args .number) cs)
+    (none (flat (restPieces cs) ∷ []) (put-top .ensures cs h) (c .enum-told .given .1))
 
 sub-put-rest : tie.Need-sub-put-rest
-sub-put-rest c = in! (s₁ c (c .before .before .before .before .before .before .before .before .before .before .before .before .before .before .before .before .before .pre .lines .0) (c .before .before .before .before .before .before .before .before .before .before .before .before .before .before .before .before .before .pre .lines .1))
+sub-put-rest c =
+    let pre = c .before .before .before .before .before .before .before .before .before .before .before .before .before .before .before .before .before .pre in
+    in! (s₁ c (pre .lines .0) (pre .lines .1))
 
 part-put-rest-start : tie.Need-part-put-rest-start
-part-put-rest-start c = in! (s₁ c (c .before .before .before .before .before .before .before .before .before .before .before .before .before .before .before .before .before .pre .lines .0) (c .before .before .before .before .before .before .before .before .before .before .before .before .before .before .before .before .before .pre .lines .1))
+part-put-rest-start c =
+    let pre = c .before .before .before .before .before .before .before .before .before .before .before .before .before .before .before .before .before .pre in
+    in! (s₁ c (pre .lines .0) (pre .lines .1))
 
 part-put-rest-end : tie.Need-part-put-rest-end
 part-put-rest-end c = le-refl _
@@ -61,7 +72,14 @@ enum-told-2 : tie.Need-enum-told-2
 enum-told-2 c = c .match2 .keys2
 
 same-length-3 : tie.Need-same-length-3
-same-length-3 c = length-puts (stop! (s₁ (c .before .before .before .before .before .before .before .before .before .before .before .before) (c .before .before .before .before .before .before .before .before .before .before .before .before .before .before .before .before .before .before .before .before .before .before .before .before .before .before .before .before .before .pre .lines .0) (c .before .before .before .before .before .before .before .before .before .before .before .before .before .before .before .before .before .before .before .before .before .before .before .before .before .before .before .before .before .pre .lines .1)) (c .before .before .before .before .before .before .before .before .put-rest .ensures (c .before .before .before .before .before .before .before .before .before .before .before .before .before .before .before .before .before .before .before .before .before .before .before .before .before .before .before .before .before .pre .lines .0) (c .before .before .before .before .before .before .before .before .before .before .before .before .before .before .before .before .before .before .before .before .before .before .before .before .before .before .before .before .before .pre .lines .1)) (c .enum-told2 .given .1))
+same-length-3 c =
+    let pre = c .before .before .before .before .before .before .before .before .before .before .before .before .before .before .before .before .before .before .before .before .before .before .before .before .before .before .before .before .before .pre in
+    let put-rest = c .before .before .before .before .before .before .before .before .put-rest in
+    length-puts
+    (stop!
+    (s₁ (c .before .before .before .before .before .before .before .before .before .before .before .before) (pre .lines .0)
+    (pre .lines .1))
+    (put-rest .ensures (pre .lines .0) (pre .lines .1)) (c .enum-told2 .given .1))
 
 same-length-4 : tie.Need-same-length-4
 same-length-4 c = search needs
@@ -70,13 +88,23 @@ same-length-5 : tie.Need-same-length-5
 same-length-5 c = search needs
 
 returns-2 : tie.Need-returns-2
-returns-2 c = λ cs h. puts-as (groups-print (now (c .before .before .before .before .before .before .before .before .before .before .before .before .before .before .before .before .before .before .before .before .before .before .before .before .before .before .before .before .before .args .stem)) (c .before .before .before .before .before .before .before .before .before .before .before .before .before .before .before .before .before .before .before .before .before .before .before .before .before .before .before .before .before .args .number) cs) (stop! (s₁ (c .before .before .before .before .before .before .before .before .before .before .before .before) cs h) (c .before .before .before .before .before .before .before .before .put-rest .ensures cs h) (c .enum-told2 .given .1))
+returns-2 c =
+    let args = c .before .before .before .before .before .before .before .before .before .before .before .before .before .before .before .before .before .before .before .before .before .before .before .before .before .before .before .before .before .args in
+    let put-rest = c .before .before .before .before .before .before .before .before .put-rest in
+    λ cs h. puts-as (groups-print (now (args .stem)) (args .number) cs)
+    (stop! (s₁ (c .before .before .before .before .before .before .before .before .before .before .before .before) cs h)
+    (put-rest .ensures cs h) (c .enum-told2 .given .1))
 
 add-b2 : tie.Need-add-b2
-add-b2 c = fit! (s₂ c (c .before .before .before .before .before .before .before .before .before .before .before .before .before .before .before .before .before .before .before .before .before .before .before .before .before .before .before .before .before .before .pre .lines .0) (c .before .before .before .before .before .before .before .before .before .before .before .before .before .before .before .before .before .before .before .before .before .before .before .before .before .before .before .before .before .before .pre .lines .1)) (c .before .before .before .before .before .before .before .before .before .before .before .before .before .before .before .before .before .before .before .before .before .before .before .before .before .before .before .before .before .before .good .0 .0)
+add-b2 c =
+    let pre = c .before .before .before .before .before .before .before .before .before .before .before .before .before .before .before .before .before .before .before .before .before .before .before .before .before .before .before .before .before .before .pre in
+    let good = c .before .before .before .before .before .before .before .before .before .before .before .before .before .before .before .before .before .before .before .before .before .before .before .before .before .before .before .before .before .before .good in
+    fit! (s₂ c (pre .lines .0) (pre .lines .1)) (good .0 .0)
 
 same-length-6 : tie.Need-same-length-6
-same-length-6 c = same! (s₂ c (c .before .before .before .before .before .before .before .before .before .before .before .before .before .before .before .before .before .before .before .before .before .before .before .before .before .before .before .before .before .before .pre .lines .0) (c .before .before .before .before .before .before .before .before .before .before .before .before .before .before .before .before .before .before .before .before .before .before .before .before .before .before .before .before .before .before .pre .lines .1))
+same-length-6 c =
+    let pre = c .before .before .before .before .before .before .before .before .before .before .before .before .before .before .before .before .before .before .before .before .before .before .before .before .before .before .before .before .before .before .pre in
+    same! (s₂ c (pre .lines .0) (pre .lines .1))
 
 same-length-7 : tie.Need-same-length-7
 same-length-7 c = search needs
@@ -85,7 +113,9 @@ same-length-8 : tie.Need-same-length-8
 same-length-8 c = search needs
 
 returns-3 : tie.Need-returns-3
-returns-3 c = λ cs h. puts-as (groups-print (now (c .before .before .before .before .before .before .before .before .before .before .before .before .before .before .before .before .before .before .before .before .before .before .before .before .before .before .before .before .before .before .args .stem)) (c .before .before .before .before .before .before .before .before .before .before .before .before .before .before .before .before .before .before .before .before .before .before .before .before .before .before .before .before .before .before .args .number) cs) (all (s₂ c cs h .left))
+returns-3 c =
+    let args = c .before .before .before .before .before .before .before .before .before .before .before .before .before .before .before .before .before .before .before .before .before .before .before .before .before .before .before .before .before .before .args in
+    λ cs h. puts-as (groups-print (now (args .stem)) (args .number) cs) (all (s₂ c cs h .left))
 
 pub put-card-spec : {M : Type 1} → statement M
 put-card-spec =

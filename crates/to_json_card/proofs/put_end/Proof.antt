@@ -30,7 +30,10 @@ enum-told : tie.Need-enum-told
 enum-told c = c .match .keys2
 
 same-length : tie.Need-same-length
-same-length c = length-puts (none ((125 ∷ []) ∷ []) (c .before .before .before .before .before .before .put-props .ensures (c .before .before .before .before .before .before .before .before .before .before .before .before .before .before .pre .1 .0) (c .before .before .before .before .before .before .before .before .before .before .before .before .before .before .pre .1 .1)) (c .enum-told .given .1))
+same-length c =
+    let pre = c .before .before .before .before .before .before .before .before .before .before .before .before .before .before .pre in
+    let put-props = c .before .before .before .before .before .before .put-props in
+    length-puts (none ((125 ∷ []) ∷ []) (put-props .ensures (pre .1 .0) (pre .1 .1)) (c .enum-told .given .1))
 
 same-length-2 : tie.Need-same-length-2
 same-length-2 c = search needs
@@ -42,7 +45,9 @@ sub-put-byte : tie.Need-sub-put-byte
 sub-put-byte c = in! (s₁ c (c .before .before .before .before .before .before .before .before .before .before .before .before .before .before .before .pre .1 .0) (c .before .before .before .before .before .before .before .before .before .before .before .before .before .before .before .pre .1 .1))
 
 part-put-byte-start : tie.Need-part-put-byte-start
-part-put-byte-start c = in! (s₁ c (c .before .before .before .before .before .before .before .before .before .before .before .before .before .before .before .pre .1 .0) (c .before .before .before .before .before .before .before .before .before .before .before .before .before .before .before .pre .1 .1))
+part-put-byte-start c =
+    let pre = c .before .before .before .before .before .before .before .before .before .before .before .before .before .before .before .pre in
+    in! (s₁ c (pre .1 .0) (pre .1 .1))
 
 part-put-byte-end : tie.Need-part-put-byte-end
 part-put-byte-end c = le-refl _
@@ -57,7 +62,10 @@ enum-told-2 : tie.Need-enum-told-2
 enum-told-2 c = c .match2 .keys2
 
 same-length-3 : tie.Need-same-length-3
-same-length-3 c = length-puts (stop! (s₁ (c .before .before .before .before .before .before) (c .before .before .before .before .before .before .before .before .before .before .before .before .before .before .before .before .before .before .before .before .before .pre .1 .0) (c .before .before .before .before .before .before .before .before .before .before .before .before .before .before .before .before .before .before .before .before .before .pre .1 .1)) (c .before .before .before .before .put-byte .ensures) (c .enum-told2 .given .1))
+same-length-3 c =
+    let pre = c .before .before .before .before .before .before .before .before .before .before .before .before .before .before .before .before .before .before .before .before .before .pre in
+    let put-byte = c .before .before .before .before .put-byte in
+    length-puts (stop! (s₁ (c .before .before .before .before .before .before) (pre .1 .0) (pre .1 .1)) (put-byte .ensures) (c .enum-told2 .given .1))
 
 same-length-4 : tie.Need-same-length-4
 same-length-4 c = search needs
@@ -66,10 +74,15 @@ returns-2 : tie.Need-returns-2
 returns-2 c = λ cs h. stop! (s₁ (c .before .before .before .before .before .before) cs h) (c .before .before .before .before .put-byte .ensures) (c .enum-told2 .given .1)
 
 add-b2 : tie.Need-add-b2
-add-b2 c = fit! (s₂ c (c .before .before .before .before .before .before .before .before .before .before .before .before .before .before .before .before .before .before .before .before .before .before .pre .1 .0) (c .before .before .before .before .before .before .before .before .before .before .before .before .before .before .before .before .before .before .before .before .before .before .pre .1 .1)) (c .before .before .before .before .before .before .before .before .before .before .before .before .before .before .before .before .before .before .before .before .before .before .good .0 .0)
+add-b2 c =
+    let pre = c .before .before .before .before .before .before .before .before .before .before .before .before .before .before .before .before .before .before .before .before .before .before .pre in
+    let good = c .before .before .before .before .before .before .before .before .before .before .before .before .before .before .before .before .before .before .before .before .before .before .good in
+    fit! (s₂ c (pre .1 .0) (pre .1 .1)) (good .0 .0)
 
 same-length-5 : tie.Need-same-length-5
-same-length-5 c = same! (s₂ c (c .before .before .before .before .before .before .before .before .before .before .before .before .before .before .before .before .before .before .before .before .before .before .pre .1 .0) (c .before .before .before .before .before .before .before .before .before .before .before .before .before .before .before .before .before .before .before .before .before .before .pre .1 .1))
+same-length-5 c =
+    let pre = c .before .before .before .before .before .before .before .before .before .before .before .before .before .before .before .before .before .before .before .before .before .before .pre in
+    same! (s₂ c (pre .1 .0) (pre .1 .1))
 
 same-length-6 : tie.Need-same-length-6
 same-length-6 c = search needs

@@ -77,7 +77,14 @@ slice-aggregate-put-member-line-3 : tie.Need-slice-aggregate-put-member-line-3
 slice-aggregate-put-member-line-3 c = search needs
 
 put-member-line-requires : tie.Need-put-member-line-requires
-put-member-line-requires c κs = (record { rowed = record { wide = record { counts = search needs; froms = search needs; tos = search needs }; row = c .before .before .before .before .before .before .before .before .before .before .before .before .before .before .before .before .scan-rows .ensures; sound = (filled-holds (c .before .before .before .before .before .before .before .before .before .before .before .before .before .before .before .before .before .before .before .before .before .before .before .before .fill .result) (c .before .before .before .before .before .before .before .before .before .before .before .before .before .before .before .before .before .before .before .before .before .before .before .before .fill .ensures) (not-false _ (c .before .before .before .before .before .before .before .before .before .before .before .before .before .before .before .before .before .before .before .before .before .if1 .left))) .sound }; seen = (c .before .before .before .before .before .before .before .before .before .before .before .before .before .before .before .before .before .before .before .before .before .before .before .before .before .before .before .before .before .before .pre .2 .1) .seen; name = (c .before .before .before .before .before .before .before .before .before .before .before .before .before .before .before .before .before .before .before .before .before .before .before .before .before .before .before .before .before .before .pre .2 .1) .name; value = (c .before .before .before .before .before .before .before .before .before .before .before .before .before .before .before .before .before .before .before .before .before .before .before .before .before .before .before .before .before .before .pre .2 .1) .value; is = held-member (filled-holds (c .before .before .before .before .before .before .before .before .before .before .before .before .before .before .before .before .before .before .before .before .before .before .before .before .fill .result) (c .before .before .before .before .before .before .before .before .before .before .before .before .before .before .before .before .before .before .before .before .before .before .before .before .fill .ensures) (not-false _ (c .before .before .before .before .before .before .before .before .before .before .before .before .before .before .before .before .before .before .before .before .before .if1 .left))) (c .before .before .before .before .before .before .before .before .before .before .before .before .before .before .before .before .before .before .before .before .before .before .before .before .before .before .before .before .before .before .pre .2 .1) }, c .before .before .before .before .before .before .before .before .before .before .before .before .before .before .before .before .before .before .before .before .before .before .before .before .before .before .before .before .before .before .pre .1)
+put-member-line-requires c κs =
+    let pre = c .before .before .before .before .before .before .before .before .before .before .before .before .before .before .before .before .before .before .before .before .before .before .before .before .before .before .before .before .before .before .pre in
+    let fill = c .before .before .before .before .before .before .before .before .before .before .before .before .before .before .before .before .before .before .before .before .before .before .before .before .fill in
+    let if1 = c .before .before .before .before .before .before .before .before .before .before .before .before .before .before .before .before .before .before .before .before .before .if1 in
+    let scan-rows = c .before .before .before .before .before .before .before .before .before .before .before .before .before .before .before .before .scan-rows in (
+      record { rowed = record { wide = record { counts = search needs; froms = search needs; tos = search needs }; row = scan-rows .ensures; sound = (filled-holds (fill .result) (fill .ensures) (not-false _ (if1 .left))) .sound }; seen = (pre .2 .1) .seen; name = (pre .2 .1) .name; value = (pre .2 .1) .value; is = held-member (filled-holds (fill .result) (fill .ensures) (not-false _ (if1 .left))) (pre .2 .1) },
+      pre .1,
+    )
 
 enum-known-b : tie.Need-enum-known-b
 enum-known-b c = c .match2 .keys1
@@ -86,7 +93,19 @@ enum-told-2 : tie.Need-enum-told-2
 enum-told-2 c = c .match2 .keys2
 
 same-length-4 : tie.Need-same-length-4
-same-length-4 c = length-puts (stop (first (c .before .before .before .before .before .before .before .before .before .before .before .before .before .before .before .before .before .before .put-byte .ensures) (c .before .before .before .before .before .before .before .before .before .before .before .before .before .before .a .given .1)) (puts-as (ap memberBytes ((c .before .before .before .before .before .before .before .before .before .before .before .before .before .before .before .before .before .before .before .before .before .before .before .before .before .before .before .before .before .before .before .before .before .before .before .before .before .pre .2 .1) .is)) (c .before .before .before .before .before .before .put-member-line .ensures ((c .before .before .before .before .before .before .before .before .before .before .before .before .before .before .before .before .before .before .before .before .before .before .before .before .before .before .before .before .before .before .before .before .before .before .before .before .before .pre .2 .1) .seen) ((c .before .before .before .before .before .before .before .before .before .before .before .before .before .before .before .before .before .before .before .before .before .before .before .before .before .before .before .before .before .before .before .before .before .before .before .before .before .pre .2 .1) .name) ((c .before .before .before .before .before .before .before .before .before .before .before .before .before .before .before .before .before .before .before .before .before .before .before .before .before .before .before .before .before .before .before .before .before .before .before .before .before .pre .2 .1) .value) (held-member (filled-holds (c .before .before .before .before .before .before .before .before .before .before .before .before .before .before .before .before .before .before .before .before .before .before .before .before .before .before .before .before .before .before .before .fill .result) (c .before .before .before .before .before .before .before .before .before .before .before .before .before .before .before .before .before .before .before .before .before .before .before .before .before .before .before .before .before .before .before .fill .ensures) (not-false _ (c .before .before .before .before .before .before .before .before .before .before .before .before .before .before .before .before .before .before .before .before .before .before .before .before .before .before .before .before .if1 .left))) (c .before .before .before .before .before .before .before .before .before .before .before .before .before .before .before .before .before .before .before .before .before .before .before .before .before .before .before .before .before .before .before .before .before .before .before .before .before .pre .2 .1)))) (c .enum-told2 .given .1))
+same-length-4 c =
+    let pre = c .before .before .before .before .before .before .before .before .before .before .before .before .before .before .before .before .before .before .before .before .before .before .before .before .before .before .before .before .before .before .before .before .before .before .before .before .before .pre in
+    let fill = c .before .before .before .before .before .before .before .before .before .before .before .before .before .before .before .before .before .before .before .before .before .before .before .before .before .before .before .before .before .before .before .fill in
+    let if1 = c .before .before .before .before .before .before .before .before .before .before .before .before .before .before .before .before .before .before .before .before .before .before .before .before .before .before .before .before .if1 in
+    let put-byte = c .before .before .before .before .before .before .before .before .before .before .before .before .before .before .before .before .before .before .put-byte in
+    let a = c .before .before .before .before .before .before .before .before .before .before .before .before .before .before .a in
+    let put-member-line = c .before .before .before .before .before .before .put-member-line in
+    length-puts
+    (stop (first (put-byte .ensures) (a .given .1))
+    (puts-as (ap memberBytes ((pre .2 .1) .is))
+    (put-member-line .ensures ((pre .2 .1) .seen) ((pre .2 .1) .name) ((pre .2 .1) .value)
+    (held-member (filled-holds (fill .result) (fill .ensures) (not-false _ (if1 .left))) (pre .2 .1))))
+    (c .enum-told2 .given .1))
 
 same-length-5 : tie.Need-same-length-5
 same-length-5 c = search needs
@@ -95,13 +114,50 @@ same-length-6 : tie.Need-same-length-6
 same-length-6 c = search needs
 
 returns-3 : tie.Need-returns-3
-returns-3 c = λ m x. stop (first (c .before .before .before .before .before .before .before .before .before .before .before .before .before .before .before .before .before .before .put-byte .ensures) (c .before .before .before .before .before .before .before .before .before .before .before .before .before .before .a .given .1)) (puts-as (ap memberBytes (x .is)) (c .before .before .before .before .before .before .put-member-line .ensures (x .seen) (x .name) (x .value) (held-member (filled-holds (c .before .before .before .before .before .before .before .before .before .before .before .before .before .before .before .before .before .before .before .before .before .before .before .before .before .before .before .before .before .before .before .fill .result) (c .before .before .before .before .before .before .before .before .before .before .before .before .before .before .before .before .before .before .before .before .before .before .before .before .before .before .before .before .before .before .before .fill .ensures) (not-false _ (c .before .before .before .before .before .before .before .before .before .before .before .before .before .before .before .before .before .before .before .before .before .before .before .before .before .before .before .before .if1 .left))) x))) (c .enum-told2 .given .1)
+returns-3 c =
+    let fill = c .before .before .before .before .before .before .before .before .before .before .before .before .before .before .before .before .before .before .before .before .before .before .before .before .before .before .before .before .before .before .before .fill in
+    let if1 = c .before .before .before .before .before .before .before .before .before .before .before .before .before .before .before .before .before .before .before .before .before .before .before .before .before .before .before .before .if1 in
+    let put-byte = c .before .before .before .before .before .before .before .before .before .before .before .before .before .before .before .before .before .before .put-byte in
+    let a = c .before .before .before .before .before .before .before .before .before .before .before .before .before .before .a in
+    let put-member-line = c .before .before .before .before .before .before .put-member-line in
+    λ m x. stop (first (put-byte .ensures) (a .given .1))
+    (puts-as (ap memberBytes (x .is))
+    (put-member-line .ensures (x .seen) (x .name) (x .value)
+    (held-member (filled-holds (fill .result) (fill .ensures) (not-false _ (if1 .left))) x)))
+    (c .enum-told2 .given .1)
 
 add-ab : tie.Need-add-ab
-add-ab c = record { fits = lt-of-le-of-lt (next (first (c .before .before .before .before .before .before .before .before .before .before .before .before .before .before .before .before .before .before .before .put-byte .ensures) (c .before .before .before .before .before .before .before .before .before .before .before .before .before .before .before .a .given .1)) (puts-as (ap memberBytes ((c .before .before .before .before .before .before .before .before .before .before .before .before .before .before .before .before .before .before .before .before .before .before .before .before .before .before .before .before .before .before .before .before .before .before .before .before .before .before .pre .2 .1) .is)) (c .before .before .before .before .before .before .before .put-member-line .ensures ((c .before .before .before .before .before .before .before .before .before .before .before .before .before .before .before .before .before .before .before .before .before .before .before .before .before .before .before .before .before .before .before .before .before .before .before .before .before .before .pre .2 .1) .seen) ((c .before .before .before .before .before .before .before .before .before .before .before .before .before .before .before .before .before .before .before .before .before .before .before .before .before .before .before .before .before .before .before .before .before .before .before .before .before .before .pre .2 .1) .name) ((c .before .before .before .before .before .before .before .before .before .before .before .before .before .before .before .before .before .before .before .before .before .before .before .before .before .before .before .before .before .before .before .before .before .before .before .before .before .before .pre .2 .1) .value) (held-member (filled-holds (c .before .before .before .before .before .before .before .before .before .before .before .before .before .before .before .before .before .before .before .before .before .before .before .before .before .before .before .before .before .before .before .before .fill .result) (c .before .before .before .before .before .before .before .before .before .before .before .before .before .before .before .before .before .before .before .before .before .before .before .before .before .before .before .before .before .before .before .before .fill .ensures) (not-false _ (c .before .before .before .before .before .before .before .before .before .before .before .before .before .before .before .before .before .before .before .before .before .before .before .before .before .before .before .before .before .if1 .left))) (c .before .before .before .before .before .before .before .before .before .before .before .before .before .before .before .before .before .before .before .before .before .before .before .before .before .before .before .before .before .before .before .before .before .before .before .before .before .before .pre .2 .1)))) (c .before .b .given .1) .fits) (c .before .before .before .before .before .before .before .before .before .before .before .before .before .before .before .before .before .before .before .before .before .before .before .before .before .before .before .before .before .before .before .before .before .before .before .before .before .before .good .0 .0) }
+add-ab c =
+    let pre = c .before .before .before .before .before .before .before .before .before .before .before .before .before .before .before .before .before .before .before .before .before .before .before .before .before .before .before .before .before .before .before .before .before .before .before .before .before .before .pre in
+    let good = c .before .before .before .before .before .before .before .before .before .before .before .before .before .before .before .before .before .before .before .before .before .before .before .before .before .before .before .before .before .before .before .before .before .before .before .before .before .before .good in
+    let fill = c .before .before .before .before .before .before .before .before .before .before .before .before .before .before .before .before .before .before .before .before .before .before .before .before .before .before .before .before .before .before .before .before .fill in
+    let if1 = c .before .before .before .before .before .before .before .before .before .before .before .before .before .before .before .before .before .before .before .before .before .before .before .before .before .before .before .before .before .if1 in
+    let put-byte = c .before .before .before .before .before .before .before .before .before .before .before .before .before .before .before .before .before .before .before .put-byte in
+    let a = c .before .before .before .before .before .before .before .before .before .before .before .before .before .before .before .a in
+    let put-member-line = c .before .before .before .before .before .before .before .put-member-line in
+    record {
+      fits = lt-of-le-of-lt
+          (next (first (put-byte .ensures) (a .given .1))
+          (puts-as (ap memberBytes ((pre .2 .1) .is))
+          (put-member-line .ensures ((pre .2 .1) .seen) ((pre .2 .1) .name) ((pre .2 .1) .value)
+          (held-member (filled-holds (fill .result) (fill .ensures) (not-false _ (if1 .left))) (pre .2 .1))))
+          (c .before .b .given .1) .fits)
+          (good .0 .0);
+    }
 
 same-length-7 : tie.Need-same-length-7
-same-length-7 c = next (first (c .before .before .before .before .before .before .before .before .before .before .before .before .before .before .before .before .before .before .before .put-byte .ensures) (c .before .before .before .before .before .before .before .before .before .before .before .before .before .before .before .a .given .1)) (puts-as (ap memberBytes ((c .before .before .before .before .before .before .before .before .before .before .before .before .before .before .before .before .before .before .before .before .before .before .before .before .before .before .before .before .before .before .before .before .before .before .before .before .before .before .pre .2 .1) .is)) (c .before .before .before .before .before .before .before .put-member-line .ensures ((c .before .before .before .before .before .before .before .before .before .before .before .before .before .before .before .before .before .before .before .before .before .before .before .before .before .before .before .before .before .before .before .before .before .before .before .before .before .before .pre .2 .1) .seen) ((c .before .before .before .before .before .before .before .before .before .before .before .before .before .before .before .before .before .before .before .before .before .before .before .before .before .before .before .before .before .before .before .before .before .before .before .before .before .before .pre .2 .1) .name) ((c .before .before .before .before .before .before .before .before .before .before .before .before .before .before .before .before .before .before .before .before .before .before .before .before .before .before .before .before .before .before .before .before .before .before .before .before .before .before .pre .2 .1) .value) (held-member (filled-holds (c .before .before .before .before .before .before .before .before .before .before .before .before .before .before .before .before .before .before .before .before .before .before .before .before .before .before .before .before .before .before .before .before .fill .result) (c .before .before .before .before .before .before .before .before .before .before .before .before .before .before .before .before .before .before .before .before .before .before .before .before .before .before .before .before .before .before .before .before .fill .ensures) (not-false _ (c .before .before .before .before .before .before .before .before .before .before .before .before .before .before .before .before .before .before .before .before .before .before .before .before .before .before .before .before .before .if1 .left))) (c .before .before .before .before .before .before .before .before .before .before .before .before .before .before .before .before .before .before .before .before .before .before .before .before .before .before .before .before .before .before .before .before .before .before .before .before .before .before .pre .2 .1)))) (c .before .b .given .1) .same
+same-length-7 c =
+    let pre = c .before .before .before .before .before .before .before .before .before .before .before .before .before .before .before .before .before .before .before .before .before .before .before .before .before .before .before .before .before .before .before .before .before .before .before .before .before .before .pre in
+    let fill = c .before .before .before .before .before .before .before .before .before .before .before .before .before .before .before .before .before .before .before .before .before .before .before .before .before .before .before .before .before .before .before .before .fill in
+    let if1 = c .before .before .before .before .before .before .before .before .before .before .before .before .before .before .before .before .before .before .before .before .before .before .before .before .before .before .before .before .before .if1 in
+    let put-byte = c .before .before .before .before .before .before .before .before .before .before .before .before .before .before .before .before .before .before .before .put-byte in
+    let a = c .before .before .before .before .before .before .before .before .before .before .before .before .before .before .before .a in
+    let put-member-line = c .before .before .before .before .before .before .before .put-member-line in
+    next (first (put-byte .ensures) (a .given .1))
+    (puts-as (ap memberBytes ((pre .2 .1) .is))
+    (put-member-line .ensures ((pre .2 .1) .seen) ((pre .2 .1) .name) ((pre .2 .1) .value)
+    (held-member (filled-holds (fill .result) (fill .ensures) (not-false _ (if1 .left))) (pre .2 .1))))
+    (c .before .b .given .1) .same
 
 same-length-8 : tie.Need-same-length-8
 same-length-8 c = search needs
@@ -110,7 +166,18 @@ same-length-9 : tie.Need-same-length-9
 same-length-9 c = search needs
 
 returns-4 : tie.Need-returns-4
-returns-4 c = λ m x. done (next (first (c .before .before .before .before .before .before .before .before .before .before .before .before .before .before .before .before .before .before .before .put-byte .ensures) (c .before .before .before .before .before .before .before .before .before .before .before .before .before .before .before .a .given .1)) (puts-as (ap memberBytes (x .is)) (c .before .before .before .before .before .before .before .put-member-line .ensures (x .seen) (x .name) (x .value) (held-member (filled-holds (c .before .before .before .before .before .before .before .before .before .before .before .before .before .before .before .before .before .before .before .before .before .before .before .before .before .before .before .before .before .before .before .before .fill .result) (c .before .before .before .before .before .before .before .before .before .before .before .before .before .before .before .before .before .before .before .before .before .before .before .before .before .before .before .before .before .before .before .before .fill .ensures) (not-false _ (c .before .before .before .before .before .before .before .before .before .before .before .before .before .before .before .before .before .before .before .before .before .before .before .before .before .before .before .before .before .if1 .left))) x))) (c .before .b .given .1))
+returns-4 c =
+    let fill = c .before .before .before .before .before .before .before .before .before .before .before .before .before .before .before .before .before .before .before .before .before .before .before .before .before .before .before .before .before .before .before .before .fill in
+    let if1 = c .before .before .before .before .before .before .before .before .before .before .before .before .before .before .before .before .before .before .before .before .before .before .before .before .before .before .before .before .before .if1 in
+    let put-byte = c .before .before .before .before .before .before .before .before .before .before .before .before .before .before .before .before .before .before .before .put-byte in
+    let a = c .before .before .before .before .before .before .before .before .before .before .before .before .before .before .before .a in
+    let put-member-line = c .before .before .before .before .before .before .before .put-member-line in
+    λ m x. done
+    (next (first (put-byte .ensures) (a .given .1))
+    (puts-as (ap memberBytes (x .is))
+    (put-member-line .ensures (x .seen) (x .name) (x .value)
+    (held-member (filled-holds (fill .result) (fill .ensures) (not-false _ (if1 .left))) x)))
+    (c .before .b .given .1))
 
 pub put-member-turn-spec : {M : Type 1} → statement M
 put-member-turn-spec =

@@ -43,22 +43,47 @@ loop-less : tie.Need-loop-less Inv-loop μ-loop
 loop-less c = omega arith
 
 loop-again : tie.Need-loop-again Inv-loop μ-loop
-loop-again c = (omega arith, c .before .before .before .before .loop .inv .1, c .before .before .before .before .loop .inv .2, λ cs h. members-skip h (c .before .before .before .before .loop .k) (c .before .before .before .loop-test .taken) (c .before .is-of .result) (c .before .is-of .ensures) (not-true _ (c .if1 .taken)) (c .before .before .before .before .loop .inv .3 cs h))
+loop-again c =
+    let loop = c .before .before .before .before .loop in
+    let loop-test = c .before .before .before .loop-test in
+    let is-of = c .before .is-of in (
+      omega arith,
+      loop .inv .1,
+      loop .inv .2,
+      λ cs h. members-skip h (loop .k) (loop-test .taken) (is-of .result) (is-of .ensures) (not-true _ (c .if1 .taken)) (loop .inv .3 cs h),
+    )
 
 line-at-requires : tie.Need-line-at-requires Inv-loop μ-loop
 line-at-requires c κs = tt
 
 sub-put-member-turn : tie.Need-sub-put-member-turn Inv-loop μ-loop
-sub-put-member-turn c = rest-in (c .before .before .before .before .before .loop .inv .3 (c .before .before .before .before .before .before .before .before .before .before .before .before .pre .lines .0) (c .before .before .before .before .before .before .before .before .before .before .before .before .pre .lines .1))
+sub-put-member-turn c =
+    let pre = c .before .before .before .before .before .before .before .before .before .before .before .before .pre in
+    let loop = c .before .before .before .before .before .loop in
+    rest-in (loop .inv .3 (pre .lines .0) (pre .lines .1))
 
 part-put-member-turn-start : tie.Need-part-put-member-turn-start Inv-loop μ-loop
-part-put-member-turn-start c = rest-in (c .before .before .before .before .before .loop .inv .3 (c .before .before .before .before .before .before .before .before .before .before .before .before .pre .lines .0) (c .before .before .before .before .before .before .before .before .before .before .before .before .pre .lines .1))
+part-put-member-turn-start c =
+    let pre = c .before .before .before .before .before .before .before .before .before .before .before .before .pre in
+    let loop = c .before .before .before .before .before .loop in
+    rest-in (loop .inv .3 (pre .lines .0) (pre .lines .1))
 
 part-put-member-turn-end : tie.Need-part-put-member-turn-end Inv-loop μ-loop
 part-put-member-turn-end c = le-refl _
 
 put-member-turn-requires : tie.Need-put-member-turn-requires Inv-loop μ-loop
-put-member-turn-requires c κs = (omega (arith, c .before .before .before .before .before .before .before .before .loop .inv .1, c .before .before .before .before .before .before .before .before .before .before .before .before .before .before .before .pre .parts), omega (arith, ap length (c .before .before .before .line-at .ensures), line-short (now (c .before .before .before .before .before .before .before .before .before .before .before .before .before .before .before .args .scratch)) (now (c .before .before .before .before .before .before .before .before .before .before .before .before .before .before .before .args .starts)) (c .before .before .before .before .before .before .before .before .loop .k) (length (now (c .before .before .before .before .before .before .before .before .before .before .before .before .before .before .before .args .text))) (c .before .before .before .before .before .before .before .before .before .before .before .before .before .before .before .pre .room), c .before .before .before .before .before .before .before .before .loop .inv .2), has-member (c .before .before .before .before .before .before .before .before .before .before .before .before .before .before .before .pre .lines .1) (c .before .before .before .before .before .before .before .before .loop .k) (c .before .before .before .before .before .before .before .loop-test .taken) (c .before .before .before .before .before .is-of .result) (c .before .before .before .before .before .is-of .ensures) (not-false _ (c .before .before .before .before .if1 .left)) (c .before .before .before .line-at .ensures))
+put-member-turn-requires c κs =
+    let args = c .before .before .before .before .before .before .before .before .before .before .before .before .before .before .before .args in
+    let pre = c .before .before .before .before .before .before .before .before .before .before .before .before .before .before .before .pre in
+    let loop = c .before .before .before .before .before .before .before .before .loop in
+    let loop-test = c .before .before .before .before .before .before .before .loop-test in
+    let is-of = c .before .before .before .before .before .is-of in
+    let if1 = c .before .before .before .before .if1 in
+    let line-at = c .before .before .before .line-at in (
+      omega (arith, loop .inv .1, pre .parts),
+      omega (arith, ap length (line-at .ensures), line-short (now (args .scratch)) (now (args .starts)) (loop .k) (length (now (args .text))) (pre .room), loop .inv .2),
+      has-member (pre .lines .1) (loop .k) (loop-test .taken) (is-of .result) (is-of .ensures) (not-false _ (if1 .left)) (line-at .ensures),
+    )
 
 enum-known-m : tie.Need-enum-known-m Inv-loop μ-loop
 enum-known-m c = c .match .keys1
@@ -67,7 +92,17 @@ enum-told : tie.Need-enum-told Inv-loop μ-loop
 enum-told c = c .match .keys2
 
 same-length : tie.Need-same-length Inv-loop μ-loop
-same-length c = length-puts (members-stop (c .before .before .before .before .before .before .before .before .before .before .before .before .before .before .before .before .before .before .before .before .before .before .before .before .pre .lines .1) (c .before .before .before .before .before .before .before .before .before .before .before .before .before .before .before .before .before .loop .k) (c .before .before .before .before .before .before .before .before .before .before .before .before .before .before .before .before .loop-test .taken) (c .before .before .before .before .before .before .before .before .before .before .before .before .before .before .is-of .result) (c .before .before .before .before .before .before .before .before .before .before .before .before .before .before .is-of .ensures) (not-false _ (c .before .before .before .before .before .before .before .before .before .before .before .before .before .if1 .left)) (c .before .before .before .before .before .before .before .before .before .before .before .before .before .before .before .before .before .loop .inv .3 (c .before .before .before .before .before .before .before .before .before .before .before .before .before .before .before .before .before .before .before .before .before .before .before .before .pre .lines .0) (c .before .before .before .before .before .before .before .before .before .before .before .before .before .before .before .before .before .before .before .before .before .before .before .before .pre .lines .1)) (c .before .before .before .before .before .before .before .before .before .before .before .before .line-at .ensures) (c .before .before .before .before .before .before .before .before .put-member-turn .ensures) (c .enum-told .given .1))
+same-length c =
+    let pre = c .before .before .before .before .before .before .before .before .before .before .before .before .before .before .before .before .before .before .before .before .before .before .before .before .pre in
+    let loop = c .before .before .before .before .before .before .before .before .before .before .before .before .before .before .before .before .before .loop in
+    let loop-test = c .before .before .before .before .before .before .before .before .before .before .before .before .before .before .before .before .loop-test in
+    let is-of = c .before .before .before .before .before .before .before .before .before .before .before .before .before .before .is-of in
+    let if1 = c .before .before .before .before .before .before .before .before .before .before .before .before .before .if1 in
+    let line-at = c .before .before .before .before .before .before .before .before .before .before .before .before .line-at in
+    let put-member-turn = c .before .before .before .before .before .before .before .before .put-member-turn in
+    length-puts
+    (members-stop (pre .lines .1) (loop .k) (loop-test .taken) (is-of .result) (is-of .ensures) (not-false _ (if1 .left))
+    (loop .inv .3 (pre .lines .0) (pre .lines .1)) (line-at .ensures) (put-member-turn .ensures) (c .enum-told .given .1))
 
 same-length-2 : tie.Need-same-length-2 Inv-loop μ-loop
 same-length-2 c = search needs
@@ -76,10 +111,30 @@ same-length-3 : tie.Need-same-length-3 Inv-loop μ-loop
 same-length-3 c = search needs
 
 returns : tie.Need-returns Inv-loop μ-loop
-returns c = λ cs h. members-stop h (c .before .before .before .before .before .before .before .before .before .before .before .before .before .before .before .before .before .loop .k) (c .before .before .before .before .before .before .before .before .before .before .before .before .before .before .before .before .loop-test .taken) (c .before .before .before .before .before .before .before .before .before .before .before .before .before .before .is-of .result) (c .before .before .before .before .before .before .before .before .before .before .before .before .before .before .is-of .ensures) (not-false _ (c .before .before .before .before .before .before .before .before .before .before .before .before .before .if1 .left)) (c .before .before .before .before .before .before .before .before .before .before .before .before .before .before .before .before .before .loop .inv .3 cs h) (c .before .before .before .before .before .before .before .before .before .before .before .before .line-at .ensures) (c .before .before .before .before .before .before .before .before .put-member-turn .ensures) (c .enum-told .given .1)
+returns c =
+    let loop = c .before .before .before .before .before .before .before .before .before .before .before .before .before .before .before .before .before .loop in
+    let loop-test = c .before .before .before .before .before .before .before .before .before .before .before .before .before .before .before .before .loop-test in
+    let is-of = c .before .before .before .before .before .before .before .before .before .before .before .before .before .before .is-of in
+    let if1 = c .before .before .before .before .before .before .before .before .before .before .before .before .before .if1 in
+    let line-at = c .before .before .before .before .before .before .before .before .before .before .before .before .line-at in
+    let put-member-turn = c .before .before .before .before .before .before .before .before .put-member-turn in
+    λ cs h. members-stop h (loop .k) (loop-test .taken) (is-of .result) (is-of .ensures) (not-false _ (if1 .left)) (loop .inv .3 cs h)
+    (line-at .ensures) (put-member-turn .ensures) (c .enum-told .given .1)
 
 add-at : tie.Need-add-at Inv-loop μ-loop
-add-at c = rest-fit (members-next (c .before .before .before .before .before .before .before .before .before .before .before .before .before .before .before .before .before .before .before .before .before .before .before .before .before .pre .lines .1) (c .before .before .before .before .before .before .before .before .before .before .before .before .before .before .before .before .before .before .loop .k) (c .before .before .before .before .before .before .before .before .before .before .before .before .before .before .before .before .before .loop-test .taken) (c .before .before .before .before .before .before .before .before .before .before .before .before .before .before .before .is-of .result) (c .before .before .before .before .before .before .before .before .before .before .before .before .before .before .before .is-of .ensures) (not-false _ (c .before .before .before .before .before .before .before .before .before .before .before .before .before .before .if1 .left)) (c .before .before .before .before .before .before .before .before .before .before .before .before .before .before .before .before .before .before .loop .inv .3 (c .before .before .before .before .before .before .before .before .before .before .before .before .before .before .before .before .before .before .before .before .before .before .before .before .before .pre .lines .0) (c .before .before .before .before .before .before .before .before .before .before .before .before .before .before .before .before .before .before .before .before .before .before .before .before .before .pre .lines .1)) (c .before .before .before .before .before .before .before .before .before .before .before .before .before .line-at .ensures) (c .before .before .before .before .before .before .before .before .before .put-member-turn .ensures) _ (c .before .m .given .1)) (c .before .before .before .before .before .before .before .before .before .before .before .before .before .before .before .before .before .before .before .before .before .before .before .before .before .good .0 .0)
+add-at c =
+    let good = c .before .before .before .before .before .before .before .before .before .before .before .before .before .before .before .before .before .before .before .before .before .before .before .before .before .good in
+    let pre = c .before .before .before .before .before .before .before .before .before .before .before .before .before .before .before .before .before .before .before .before .before .before .before .before .before .pre in
+    let loop = c .before .before .before .before .before .before .before .before .before .before .before .before .before .before .before .before .before .before .loop in
+    let loop-test = c .before .before .before .before .before .before .before .before .before .before .before .before .before .before .before .before .before .loop-test in
+    let is-of = c .before .before .before .before .before .before .before .before .before .before .before .before .before .before .before .is-of in
+    let if1 = c .before .before .before .before .before .before .before .before .before .before .before .before .before .before .if1 in
+    let line-at = c .before .before .before .before .before .before .before .before .before .before .before .before .before .line-at in
+    let put-member-turn = c .before .before .before .before .before .before .before .before .before .put-member-turn in
+    rest-fit
+    (members-next (pre .lines .1) (loop .k) (loop-test .taken) (is-of .result) (is-of .ensures) (not-false _ (if1 .left))
+    (loop .inv .3 (pre .lines .0) (pre .lines .1)) (line-at .ensures) (put-member-turn .ensures) _ (c .before .m .given .1))
+    (good .0 .0)
 
 add-k-2 : tie.Need-add-k-2 Inv-loop μ-loop
 add-k-2 c = search needs
@@ -88,7 +143,18 @@ loop-less-2 : tie.Need-loop-less-2 Inv-loop μ-loop
 loop-less-2 c = omega arith
 
 loop-again-2 : tie.Need-loop-again-2 Inv-loop μ-loop
-loop-again-2 c = (omega arith, search needs, search needs, λ cs h. members-next h (c .before .before .before .before .before .before .before .before .before .before .before .before .before .before .before .before .before .before .loop .k) (c .before .before .before .before .before .before .before .before .before .before .before .before .before .before .before .before .before .loop-test .taken) (c .before .before .before .before .before .before .before .before .before .before .before .before .before .before .before .is-of .result) (c .before .before .before .before .before .before .before .before .before .before .before .before .before .before .before .is-of .ensures) (not-false _ (c .before .before .before .before .before .before .before .before .before .before .before .before .before .before .if1 .left)) (c .before .before .before .before .before .before .before .before .before .before .before .before .before .before .before .before .before .before .loop .inv .3 cs h) (c .before .before .before .before .before .before .before .before .before .before .before .before .before .line-at .ensures) (c .before .before .before .before .before .before .before .before .before .put-member-turn .ensures) _ (c .before .m .given .1))
+loop-again-2 c =
+    let loop = c .before .before .before .before .before .before .before .before .before .before .before .before .before .before .before .before .before .before .loop in
+    let loop-test = c .before .before .before .before .before .before .before .before .before .before .before .before .before .before .before .before .before .loop-test in
+    let is-of = c .before .before .before .before .before .before .before .before .before .before .before .before .before .before .before .is-of in
+    let if1 = c .before .before .before .before .before .before .before .before .before .before .before .before .before .before .if1 in
+    let line-at = c .before .before .before .before .before .before .before .before .before .before .before .before .before .line-at in
+    let put-member-turn = c .before .before .before .before .before .before .before .before .before .put-member-turn in (
+      omega arith,
+      search needs,
+      search needs,
+      λ cs h. members-next h (loop .k) (loop-test .taken) (is-of .result) (is-of .ensures) (not-false _ (if1 .left)) (loop .inv .3 cs h) (line-at .ensures) (put-member-turn .ensures) _ (c .before .m .given .1),
+    )
 
 same-length-4 : tie.Need-same-length-4 Inv-loop μ-loop
 same-length-4 c = rest-same (c .before .loop .inv .3 (c .before .before .before .before .before .before .before .before .pre .lines .0) (c .before .before .before .before .before .before .before .before .pre .lines .1))

@@ -31,7 +31,10 @@ enum-told : tie.Need-enum-told
 enum-told c = c .match .keys2
 
 same-length : tie.Need-same-length
-same-length c = length-puts (none (membersIn (c .before .before .before .before .before .before .before .before .before .before .before .before .before .before .before .pre .lines .0) ∷ []) (c .before .before .before .before .before .before .put-maps .ensures (c .before .before .before .before .before .before .before .before .before .before .before .before .before .before .before .pre .lines .0) (c .before .before .before .before .before .before .before .before .before .before .before .before .before .before .before .pre .lines .1)) (c .enum-told .given .1))
+same-length c =
+    let pre = c .before .before .before .before .before .before .before .before .before .before .before .before .before .before .before .pre in
+    let put-maps = c .before .before .before .before .before .before .put-maps in
+    length-puts (none (membersIn (pre .lines .0) ∷ []) (put-maps .ensures (pre .lines .0) (pre .lines .1)) (c .enum-told .given .1))
 
 same-length-2 : tie.Need-same-length-2
 same-length-2 c = search needs
@@ -40,10 +43,14 @@ returns : tie.Need-returns
 returns c = λ cs h. none (membersIn cs ∷ []) (c .before .before .before .before .before .before .put-maps .ensures cs h) (c .enum-told .given .1)
 
 sub-put-members : tie.Need-sub-put-members
-sub-put-members c = in! (s₁ c (c .before .before .before .before .before .before .before .before .before .before .before .before .before .before .before .before .pre .lines .0) (c .before .before .before .before .before .before .before .before .before .before .before .before .before .before .before .before .pre .lines .1))
+sub-put-members c =
+    let pre = c .before .before .before .before .before .before .before .before .before .before .before .before .before .before .before .before .pre in
+    in! (s₁ c (pre .lines .0) (pre .lines .1))
 
 part-put-members-start : tie.Need-part-put-members-start
-part-put-members-start c = in! (s₁ c (c .before .before .before .before .before .before .before .before .before .before .before .before .before .before .before .before .pre .lines .0) (c .before .before .before .before .before .before .before .before .before .before .before .before .before .before .before .before .pre .lines .1))
+part-put-members-start c =
+    let pre = c .before .before .before .before .before .before .before .before .before .before .before .before .before .before .before .before .pre in
+    in! (s₁ c (pre .lines .0) (pre .lines .1))
 
 part-put-members-end : tie.Need-part-put-members-end
 part-put-members-end c = le-refl _
@@ -58,7 +65,14 @@ enum-told-2 : tie.Need-enum-told-2
 enum-told-2 c = c .match2 .keys2
 
 same-length-3 : tie.Need-same-length-3
-same-length-3 c = length-puts (stop! (s₁ (c .before .before .before .before .before .before .before .before .before .before .before .before) (c .before .before .before .before .before .before .before .before .before .before .before .before .before .before .before .before .before .before .before .before .before .before .before .before .before .before .before .before .pre .lines .0) (c .before .before .before .before .before .before .before .before .before .before .before .before .before .before .before .before .before .before .before .before .before .before .before .before .before .before .before .before .pre .lines .1)) (c .before .before .before .before .before .before .before .before .put-members .ensures (c .before .before .before .before .before .before .before .before .before .before .before .before .before .before .before .before .before .before .before .before .before .before .before .before .before .before .before .before .pre .lines .0) (c .before .before .before .before .before .before .before .before .before .before .before .before .before .before .before .before .before .before .before .before .before .before .before .before .before .before .before .before .pre .lines .1)) (c .enum-told2 .given .1))
+same-length-3 c =
+    let pre = c .before .before .before .before .before .before .before .before .before .before .before .before .before .before .before .before .before .before .before .before .before .before .before .before .before .before .before .before .pre in
+    let put-members = c .before .before .before .before .before .before .before .before .put-members in
+    length-puts
+    (stop!
+    (s₁ (c .before .before .before .before .before .before .before .before .before .before .before .before) (pre .lines .0)
+    (pre .lines .1))
+    (put-members .ensures (pre .lines .0) (pre .lines .1)) (c .enum-told2 .given .1))
 
 same-length-4 : tie.Need-same-length-4
 same-length-4 c = search needs
@@ -70,10 +84,15 @@ returns-2 : tie.Need-returns-2
 returns-2 c = λ cs h. stop! (s₁ (c .before .before .before .before .before .before .before .before .before .before .before .before) cs h) (c .before .before .before .before .before .before .before .before .put-members .ensures cs h) (c .enum-told2 .given .1)
 
 add-b2 : tie.Need-add-b2
-add-b2 c = fit! (s₂ c (c .before .before .before .before .before .before .before .before .before .before .before .before .before .before .before .before .before .before .before .before .before .before .before .before .before .before .before .before .before .pre .lines .0) (c .before .before .before .before .before .before .before .before .before .before .before .before .before .before .before .before .before .before .before .before .before .before .before .before .before .before .before .before .before .pre .lines .1)) (c .before .before .before .before .before .before .before .before .before .before .before .before .before .before .before .before .before .before .before .before .before .before .before .before .before .before .before .before .before .good .0 .0)
+add-b2 c =
+    let good = c .before .before .before .before .before .before .before .before .before .before .before .before .before .before .before .before .before .before .before .before .before .before .before .before .before .before .before .before .before .good in
+    let pre = c .before .before .before .before .before .before .before .before .before .before .before .before .before .before .before .before .before .before .before .before .before .before .before .before .before .before .before .before .before .pre in
+    fit! (s₂ c (pre .lines .0) (pre .lines .1)) (good .0 .0)
 
 same-length-6 : tie.Need-same-length-6
-same-length-6 c = same! (s₂ c (c .before .before .before .before .before .before .before .before .before .before .before .before .before .before .before .before .before .before .before .before .before .before .before .before .before .before .before .before .before .pre .lines .0) (c .before .before .before .before .before .before .before .before .before .before .before .before .before .before .before .before .before .before .before .before .before .before .before .before .before .before .before .before .before .pre .lines .1))
+same-length-6 c =
+    let pre = c .before .before .before .before .before .before .before .before .before .before .before .before .before .before .before .before .before .before .before .before .before .before .before .before .before .before .before .before .before .pre in
+    same! (s₂ c (pre .lines .0) (pre .lines .1))
 
 same-length-7 : tie.Need-same-length-7
 same-length-7 c = search needs

@@ -34,7 +34,16 @@ value-of-requires-2 : tie.Need-value-of-requires-2
 value-of-requires-2 c κs = search needs
 
 put-name-requires : tie.Need-put-name-requires
-put-name-requires c κs = names-good (c .before .before .before .before .before .before .before .before .before .before .before .before .before .before .before .before .before .before .pre .1 .1) (c .before .before .before .before .before .before .before .before .before .before .before .before .first-of .ensures) (c .before .before .before .before .before .before .before .before .before .before .before .first-of2 .ensures) _ _ (c .before .before .before .before .before .before .before .before .before .line-at .ensures) (c .before .before .before .before .before .before .before .before .value-of .ensures) (c .before .before .before .before .line-at2 .ensures) (c .before .before .before .value-of2 .ensures)
+put-name-requires c κs =
+    let pre = c .before .before .before .before .before .before .before .before .before .before .before .before .before .before .before .before .before .before .pre in
+    let first-of = c .before .before .before .before .before .before .before .before .before .before .before .before .first-of in
+    let first-of2 = c .before .before .before .before .before .before .before .before .before .before .before .first-of2 in
+    let line-at = c .before .before .before .before .before .before .before .before .before .line-at in
+    let value-of = c .before .before .before .before .before .before .before .before .value-of in
+    let line-at2 = c .before .before .before .before .line-at2 in
+    let value-of2 = c .before .before .before .value-of2 in
+    names-good (pre .1 .1) (first-of .ensures) (first-of2 .ensures) _ _ (line-at .ensures) (value-of .ensures) (line-at2 .ensures)
+    (value-of2 .ensures)
 
 same-length : tie.Need-same-length
 same-length c = search needs
@@ -43,7 +52,16 @@ same-length-2 : tie.Need-same-length-2
 same-length-2 c = search needs
 
 returns : tie.Need-returns
-returns c = λ cs h. puts-as (name-is h (c .before .before .before .before .before .before .before .before .before .before .before .before .before .before .before .first-of .ensures) (c .before .before .before .before .before .before .before .before .before .before .before .before .before .before .first-of2 .ensures) _ _ (c .before .before .before .before .before .before .before .before .before .before .before .before .line-at .ensures) (c .before .before .before .before .before .before .before .before .before .before .before .value-of .ensures) (c .before .before .before .before .before .before .before .line-at2 .ensures) (c .before .before .before .before .before .before .value-of2 .ensures)) (c .before .before .put-name .ensures)
+returns c =
+    let first-of = c .before .before .before .before .before .before .before .before .before .before .before .before .before .before .before .first-of in
+    let first-of2 = c .before .before .before .before .before .before .before .before .before .before .before .before .before .before .first-of2 in
+    let line-at = c .before .before .before .before .before .before .before .before .before .before .before .before .line-at in
+    let value-of = c .before .before .before .before .before .before .before .before .before .before .before .value-of in
+    let line-at2 = c .before .before .before .before .before .before .before .line-at2 in
+    let value-of2 = c .before .before .before .before .before .before .value-of2 in
+    λ cs h. puts-as
+    (name-is h (first-of .ensures) (first-of2 .ensures) _ _ (line-at .ensures) (value-of .ensures) (line-at2 .ensures) (value-of2 .ensures))
+    (c .before .before .put-name .ensures)
 
 pub put-name-of-spec : {M : Type 1} → statement M
 put-name-of-spec =

@@ -32,7 +32,10 @@ enum-told : tie.Need-enum-told
 enum-told c = c .match .keys2
 
 same-length : tie.Need-same-length
-same-length c = length-puts (none (flat (endPieces (c .before .before .before .before .before .before .before .before .before .before .before .before .before .before .before .before .before .before .pre .lines .0)) ∷ []) (c .before .before .before .before .before .before .before .before .put-middle .ensures (c .before .before .before .before .before .before .before .before .before .before .before .before .before .before .before .before .before .before .pre .lines .0) (c .before .before .before .before .before .before .before .before .before .before .before .before .before .before .before .before .before .before .pre .lines .1)) (c .enum-told .given .1))
+same-length c =
+    let pre = c .before .before .before .before .before .before .before .before .before .before .before .before .before .before .before .before .before .before .pre in
+    let put-middle = c .before .before .before .before .before .before .before .before .put-middle in
+    length-puts (none (flat (endPieces (pre .lines .0)) ∷ []) (put-middle .ensures (pre .lines .0) (pre .lines .1)) (c .enum-told .given .1))
 
 same-length-2 : tie.Need-same-length-2
 same-length-2 c = search needs
@@ -44,10 +47,14 @@ returns : tie.Need-returns
 returns c = λ cs h. none (flat (endPieces cs) ∷ []) (c .before .before .before .before .before .before .before .before .put-middle .ensures cs h) (c .enum-told .given .1)
 
 sub-put-end : tie.Need-sub-put-end
-sub-put-end c = in! (s₁ c (c .before .before .before .before .before .before .before .before .before .before .before .before .before .before .before .before .before .before .before .pre .lines .0) (c .before .before .before .before .before .before .before .before .before .before .before .before .before .before .before .before .before .before .before .pre .lines .1))
+sub-put-end c =
+    let pre = c .before .before .before .before .before .before .before .before .before .before .before .before .before .before .before .before .before .before .before .pre in
+    in! (s₁ c (pre .lines .0) (pre .lines .1))
 
 part-put-end-start : tie.Need-part-put-end-start
-part-put-end-start c = in! (s₁ c (c .before .before .before .before .before .before .before .before .before .before .before .before .before .before .before .before .before .before .before .pre .lines .0) (c .before .before .before .before .before .before .before .before .before .before .before .before .before .before .before .before .before .before .before .pre .lines .1))
+part-put-end-start c =
+    let pre = c .before .before .before .before .before .before .before .before .before .before .before .before .before .before .before .before .before .before .before .pre in
+    in! (s₁ c (pre .lines .0) (pre .lines .1))
 
 part-put-end-end : tie.Need-part-put-end-end
 part-put-end-end c = le-refl _
@@ -62,7 +69,12 @@ enum-told-2 : tie.Need-enum-told-2
 enum-told-2 c = c .match2 .keys2
 
 same-length-4 : tie.Need-same-length-4
-same-length-4 c = length-puts (stop! (s₁ (c .before .before .before .before .before .before .before .before .before) (c .before .before .before .before .before .before .before .before .before .before .before .before .before .before .before .before .before .before .before .before .before .before .before .before .before .before .before .before .pre .lines .0) (c .before .before .before .before .before .before .before .before .before .before .before .before .before .before .before .before .before .before .before .before .before .before .before .before .before .before .before .before .pre .lines .1)) (c .before .before .before .before .before .before .put-end .ensures (c .before .before .before .before .before .before .before .before .before .before .before .before .before .before .before .before .before .before .before .before .before .before .before .before .before .before .before .before .pre .lines .0) (c .before .before .before .before .before .before .before .before .before .before .before .before .before .before .before .before .before .before .before .before .before .before .before .before .before .before .before .before .pre .lines .1)) (c .enum-told2 .given .1))
+same-length-4 c =
+    let pre = c .before .before .before .before .before .before .before .before .before .before .before .before .before .before .before .before .before .before .before .before .before .before .before .before .before .before .before .before .pre in
+    let put-end = c .before .before .before .before .before .before .put-end in
+    length-puts
+    (stop! (s₁ (c .before .before .before .before .before .before .before .before .before) (pre .lines .0) (pre .lines .1))
+    (put-end .ensures (pre .lines .0) (pre .lines .1)) (c .enum-told2 .given .1))
 
 same-length-5 : tie.Need-same-length-5
 same-length-5 c = search needs
@@ -74,10 +86,15 @@ returns-2 : tie.Need-returns-2
 returns-2 c = λ cs h. stop! (s₁ (c .before .before .before .before .before .before .before .before .before) cs h) (c .before .before .before .before .before .before .put-end .ensures cs h) (c .enum-told2 .given .1)
 
 add-b2 : tie.Need-add-b2
-add-b2 c = fit! (s₂ c (c .before .before .before .before .before .before .before .before .before .before .before .before .before .before .before .before .before .before .before .before .before .before .before .before .before .before .before .before .before .pre .lines .0) (c .before .before .before .before .before .before .before .before .before .before .before .before .before .before .before .before .before .before .before .before .before .before .before .before .before .before .before .before .before .pre .lines .1)) (c .before .before .before .before .before .before .before .before .before .before .before .before .before .before .before .before .before .before .before .before .before .before .before .before .before .before .before .before .before .good .0 .0)
+add-b2 c =
+    let good = c .before .before .before .before .before .before .before .before .before .before .before .before .before .before .before .before .before .before .before .before .before .before .before .before .before .before .before .before .before .good in
+    let pre = c .before .before .before .before .before .before .before .before .before .before .before .before .before .before .before .before .before .before .before .before .before .before .before .before .before .before .before .before .before .pre in
+    fit! (s₂ c (pre .lines .0) (pre .lines .1)) (good .0 .0)
 
 same-length-7 : tie.Need-same-length-7
-same-length-7 c = same! (s₂ c (c .before .before .before .before .before .before .before .before .before .before .before .before .before .before .before .before .before .before .before .before .before .before .before .before .before .before .before .before .before .pre .lines .0) (c .before .before .before .before .before .before .before .before .before .before .before .before .before .before .before .before .before .before .before .before .before .before .before .before .before .before .before .before .before .pre .lines .1))
+same-length-7 c =
+    let pre = c .before .before .before .before .before .before .before .before .before .before .before .before .before .before .before .before .before .before .before .before .before .before .before .before .before .before .before .before .before .pre in
+    same! (s₂ c (pre .lines .0) (pre .lines .1))
 
 same-length-8 : tie.Need-same-length-8
 same-length-8 c = search needs

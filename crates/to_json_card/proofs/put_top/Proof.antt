@@ -34,7 +34,11 @@ enum-told : tie.Need-enum-told
 enum-told c = c .match .keys2
 
 same-length : tie.Need-same-length
-same-length c = length-puts (none (kindMember (kindIn (c .before .before .before .before .before .before .before .before .before .before .before .before .before .before .before .pre .1 .0)) ∷ nameIn (c .before .before .before .before .before .before .before .before .before .before .before .before .before .before .before .pre .1 .0) ∷ []) (c .before .before .before .before .before .before .put-start-of .ensures (c .before .before .before .before .before .before .before .before .before .before .before .before .before .before .before .pre .1 .0) (c .before .before .before .before .before .before .before .before .before .before .before .before .before .before .before .pre .1 .1)) (c .enum-told .given .1))
+same-length c =
+    let pre = c .before .before .before .before .before .before .before .before .before .before .before .before .before .before .before .pre in
+    let put-start-of = c .before .before .before .before .before .before .put-start-of in
+    length-puts
+    (none (kindMember (kindIn (pre .1 .0)) ∷ nameIn (pre .1 .0) ∷ []) (put-start-of .ensures (pre .1 .0) (pre .1 .1)) (c .enum-told .given .1))
 
 same-length-2 : tie.Need-same-length-2
 same-length-2 c = search needs
@@ -43,10 +47,14 @@ returns : tie.Need-returns
 returns c = λ cs h. none (kindMember (kindIn cs) ∷ nameIn cs ∷ []) (c .before .before .before .before .before .before .put-start-of .ensures cs h) (c .enum-told .given .1)
 
 sub-put-kind-of : tie.Need-sub-put-kind-of
-sub-put-kind-of c = in! (s₁ c (c .before .before .before .before .before .before .before .before .before .before .before .before .before .before .before .before .pre .1 .0) (c .before .before .before .before .before .before .before .before .before .before .before .before .before .before .before .before .pre .1 .1))
+sub-put-kind-of c =
+    let pre = c .before .before .before .before .before .before .before .before .before .before .before .before .before .before .before .before .pre in
+    in! (s₁ c (pre .1 .0) (pre .1 .1))
 
 part-put-kind-of-start : tie.Need-part-put-kind-of-start
-part-put-kind-of-start c = in! (s₁ c (c .before .before .before .before .before .before .before .before .before .before .before .before .before .before .before .before .pre .1 .0) (c .before .before .before .before .before .before .before .before .before .before .before .before .before .before .before .before .pre .1 .1))
+part-put-kind-of-start c =
+    let pre = c .before .before .before .before .before .before .before .before .before .before .before .before .before .before .before .before .pre in
+    in! (s₁ c (pre .1 .0) (pre .1 .1))
 
 part-put-kind-of-end : tie.Need-part-put-kind-of-end
 part-put-kind-of-end c = le-refl _
@@ -61,7 +69,12 @@ enum-told-2 : tie.Need-enum-told-2
 enum-told-2 c = c .match2 .keys2
 
 same-length-3 : tie.Need-same-length-3
-same-length-3 c = length-puts (stop! (s₁ (c .before .before .before .before .before .before .before .before .before) (c .before .before .before .before .before .before .before .before .before .before .before .before .before .before .before .before .before .before .before .before .before .before .before .before .before .pre .1 .0) (c .before .before .before .before .before .before .before .before .before .before .before .before .before .before .before .before .before .before .before .before .before .before .before .before .before .pre .1 .1)) (c .before .before .before .before .before .before .put-kind-of .ensures (c .before .before .before .before .before .before .before .before .before .before .before .before .before .before .before .before .before .before .before .before .before .before .before .before .before .pre .1 .0) (c .before .before .before .before .before .before .before .before .before .before .before .before .before .before .before .before .before .before .before .before .before .before .before .before .before .pre .1 .1)) (c .enum-told2 .given .1))
+same-length-3 c =
+    let pre = c .before .before .before .before .before .before .before .before .before .before .before .before .before .before .before .before .before .before .before .before .before .before .before .before .before .pre in
+    let put-kind-of = c .before .before .before .before .before .before .put-kind-of in
+    length-puts
+    (stop! (s₁ (c .before .before .before .before .before .before .before .before .before) (pre .1 .0) (pre .1 .1))
+    (put-kind-of .ensures (pre .1 .0) (pre .1 .1)) (c .enum-told2 .given .1))
 
 same-length-4 : tie.Need-same-length-4
 same-length-4 c = search needs
@@ -70,13 +83,20 @@ returns-2 : tie.Need-returns-2
 returns-2 c = λ cs h. stop! (s₁ (c .before .before .before .before .before .before .before .before .before) cs h) (c .before .before .before .before .before .before .put-kind-of .ensures cs h) (c .enum-told2 .given .1)
 
 add-b2 : tie.Need-add-b2
-add-b2 c = fit! (s₂ c (c .before .before .before .before .before .before .before .before .before .before .before .before .before .before .before .before .before .before .before .before .before .before .before .before .before .before .pre .1 .0) (c .before .before .before .before .before .before .before .before .before .before .before .before .before .before .before .before .before .before .before .before .before .before .before .before .before .before .pre .1 .1)) (c .before .before .before .before .before .before .before .before .before .before .before .before .before .before .before .before .before .before .before .before .before .before .before .before .before .before .good .0 .0)
+add-b2 c =
+    let pre = c .before .before .before .before .before .before .before .before .before .before .before .before .before .before .before .before .before .before .before .before .before .before .before .before .before .before .pre in
+    let good = c .before .before .before .before .before .before .before .before .before .before .before .before .before .before .before .before .before .before .before .before .before .before .before .before .before .before .good in
+    fit! (s₂ c (pre .1 .0) (pre .1 .1)) (good .0 .0)
 
 sub-put-name-of : tie.Need-sub-put-name-of
-sub-put-name-of c = in! (s₂ c (c .before .before .before .before .before .before .before .before .before .before .before .before .before .before .before .before .before .before .before .before .before .before .before .before .before .before .pre .1 .0) (c .before .before .before .before .before .before .before .before .before .before .before .before .before .before .before .before .before .before .before .before .before .before .before .before .before .before .pre .1 .1))
+sub-put-name-of c =
+    let pre = c .before .before .before .before .before .before .before .before .before .before .before .before .before .before .before .before .before .before .before .before .before .before .before .before .before .before .pre in
+    in! (s₂ c (pre .1 .0) (pre .1 .1))
 
 part-put-name-of-start : tie.Need-part-put-name-of-start
-part-put-name-of-start c = in! (s₂ c (c .before .before .before .before .before .before .before .before .before .before .before .before .before .before .before .before .before .before .before .before .before .before .before .before .before .before .pre .1 .0) (c .before .before .before .before .before .before .before .before .before .before .before .before .before .before .before .before .before .before .before .before .before .before .before .before .before .before .pre .1 .1))
+part-put-name-of-start c =
+    let pre = c .before .before .before .before .before .before .before .before .before .before .before .before .before .before .before .before .before .before .before .before .before .before .before .before .before .before .pre in
+    in! (s₂ c (pre .1 .0) (pre .1 .1))
 
 part-put-name-of-end : tie.Need-part-put-name-of-end
 part-put-name-of-end c = le-refl _
@@ -91,7 +111,12 @@ enum-told-3 : tie.Need-enum-told-3
 enum-told-3 c = c .match3 .keys2
 
 same-length-5 : tie.Need-same-length-5
-same-length-5 c = length-puts (stop! (s₂ (c .before .before .before .before .before .before .before .before .before) (c .before .before .before .before .before .before .before .before .before .before .before .before .before .before .before .before .before .before .before .before .before .before .before .before .before .before .before .before .before .before .before .before .before .before .before .pre .1 .0) (c .before .before .before .before .before .before .before .before .before .before .before .before .before .before .before .before .before .before .before .before .before .before .before .before .before .before .before .before .before .before .before .before .before .before .before .pre .1 .1)) (c .before .before .before .before .before .before .put-name-of .ensures (c .before .before .before .before .before .before .before .before .before .before .before .before .before .before .before .before .before .before .before .before .before .before .before .before .before .before .before .before .before .before .before .before .before .before .before .pre .1 .0) (c .before .before .before .before .before .before .before .before .before .before .before .before .before .before .before .before .before .before .before .before .before .before .before .before .before .before .before .before .before .before .before .before .before .before .before .pre .1 .1)) (c .enum-told3 .given .1))
+same-length-5 c =
+    let pre = c .before .before .before .before .before .before .before .before .before .before .before .before .before .before .before .before .before .before .before .before .before .before .before .before .before .before .before .before .before .before .before .before .before .before .before .pre in
+    let put-name-of = c .before .before .before .before .before .before .put-name-of in
+    length-puts
+    (stop! (s₂ (c .before .before .before .before .before .before .before .before .before) (pre .1 .0) (pre .1 .1))
+    (put-name-of .ensures (pre .1 .0) (pre .1 .1)) (c .enum-told3 .given .1))
 
 same-length-6 : tie.Need-same-length-6
 same-length-6 c = search needs
@@ -100,10 +125,15 @@ returns-3 : tie.Need-returns-3
 returns-3 c = λ cs h. stop! (s₂ (c .before .before .before .before .before .before .before .before .before) cs h) (c .before .before .before .before .before .before .put-name-of .ensures cs h) (c .enum-told3 .given .1)
 
 add-b3 : tie.Need-add-b3
-add-b3 c = fit! (s₃ c (c .before .before .before .before .before .before .before .before .before .before .before .before .before .before .before .before .before .before .before .before .before .before .before .before .before .before .before .before .before .before .before .before .before .before .before .before .pre .1 .0) (c .before .before .before .before .before .before .before .before .before .before .before .before .before .before .before .before .before .before .before .before .before .before .before .before .before .before .before .before .before .before .before .before .before .before .before .before .pre .1 .1)) (c .before .before .before .before .before .before .before .before .before .before .before .before .before .before .before .before .before .before .before .before .before .before .before .before .before .before .before .before .before .before .before .before .before .before .before .before .good .0 .0)
+add-b3 c =
+    let pre = c .before .before .before .before .before .before .before .before .before .before .before .before .before .before .before .before .before .before .before .before .before .before .before .before .before .before .before .before .before .before .before .before .before .before .before .before .pre in
+    let good = c .before .before .before .before .before .before .before .before .before .before .before .before .before .before .before .before .before .before .before .before .before .before .before .before .before .before .before .before .before .before .before .before .before .before .before .before .good in
+    fit! (s₃ c (pre .1 .0) (pre .1 .1)) (good .0 .0)
 
 same-length-7 : tie.Need-same-length-7
-same-length-7 c = same! (s₃ c (c .before .before .before .before .before .before .before .before .before .before .before .before .before .before .before .before .before .before .before .before .before .before .before .before .before .before .before .before .before .before .before .before .before .before .before .before .pre .1 .0) (c .before .before .before .before .before .before .before .before .before .before .before .before .before .before .before .before .before .before .before .before .before .before .before .before .before .before .before .before .before .before .before .before .before .before .before .before .pre .1 .1))
+same-length-7 c =
+    let pre = c .before .before .before .before .before .before .before .before .before .before .before .before .before .before .before .before .before .before .before .before .before .before .before .before .before .before .before .before .before .before .before .before .before .before .before .before .pre in
+    same! (s₃ c (pre .1 .0) (pre .1 .1))
 
 same-length-8 : tie.Need-same-length-8
 same-length-8 c = search needs

@@ -12,9 +12,10 @@ use Rattle.to_json_entry.proofs.put_entry.Tie as tie
 
 abbrev s₁ : tie.After-known-told → Here
 s₁ c =
-    let c1 = c .before .before .before .before .before in
-    let c2 = c1 .before .before .before .before .before .before .before in
-    first! ((123 ∷ []) ∷ kindPiece (c2 .args .kind) ∷ stringsPiece (c2 .args .i) (c2 .args .form) (c2 .args .raw) (now (c2 .args .v)) ∷ flagsFrom 2 (now (c2 .args .row)) 0 false ∷ flagsFrom 7 (now (c2 .args .row)) 2 false ∷ prefPiece (now (c2 .args .p)) ∷ (125 ∷ []) ∷ []) (c1 .put-name .ensures) (c .before .a1 .given .1)
+    let c1 = c .before .before .before .before .before in let c2 = c1 .before .before .before .before .before .before .before in first!
+    ((123 ∷ []) ∷ kindPiece (c2 .args .kind) ∷ stringsPiece (c2 .args .i) (c2 .args .form) (c2 .args .raw) (now (c2 .args .v)) ∷ flagsFrom 2
+    (now (c2 .args .row)) 0 false ∷ flagsFrom 7 (now (c2 .args .row)) 2 false ∷ prefPiece (now (c2 .args .p)) ∷ (125 ∷ []) ∷ [])
+    (c1 .put-name .ensures) (c .before .a1 .given .1)
 
 abbrev s₂ : tie.After-known-told2 → Here
 s₂ c =
@@ -145,7 +146,9 @@ returns-4 : tie.Need-returns-4
 returns-4 c = stop! (s₃ (c .before .before .before .before .before .before)) (c .before .before .before .before .put-strings .ensures) (c .enum-told4 .given .1)
 
 add-b4 : tie.Need-add-b4
-add-b4 c = fit! (s₄ c) (c .before .before .before .before .before .before .before .before .before .before .before .before .before .before .before .before .before .before .before .before .before .before .before .before .before .before .before .before .before .before .before .before .before .good .0 .0)
+add-b4 c =
+    let good = c .before .before .before .before .before .before .before .before .before .before .before .before .before .before .before .before .before .before .before .before .before .before .before .before .before .before .before .before .before .before .before .before .before .good in
+    fit! (s₄ c) (good .0 .0)
 
 sub-put-flags : tie.Need-sub-put-flags
 sub-put-flags c = in! (s₄ c)
@@ -157,7 +160,9 @@ part-put-flags-end : tie.Need-part-put-flags-end
 part-put-flags-end c = le-refl _
 
 put-flags-requires : tie.Need-put-flags-requires
-put-flags-requires c κs = (omega arith, omega (arith, c .before .before .before .before .before .before .before .before .before .before .before .before .before .before .before .before .before .before .before .before .before .before .before .before .before .before .before .before .before .before .before .before .before .before .pre .0))
+put-flags-requires c κs =
+    let pre = c .before .before .before .before .before .before .before .before .before .before .before .before .before .before .before .before .before .before .before .before .before .before .before .before .before .before .before .before .before .before .before .before .before .before .pre in
+    (omega arith, omega (arith, pre .0))
 
 enum-known-a5 : tie.Need-enum-known-a5
 enum-known-a5 c = c .match5 .keys1
@@ -172,7 +177,9 @@ returns-5 : tie.Need-returns-5
 returns-5 c = stop! (s₄ (c .before .before .before .before .before .before)) (c .before .before .before .before .put-flags .ensures) (c .enum-told5 .given .1)
 
 add-b5 : tie.Need-add-b5
-add-b5 c = fit! (s₅ c) (c .before .before .before .before .before .before .before .before .before .before .before .before .before .before .before .before .before .before .before .before .before .before .before .before .before .before .before .before .before .before .before .before .before .before .before .before .before .before .before .before .good .0 .0)
+add-b5 c =
+    let good = c .before .before .before .before .before .before .before .before .before .before .before .before .before .before .before .before .before .before .before .before .before .before .before .before .before .before .before .before .before .before .before .before .before .before .before .before .before .before .before .before .good in
+    fit! (s₅ c) (good .0 .0)
 
 sub-put-flags-2 : tie.Need-sub-put-flags-2
 sub-put-flags-2 c = in! (s₅ c)
@@ -184,7 +191,9 @@ part-put-flags-end-2 : tie.Need-part-put-flags-end-2
 part-put-flags-end-2 c = le-refl _
 
 put-flags-requires-2 : tie.Need-put-flags-requires-2
-put-flags-requires-2 c κs = (omega arith, omega (arith, c .before .before .before .before .before .before .before .before .before .before .before .before .before .before .before .before .before .before .before .before .before .before .before .before .before .before .before .before .before .before .before .before .before .before .before .before .before .before .before .before .before .pre .0))
+put-flags-requires-2 c κs =
+    let pre = c .before .before .before .before .before .before .before .before .before .before .before .before .before .before .before .before .before .before .before .before .before .before .before .before .before .before .before .before .before .before .before .before .before .before .before .before .before .before .before .before .before .pre in
+    (omega arith, omega (arith, pre .0))
 
 enum-known-a6 : tie.Need-enum-known-a6
 enum-known-a6 c = c .match6 .keys1
@@ -200,8 +209,9 @@ returns-6 c = stop! (s₅ (c .before .before .before .before .before .before)) (
 
 add-b6 : tie.Need-add-b6
 add-b6 c =
-    let c1 = c .before .before .before .before .before .before .before .before .before .before .before .before .before .before .before .before .before .before .before .before .before .before .before .before .before .before .before .before .before .before .before .before .before .before .before .before .before .before .before .before .before .before .before .before .before .before .before in
-    fit! (s₆ c) (c1 .good .0 .0)
+    let c1 = c .before .before .before .before .before .before .before .before .before .before .before .before .before .before .before .before .before
+    .before .before .before .before .before .before .before .before .before .before .before .before .before .before .before .before .before .before
+    .before .before .before .before .before .before .before .before .before .before .before .before in fit! (s₆ c) (c1 .good .0 .0)
 
 sub-put-pref : tie.Need-sub-put-pref
 sub-put-pref c = in! (s₆ c)
@@ -229,8 +239,10 @@ returns-7 c = stop! (s₆ (c .before .before .before .before .before .before)) (
 
 add-b7 : tie.Need-add-b7
 add-b7 c =
-    let c1 = c .before .before .before .before .before .before .before .before .before .before .before .before .before .before .before .before .before .before .before .before .before .before .before .before .before .before .before .before .before .before .before .before .before .before .before .before .before .before .before .before .before .before .before .before .before .before .before .before .before .before .before .before .before .before in
-    fit! (s₇ c) (c1 .good .0 .0)
+    let c1 = c .before .before .before .before .before .before .before .before .before .before .before .before .before .before .before .before .before
+    .before .before .before .before .before .before .before .before .before .before .before .before .before .before .before .before .before .before
+    .before .before .before .before .before .before .before .before .before .before .before .before .before .before .before .before .before .before
+    .before in fit! (s₇ c) (c1 .good .0 .0)
 
 sub-put-byte-2 : tie.Need-sub-put-byte-2
 sub-put-byte-2 c = in! (s₇ c)
@@ -258,8 +270,10 @@ returns-8 c = stop! (s₇ (c .before .before .before .before .before .before)) (
 
 add-b8 : tie.Need-add-b8
 add-b8 c =
-    let c1 = c .before .before .before .before .before .before .before .before .before .before .before .before .before .before .before .before .before .before .before .before .before .before .before .before .before .before .before .before .before .before .before .before .before .before .before .before .before .before .before .before .before .before .before .before .before .before .before .before .before .before .before .before .before .before .before .before .before .before .before .before .before in
-    fit! (s₈ c) (c1 .good .0 .0)
+    let c1 = c .before .before .before .before .before .before .before .before .before .before .before .before .before .before .before .before .before
+    .before .before .before .before .before .before .before .before .before .before .before .before .before .before .before .before .before .before
+    .before .before .before .before .before .before .before .before .before .before .before .before .before .before .before .before .before .before
+    .before .before .before .before .before .before .before .before in fit! (s₈ c) (c1 .good .0 .0)
 
 same-length-9 : tie.Need-same-length-9
 same-length-9 c = same! (s₈ c)

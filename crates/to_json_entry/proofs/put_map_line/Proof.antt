@@ -11,7 +11,10 @@ use Rattle.to_json_entry.proofs.put_map_line.Statement.{statement}
 use Rattle.to_json_entry.proofs.put_map_line.Tie as tie
 
 value-kind-requires : tie.Need-value-kind-requires
-value-kind-requires c κs = (c .before .before .before .before .before .before .before .pre .rowed .wide, (lineIn (now (c .before .before .before .before .before .before .before .args .s)) (now (c .before .before .before .before .before .before .before .args .t)) .params, c .before .before .before .before .before .before .before .pre .rowed .row))
+value-kind-requires c κs =
+    let args = c .before .before .before .before .before .before .before .args in
+    let pre = c .before .before .before .before .before .before .before .pre in
+    (pre .rowed .wide, (lineIn (now (args .s)) (now (args .t)) .params, pre .rowed .row))
 
 slice-aggregate-mark-rows : tie.Need-slice-aggregate-mark-rows
 slice-aggregate-mark-rows c = search needs
@@ -62,12 +65,12 @@ same-length c = search needs
 
 returns : tie.Need-returns
 returns c =
-    let c1 = c .before .before in
-    let c2 = c1 .before .before .before .before .before in
-    let c3 = c2 .before .before .before .before .before in
-    let c4 = c3 .before .before in
-    let c5 = c4 .before .before .before .before .before .before .before .before in
-    λ seen w e is rd q. let r = c5 .pre .rowed .row in puts-as (line-bytes (now (c5 .args .s)) (now (c5 .args .t)) seen w e is q (c5 .args .kind) (c4 .value-kind .result) (now (c5 .args .key)) [] _ _ rd (c4 .value-kind .ensures _ r) (c3 .mark-rows .ensures) (no-pref (now (c5 .args .s)) (now (c5 .args .t)) seen w e is q r (c2 .if1 .taken))) (c1 .put-entry .ensures)
+    let c1 = c .before .before in let c2 = c1 .before .before .before .before .before in let c3 = c2 .before .before .before .before .before in let c4
+    = c3 .before .before in let c5 = c4 .before .before .before .before .before .before .before .before in λ seen w e is rd q. let r = c5 .pre .rowed
+    .row in puts-as
+    (line-bytes (now (c5 .args .s)) (now (c5 .args .t)) seen w e is q (c5 .args .kind) (c4 .value-kind .result) (now (c5 .args .key)) [] _ _ rd
+    (c4 .value-kind .ensures _ r) (c3 .mark-rows .ensures) (no-pref (now (c5 .args .s)) (now (c5 .args .t)) seen w e is q r (c2 .if1 .taken)))
+    (c1 .put-entry .ensures)
 
 shared-slice-read-c : tie.Need-shared-slice-read-c
 shared-slice-read-c c = omega (arith, c .before .before .before .before .before .before .before .before .before .before .before .before .before .before .before .before .pre .rowed .wide .froms)
@@ -88,13 +91,22 @@ slice-aggregate-put-entry-2 : tie.Need-slice-aggregate-put-entry-2
 slice-aggregate-put-entry-2 c = search needs
 
 sub-put-entry-4 : tie.Need-sub-put-entry-4
-sub-put-entry-4 c = let v = first-pref (c .before .before .before .before .before .before .before .before .before .before .before .before .before .before .before .before .before .before .before .before .pre .rowed .row) (c .before .before .before .before .before .if1 .left) in omega (arith, v .ordered, v .within)
+sub-put-entry-4 c =
+    let pre = c .before .before .before .before .before .before .before .before .before .before .before .before .before .before .before .before .before .before .before .before .pre in
+    let if1 = c .before .before .before .before .before .if1 in
+    let v = first-pref (pre .rowed .row) (if1 .left) in omega (arith, v .ordered, v .within)
 
 part-put-entry-start-4 : tie.Need-part-put-entry-start-4
-part-put-entry-start-4 c = let v = first-pref (c .before .before .before .before .before .before .before .before .before .before .before .before .before .before .before .before .before .before .before .before .pre .rowed .row) (c .before .before .before .before .before .if1 .left) in omega (arith, v .ordered, v .within)
+part-put-entry-start-4 c =
+    let pre = c .before .before .before .before .before .before .before .before .before .before .before .before .before .before .before .before .before .before .before .before .pre in
+    let if1 = c .before .before .before .before .before .if1 in
+    let v = first-pref (pre .rowed .row) (if1 .left) in omega (arith, v .ordered, v .within)
 
 part-put-entry-end-4 : tie.Need-part-put-entry-end-4
-part-put-entry-end-4 c = let v = first-pref (c .before .before .before .before .before .before .before .before .before .before .before .before .before .before .before .before .before .before .before .before .pre .rowed .row) (c .before .before .before .before .before .if1 .left) in omega (arith, v .ordered, v .within)
+part-put-entry-end-4 c =
+    let pre = c .before .before .before .before .before .before .before .before .before .before .before .before .before .before .before .before .before .before .before .before .pre in
+    let if1 = c .before .before .before .before .before .if1 in
+    let v = first-pref (pre .rowed .row) (if1 .left) in omega (arith, v .ordered, v .within)
 
 put-entry-requires-2 : tie.Need-put-entry-requires-2
 put-entry-requires-2 c κs = (
@@ -109,12 +121,13 @@ same-length-2 c = search needs
 
 returns-2 : tie.Need-returns-2
 returns-2 c =
-    let c1 = c .before .before in
-    let c2 = c1 .before .before .before .before .before .before .before in
-    let c3 = c2 .before .before .before .before .before in
-    let c4 = c3 .before .before in
-    let c5 = c4 .before .before .before .before .before .before .before .before in
-    λ seen w e is rd q. let r = c5 .pre .rowed .row in puts-as (line-bytes (now (c5 .args .s)) (now (c5 .args .t)) seen w e is q (c5 .args .kind) (c4 .value-kind .result) (now (c5 .args .key)) (part (now (c5 .args .s)) (getD (now (c5 .args .froms)) 1 0) (getD (now (c5 .args .tos)) 1 0)) _ _ rd (c4 .value-kind .ensures _ r) (c3 .mark-rows .ensures) (the-pref (now (c5 .args .s)) (now (c5 .args .t)) seen w e is q r (c2 .if1 .left))) (c1 .put-entry2 .ensures)
+    let c1 = c .before .before in let c2 = c1 .before .before .before .before .before .before .before in let c3 = c2 .before .before .before .before
+    .before in let c4 = c3 .before .before in let c5 = c4 .before .before .before .before .before .before .before .before in λ seen w e is rd q. let r
+    = c5 .pre .rowed .row in puts-as
+    (line-bytes (now (c5 .args .s)) (now (c5 .args .t)) seen w e is q (c5 .args .kind) (c4 .value-kind .result) (now (c5 .args .key))
+    (part (now (c5 .args .s)) (getD (now (c5 .args .froms)) 1 0) (getD (now (c5 .args .tos)) 1 0)) _ _ rd (c4 .value-kind .ensures _ r)
+    (c3 .mark-rows .ensures) (the-pref (now (c5 .args .s)) (now (c5 .args .t)) seen w e is q r (c2 .if1 .left)))
+    (c1 .put-entry2 .ensures)
 
 pub put-map-line-spec : {M : Type 1} → statement M
 put-map-line-spec =

@@ -58,11 +58,14 @@ same-length c = length-puts (none [] (c .before .before .before .before .put-org
 
 returns : tie.Need-returns
 returns c =
-    let c1 = c .before .before .before .before in
-    let c2 = c1 .before .before .before in
-    let c3 = c2 .before in
-    let c4 = c3 .before .before .before in
-    puts-as (ap (λ k. flat (orgName (c4 .args .i) (take (c3 .part-end .result - 0) (now (c4 .args .v))) ∷ unitsPiece k (unitsAfter (now (c4 .args .v)) (c3 .part-end .result)) ∷ [])) (c2 .unit-kind .ensures) ∙ org-parts (c4 .args .i) (now (c4 .args .v)) (c3 .part-end .result) (c3 .part-end .ensures)) (none _ (c1 .put-org-name .ensures) (c .enum-told .given .1))
+    let c1 = c .before .before .before .before in let c2 = c1 .before .before .before in let c3 = c2 .before in let c4 = c3 .before .before .before in
+    puts-as
+    (ap
+    (λ k. flat
+    (orgName (c4 .args .i) (take (c3 .part-end .result - 0) (now (c4 .args .v))) ∷ unitsPiece k
+    (unitsAfter (now (c4 .args .v)) (c3 .part-end .result)) ∷ []))
+    (c2 .unit-kind .ensures) ∙ org-parts (c4 .args .i) (now (c4 .args .v)) (c3 .part-end .result) (c3 .part-end .ensures))
+    (none _ (c1 .put-org-name .ensures) (c .enum-told .given .1))
 
 sub-put-units-after : tie.Need-sub-put-units-after
 sub-put-units-after c = in! (s₁ c)
@@ -87,11 +90,14 @@ same-length-2 c = length-puts (stop! (s₁ (c .before .before .before .before .b
 
 returns-2 : tie.Need-returns-2
 returns-2 c =
-    let c1 = c .before .before .before .before in
-    let c2 = c1 .before .before .before .before .before .before .before .before .before .before in
-    let c3 = c2 .before in
-    let c4 = c3 .before .before .before in
-    puts-as (ap (λ k. flat (orgName (c4 .args .i) (take (c3 .part-end .result - 0) (now (c4 .args .v))) ∷ unitsPiece k (unitsAfter (now (c4 .args .v)) (c3 .part-end .result)) ∷ [])) (c2 .unit-kind .ensures) ∙ org-parts (c4 .args .i) (now (c4 .args .v)) (c3 .part-end .result) (c3 .part-end .ensures)) (stop! (s₁ (c .before .before .before .before .before .before)) (c1 .put-units-after .ensures) (c .enum-told2 .given .1))
+    let c1 = c .before .before .before .before in let c2 = c1 .before .before .before .before .before .before .before .before .before .before in let
+    c3 = c2 .before in let c4 = c3 .before .before .before in puts-as
+    (ap
+    (λ k. flat
+    (orgName (c4 .args .i) (take (c3 .part-end .result - 0) (now (c4 .args .v))) ∷ unitsPiece k
+    (unitsAfter (now (c4 .args .v)) (c3 .part-end .result)) ∷ []))
+    (c2 .unit-kind .ensures) ∙ org-parts (c4 .args .i) (now (c4 .args .v)) (c3 .part-end .result) (c3 .part-end .ensures))
+    (stop! (s₁ (c .before .before .before .before .before .before)) (c1 .put-units-after .ensures) (c .enum-told2 .given .1))
 
 add-ab : tie.Need-add-ab
 add-ab c = fit! (s₂ c) (c .before .before .before .before .before .before .before .before .before .before .before .before .before .before .before .before .before .before .before .good .0 .0)
@@ -101,10 +107,14 @@ same-length-3 c = same! (s₂ c)
 
 returns-3 : tie.Need-returns-3
 returns-3 c =
-    let c1 = c .before .before .before .before .before .before .before .before .before .before .before .before .before .before .before in
-    let c2 = c1 .before in
-    let c3 = c2 .before .before .before in
-    puts-as (ap (λ k. flat (orgName (c3 .args .i) (take (c2 .part-end .result - 0) (now (c3 .args .v))) ∷ unitsPiece k (unitsAfter (now (c3 .args .v)) (c2 .part-end .result)) ∷ [])) (c1 .unit-kind .ensures) ∙ org-parts (c3 .args .i) (now (c3 .args .v)) (c2 .part-end .result) (c2 .part-end .ensures)) (all (s₂ c .left))
+    let c1 = c .before .before .before .before .before .before .before .before .before .before .before .before .before .before .before in let c2 = c1
+    .before in let c3 = c2 .before .before .before in puts-as
+    (ap
+    (λ k. flat
+    (orgName (c3 .args .i) (take (c2 .part-end .result - 0) (now (c3 .args .v))) ∷ unitsPiece k
+    (unitsAfter (now (c3 .args .v)) (c2 .part-end .result)) ∷ []))
+    (c1 .unit-kind .ensures) ∙ org-parts (c3 .args .i) (now (c3 .args .v)) (c2 .part-end .result) (c2 .part-end .ensures))
+    (all (s₂ c .left))
 
 pub put-org-spec : {M : Type 1} → statement M
 put-org-spec = tie.close (tie.spec part-end-requires unit-kind-requires sub-put-org-name part-put-org-name-start part-put-org-name-end put-org-name-requires enum-known-a enum-told same-length returns sub-put-units-after part-put-units-after-start part-put-units-after-end put-units-after-requires enum-known-b enum-told-2 same-length-2 returns-2 add-ab same-length-3 returns-3)

@@ -11,7 +11,10 @@ use Rattle.to_json_head.proofs.put_made_uid.Statement.{statement}
 use Rattle.to_json_head.proofs.put_made_uid.Tie as tie
 
 abbrev s₁ : tie.After-known-told → Here
-s₁ c = first! (spelledAll (now (c .before .before .before .before .before .before .before .before .before .args .stem)) ∷ (45 ∷ []) ∷ decimal (c .before .before .before .before .before .before .before .before .before .args .number) ∷ (34 ∷ []) ∷ []) (c .before .before .before .before .before .put-byte .ensures) (c .before .a .given .1)
+s₁ c =
+    let args = c .before .before .before .before .before .before .before .before .before .args in
+    let put-byte = c .before .before .before .before .before .put-byte in
+    first! (spelledAll (now (args .stem)) ∷ (45 ∷ []) ∷ decimal (args .number) ∷ (34 ∷ []) ∷ []) (put-byte .ensures) (c .before .a .given .1)
 
 abbrev s₂ : tie.After-known-told2 → Here
 s₂ c =
@@ -166,15 +169,18 @@ returns-5 c =
     puts-as (made-bytes (now (c2 .args .stem)) (c2 .args .number)) (stop! (s₄ (c .before .before .before .before .before .before)) (c1 .put-byte3 .ensures) (c .enum-told5 .given .1))
 
 add-ae : tie.Need-add-ae
-add-ae c = fit! (s₅ c) (c .before .before .before .before .before .before .before .before .before .before .before .before .before .before .before .before .before .before .before .before .before .before .before .before .before .before .before .before .before .before .before .before .before .before .before .before .before .good .0 .0)
+add-ae c =
+    let good = c .before .before .before .before .before .before .before .before .before .before .before .before .before .before .before .before .before .before .before .before .before .before .before .before .before .before .before .before .before .before .before .before .before .before .before .before .before .good in
+    fit! (s₅ c) (good .0 .0)
 
 same-length-6 : tie.Need-same-length-6
 same-length-6 c = same! (s₅ c)
 
 returns-6 : tie.Need-returns-6
 returns-6 c =
-    let c1 = c .before .before .before .before .before .before .before .before .before .before .before .before .before .before .before .before .before .before .before .before .before .before .before .before .before .before .before .before .before .before .before .before .before .before .before .before .before in
-    puts-as (made-bytes (now (c1 .args .stem)) (c1 .args .number)) (all (s₅ c .left))
+    let c1 = c .before .before .before .before .before .before .before .before .before .before .before .before .before .before .before .before .before
+    .before .before .before .before .before .before .before .before .before .before .before .before .before .before .before .before .before .before
+    .before .before in puts-as (made-bytes (now (c1 .args .stem)) (c1 .args .number)) (all (s₅ c .left))
 
 pub put-made-uid-spec : {M : Type 1} → statement M
 put-made-uid-spec = tie.close (tie.spec put-byte-requires enum-known-a enum-told same-length returns sub-put-spelled part-put-spelled-start part-put-spelled-end put-spelled-requires enum-known-b enum-told-2 same-length-2 returns-2 add-ab sub-put-byte part-put-byte-start part-put-byte-end put-byte-requires-2 enum-known-c enum-told-3 same-length-3 returns-3 add-ac sub-put-number part-put-number-start part-put-number-end put-number-requires enum-known-d enum-told-4 same-length-4 returns-4 add-ad sub-put-byte-2 part-put-byte-start-2 part-put-byte-end-2 put-byte-requires-3 enum-known-e enum-told-5 same-length-5 returns-5 add-ae same-length-6 returns-6)

@@ -10,7 +10,10 @@ use Rattle.to_json_items.proofs.put_item.Statement.{statement}
 use Rattle.to_json_items.proofs.put_item.Tie as tie
 
 abbrev s₁ : tie.After-known-told → Here
-s₁ c = first! (lead (c .before .before .before .before .before .before .before .before .before .args .k) ∷ quoted (plainText (now (c .before .before .before .before .before .before .before .before .before .args .u))) [] ∷ (125 ∷ []) ∷ []) (c .before .before .before .before .before .put-item-head .ensures) (c .before .a .given .1)
+s₁ c =
+    let args = c .before .before .before .before .before .before .before .before .before .args in
+    let put-item-head = c .before .before .before .before .before .put-item-head in
+    first! (lead (args .k) ∷ quoted (plainText (now (args .u))) [] ∷ (125 ∷ []) ∷ []) (put-item-head .ensures) (c .before .a .given .1)
 
 abbrev s₂ : tie.After-known-told2 → Here
 s₂ c =

@@ -10,7 +10,11 @@ use Rattle.to_json_kept.proofs.put_head.Statement.{statement}
 use Rattle.to_json_kept.proofs.put_head.Tie as tie
 
 abbrev s₁ : tie.After-known-told → Here
-s₁ c = first! (quoted (lowered (now (c .before .before .before .before .before .before .before .before .before .before .args .name))) [] ∷ (44 ∷ 123 ∷ []) ∷ groupPiece (now (c .before .before .before .before .before .before .before .before .before .before .args .group)) ∷ []) (c .before .before .before .before .before .put-byte .ensures) (c .before .a .given .1)
+s₁ c =
+    let args = c .before .before .before .before .before .before .before .before .before .before .args in
+    let put-byte = c .before .before .before .before .before .put-byte in
+    first! (quoted (lowered (now (args .name))) [] ∷ (44 ∷ 123 ∷ []) ∷ groupPiece (now (args .group)) ∷ []) (put-byte .ensures)
+    (c .before .a .given .1)
 
 abbrev s₂ : tie.After-known-told2 → Here
 s₂ c =

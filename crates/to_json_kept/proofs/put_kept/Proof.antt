@@ -19,9 +19,12 @@ use Rattle.to_json_kept.proofs.put_kept.Tie as tie
 
 abbrev s₁ : tie.After-known-told → Here
 s₁ c =
-    let c1 = c .before .before .before .before .before in
-    let c2 = c1 .before .before .before .before .before .before .before .before .before .before .before in
-    first! (inside (ltb (getD (now (c2 .args .t)) 0 0) (getD (now (c2 .args .t)) 1 0)) (map paramJson (keptLine (lineIn (now (c2 .args .s)) (now (c2 .args .t))) .params)) ∷ tailPiece (now (c2 .args .s)) (now (c2 .args .t)) (part (now (c2 .args .s)) (getD (now (c2 .args .t)) 4 0) (getD (now (c2 .args .t)) 5 0)) ∷ []) (c1 .put-head .ensures) (c .before .x .given .1)
+    let c1 = c .before .before .before .before .before in let c2 = c1 .before .before .before .before .before .before .before .before .before .before
+    .before in first!
+    (inside (ltb (getD (now (c2 .args .t)) 0 0) (getD (now (c2 .args .t)) 1 0))
+    (map paramJson (keptLine (lineIn (now (c2 .args .s)) (now (c2 .args .t))) .params)) ∷ tailPiece (now (c2 .args .s)) (now (c2 .args .t))
+    (part (now (c2 .args .s)) (getD (now (c2 .args .t)) 4 0) (getD (now (c2 .args .t)) 5 0)) ∷ [])
+    (c1 .put-head .ensures) (c .before .x .given .1)
 
 abbrev s₂ : tie.After-known-told2 → Here
 s₂ c =
@@ -154,7 +157,9 @@ returns-3 c =
     puts-as (kept-bytes (now (c2 .args .s)) (now (c2 .args .t)) (c2 .pre .group)) (stop! (s₂ (c .before .before .before .before .before .before .before .before .before)) (c1 .put-tail .ensures) (c .enum-told3 .given .1))
 
 add-xyz : tie.Need-add-xyz
-add-xyz c = fit! (s₃ c) (c .before .before .before .before .before .before .before .before .before .before .before .before .before .before .before .before .before .before .before .before .before .before .before .before .before .before .before .before .before .before .before .before .before .good .0 .0)
+add-xyz c =
+    let good = c .before .before .before .before .before .before .before .before .before .before .before .before .before .before .before .before .before .before .before .before .before .before .before .before .before .before .before .before .before .before .before .before .before .good in
+    fit! (s₃ c) (good .0 .0)
 
 same-length-4 : tie.Need-same-length-4
 same-length-4 c = same! (s₃ c)

@@ -15,9 +15,13 @@ use Rattle.to_json_kept.proofs.put_param.Tie as tie
 
 abbrev s₁ : tie.After-known-told → Here
 s₁ c =
-    let c1 = c .before .before .before .before .before in
-    let c2 = c1 .before .before .before .before .before in
-    first! (quoted (lowered (part (now (c2 .args .s)) (c2 .args .a) (c2 .args .b))) [] ∷ (58 ∷ []) ∷ written (valuesJson (valuesNamed (lowered (part (now (c2 .args .s)) (c2 .args .a) (c2 .args .b))) (lineIn (now (c2 .args .s)) (now (c2 .args .t)) .params))) [] ∷ []) (c1 .put-comma .ensures) (c .before .c .given .1)
+    let c1 = c .before .before .before .before .before in let c2 = c1 .before .before .before .before .before in first!
+    (quoted (lowered (part (now (c2 .args .s)) (c2 .args .a) (c2 .args .b))) [] ∷ (58 ∷ []) ∷ written
+    (valuesJson
+    (valuesNamed (lowered (part (now (c2 .args .s)) (c2 .args .a) (c2 .args .b)))
+    (lineIn (now (c2 .args .s)) (now (c2 .args .t)) .params)))
+    [] ∷ [])
+    (c1 .put-comma .ensures) (c .before .c .given .1)
 
 abbrev s₂ : tie.After-known-told2 → Here
 s₂ c =

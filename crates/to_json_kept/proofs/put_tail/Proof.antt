@@ -132,7 +132,9 @@ returns-4 : tie.Need-returns-4
 returns-4 c = stop! (s₃ (c .before .before .before .before .before .before)) (c .before .before .before .before .put-string .ensures) (c .enum-told4 .given .1)
 
 add-ad : tie.Need-add-ad
-add-ad c = fit! (s₄ c) (c .before .before .before .before .before .before .before .before .before .before .before .before .before .before .before .before .before .before .before .before .before .before .before .before .before .before .before .before .before .before .before .before .before .good .0 .0)
+add-ad c =
+    let good = c .before .before .before .before .before .before .before .before .before .before .before .before .before .before .before .before .before .before .before .before .before .before .before .before .before .before .before .before .before .before .before .before .before .good in
+    fit! (s₄ c) (good .0 .0)
 
 sub-put-byte-2 : tie.Need-sub-put-byte-2
 sub-put-byte-2 c = in! (s₄ c)
@@ -159,7 +161,9 @@ returns-5 : tie.Need-returns-5
 returns-5 c = stop! (s₄ (c .before .before .before .before .before .before)) (c .before .before .before .before .put-byte2 .ensures) (c .enum-told5 .given .1)
 
 add-ae : tie.Need-add-ae
-add-ae c = fit! (s₅ c) (c .before .before .before .before .before .before .before .before .before .before .before .before .before .before .before .before .before .before .before .before .before .before .before .before .before .before .before .before .before .before .before .before .before .before .before .before .before .before .before .before .good .0 .0)
+add-ae c =
+    let good = c .before .before .before .before .before .before .before .before .before .before .before .before .before .before .before .before .before .before .before .before .before .before .before .before .before .before .before .before .before .before .before .before .before .before .before .before .before .before .before .before .good in
+    fit! (s₅ c) (good .0 .0)
 
 same-length-6 : tie.Need-same-length-6
 same-length-6 c = same! (s₅ c)

@@ -67,7 +67,12 @@ spelled-number-requires c κs = search needs
 
 -- src/lib.rt:78:1
 returns-4 : tie.Need-returns-4
-returns-4 c = number-after (now (c .before .before .before .before .before .before .before .before .before .before .args .prefix)) (now (c .before .before .before .before .before .before .before .before .before .before .args .key)) (c .spelled-number .result) (front-same _ _ _ (c .before .before .before .before .before .same-bytes .ensures) ∙ not-false _ (c .before .before .before .before .if2 .left)) (c .before .before .if3 .left) (omega arith) (rest-spells (now (c .before .before .before .before .before .before .before .before .before .before .args .key)) (length (now (c .before .before .before .before .before .before .before .before .before .before .args .prefix)) + 1) _ (c .spelled-number .ensures))
+returns-4 c =
+    let args = c .before .before .before .before .before .before .before .before .before .before .args in
+    let same-bytes = c .before .before .before .before .before .same-bytes in
+    let if2 = c .before .before .before .before .if2 in
+    number-after (now (args .prefix)) (now (args .key)) (c .spelled-number .result) (front-same _ _ _ (same-bytes .ensures) ∙ not-false _ (if2 .left))
+    (c .before .before .if3 .left) (omega arith) (rest-spells (now (args .key)) (length (now (args .prefix)) + 1) _ (c .spelled-number .ensures))
 
 pub number-of-spec : {M : Type 1} → statement M
 number-of-spec =

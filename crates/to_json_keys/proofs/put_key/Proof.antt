@@ -35,7 +35,10 @@ same-length : tie.Need-same-length
 same-length c = length-puts (none [] (c .before .before .before .before .put-text .ensures) (c .enum-told .given .1))
 
 returns : tie.Need-returns
-returns c = puts-as (key-row (now (c .before .before .before .before .before .before .before .before .args .prefix)) (c .before .before .before .before .before .before .before .before .args .n)) (none ((45 ∷ []) ∷ decimal (c .before .before .before .before .before .before .before .before .args .n) ∷ []) (c .before .before .before .before .put-text .ensures) (c .enum-told .given .1))
+returns c =
+    let args = c .before .before .before .before .before .before .before .before .args in
+    let put-text = c .before .before .before .before .put-text in
+    puts-as (key-row (now (args .prefix)) (args .n)) (none ((45 ∷ []) ∷ decimal (args .n) ∷ []) (put-text .ensures) (c .enum-told .given .1))
 
 sub-put-byte : tie.Need-sub-put-byte
 sub-put-byte c = in! (s₁ c)
@@ -59,7 +62,11 @@ same-length-2 : tie.Need-same-length-2
 same-length-2 c = length-puts (stop! (s₁ (c .before .before .before .before .before .before)) (c .before .before .before .before .put-byte .ensures) (c .enum-told2 .given .1))
 
 returns-2 : tie.Need-returns-2
-returns-2 c = puts-as (key-row (now (c .before .before .before .before .before .before .before .before .before .before .before .before .before .before .before .args .prefix)) (c .before .before .before .before .before .before .before .before .before .before .before .before .before .before .before .args .n)) (stop! (s₁ (c .before .before .before .before .before .before)) (c .before .before .before .before .put-byte .ensures) (c .enum-told2 .given .1))
+returns-2 c =
+    let args = c .before .before .before .before .before .before .before .before .before .before .before .before .before .before .before .args in
+    let put-byte = c .before .before .before .before .put-byte in
+    puts-as (key-row (now (args .prefix)) (args .n))
+    (stop! (s₁ (c .before .before .before .before .before .before)) (put-byte .ensures) (c .enum-told2 .given .1))
 
 add-ab : tie.Need-add-ab
 add-ab c = fit! (s₂ c) (c .before .before .before .before .before .before .before .before .before .before .before .before .before .before .before .before .good .0 .0)
@@ -86,7 +93,11 @@ same-length-3 : tie.Need-same-length-3
 same-length-3 c = length-puts (stop! (s₂ (c .before .before .before .before .before .before)) (c .before .before .before .before .put-number .ensures) (c .enum-told3 .given .1))
 
 returns-3 : tie.Need-returns-3
-returns-3 c = puts-as (key-row (now (c .before .before .before .before .before .before .before .before .before .before .before .before .before .before .before .before .before .before .before .before .before .before .args .prefix)) (c .before .before .before .before .before .before .before .before .before .before .before .before .before .before .before .before .before .before .before .before .before .before .args .n)) (stop! (s₂ (c .before .before .before .before .before .before)) (c .before .before .before .before .put-number .ensures) (c .enum-told3 .given .1))
+returns-3 c =
+    let args = c .before .before .before .before .before .before .before .before .before .before .before .before .before .before .before .before .before .before .before .before .before .before .args in
+    let put-number = c .before .before .before .before .put-number in
+    puts-as (key-row (now (args .prefix)) (args .n))
+    (stop! (s₂ (c .before .before .before .before .before .before)) (put-number .ensures) (c .enum-told3 .given .1))
 
 add-abc : tie.Need-add-abc
 add-abc c = fit! (s₃ c) (c .before .before .before .before .before .before .before .before .before .before .before .before .before .before .before .before .before .before .before .before .before .before .before .good .0 .0)
@@ -95,7 +106,9 @@ same-length-4 : tie.Need-same-length-4
 same-length-4 c = same! (s₃ c)
 
 returns-4 : tie.Need-returns-4
-returns-4 c = puts-as (key-row (now (c .before .before .before .before .before .before .before .before .before .before .before .before .before .before .before .before .before .before .before .before .before .before .before .args .prefix)) (c .before .before .before .before .before .before .before .before .before .before .before .before .before .before .before .before .before .before .before .before .before .before .before .args .n)) (all (s₃ c .left))
+returns-4 c =
+    let args = c .before .before .before .before .before .before .before .before .before .before .before .before .before .before .before .before .before .before .before .before .before .before .before .args in
+    puts-as (key-row (now (args .prefix)) (args .n)) (all (s₃ c .left))
 
 pub put-key-spec : {M : Type 1} → statement M
 put-key-spec = tie.close (tie.spec put-text-requires enum-known-a enum-told same-length returns sub-put-byte part-put-byte-start part-put-byte-end put-byte-requires enum-known-b enum-told-2 same-length-2 returns-2 add-ab sub-put-number part-put-number-start part-put-number-end put-number-requires enum-known-c enum-told-3 same-length-3 returns-3 add-abc same-length-4 returns-4)

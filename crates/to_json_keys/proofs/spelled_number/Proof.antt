@@ -56,7 +56,11 @@ returns-5 c = spells-above (now (c .before .before .before .before .before .befo
 
 -- src/lib.rt:66:13
 returns-6 : tie.Need-returns-6 Inv-loop μ-loop
-returns-6 c = spells-longer (now (c .before .before .before .before .before .before .before .before .before .before .before .before .args .d)) (c .before .before .before .before .before .loop .n) (c .before .before .before .before .before .loop .i) (c .before .before .before .before .before .loop .inv .3) (c .before .before .before .before .loop-test .taken) (c .if6 .taken)
+returns-6 c =
+    let args = c .before .before .before .before .before .before .before .before .before .before .before .before .args in
+    let loop = c .before .before .before .before .before .loop in
+    let loop-test = c .before .before .before .before .loop-test in
+    spells-longer (now (args .d)) (loop .n) (loop .i) (loop .inv .3) (loop-test .taken) (c .if6 .taken)
 
 -- src/lib.rt:68:13
 mul-n : tie.Need-mul-n Inv-loop μ-loop
@@ -80,7 +84,15 @@ loop-less c = search needs
 
 -- src/lib.rt:57:5
 loop-again : tie.Need-loop-again Inv-loop μ-loop
-loop-again c = (omega arith, omega arith, omega (arith, c .digit2 .ensures), digit-read (now (c .before .before .before .before .before .before .before .before .before .before .before .before .before .args .d)) (c .before .before .before .before .before .before .loop .n) (c .digit2 .result) (c .before .before .before .before .before .before .loop .i) (c .before .before .before .before .before .before .loop .inv .3) (c .before .before .before .before .before .before .loop .inv .1) (c .before .before .before .before .before .loop-test .taken) (c .digit2 .ensures) (omega (arith, c .digit2 .ensures)))
+loop-again c =
+    let args = c .before .before .before .before .before .before .before .before .before .before .before .before .before .args in
+    let loop = c .before .before .before .before .before .before .loop in
+    let loop-test = c .before .before .before .before .before .loop-test in (
+      omega arith,
+      omega arith,
+      omega (arith, c .digit2 .ensures),
+      digit-read (now (args .d)) (loop .n) (c .digit2 .result) (loop .i) (loop .inv .3) (loop .inv .1) (loop-test .taken) (c .digit2 .ensures) (omega (arith, c .digit2 .ensures)),
+    )
 
 -- src/lib.rt:72:9
 returns-7 : tie.Need-returns-7 Inv-loop μ-loop

@@ -25,7 +25,10 @@ abbrev μ-loop : tie.MeasureT-loop
 
 -- src/lib.rt:139:5
 loop-holds : tie.Need-loop-holds Inv-loop μ-loop
-loop-holds c = (omega arith, refl, refl, λ cs h. marking-start (now (c .before .before .before .before .before .before .args .prefix)) (c .before .before .before .before .before .before .args .i) cs (now (c .before .before .before .before .before .before .args .row)) (c .before .before .before .before .before .before .pre .0))
+loop-holds c =
+    let args = c .before .before .before .before .before .before .args in
+    let pre = c .before .before .before .before .before .before .pre in
+    (omega arith, refl, refl, λ cs h. marking-start (now (args .prefix)) (args .i) cs (now (args .row)) (pre .0))
 
 -- src/lib.rt:140:19
 shared-slice-read-is-of : tie.Need-shared-slice-read-is-of Inv-loop μ-loop
@@ -45,7 +48,16 @@ loop-less c = omega arith
 
 -- src/lib.rt:139:5
 loop-again : tie.Need-loop-again Inv-loop μ-loop
-loop-again c = (omega arith, c .before .before .before .before .loop .inv .1, c .before .before .before .before .loop .inv .2, λ cs h. marking-other h (c .before .before .before .before .loop .k) (c .before .before .before .loop-test .taken) (c .before .before .before .before .before .before .before .before .before .before .before .args .i) (c .before .is-of .result) (c .before .is-of .ensures) (now (c .before .before .before .before .before .before .before .before .before .before .before .args .prefix)) (c .before .before .before .before .loop .any) (c .before .before .before .before .loop .row) (not-true _ (c .if1 .taken)) (c .before .before .before .before .loop .inv .3 cs h))
+loop-again c =
+    let args = c .before .before .before .before .before .before .before .before .before .before .before .args in
+    let loop = c .before .before .before .before .loop in
+    let loop-test = c .before .before .before .loop-test in
+    let is-of = c .before .is-of in (
+      omega arith,
+      loop .inv .1,
+      loop .inv .2,
+      λ cs h. marking-other h (loop .k) (loop-test .taken) (args .i) (is-of .result) (is-of .ensures) (now (args .prefix)) (loop .any) (loop .row) (not-true _ (c .if1 .taken)) (loop .inv .3 cs h),
+    )
 
 -- src/lib.rt:144:13
 line-at-requires : tie.Need-line-at-requires Inv-loop μ-loop
@@ -53,7 +65,17 @@ line-at-requires c κs = tt
 
 -- src/lib.rt:145:13
 mark-line-requires : tie.Need-mark-line-requires Inv-loop μ-loop
-mark-line-requires c κs = (omega (arith, c .before .before .before .before .before .before .before .loop .inv .1, c .before .before .before .before .before .before .before .before .before .before .before .before .before .before .pre .0 .wide), omega (arith, c .before .before .before .before .before .before .before .loop .inv .2, c .before .before .before .before .before .before .before .before .before .before .before .before .before .before .pre .1), line-entering (c .before .before .before .before .before .before .before .before .before .before .before .before .before .before .pre .2 .1) (c .before .before .before .before .before .before .before .loop .k) (c .before .before .before .before .before .before .loop-test .taken) (c .before .before .before .before .before .before .before .before .before .before .before .before .before .before .args .i) (c .before .before .before .before .is-of .result) (c .before .before .before .before .is-of .ensures) (not-false _ (c .before .before .before .if1 .left)) (c .before .before .before .before .before .before .before .before .before .before .before .before .before .before .pre .3) (c .before .before .line-at .ensures))
+mark-line-requires c κs =
+    let args = c .before .before .before .before .before .before .before .before .before .before .before .before .before .before .args in
+    let pre = c .before .before .before .before .before .before .before .before .before .before .before .before .before .before .pre in
+    let loop = c .before .before .before .before .before .before .before .loop in
+    let loop-test = c .before .before .before .before .before .before .loop-test in
+    let is-of = c .before .before .before .before .is-of in
+    let if1 = c .before .before .before .if1 in (
+      omega (arith, loop .inv .1, pre .0 .wide),
+      omega (arith, loop .inv .2, pre .1),
+      line-entering (pre .2 .1) (loop .k) (loop-test .taken) (args .i) (is-of .result) (is-of .ensures) (not-false _ (if1 .left)) (pre .3) (c .before .before .line-at .ensures),
+    )
 
 -- src/lib.rt:147:9
 add-k-2 : tie.Need-add-k-2 Inv-loop μ-loop
@@ -65,7 +87,20 @@ loop-less-2 c = omega arith
 
 -- src/lib.rt:139:5
 loop-again-2 : tie.Need-loop-again-2 Inv-loop μ-loop
-loop-again-2 c = (omega arith, c .before .before .before .before .mark-line .ensures .same ∙ (c .before .before .before .before .before .before .before .before .before .before .before .before .loop .inv .1), search needs, λ cs h. marking-line h (c .before .before .before .before .before .before .before .before .before .before .before .before .loop .k) (c .before .before .before .before .before .before .before .before .before .before .before .loop-test .taken) (c .before .before .before .before .before .before .before .before .before .before .before .before .before .before .before .before .before .before .before .args .i) (c .before .before .before .before .before .before .before .before .before .is-of .result) (c .before .before .before .before .before .before .before .before .before .is-of .ensures) (not-false _ (c .before .before .before .before .before .before .before .before .if1 .left)) (c .before .before .before .before .before .before .before .before .before .before .before .before .before .before .before .before .before .before .before .pre .3) (now (c .before .before .before .before .before .before .before .before .before .before .before .before .before .before .before .before .before .before .before .args .prefix)) (c .before .before .before .before .before .before .before .before .before .before .before .before .loop .any) (c .before .before .before .before .mark-line .result) (c .before .before .before .before .before .before .before .before .before .before .before .before .loop .row) (c .before .before .before .before .mark-line .last .0) (c .before .before .before .before .before .before .before .line-at .ensures) (c .before .before .before .before .mark-line .ensures) (c .before .before .before .before .before .before .before .before .before .before .before .before .loop .inv .3 cs h))
+loop-again-2 c =
+    let args = c .before .before .before .before .before .before .before .before .before .before .before .before .before .before .before .before .before .before .before .args in
+    let pre = c .before .before .before .before .before .before .before .before .before .before .before .before .before .before .before .before .before .before .before .pre in
+    let loop = c .before .before .before .before .before .before .before .before .before .before .before .before .loop in
+    let loop-test = c .before .before .before .before .before .before .before .before .before .before .before .loop-test in
+    let is-of = c .before .before .before .before .before .before .before .before .before .is-of in
+    let if1 = c .before .before .before .before .before .before .before .before .if1 in
+    let line-at = c .before .before .before .before .before .before .before .line-at in
+    let mark-line = c .before .before .before .before .mark-line in (
+      omega arith,
+      mark-line .ensures .same ∙ (loop .inv .1),
+      search needs,
+      λ cs h. marking-line h (loop .k) (loop-test .taken) (args .i) (is-of .result) (is-of .ensures) (not-false _ (if1 .left)) (pre .3) (now (args .prefix)) (loop .any) (mark-line .result) (loop .row) (mark-line .last .0) (line-at .ensures) (mark-line .ensures) (loop .inv .3 cs h),
+    )
 
 -- src/lib.rt:124:1
 same-length : tie.Need-same-length Inv-loop μ-loop
@@ -77,7 +112,10 @@ same-length-2 c = c .before .loop .inv .2
 
 -- src/lib.rt:124:1
 returns : tie.Need-returns Inv-loop μ-loop
-returns c = λ cs h. marking-end h (now (c .before .before .before .before .before .before .before .before .args .prefix)) (c .before .before .before .before .before .before .before .before .args .i) (c .before .loop .k) (c .before .loop .any) (c .before .loop .row) (c .loop-test .left) (c .before .loop .inv .3 cs h)
+returns c =
+    let args = c .before .before .before .before .before .before .before .before .args in
+    let loop = c .before .loop in
+    λ cs h. marking-end h (now (args .prefix)) (args .i) (loop .k) (loop .any) (loop .row) (c .loop-test .left) (loop .inv .3 cs h)
 
 pub mark-ids-spec : {M : Type 1} → statement M
 mark-ids-spec =

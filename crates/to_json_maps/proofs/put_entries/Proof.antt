@@ -41,22 +41,45 @@ loop-less : tie.Need-loop-less Inv-loop μ-loop
 loop-less c = omega arith
 
 loop-again : tie.Need-loop-again Inv-loop μ-loop
-loop-again c = (omega arith, c .before .before .before .before .loop .inv .1, λ cs h. mapping-other h (now (c .before .before .before .before .before .before .before .before .before .before .before .before .args .out)) (now (c .before .before .before .before .before .before .before .before .before .before .before .before .args .prefix)) (c .before .before .before .before .before .before .before .before .before .before .before .before .args .i) (c .before .before .before .before .loop .k) (c .before .before .before .loop-test .taken) (c .before .is-of .result) (c .before .is-of .ensures) (c .before .before .before .before .loop .inv .2 cs h) (not-true _ (c .if1 .taken)))
+loop-again c =
+    let args = c .before .before .before .before .before .before .before .before .before .before .before .before .args in
+    let loop = c .before .before .before .before .loop in
+    let loop-test = c .before .before .before .loop-test in
+    let is-of = c .before .is-of in (
+      omega arith,
+      loop .inv .1,
+      λ cs h. mapping-other h (now (args .out)) (now (args .prefix)) (args .i) (loop .k) (loop-test .taken) (is-of .result) (is-of .ensures) (loop .inv .2 cs h) (not-true _ (c .if1 .taken)),
+    )
 
 line-at-requires : tie.Need-line-at-requires Inv-loop μ-loop
 line-at-requires c κs = tt
 
 sub-put-turn : tie.Need-sub-put-turn Inv-loop μ-loop
-sub-put-turn c = rest-in ((c .before .before .before .before .before .loop .inv .2 (c .before .before .before .before .before .before .before .before .before .before .before .before .before .pre .1 .lines .0) (c .before .before .before .before .before .before .before .before .before .before .before .before .before .pre .1 .lines .1)) .rest)
+sub-put-turn c =
+    let pre = c .before .before .before .before .before .before .before .before .before .before .before .before .before .pre in
+    let loop = c .before .before .before .before .before .loop in
+    rest-in ((loop .inv .2 (pre .1 .lines .0) (pre .1 .lines .1)) .rest)
 
 part-put-turn-start : tie.Need-part-put-turn-start Inv-loop μ-loop
-part-put-turn-start c = rest-in ((c .before .before .before .before .before .loop .inv .2 (c .before .before .before .before .before .before .before .before .before .before .before .before .before .pre .1 .lines .0) (c .before .before .before .before .before .before .before .before .before .before .before .before .before .pre .1 .lines .1)) .rest)
+part-put-turn-start c =
+    let pre = c .before .before .before .before .before .before .before .before .before .before .before .before .before .pre in
+    let loop = c .before .before .before .before .before .loop in
+    rest-in ((loop .inv .2 (pre .1 .lines .0) (pre .1 .lines .1)) .rest)
 
 part-put-turn-end : tie.Need-part-put-turn-end Inv-loop μ-loop
 part-put-turn-end c = le-refl _
 
 put-turn-requires : tie.Need-put-turn-requires Inv-loop μ-loop
-put-turn-requires c κs = (omega (arith, c .before .before .before .before .before .before .before .loop .inv .1, c .before .before .before .before .before .before .before .before .before .before .before .before .before .before .before .pre .0), has-turn (c .before .before .before .before .before .before .before .before .before .before .before .before .before .before .before .pre .1 .lines .1) (now (c .before .before .before .before .before .before .before .before .before .before .before .before .before .before .before .args .out)) (now (c .before .before .before .before .before .before .before .before .before .before .before .before .before .before .before .args .prefix)) (c .before .before .before .before .before .before .before .before .before .before .before .before .before .before .before .args .i) (c .before .before .before .before .before .before .before .loop .k) (c .before .before .before .before .before .before .loop-test .taken) (c .before .before .before .before .is-of .result) (c .before .before .before .before .is-of .ensures) (c .before .before .before .before .before .before .before .loop .inv .2 (c .before .before .before .before .before .before .before .before .before .before .before .before .before .before .before .pre .1 .lines .0) (c .before .before .before .before .before .before .before .before .before .before .before .before .before .before .before .pre .1 .lines .1)) (not-false _ (c .before .before .before .if1 .left)) (omega (arith, c .before .before .before .before .before .before .before .before .before .before .before .before .before .before .before .pre .1 .small)) (now (c .before .before .before .before .before .before .before .before .before .before .before .before .before .before .before .args .row)) (c .before .before .before .before .before .before .before .before .before .before .before .before .before .before .before .args .taken) (c .before .before .before .before .before .before .before .before .before .before .before .before .before .before .before .pre .1 .ids (c .before .before .before .before .before .before .before .before .before .before .before .before .before .before .before .pre .1 .lines .0) (c .before .before .before .before .before .before .before .before .before .before .before .before .before .before .before .pre .1 .lines .1)) (c .before .before .line-at .ensures) (prefix-short (c .before .before .before .before .before .before .before .before .before .before .before .before .before .before .before .args .i) (now (c .before .before .before .before .before .before .before .before .before .before .before .before .before .before .before .args .prefix)) (c .before .before .before .before .before .before .before .before .before .before .before .before .before .before .before .pre .1 .small) (c .before .before .before .before .before .before .before .before .before .before .before .before .before .before .before .pre .1 .is)))
+put-turn-requires c κs =
+    let args = c .before .before .before .before .before .before .before .before .before .before .before .before .before .before .before .args in
+    let pre = c .before .before .before .before .before .before .before .before .before .before .before .before .before .before .before .pre in
+    let loop = c .before .before .before .before .before .before .before .loop in
+    let loop-test = c .before .before .before .before .before .before .loop-test in
+    let is-of = c .before .before .before .before .is-of in
+    let if1 = c .before .before .before .if1 in (
+      omega (arith, loop .inv .1, pre .0),
+      has-turn (pre .1 .lines .1) (now (args .out)) (now (args .prefix)) (args .i) (loop .k) (loop-test .taken) (is-of .result) (is-of .ensures) (loop .inv .2 (pre .1 .lines .0) (pre .1 .lines .1)) (not-false _ (if1 .left)) (omega (arith, pre .1 .small)) (now (args .row)) (args .taken) (pre .1 .ids (pre .1 .lines .0) (pre .1 .lines .1)) (c .before .before .line-at .ensures) (prefix-short (args .i) (now (args .prefix)) (pre .1 .small) (pre .1 .is)),
+    )
 
 enum-known-bytes : tie.Need-enum-known-bytes Inv-loop μ-loop
 enum-known-bytes c = c .match .keys1
@@ -65,16 +88,55 @@ enum-told : tie.Need-enum-told Inv-loop μ-loop
 enum-told c = c .match .keys2
 
 same-length : tie.Need-same-length Inv-loop μ-loop
-same-length c = length-puts (mapping-stop (c .before .before .before .before .before .before .before .before .before .before .before .before .before .before .before .before .before .before .before .before .before .before .pre .1 .lines .1) (now (c .before .before .before .before .before .before .before .before .before .before .before .before .before .before .before .before .before .before .before .before .before .before .args .out)) (now (c .before .before .before .before .before .before .before .before .before .before .before .before .before .before .before .before .before .before .before .before .before .before .args .prefix)) (c .before .before .before .before .before .before .before .before .before .before .before .before .before .before .before .before .before .before .before .before .before .before .args .i) (c .before .before .before .before .before .before .before .before .before .before .before .before .before .before .loop .k) (c .before .before .before .before .before .before .before .before .before .before .before .before .before .loop-test .taken) (c .before .before .before .before .before .before .before .before .before .before .before .is-of .result) (c .before .before .before .before .before .before .before .before .before .before .before .is-of .ensures) (c .before .before .before .before .before .before .before .before .before .before .before .before .before .before .loop .inv .2 (c .before .before .before .before .before .before .before .before .before .before .before .before .before .before .before .before .before .before .before .before .before .before .pre .1 .lines .0) (c .before .before .before .before .before .before .before .before .before .before .before .before .before .before .before .before .before .before .before .before .before .before .pre .1 .lines .1)) (not-false _ (c .before .before .before .before .before .before .before .before .before .before .if1 .left)) (omega (arith, c .before .before .before .before .before .before .before .before .before .before .before .before .before .before .before .before .before .before .before .before .before .before .pre .1 .small)) (now (c .before .before .before .before .before .before .before .before .before .before .before .before .before .before .before .before .before .before .before .before .before .before .args .row)) (c .before .before .before .before .before .before .before .before .before .before .before .before .before .before .before .before .before .before .before .before .before .before .args .taken) (c .before .before .before .before .before .before .before .before .before .before .before .before .before .before .before .before .before .before .before .before .before .before .pre .1 .ids (c .before .before .before .before .before .before .before .before .before .before .before .before .before .before .before .before .before .before .before .before .before .before .pre .1 .lines .0) (c .before .before .before .before .before .before .before .before .before .before .before .before .before .before .before .before .before .before .before .before .before .before .pre .1 .lines .1)) (c .before .before .before .before .before .before .before .before .before .line-at .ensures) (c .before .before .before .before .before .before .before .before .before .before .before .before .before .before .before .before .before .before .before .before .before .before .pre .1 .is ∙ prefixes (c .before .before .before .before .before .before .before .before .before .before .before .before .before .before .before .before .before .before .before .before .before .before .args .i)) (c .before .before .before .before .before .before .put-turn .result) (c .before .before .before .before .before .before .put-turn .last .0) (c .before .before .before .before .before .before .put-turn .ensures) (c .enum-told .given .1))
+same-length c =
+    let args = c .before .before .before .before .before .before .before .before .before .before .before .before .before .before .before .before .before .before .before .before .before .before .args in
+    let pre = c .before .before .before .before .before .before .before .before .before .before .before .before .before .before .before .before .before .before .before .before .before .before .pre in
+    let loop = c .before .before .before .before .before .before .before .before .before .before .before .before .before .before .loop in
+    let loop-test = c .before .before .before .before .before .before .before .before .before .before .before .before .before .loop-test in
+    let is-of = c .before .before .before .before .before .before .before .before .before .before .before .is-of in
+    let if1 = c .before .before .before .before .before .before .before .before .before .before .if1 in
+    let line-at = c .before .before .before .before .before .before .before .before .before .line-at in
+    let put-turn = c .before .before .before .before .before .before .put-turn in
+    length-puts
+    (mapping-stop (pre .1 .lines .1) (now (args .out)) (now (args .prefix)) (args .i) (loop .k) (loop-test .taken) (is-of .result)
+    (is-of .ensures) (loop .inv .2 (pre .1 .lines .0) (pre .1 .lines .1)) (not-false _ (if1 .left)) (omega (arith, pre .1 .small))
+    (now (args .row)) (args .taken) (pre .1 .ids (pre .1 .lines .0) (pre .1 .lines .1)) (line-at .ensures) (pre .1 .is ∙ prefixes (args .i))
+    (put-turn .result) (put-turn .last .0) (put-turn .ensures) (c .enum-told .given .1))
 
 same-length-2 : tie.Need-same-length-2 Inv-loop μ-loop
 same-length-2 c = search needs
 
 returns : tie.Need-returns Inv-loop μ-loop
-returns c = λ cs h. mapping-stop h (now (c .before .before .before .before .before .before .before .before .before .before .before .before .before .before .before .before .before .before .before .before .before .before .args .out)) (now (c .before .before .before .before .before .before .before .before .before .before .before .before .before .before .before .before .before .before .before .before .before .before .args .prefix)) (c .before .before .before .before .before .before .before .before .before .before .before .before .before .before .before .before .before .before .before .before .before .before .args .i) (c .before .before .before .before .before .before .before .before .before .before .before .before .before .before .loop .k) (c .before .before .before .before .before .before .before .before .before .before .before .before .before .loop-test .taken) (c .before .before .before .before .before .before .before .before .before .before .before .is-of .result) (c .before .before .before .before .before .before .before .before .before .before .before .is-of .ensures) (c .before .before .before .before .before .before .before .before .before .before .before .before .before .before .loop .inv .2 cs h) (not-false _ (c .before .before .before .before .before .before .before .before .before .before .if1 .left)) (omega (arith, c .before .before .before .before .before .before .before .before .before .before .before .before .before .before .before .before .before .before .before .before .before .before .pre .1 .small)) (now (c .before .before .before .before .before .before .before .before .before .before .before .before .before .before .before .before .before .before .before .before .before .before .args .row)) (c .before .before .before .before .before .before .before .before .before .before .before .before .before .before .before .before .before .before .before .before .before .before .args .taken) (c .before .before .before .before .before .before .before .before .before .before .before .before .before .before .before .before .before .before .before .before .before .before .pre .1 .ids cs h) (c .before .before .before .before .before .before .before .before .before .line-at .ensures) (c .before .before .before .before .before .before .before .before .before .before .before .before .before .before .before .before .before .before .before .before .before .before .pre .1 .is ∙ prefixes (c .before .before .before .before .before .before .before .before .before .before .before .before .before .before .before .before .before .before .before .before .before .before .args .i)) (c .before .before .before .before .before .before .put-turn .result) (c .before .before .before .before .before .before .put-turn .last .0) (c .before .before .before .before .before .before .put-turn .ensures) (c .enum-told .given .1)
+returns c =
+    let args = c .before .before .before .before .before .before .before .before .before .before .before .before .before .before .before .before .before .before .before .before .before .before .args in
+    let pre = c .before .before .before .before .before .before .before .before .before .before .before .before .before .before .before .before .before .before .before .before .before .before .pre in
+    let loop = c .before .before .before .before .before .before .before .before .before .before .before .before .before .before .loop in
+    let loop-test = c .before .before .before .before .before .before .before .before .before .before .before .before .before .loop-test in
+    let is-of = c .before .before .before .before .before .before .before .before .before .before .before .is-of in
+    let if1 = c .before .before .before .before .before .before .before .before .before .before .if1 in
+    let line-at = c .before .before .before .before .before .before .before .before .before .line-at in
+    let put-turn = c .before .before .before .before .before .before .put-turn in
+    λ cs h. mapping-stop h (now (args .out)) (now (args .prefix)) (args .i) (loop .k) (loop-test .taken) (is-of .result) (is-of .ensures)
+    (loop .inv .2 cs h) (not-false _ (if1 .left)) (omega (arith, pre .1 .small)) (now (args .row)) (args .taken) (pre .1 .ids cs h) (line-at .ensures)
+    (pre .1 .is ∙ prefixes (args .i)) (put-turn .result) (put-turn .last .0) (put-turn .ensures) (c .enum-told .given .1)
 
 add-at : tie.Need-add-at Inv-loop μ-loop
-add-at c = rest-fit (mapping-next (c .before .before .before .before .before .before .before .before .before .before .before .before .before .before .before .before .before .before .before .before .before .before .before .pre .1 .lines .1) (now (c .before .before .before .before .before .before .before .before .before .before .before .before .before .before .before .before .before .before .before .before .before .before .before .args .out)) (now (c .before .before .before .before .before .before .before .before .before .before .before .before .before .before .before .before .before .before .before .before .before .before .before .args .prefix)) (c .before .before .before .before .before .before .before .before .before .before .before .before .before .before .before .before .before .before .before .before .before .before .before .args .i) (c .before .before .before .before .before .before .before .before .before .before .before .before .before .before .before .loop .k) (c .before .before .before .before .before .before .before .before .before .before .before .before .before .before .loop-test .taken) (c .before .before .before .before .before .before .before .before .before .before .before .before .is-of .result) (c .before .before .before .before .before .before .before .before .before .before .before .before .is-of .ensures) (c .before .before .before .before .before .before .before .before .before .before .before .before .before .before .before .loop .inv .2 (c .before .before .before .before .before .before .before .before .before .before .before .before .before .before .before .before .before .before .before .before .before .before .before .pre .1 .lines .0) (c .before .before .before .before .before .before .before .before .before .before .before .before .before .before .before .before .before .before .before .before .before .before .before .pre .1 .lines .1)) (not-false _ (c .before .before .before .before .before .before .before .before .before .before .before .if1 .left)) (omega (arith, c .before .before .before .before .before .before .before .before .before .before .before .before .before .before .before .before .before .before .before .before .before .before .before .pre .1 .small)) (now (c .before .before .before .before .before .before .before .before .before .before .before .before .before .before .before .before .before .before .before .before .before .before .before .args .row)) (c .before .before .before .before .before .before .before .before .before .before .before .before .before .before .before .before .before .before .before .before .before .before .before .args .taken) (c .before .before .before .before .before .before .before .before .before .before .before .before .before .before .before .before .before .before .before .before .before .before .before .pre .1 .ids (c .before .before .before .before .before .before .before .before .before .before .before .before .before .before .before .before .before .before .before .before .before .before .before .pre .1 .lines .0) (c .before .before .before .before .before .before .before .before .before .before .before .before .before .before .before .before .before .before .before .before .before .before .before .pre .1 .lines .1)) (c .before .before .before .before .before .before .before .before .before .before .line-at .ensures) (c .before .before .before .before .before .before .before .before .before .before .before .before .before .before .before .before .before .before .before .before .before .before .before .pre .1 .is ∙ prefixes (c .before .before .before .before .before .before .before .before .before .before .before .before .before .before .before .before .before .before .before .before .before .before .before .args .i)) (c .before .before .before .before .before .before .before .put-turn .result) (c .before .before .before .before .before .before .before .put-turn .last .0) (c .before .before .before .before .before .before .before .put-turn .ensures) _ _ (c .before .bytes .given .1) .rest) (c .before .before .before .before .before .before .before .before .before .before .before .before .before .before .before .before .before .before .before .before .before .before .before .good .0 .0)
+add-at c =
+    let args = c .before .before .before .before .before .before .before .before .before .before .before .before .before .before .before .before .before .before .before .before .before .before .before .args in
+    let pre = c .before .before .before .before .before .before .before .before .before .before .before .before .before .before .before .before .before .before .before .before .before .before .before .pre in
+    let good = c .before .before .before .before .before .before .before .before .before .before .before .before .before .before .before .before .before .before .before .before .before .before .before .good in
+    let loop = c .before .before .before .before .before .before .before .before .before .before .before .before .before .before .before .loop in
+    let loop-test = c .before .before .before .before .before .before .before .before .before .before .before .before .before .before .loop-test in
+    let is-of = c .before .before .before .before .before .before .before .before .before .before .before .before .is-of in
+    let if1 = c .before .before .before .before .before .before .before .before .before .before .before .if1 in
+    let line-at = c .before .before .before .before .before .before .before .before .before .before .line-at in
+    let put-turn = c .before .before .before .before .before .before .before .put-turn in
+    rest-fit
+    (mapping-next (pre .1 .lines .1) (now (args .out)) (now (args .prefix)) (args .i) (loop .k) (loop-test .taken) (is-of .result)
+    (is-of .ensures) (loop .inv .2 (pre .1 .lines .0) (pre .1 .lines .1)) (not-false _ (if1 .left)) (omega (arith, pre .1 .small))
+    (now (args .row)) (args .taken) (pre .1 .ids (pre .1 .lines .0) (pre .1 .lines .1)) (line-at .ensures) (pre .1 .is ∙ prefixes (args .i))
+    (put-turn .result) (put-turn .last .0) (put-turn .ensures) _ _ (c .before .bytes .given .1) .rest)
+    (good .0 .0)
 
 add-k-2 : tie.Need-add-k-2 Inv-loop μ-loop
 add-k-2 c = search needs
@@ -83,7 +145,19 @@ loop-less-2 : tie.Need-loop-less-2 Inv-loop μ-loop
 loop-less-2 c = omega arith
 
 loop-again-2 : tie.Need-loop-again-2 Inv-loop μ-loop
-loop-again-2 c = (omega arith, search needs, λ cs h. mapping-next h (now (c .before .before .before .before .before .before .before .before .before .before .before .before .before .before .before .before .before .before .before .before .before .before .before .args .out)) (now (c .before .before .before .before .before .before .before .before .before .before .before .before .before .before .before .before .before .before .before .before .before .before .before .args .prefix)) (c .before .before .before .before .before .before .before .before .before .before .before .before .before .before .before .before .before .before .before .before .before .before .before .args .i) (c .before .before .before .before .before .before .before .before .before .before .before .before .before .before .before .loop .k) (c .before .before .before .before .before .before .before .before .before .before .before .before .before .before .loop-test .taken) (c .before .before .before .before .before .before .before .before .before .before .before .before .is-of .result) (c .before .before .before .before .before .before .before .before .before .before .before .before .is-of .ensures) (c .before .before .before .before .before .before .before .before .before .before .before .before .before .before .before .loop .inv .2 cs h) (not-false _ (c .before .before .before .before .before .before .before .before .before .before .before .if1 .left)) (omega (arith, c .before .before .before .before .before .before .before .before .before .before .before .before .before .before .before .before .before .before .before .before .before .before .before .pre .1 .small)) (now (c .before .before .before .before .before .before .before .before .before .before .before .before .before .before .before .before .before .before .before .before .before .before .before .args .row)) (c .before .before .before .before .before .before .before .before .before .before .before .before .before .before .before .before .before .before .before .before .before .before .before .args .taken) (c .before .before .before .before .before .before .before .before .before .before .before .before .before .before .before .before .before .before .before .before .before .before .before .pre .1 .ids cs h) (c .before .before .before .before .before .before .before .before .before .before .line-at .ensures) (c .before .before .before .before .before .before .before .before .before .before .before .before .before .before .before .before .before .before .before .before .before .before .before .pre .1 .is ∙ prefixes (c .before .before .before .before .before .before .before .before .before .before .before .before .before .before .before .before .before .before .before .before .before .before .before .args .i)) (c .before .before .before .before .before .before .before .put-turn .result) (c .before .before .before .before .before .before .before .put-turn .last .0) (c .before .before .before .before .before .before .before .put-turn .ensures) _ _ (c .before .bytes .given .1))
+loop-again-2 c =
+    let args = c .before .before .before .before .before .before .before .before .before .before .before .before .before .before .before .before .before .before .before .before .before .before .before .args in
+    let pre = c .before .before .before .before .before .before .before .before .before .before .before .before .before .before .before .before .before .before .before .before .before .before .before .pre in
+    let loop = c .before .before .before .before .before .before .before .before .before .before .before .before .before .before .before .loop in
+    let loop-test = c .before .before .before .before .before .before .before .before .before .before .before .before .before .before .loop-test in
+    let is-of = c .before .before .before .before .before .before .before .before .before .before .before .before .is-of in
+    let if1 = c .before .before .before .before .before .before .before .before .before .before .before .if1 in
+    let line-at = c .before .before .before .before .before .before .before .before .before .before .line-at in
+    let put-turn = c .before .before .before .before .before .before .before .put-turn in (
+      omega arith,
+      search needs,
+      λ cs h. mapping-next h (now (args .out)) (now (args .prefix)) (args .i) (loop .k) (loop-test .taken) (is-of .result) (is-of .ensures) (loop .inv .2 cs h) (not-false _ (if1 .left)) (omega (arith, pre .1 .small)) (now (args .row)) (args .taken) (pre .1 .ids cs h) (line-at .ensures) (pre .1 .is ∙ prefixes (args .i)) (put-turn .result) (put-turn .last .0) (put-turn .ensures) _ _ (c .before .bytes .given .1),
+    )
 
 same-length-3 : tie.Need-same-length-3 Inv-loop μ-loop
 same-length-3 c = rest-same ((c .before .before .loop .inv .2 (c .before .before .before .before .before .before .before .before .before .before .pre .1 .lines .0) (c .before .before .before .before .before .before .before .before .before .before .pre .1 .lines .1)) .rest)
@@ -92,7 +166,10 @@ same-length-4 : tie.Need-same-length-4 Inv-loop μ-loop
 same-length-4 c = c .before .before .loop .inv .1
 
 returns-2 : tie.Need-returns-2 Inv-loop μ-loop
-returns-2 c = λ cs h. rest-done (closed _ (not-true _ (c .if2 .taken))) (mapping-end h (now (c .before .before .before .before .before .before .before .before .before .before .args .out)) (now (c .before .before .before .before .before .before .before .before .before .before .args .prefix)) (c .before .before .before .before .before .before .before .before .before .before .args .i) (c .before .loop-test .left) (c .before .before .loop .inv .2 cs h))
+returns-2 c =
+    let args = c .before .before .before .before .before .before .before .before .before .before .args in
+    λ cs h. rest-done (closed _ (not-true _ (c .if2 .taken)))
+    (mapping-end h (now (args .out)) (now (args .prefix)) (args .i) (c .before .loop-test .left) (c .before .before .loop .inv .2 cs h))
 
 sub-put-byte : tie.Need-sub-put-byte Inv-loop μ-loop
 sub-put-byte c = rest-in ((c .before .before .loop .inv .2 (c .before .before .before .before .before .before .before .before .before .before .pre .1 .lines .0) (c .before .before .before .before .before .before .before .before .before .before .pre .1 .lines .1)) .rest)
@@ -113,25 +190,82 @@ enum-told-2 : tie.Need-enum-told-2 Inv-loop μ-loop
 enum-told-2 c = c .match2 .keys2
 
 same-length-5 : tie.Need-same-length-5 Inv-loop μ-loop
-same-length-5 c = length-puts (rest-stop [] (rest-as (opened _ (not-false _ (c .before .before .before .before .before .before .if2 .left))) (mapping-end (c .before .before .before .before .before .before .before .before .before .before .before .before .before .before .before .before .pre .1 .lines .1) (now (c .before .before .before .before .before .before .before .before .before .before .before .before .before .before .before .before .args .out)) (now (c .before .before .before .before .before .before .before .before .before .before .before .before .before .before .before .before .args .prefix)) (c .before .before .before .before .before .before .before .before .before .before .before .before .before .before .before .before .args .i) (c .before .before .before .before .before .before .before .loop-test .left) (c .before .before .before .before .before .before .before .before .loop .inv .2 (c .before .before .before .before .before .before .before .before .before .before .before .before .before .before .before .before .pre .1 .lines .0) (c .before .before .before .before .before .before .before .before .before .before .before .before .before .before .before .before .pre .1 .lines .1)))) (c .before .before .before .before .put-byte .ensures) (c .enum-told2 .given .1))
+same-length-5 c =
+    let args = c .before .before .before .before .before .before .before .before .before .before .before .before .before .before .before .before .args in
+    let pre = c .before .before .before .before .before .before .before .before .before .before .before .before .before .before .before .before .pre in
+    let loop = c .before .before .before .before .before .before .before .before .loop in
+    let loop-test = c .before .before .before .before .before .before .before .loop-test in
+    let if2 = c .before .before .before .before .before .before .if2 in
+    let put-byte = c .before .before .before .before .put-byte in
+    length-puts
+    (rest-stop []
+    (rest-as (opened _ (not-false _ (if2 .left)))
+    (mapping-end (pre .1 .lines .1) (now (args .out)) (now (args .prefix)) (args .i) (loop-test .left)
+    (loop .inv .2 (pre .1 .lines .0) (pre .1 .lines .1))))
+    (put-byte .ensures) (c .enum-told2 .given .1))
 
 same-length-6 : tie.Need-same-length-6 Inv-loop μ-loop
 same-length-6 c = c .before .before .before .before .before .before .before .before .loop .inv .1
 
 returns-3 : tie.Need-returns-3 Inv-loop μ-loop
-returns-3 c = λ cs h. rest-stop [] (rest-as (opened _ (not-false _ (c .before .before .before .before .before .before .if2 .left))) (mapping-end h (now (c .before .before .before .before .before .before .before .before .before .before .before .before .before .before .before .before .args .out)) (now (c .before .before .before .before .before .before .before .before .before .before .before .before .before .before .before .before .args .prefix)) (c .before .before .before .before .before .before .before .before .before .before .before .before .before .before .before .before .args .i) (c .before .before .before .before .before .before .before .loop-test .left) (c .before .before .before .before .before .before .before .before .loop .inv .2 cs h))) (c .before .before .before .before .put-byte .ensures) (c .enum-told2 .given .1)
+returns-3 c =
+    let args = c .before .before .before .before .before .before .before .before .before .before .before .before .before .before .before .before .args in
+    let loop = c .before .before .before .before .before .before .before .before .loop in
+    let loop-test = c .before .before .before .before .before .before .before .loop-test in
+    let if2 = c .before .before .before .before .before .before .if2 in
+    let put-byte = c .before .before .before .before .put-byte in
+    λ cs h. rest-stop []
+    (rest-as (opened _ (not-false _ (if2 .left)))
+    (mapping-end h (now (args .out)) (now (args .prefix)) (args .i) (loop-test .left) (loop .inv .2 cs h)))
+    (put-byte .ensures) (c .enum-told2 .given .1)
 
 add-all : tie.Need-add-all Inv-loop μ-loop
-add-all c = rest-fit (rest-next [] (rest-as (opened _ (not-false _ (c .before .before .before .before .before .before .before .if2 .left))) (mapping-end (c .before .before .before .before .before .before .before .before .before .before .before .before .before .before .before .before .before .pre .1 .lines .1) (now (c .before .before .before .before .before .before .before .before .before .before .before .before .before .before .before .before .before .args .out)) (now (c .before .before .before .before .before .before .before .before .before .before .before .before .before .before .before .before .before .args .prefix)) (c .before .before .before .before .before .before .before .before .before .before .before .before .before .before .before .before .before .args .i) (c .before .before .before .before .before .before .before .before .loop-test .left) (c .before .before .before .before .before .before .before .before .before .loop .inv .2 (c .before .before .before .before .before .before .before .before .before .before .before .before .before .before .before .before .before .pre .1 .lines .0) (c .before .before .before .before .before .before .before .before .before .before .before .before .before .before .before .before .before .pre .1 .lines .1)))) (c .before .before .before .before .before .put-byte .ensures) (c .before .m .given .1)) (c .before .before .before .before .before .before .before .before .before .before .before .before .before .before .before .before .before .good .0 .0)
+add-all c =
+    let args = c .before .before .before .before .before .before .before .before .before .before .before .before .before .before .before .before .before .args in
+    let pre = c .before .before .before .before .before .before .before .before .before .before .before .before .before .before .before .before .before .pre in
+    let good = c .before .before .before .before .before .before .before .before .before .before .before .before .before .before .before .before .before .good in
+    let loop = c .before .before .before .before .before .before .before .before .before .loop in
+    let loop-test = c .before .before .before .before .before .before .before .before .loop-test in
+    let if2 = c .before .before .before .before .before .before .before .if2 in
+    let put-byte = c .before .before .before .before .before .put-byte in
+    rest-fit
+    (rest-next []
+    (rest-as (opened _ (not-false _ (if2 .left)))
+    (mapping-end (pre .1 .lines .1) (now (args .out)) (now (args .prefix)) (args .i) (loop-test .left)
+    (loop .inv .2 (pre .1 .lines .0) (pre .1 .lines .1))))
+    (put-byte .ensures) (c .before .m .given .1))
+    (good .0 .0)
 
 same-length-7 : tie.Need-same-length-7 Inv-loop μ-loop
-same-length-7 c = rest-same (rest-next [] (rest-as (opened _ (not-false _ (c .before .before .before .before .before .before .before .if2 .left))) (mapping-end (c .before .before .before .before .before .before .before .before .before .before .before .before .before .before .before .before .before .pre .1 .lines .1) (now (c .before .before .before .before .before .before .before .before .before .before .before .before .before .before .before .before .before .args .out)) (now (c .before .before .before .before .before .before .before .before .before .before .before .before .before .before .before .before .before .args .prefix)) (c .before .before .before .before .before .before .before .before .before .before .before .before .before .before .before .before .before .args .i) (c .before .before .before .before .before .before .before .before .loop-test .left) (c .before .before .before .before .before .before .before .before .before .loop .inv .2 (c .before .before .before .before .before .before .before .before .before .before .before .before .before .before .before .before .before .pre .1 .lines .0) (c .before .before .before .before .before .before .before .before .before .before .before .before .before .before .before .before .before .pre .1 .lines .1)))) (c .before .before .before .before .before .put-byte .ensures) (c .before .m .given .1))
+same-length-7 c =
+    let args = c .before .before .before .before .before .before .before .before .before .before .before .before .before .before .before .before .before .args in
+    let pre = c .before .before .before .before .before .before .before .before .before .before .before .before .before .before .before .before .before .pre in
+    let loop = c .before .before .before .before .before .before .before .before .before .loop in
+    let loop-test = c .before .before .before .before .before .before .before .before .loop-test in
+    let if2 = c .before .before .before .before .before .before .before .if2 in
+    let put-byte = c .before .before .before .before .before .put-byte in
+    rest-same
+    (rest-next []
+    (rest-as (opened _ (not-false _ (if2 .left)))
+    (mapping-end (pre .1 .lines .1) (now (args .out)) (now (args .prefix)) (args .i) (loop-test .left)
+    (loop .inv .2 (pre .1 .lines .0) (pre .1 .lines .1))))
+    (put-byte .ensures) (c .before .m .given .1))
 
 same-length-8 : tie.Need-same-length-8 Inv-loop μ-loop
 same-length-8 c = c .before .before .before .before .before .before .before .before .before .loop .inv .1
 
 returns-4 : tie.Need-returns-4 Inv-loop μ-loop
-returns-4 c = λ cs h. rest-done refl (rest-next [] (rest-as (opened _ (not-false _ (c .before .before .before .before .before .before .before .if2 .left))) (mapping-end h (now (c .before .before .before .before .before .before .before .before .before .before .before .before .before .before .before .before .before .args .out)) (now (c .before .before .before .before .before .before .before .before .before .before .before .before .before .before .before .before .before .args .prefix)) (c .before .before .before .before .before .before .before .before .before .before .before .before .before .before .before .before .before .args .i) (c .before .before .before .before .before .before .before .before .loop-test .left) (c .before .before .before .before .before .before .before .before .before .loop .inv .2 cs h))) (c .before .before .before .before .before .put-byte .ensures) (c .before .m .given .1))
+returns-4 c =
+    let args = c .before .before .before .before .before .before .before .before .before .before .before .before .before .before .before .before .before .args in
+    let loop = c .before .before .before .before .before .before .before .before .before .loop in
+    let loop-test = c .before .before .before .before .before .before .before .before .loop-test in
+    let if2 = c .before .before .before .before .before .before .before .if2 in
+    let put-byte = c .before .before .before .before .before .put-byte in
+    λ cs h. rest-done refl
+    (rest-next []
+    (rest-as (opened _ (not-false _ (if2 .left)))
+    (mapping-end h (now (args .out)) (now (args .prefix)) (args .i) (loop-test .left) (loop .inv .2 cs h)))
+    (put-byte .ensures) (c .before .m .given .1))
 
 pub put-entries-spec : {M : Type 1} → statement M
 put-entries-spec =

@@ -41,7 +41,11 @@ same-length : tie.Need-same-length
 same-length c = length-puts (first-full (c .before .before .before .before .put-map-head .ensures) (c .enum-told .given .1))
 
 returns : tie.Need-returns
-returns c = λ e x. puts-as (piece-is (mapAt (c .before .before .before .before .before .before .before .before .before .before .before .before .before .before .before .before .args .i)) (c .before .before .before .before .before .before .before .before .before .before .before .before .before .before .before .before .args .begun) (now (c .before .before .before .before .before .before .before .before .before .before .before .before .before .before .before .before .args .key)) e) (more (memberBytes (entryJson (mapAt (c .before .before .before .before .before .before .before .before .before .before .before .before .before .before .before .before .args .i)) (keyed (now (c .before .before .before .before .before .before .before .before .before .before .before .before .before .before .before .before .args .key)) e))) (first-full (c .before .before .before .before .put-map-head .ensures) (c .enum-told .given .1)))
+returns c =
+    let args = c .before .before .before .before .before .before .before .before .before .before .before .before .before .before .before .before .args in
+    let put-map-head = c .before .before .before .before .put-map-head in
+    λ e x. puts-as (piece-is (mapAt (args .i)) (args .begun) (now (args .key)) e)
+    (more (memberBytes (entryJson (mapAt (args .i)) (keyed (now (args .key)) e))) (first-full (put-map-head .ensures) (c .enum-told .given .1)))
 
 sub-put-map-line : tie.Need-sub-put-map-line
 sub-put-map-line c = within (first (c .before .before .before .before .before .put-map-head .ensures) (c .before .a .given .1))
@@ -53,7 +57,19 @@ part-put-map-line-end : tie.Need-part-put-map-line-end
 part-put-map-line-end c = le-refl _
 
 put-map-line-requires : tie.Need-put-map-line-requires
-put-map-line-requires c κs = record { rowed = c .before .before .before .before .before .before .before .before .before .before .before .before .before .before .before .before .before .before .pre .rowed; seen = c .before .before .before .before .before .before .before .before .before .before .before .before .before .before .before .before .before .before .pre .converts .seen; slot = c .before .before .before .before .before .before .before .before .before .before .before .before .before .before .before .before .before .before .pre .converts .slot; entry = c .before .before .before .before .before .before .before .before .before .before .before .before .before .before .before .before .before .before .pre .entry; is = row-is (c .before .before .before .before .before .before .before .before .before .before .before .before .before .before .before .before .before .before .pre .converts) (c .before .before .before .before .before .before .before .before .before .before .types-of .result) (c .before .before .before .before .before .before .before .before .before .form-of .result) (c .before .before .before .before .before .before .before .before .before .before .types-of .ensures) (c .before .before .before .before .before .before .before .before .before .form-of .ensures .0); converts = c .before .before .before .before .before .before .before .before .before .before .before .before .before .before .before .before .before .before .pre .converts .entry }
+put-map-line-requires c κs =
+    let pre = c .before .before .before .before .before .before .before .before .before .before .before .before .before .before .before .before .before .before .pre in
+    let types-of = c .before .before .before .before .before .before .before .before .before .before .types-of in
+    let form-of = c .before .before .before .before .before .before .before .before .before .form-of in
+    record {
+      rowed = pre .rowed;
+      seen = pre .converts .seen;
+      slot = pre .converts .slot;
+      entry = pre .entry;
+      is = row-is (pre .converts)
+          (types-of .result) (form-of .result) (types-of .ensures) (form-of .ensures .0);
+      converts = pre .converts .entry;
+    }
 
 enum-known-b : tie.Need-enum-known-b
 enum-known-b c = c .match2 .keys1
@@ -62,19 +78,86 @@ enum-told-2 : tie.Need-enum-told-2
 enum-told-2 c = c .match2 .keys2
 
 same-length-2 : tie.Need-same-length-2
-same-length-2 c = length-puts (stop (first (c .before .before .before .before .before .before .before .before .before .before .before .put-map-head .ensures) (c .before .before .before .before .before .before .before .a .given .1)) (entry-puts (c .before .before .before .before .before .before .before .before .before .before .before .before .before .before .before .before .before .before .before .before .before .before .before .pre .converts) (c .before .before .before .before .before .before .before .before .before .before .before .before .before .before .before .types-of .result) (c .before .before .before .before .before .before .before .before .before .before .before .before .before .before .form-of .result) (c .before .before .before .before .before .before .before .before .before .before .before .before .before .before .before .types-of .ensures) (c .before .before .before .before .before .before .before .before .before .before .before .before .before .before .form-of .ensures .0) (c .before .before .before .before .before .before .before .before .before .before .before .before .before .kind-of-line .result) _ (now (c .before .before .before .before .before .before .before .before .before .before .before .before .before .before .before .before .before .before .before .before .before .before .before .args .key)) _ _ (c .before .before .before .before .before .before .before .before .before .before .before .before .before .kind-of-line .ensures) (c .before .before .before .before .put-map-line .ensures)) (c .enum-told2 .given .1))
+same-length-2 c =
+    let args = c .before .before .before .before .before .before .before .before .before .before .before .before .before .before .before .before .before .before .before .before .before .before .before .args in
+    let pre = c .before .before .before .before .before .before .before .before .before .before .before .before .before .before .before .before .before .before .before .before .before .before .before .pre in
+    let types-of = c .before .before .before .before .before .before .before .before .before .before .before .before .before .before .before .types-of in
+    let form-of = c .before .before .before .before .before .before .before .before .before .before .before .before .before .before .form-of in
+    let kind-of-line = c .before .before .before .before .before .before .before .before .before .before .before .before .before .kind-of-line in
+    let put-map-head = c .before .before .before .before .before .before .before .before .before .before .before .put-map-head in
+    let a = c .before .before .before .before .before .before .before .a in
+    let put-map-line = c .before .before .before .before .put-map-line in
+    length-puts
+    (stop (first (put-map-head .ensures) (a .given .1))
+    (entry-puts (pre .converts) (types-of .result) (form-of .result) (types-of .ensures) (form-of .ensures .0) (kind-of-line .result) _
+    (now (args .key)) _ _ (kind-of-line .ensures) (put-map-line .ensures))
+    (c .enum-told2 .given .1))
 
 returns-2 : tie.Need-returns-2
-returns-2 c = λ e x. puts-as (piece-is (mapAt (c .before .before .before .before .before .before .before .before .before .before .before .before .before .before .before .before .before .before .before .before .before .before .before .args .i)) (c .before .before .before .before .before .before .before .before .before .before .before .before .before .before .before .before .before .before .before .before .before .before .before .args .begun) (now (c .before .before .before .before .before .before .before .before .before .before .before .before .before .before .before .before .before .before .before .before .before .before .before .args .key)) e) (stop (first (c .before .before .before .before .before .before .before .before .before .before .before .put-map-head .ensures) (c .before .before .before .before .before .before .before .a .given .1)) (entry-puts x (c .before .before .before .before .before .before .before .before .before .before .before .before .before .before .before .types-of .result) (c .before .before .before .before .before .before .before .before .before .before .before .before .before .before .form-of .result) (c .before .before .before .before .before .before .before .before .before .before .before .before .before .before .before .types-of .ensures) (c .before .before .before .before .before .before .before .before .before .before .before .before .before .before .form-of .ensures .0) (c .before .before .before .before .before .before .before .before .before .before .before .before .before .kind-of-line .result) _ (now (c .before .before .before .before .before .before .before .before .before .before .before .before .before .before .before .before .before .before .before .before .before .before .before .args .key)) _ _ (c .before .before .before .before .before .before .before .before .before .before .before .before .before .kind-of-line .ensures) (c .before .before .before .before .put-map-line .ensures)) (c .enum-told2 .given .1))
+returns-2 c =
+    let args = c .before .before .before .before .before .before .before .before .before .before .before .before .before .before .before .before .before .before .before .before .before .before .before .args in
+    let types-of = c .before .before .before .before .before .before .before .before .before .before .before .before .before .before .before .types-of in
+    let form-of = c .before .before .before .before .before .before .before .before .before .before .before .before .before .before .form-of in
+    let kind-of-line = c .before .before .before .before .before .before .before .before .before .before .before .before .before .kind-of-line in
+    let put-map-head = c .before .before .before .before .before .before .before .before .before .before .before .put-map-head in
+    let a = c .before .before .before .before .before .before .before .a in
+    let put-map-line = c .before .before .before .before .put-map-line in
+    λ e x. puts-as (piece-is (mapAt (args .i)) (args .begun) (now (args .key)) e)
+    (stop (first (put-map-head .ensures) (a .given .1))
+    (entry-puts x (types-of .result) (form-of .result) (types-of .ensures) (form-of .ensures .0) (kind-of-line .result) _
+    (now (args .key)) _ _ (kind-of-line .ensures) (put-map-line .ensures))
+    (c .enum-told2 .given .1))
 
 add-ab : tie.Need-add-ab
-add-ab c = record { fits = lt-of-le-of-lt (next (first (c .before .before .before .before .before .before .before .before .before .before .before .before .put-map-head .ensures) (c .before .before .before .before .before .before .before .before .a .given .1)) (entry-puts (c .before .before .before .before .before .before .before .before .before .before .before .before .before .before .before .before .before .before .before .before .before .before .before .before .pre .converts) (c .before .before .before .before .before .before .before .before .before .before .before .before .before .before .before .before .types-of .result) (c .before .before .before .before .before .before .before .before .before .before .before .before .before .before .before .form-of .result) (c .before .before .before .before .before .before .before .before .before .before .before .before .before .before .before .before .types-of .ensures) (c .before .before .before .before .before .before .before .before .before .before .before .before .before .before .before .form-of .ensures .0) (c .before .before .before .before .before .before .before .before .before .before .before .before .before .before .kind-of-line .result) _ (now (c .before .before .before .before .before .before .before .before .before .before .before .before .before .before .before .before .before .before .before .before .before .before .before .before .args .key)) _ _ (c .before .before .before .before .before .before .before .before .before .before .before .before .before .before .kind-of-line .ensures) (c .before .before .before .before .before .put-map-line .ensures)) (c .before .b .given .1) .fits) (c .before .before .before .before .before .before .before .before .before .before .before .before .before .before .before .before .before .before .before .before .before .before .before .before .good .0 .0) }
+add-ab c =
+    let args = c .before .before .before .before .before .before .before .before .before .before .before .before .before .before .before .before .before .before .before .before .before .before .before .before .args in
+    let pre = c .before .before .before .before .before .before .before .before .before .before .before .before .before .before .before .before .before .before .before .before .before .before .before .before .pre in
+    let good = c .before .before .before .before .before .before .before .before .before .before .before .before .before .before .before .before .before .before .before .before .before .before .before .before .good in
+    let types-of = c .before .before .before .before .before .before .before .before .before .before .before .before .before .before .before .before .types-of in
+    let form-of = c .before .before .before .before .before .before .before .before .before .before .before .before .before .before .before .form-of in
+    let kind-of-line = c .before .before .before .before .before .before .before .before .before .before .before .before .before .before .kind-of-line in
+    let put-map-head = c .before .before .before .before .before .before .before .before .before .before .before .before .put-map-head in
+    let a = c .before .before .before .before .before .before .before .before .a in
+    let put-map-line = c .before .before .before .before .before .put-map-line in
+    record {
+      fits = lt-of-le-of-lt
+          (next (first (put-map-head .ensures) (a .given .1))
+          (entry-puts (pre .converts) (types-of .result) (form-of .result) (types-of .ensures) (form-of .ensures .0)
+          (kind-of-line .result) _ (now (args .key)) _ _ (kind-of-line .ensures) (put-map-line .ensures))
+          (c .before .b .given .1) .fits)
+          (good .0 .0);
+    }
 
 same-length-3 : tie.Need-same-length-3
-same-length-3 c = next (first (c .before .before .before .before .before .before .before .before .before .before .before .before .put-map-head .ensures) (c .before .before .before .before .before .before .before .before .a .given .1)) (entry-puts (c .before .before .before .before .before .before .before .before .before .before .before .before .before .before .before .before .before .before .before .before .before .before .before .before .pre .converts) (c .before .before .before .before .before .before .before .before .before .before .before .before .before .before .before .before .types-of .result) (c .before .before .before .before .before .before .before .before .before .before .before .before .before .before .before .form-of .result) (c .before .before .before .before .before .before .before .before .before .before .before .before .before .before .before .before .types-of .ensures) (c .before .before .before .before .before .before .before .before .before .before .before .before .before .before .before .form-of .ensures .0) (c .before .before .before .before .before .before .before .before .before .before .before .before .before .before .kind-of-line .result) _ (now (c .before .before .before .before .before .before .before .before .before .before .before .before .before .before .before .before .before .before .before .before .before .before .before .before .args .key)) _ _ (c .before .before .before .before .before .before .before .before .before .before .before .before .before .before .kind-of-line .ensures) (c .before .before .before .before .before .put-map-line .ensures)) (c .before .b .given .1) .same
+same-length-3 c =
+    let args = c .before .before .before .before .before .before .before .before .before .before .before .before .before .before .before .before .before .before .before .before .before .before .before .before .args in
+    let pre = c .before .before .before .before .before .before .before .before .before .before .before .before .before .before .before .before .before .before .before .before .before .before .before .before .pre in
+    let types-of = c .before .before .before .before .before .before .before .before .before .before .before .before .before .before .before .before .types-of in
+    let form-of = c .before .before .before .before .before .before .before .before .before .before .before .before .before .before .before .form-of in
+    let kind-of-line = c .before .before .before .before .before .before .before .before .before .before .before .before .before .before .kind-of-line in
+    let put-map-head = c .before .before .before .before .before .before .before .before .before .before .before .before .put-map-head in
+    let a = c .before .before .before .before .before .before .before .before .a in
+    let put-map-line = c .before .before .before .before .before .put-map-line in
+    next (first (put-map-head .ensures) (a .given .1))
+    (entry-puts (pre .converts) (types-of .result) (form-of .result) (types-of .ensures) (form-of .ensures .0) (kind-of-line .result) _
+    (now (args .key)) _ _ (kind-of-line .ensures) (put-map-line .ensures))
+    (c .before .b .given .1) .same
 
 returns-3 : tie.Need-returns-3
-returns-3 c = λ e x. puts-as (piece-is (mapAt (c .before .before .before .before .before .before .before .before .before .before .before .before .before .before .before .before .before .before .before .before .before .before .before .before .args .i)) (c .before .before .before .before .before .before .before .before .before .before .before .before .before .before .before .before .before .before .before .before .before .before .before .before .args .begun) (now (c .before .before .before .before .before .before .before .before .before .before .before .before .before .before .before .before .before .before .before .before .before .before .before .before .args .key)) e) (done (next (first (c .before .before .before .before .before .before .before .before .before .before .before .before .put-map-head .ensures) (c .before .before .before .before .before .before .before .before .a .given .1)) (entry-puts x (c .before .before .before .before .before .before .before .before .before .before .before .before .before .before .before .before .types-of .result) (c .before .before .before .before .before .before .before .before .before .before .before .before .before .before .before .form-of .result) (c .before .before .before .before .before .before .before .before .before .before .before .before .before .before .before .before .types-of .ensures) (c .before .before .before .before .before .before .before .before .before .before .before .before .before .before .before .form-of .ensures .0) (c .before .before .before .before .before .before .before .before .before .before .before .before .before .before .kind-of-line .result) _ (now (c .before .before .before .before .before .before .before .before .before .before .before .before .before .before .before .before .before .before .before .before .before .before .before .before .args .key)) _ _ (c .before .before .before .before .before .before .before .before .before .before .before .before .before .before .kind-of-line .ensures) (c .before .before .before .before .before .put-map-line .ensures)) (c .before .b .given .1)))
+returns-3 c =
+    let args = c .before .before .before .before .before .before .before .before .before .before .before .before .before .before .before .before .before .before .before .before .before .before .before .before .args in
+    let types-of = c .before .before .before .before .before .before .before .before .before .before .before .before .before .before .before .before .types-of in
+    let form-of = c .before .before .before .before .before .before .before .before .before .before .before .before .before .before .before .form-of in
+    let kind-of-line = c .before .before .before .before .before .before .before .before .before .before .before .before .before .before .kind-of-line in
+    let put-map-head = c .before .before .before .before .before .before .before .before .before .before .before .before .put-map-head in
+    let a = c .before .before .before .before .before .before .before .before .a in
+    let put-map-line = c .before .before .before .before .before .put-map-line in
+    λ e x. puts-as (piece-is (mapAt (args .i)) (args .begun) (now (args .key)) e)
+    (done
+    (next (first (put-map-head .ensures) (a .given .1))
+    (entry-puts x (types-of .result) (form-of .result) (types-of .ensures) (form-of .ensures .0) (kind-of-line .result) _
+    (now (args .key)) _ _ (kind-of-line .ensures) (put-map-line .ensures))
+    (c .before .b .given .1)))
 
 pub put-keyed-spec : {M : Type 1} → statement M
 put-keyed-spec =

@@ -45,7 +45,12 @@ same-length : tie.Need-same-length
 same-length c = search needs
 
 returns-2 : tie.Need-returns-2
-returns-2 c = λ e x. piece-as (mapAt (c .before .before .before .before .before .before .before .before .before .before .before .before .before .before .before .before .before .before .before .args .i)) (c .before .before .before .before .before .before .before .before .before .before .before .before .before .before .before .before .before .before .before .args .begun) e (sym (put-front _ _ _ _ _ (c .before .before .before .before .before .before .before .before .before .before .put-key .ensures) (c .before .before .before .before .before .before .before .k .given .1))) (c .before .before .put-keyed .ensures e x)
+returns-2 c =
+    let args = c .before .before .before .before .before .before .before .before .before .before .before .before .before .before .before .before .before .before .before .args in
+    let put-key = c .before .before .before .before .before .before .before .before .before .before .put-key in
+    let k = c .before .before .before .before .before .before .before .k in
+    λ e x. piece-as (mapAt (args .i)) (args .begun) e (sym (put-front _ _ _ _ _ (put-key .ensures) (k .given .1)))
+    (c .before .before .put-keyed .ensures e x)
 
 pub put-made-spec : {M : Type 1} → statement M
 put-made-spec =

@@ -27,7 +27,11 @@ enum-told : tie.Need-enum-told
 enum-told c = c .match .keys2
 
 returns : tie.Need-returns
-returns c = λ cs h. never-full _ _ _ _ (c .before .before .before .put-prefix .ensures) (c .enum-told .given .1) (prefix-fits (c .before .before .before .before .before .before .before .before .before .before .args .i) (c .before .before .before .before .before .before .before .before .before .before .pre .2))
+returns c =
+    let pre = c .before .before .before .before .before .before .before .before .before .before .pre in
+    let args = c .before .before .before .before .before .before .before .before .before .before .args in
+    let put-prefix = c .before .before .before .put-prefix in
+    λ cs h. never-full _ _ _ _ (put-prefix .ensures) (c .enum-told .given .1) (prefix-fits (args .i) (pre .2))
 
 slice-aggregate-mark-ids : tie.Need-slice-aggregate-mark-ids
 slice-aggregate-mark-ids c = search needs
@@ -42,22 +46,35 @@ part-mark-ids-end : tie.Need-part-mark-ids-end
 part-mark-ids-end c = omega (arith, fits-front _ _ _ _ _ (c .before .before .before .before .before .before .before .put-prefix .ensures) (c .before .before .before .before .p .given .1))
 
 mark-ids-requires : tie.Need-mark-ids-requires
-mark-ids-requires c κs = (unmarked, c .before .before .before .before .before .before .before .before .before .before .before .before .before .before .before .pre .0, c .before .before .before .before .before .before .before .before .before .before .before .before .before .before .before .pre .1, omega (arith, c .before .before .before .before .before .before .before .before .before .before .before .before .before .before .before .pre .2))
+mark-ids-requires c κs =
+    let pre = c .before .before .before .before .before .before .before .before .before .before .before .before .before .before .before .pre in
+    (unmarked, pre .0, pre .1, omega (arith, pre .2))
 
 sub-put-entries : tie.Need-sub-put-entries
 sub-put-entries c = omega (arith, fits-front _ _ _ _ _ (c .before .before .before .before .before .before .before .before .before .before .before .before .before .before .put-prefix .ensures) (c .before .before .before .before .before .before .before .before .before .before .before .p .given .1))
 
 part-put-entries-start : tie.Need-part-put-entries-start
-part-put-entries-start c = omega (arith, fits-front _ _ _ _ _ (c .before .before .before .before .before .before .before .before .before .before .before .before .before .before .before .put-prefix .ensures) (c .before .before .before .before .before .before .before .before .before .before .before .before .p .given .1))
+part-put-entries-start c =
+    let put-prefix = c .before .before .before .before .before .before .before .before .before .before .before .before .before .before .before .put-prefix in
+    let p = c .before .before .before .before .before .before .before .before .before .before .before .before .p in
+    omega (arith, fits-front _ _ _ _ _ (put-prefix .ensures) (p .given .1))
 
 part-put-entries-end : tie.Need-part-put-entries-end
-part-put-entries-end c = omega (arith, fits-front _ _ _ _ _ (c .before .before .before .before .before .before .before .before .before .before .before .before .before .before .before .put-prefix .ensures) (c .before .before .before .before .before .before .before .before .before .before .before .before .p .given .1))
+part-put-entries-end c =
+    let put-prefix = c .before .before .before .before .before .before .before .before .before .before .before .before .before .before .before .put-prefix in
+    let p = c .before .before .before .before .before .before .before .before .before .before .before .before .p in
+    omega (arith, fits-front _ _ _ _ _ (put-prefix .ensures) (p .given .1))
 
 slice-aggregate-put-entries : tie.Need-slice-aggregate-put-entries
 slice-aggregate-put-entries c = search needs
 
 put-entries-requires : tie.Need-put-entries-requires
-put-entries-requires c κs = (search needs, record { lines = c .before .before .before .before .before .before .before .before .before .before .before .before .before .before .before .before .before .before .before .before .before .before .before .before .pre .1; small = c .before .before .before .before .before .before .before .before .before .before .before .before .before .before .before .before .before .before .before .before .before .before .before .before .pre .2; is = (put-front _ _ _ _ _ (c .before .before .before .before .before .before .before .before .before .before .before .before .before .before .before .before .before .put-prefix .ensures) (c .before .before .before .before .before .before .before .before .before .before .before .before .before .before .p .given .1)); ids = c .before .before .before .before .before .before .before .before .mark-ids .ensures })
+put-entries-requires c κs =
+    let pre = c .before .before .before .before .before .before .before .before .before .before .before .before .before .before .before .before .before .before .before .before .before .before .before .before .pre in
+    let put-prefix = c .before .before .before .before .before .before .before .before .before .before .before .before .before .before .before .before .before .put-prefix in
+    let p = c .before .before .before .before .before .before .before .before .before .before .before .before .before .before .p in
+    let mark-ids = c .before .before .before .before .before .before .before .before .mark-ids in
+    (search needs, record { lines = pre .1; small = pre .2; is = (put-front _ _ _ _ _ (put-prefix .ensures) (p .given .1)); ids = mark-ids .ensures })
 
 same-length : tie.Need-same-length
 same-length c = search needs

@@ -35,7 +35,11 @@ same-length-2 c = search needs
 
 -- src/lib.rt:27:9
 returns-2 : tie.Need-returns-2
-returns-2 c = puts-as (head-at (c .before .before .before .before .before .before .before .before .args .i) 0 (c .before .before .before .before .before .before .before .before .args .begun) (c .before .before .before .before .before .before .if1 .left) (c .before .before .before .before .before .if2 .taken) nicknames) (c .before .before .put-text .ensures)
+returns-2 c =
+    let args = c .before .before .before .before .before .before .before .before .args in
+    let if1 = c .before .before .before .before .before .before .if1 in
+    let if2 = c .before .before .before .before .before .if2 in
+    puts-as (head-at (args .i) 0 (args .begun) (if1 .left) (if2 .taken) nicknames) (c .before .before .put-text .ensures)
 
 -- src/lib.rt:30:30
 slice-aggregate-put-text-2 : tie.Need-slice-aggregate-put-text-2
@@ -51,7 +55,11 @@ same-length-3 c = search needs
 
 -- src/lib.rt:30:9
 returns-3 : tie.Need-returns-3
-returns-3 c = puts-as (head-at (c .before .before .before .before .before .before .before .before .before .args .i) 1 (c .before .before .before .before .before .before .before .before .before .args .begun) (c .before .before .before .before .before .before .before .if1 .left) (c .before .before .before .before .before .if3 .taken) emails) (c .before .before .put-text2 .ensures)
+returns-3 c =
+    let args = c .before .before .before .before .before .before .before .before .before .args in
+    let if1 = c .before .before .before .before .before .before .before .if1 in
+    let if3 = c .before .before .before .before .before .if3 in
+    puts-as (head-at (args .i) 1 (args .begun) (if1 .left) (if3 .taken) emails) (c .before .before .put-text2 .ensures)
 
 -- src/lib.rt:33:30
 slice-aggregate-put-text-3 : tie.Need-slice-aggregate-put-text-3
@@ -67,7 +75,11 @@ same-length-4 c = search needs
 
 -- src/lib.rt:33:9
 returns-4 : tie.Need-returns-4
-returns-4 c = puts-as (head-at (c .before .before .before .before .before .before .before .before .before .before .args .i) 2 (c .before .before .before .before .before .before .before .before .before .before .args .begun) (c .before .before .before .before .before .before .before .before .if1 .left) (c .before .before .before .before .before .if4 .taken) phones) (c .before .before .put-text3 .ensures)
+returns-4 c =
+    let args = c .before .before .before .before .before .before .before .before .before .before .args in
+    let if1 = c .before .before .before .before .before .before .before .before .if1 in
+    let if4 = c .before .before .before .before .before .if4 in
+    puts-as (head-at (args .i) 2 (args .begun) (if1 .left) (if4 .taken) phones) (c .before .before .put-text3 .ensures)
 
 -- src/lib.rt:36:30
 slice-aggregate-put-text-4 : tie.Need-slice-aggregate-put-text-4
@@ -83,7 +95,11 @@ same-length-5 c = search needs
 
 -- src/lib.rt:36:9
 returns-5 : tie.Need-returns-5
-returns-5 c = puts-as (head-at (c .before .before .before .before .before .before .before .before .before .before .before .args .i) 3 (c .before .before .before .before .before .before .before .before .before .before .before .args .begun) (c .before .before .before .before .before .before .before .before .before .if1 .left) (c .before .before .before .before .before .if5 .taken) links) (c .before .before .put-text4 .ensures)
+returns-5 c =
+    let args = c .before .before .before .before .before .before .before .before .before .before .before .args in
+    let if1 = c .before .before .before .before .before .before .before .before .before .if1 in
+    let if5 = c .before .before .before .before .before .if5 in
+    puts-as (head-at (args .i) 3 (args .begun) (if1 .left) (if5 .taken) links) (c .before .before .put-text4 .ensures)
 
 -- src/lib.rt:39:30
 slice-aggregate-put-text-5 : tie.Need-slice-aggregate-put-text-5
@@ -99,7 +115,11 @@ same-length-6 c = search needs
 
 -- src/lib.rt:39:9
 returns-6 : tie.Need-returns-6
-returns-6 c = puts-as (head-at (c .before .before .before .before .before .before .before .before .before .before .before .before .args .i) 4 (c .before .before .before .before .before .before .before .before .before .before .before .before .args .begun) (c .before .before .before .before .before .before .before .before .before .before .if1 .left) (c .before .before .before .before .before .if6 .taken) notes) (c .before .before .put-text5 .ensures)
+returns-6 c =
+    let args = c .before .before .before .before .before .before .before .before .before .before .before .before .args in
+    let if1 = c .before .before .before .before .before .before .before .before .before .before .if1 in
+    let if6 = c .before .before .before .before .before .if6 in
+    puts-as (head-at (args .i) 4 (args .begun) (if1 .left) (if6 .taken) notes) (c .before .before .put-text5 .ensures)
 
 -- src/lib.rt:42:30
 slice-aggregate-put-text-6 : tie.Need-slice-aggregate-put-text-6
@@ -115,7 +135,11 @@ same-length-7 c = search needs
 
 -- src/lib.rt:42:9
 returns-7 : tie.Need-returns-7
-returns-7 c = puts-as (head-at (c .before .before .before .before .before .before .before .before .before .before .before .before .before .args .i) 5 (c .before .before .before .before .before .before .before .before .before .before .before .before .before .args .begun) (c .before .before .before .before .before .before .before .before .before .before .before .if1 .left) (c .before .before .before .before .before .if7 .taken) titles) (c .before .before .put-text6 .ensures)
+returns-7 c =
+    let args = c .before .before .before .before .before .before .before .before .before .before .before .before .before .args in
+    let if1 = c .before .before .before .before .before .before .before .before .before .before .before .if1 in
+    let if7 = c .before .before .before .before .before .if7 in
+    puts-as (head-at (args .i) 5 (args .begun) (if1 .left) (if7 .taken) titles) (c .before .before .put-text6 .ensures)
 
 -- src/lib.rt:45:30
 slice-aggregate-put-text-7 : tie.Need-slice-aggregate-put-text-7
@@ -131,7 +155,11 @@ same-length-8 c = search needs
 
 -- src/lib.rt:45:9
 returns-8 : tie.Need-returns-8
-returns-8 c = puts-as (head-at (c .before .before .before .before .before .before .before .before .before .before .before .before .before .before .args .i) 6 (c .before .before .before .before .before .before .before .before .before .before .before .before .before .before .args .begun) (c .before .before .before .before .before .before .before .before .before .before .before .before .if1 .left) (c .before .before .before .before .before .if8 .taken) organizations) (c .before .before .put-text7 .ensures)
+returns-8 c =
+    let args = c .before .before .before .before .before .before .before .before .before .before .before .before .before .before .args in
+    let if1 = c .before .before .before .before .before .before .before .before .before .before .before .before .if1 in
+    let if8 = c .before .before .before .before .before .if8 in
+    puts-as (head-at (args .i) 6 (args .begun) (if1 .left) (if8 .taken) organizations) (c .before .before .put-text7 .ensures)
 
 -- src/lib.rt:47:19
 slice-aggregate-put-text-8 : tie.Need-slice-aggregate-put-text-8
@@ -147,7 +175,18 @@ same-length-9 c = search needs
 
 -- src/lib.rt:20:1
 returns-9 : tie.Need-returns-9
-returns-9 c = puts-as (head-none (c .before .before .before .before .before .before .before .before .before .before .before .before .before .before .args .i) (c .before .before .before .before .before .before .before .before .before .before .before .before .before .before .args .begun) (c .before .before .before .before .before .before .before .before .before .before .before .before .if1 .left) (c .before .before .before .before .before .before .before .before .before .before .before .if2 .left) (c .before .before .before .before .before .before .before .before .before .before .if3 .left) (c .before .before .before .before .before .before .before .before .before .if4 .left) (c .before .before .before .before .before .before .before .before .if5 .left) (c .before .before .before .before .before .before .before .if6 .left) (c .before .before .before .before .before .before .if7 .left) (c .before .before .before .before .before .if8 .left)) (c .before .before .put-text8 .ensures)
+returns-9 c =
+    let args = c .before .before .before .before .before .before .before .before .before .before .before .before .before .before .args in
+    let if1 = c .before .before .before .before .before .before .before .before .before .before .before .before .if1 in
+    let if2 = c .before .before .before .before .before .before .before .before .before .before .before .if2 in
+    let if3 = c .before .before .before .before .before .before .before .before .before .before .if3 in
+    let if4 = c .before .before .before .before .before .before .before .before .before .if4 in
+    let if5 = c .before .before .before .before .before .before .before .before .if5 in
+    let if6 = c .before .before .before .before .before .before .before .if6 in
+    let if7 = c .before .before .before .before .before .before .if7 in
+    let if8 = c .before .before .before .before .before .if8 in
+    puts-as (head-none (args .i) (args .begun) (if1 .left) (if2 .left) (if3 .left) (if4 .left) (if5 .left) (if6 .left) (if7 .left) (if8 .left))
+    (c .before .before .put-text8 .ensures)
 
 pub put-map-head-spec : {M : Type 1} → statement M
 put-map-head-spec =

@@ -46,16 +46,36 @@ enum-told : tie.Need-enum-told Inv-loop μ-loop
 enum-told c = c .match .keys2
 
 same-length : tie.Need-same-length Inv-loop μ-loop
-same-length c = length-puts (rest-stop _ (rest-as (maps-step (c .before .before .before .before .before .before .before .before .before .before .loop .i) (c .before .before .before .before .before .before .before .before .before .before .before .before .before .before .before .before .pre .1 .0) (c .before .before .before .before .before .before .before .before .before .loop-test .taken)) (c .before .before .before .before .before .before .before .before .before .before .loop .inv .2 (c .before .before .before .before .before .before .before .before .before .before .before .before .before .before .before .before .pre .1 .0) (c .before .before .before .before .before .before .before .before .before .before .before .before .before .before .before .before .pre .1 .1))) (c .before .before .before .before .before .before .put-map .ensures (c .before .before .before .before .before .before .before .before .before .before .before .before .before .before .before .before .pre .1 .0) (c .before .before .before .before .before .before .before .before .before .before .before .before .before .before .before .before .pre .1 .1)) (c .enum-told .given .1))
+same-length c =
+    let pre = c .before .before .before .before .before .before .before .before .before .before .before .before .before .before .before .before .pre in
+    let loop = c .before .before .before .before .before .before .before .before .before .before .loop in
+    let loop-test = c .before .before .before .before .before .before .before .before .before .loop-test in
+    let put-map = c .before .before .before .before .before .before .put-map in
+    length-puts
+    (rest-stop _ (rest-as (maps-step (loop .i) (pre .1 .0) (loop-test .taken)) (loop .inv .2 (pre .1 .0) (pre .1 .1)))
+    (put-map .ensures (pre .1 .0) (pre .1 .1)) (c .enum-told .given .1))
 
 same-length-2 : tie.Need-same-length-2 Inv-loop μ-loop
 same-length-2 c = search needs
 
 returns : tie.Need-returns Inv-loop μ-loop
-returns c = λ cs h. rest-stop _ (rest-as (maps-step (c .before .before .before .before .before .before .before .before .before .before .loop .i) cs (c .before .before .before .before .before .before .before .before .before .loop-test .taken)) (c .before .before .before .before .before .before .before .before .before .before .loop .inv .2 cs h)) (c .before .before .before .before .before .before .put-map .ensures cs h) (c .enum-told .given .1)
+returns c =
+    let loop = c .before .before .before .before .before .before .before .before .before .before .loop in
+    let loop-test = c .before .before .before .before .before .before .before .before .before .loop-test in
+    let put-map = c .before .before .before .before .before .before .put-map in
+    λ cs h. rest-stop _ (rest-as (maps-step (loop .i) cs (loop-test .taken)) (loop .inv .2 cs h)) (put-map .ensures cs h) (c .enum-told .given .1)
 
 add-at : tie.Need-add-at Inv-loop μ-loop
-add-at c = rest-fit (rest-next _ (rest-as (maps-step (c .before .before .before .before .before .before .before .before .before .before .before .loop .i) (c .before .before .before .before .before .before .before .before .before .before .before .before .before .before .before .before .before .pre .1 .0) (c .before .before .before .before .before .before .before .before .before .before .loop-test .taken)) (c .before .before .before .before .before .before .before .before .before .before .before .loop .inv .2 (c .before .before .before .before .before .before .before .before .before .before .before .before .before .before .before .before .before .pre .1 .0) (c .before .before .before .before .before .before .before .before .before .before .before .before .before .before .before .before .before .pre .1 .1))) (c .before .before .before .before .before .before .before .put-map .ensures (c .before .before .before .before .before .before .before .before .before .before .before .before .before .before .before .before .before .pre .1 .0) (c .before .before .before .before .before .before .before .before .before .before .before .before .before .before .before .before .before .pre .1 .1)) (c .before .m .given .1)) (c .before .before .before .before .before .before .before .before .before .before .before .before .before .before .before .before .before .good .0 .0)
+add-at c =
+    let pre = c .before .before .before .before .before .before .before .before .before .before .before .before .before .before .before .before .before .pre in
+    let good = c .before .before .before .before .before .before .before .before .before .before .before .before .before .before .before .before .before .good in
+    let loop = c .before .before .before .before .before .before .before .before .before .before .before .loop in
+    let loop-test = c .before .before .before .before .before .before .before .before .before .before .loop-test in
+    let put-map = c .before .before .before .before .before .before .before .put-map in
+    rest-fit
+    (rest-next _ (rest-as (maps-step (loop .i) (pre .1 .0) (loop-test .taken)) (loop .inv .2 (pre .1 .0) (pre .1 .1)))
+    (put-map .ensures (pre .1 .0) (pre .1 .1)) (c .before .m .given .1))
+    (good .0 .0)
 
 add-i : tie.Need-add-i Inv-loop μ-loop
 add-i c = search needs
@@ -64,7 +84,14 @@ loop-less : tie.Need-loop-less Inv-loop μ-loop
 loop-less c = omega arith
 
 loop-again : tie.Need-loop-again Inv-loop μ-loop
-loop-again c = (omega arith, search needs, λ cs h. rest-next _ (rest-as (maps-step (c .before .before .before .before .before .before .before .before .before .before .before .loop .i) cs (c .before .before .before .before .before .before .before .before .before .before .loop-test .taken)) (c .before .before .before .before .before .before .before .before .before .before .before .loop .inv .2 cs h)) (c .before .before .before .before .before .before .before .put-map .ensures cs h) (c .before .m .given .1))
+loop-again c =
+    let loop = c .before .before .before .before .before .before .before .before .before .before .before .loop in
+    let loop-test = c .before .before .before .before .before .before .before .before .before .before .loop-test in
+    let put-map = c .before .before .before .before .before .before .before .put-map in (
+      omega arith,
+      search needs,
+      λ cs h. rest-next _ (rest-as (maps-step (loop .i) cs (loop-test .taken)) (loop .inv .2 cs h)) (put-map .ensures cs h) (c .before .m .given .1),
+    )
 
 same-length-3 : tie.Need-same-length-3 Inv-loop μ-loop
 same-length-3 c = rest-same (c .before .loop .inv .2 (c .before .before .before .before .before .before .before .pre .1 .0) (c .before .before .before .before .before .before .before .pre .1 .1))

@@ -121,7 +121,15 @@ returns-7 c = puts-as (prefix-at (c .before .before .before .before .before .bef
 
 -- src/lib.rt:51:1
 returns-8 : tie.Need-returns-8
-returns-8 c = puts-as (prefix-none (c .before .before .before .before .before .before .before .before .args .i) (c .before .before .before .before .before .before .if1 .left) (c .before .before .before .before .before .if2 .left) (c .before .before .before .before .if3 .left) (c .before .before .before .if4 .left) (c .before .before .if5 .left) (c .before .if6 .left) (c .if7 .left)) (done (start _))
+returns-8 c =
+    let args = c .before .before .before .before .before .before .before .before .args in
+    let if1 = c .before .before .before .before .before .before .if1 in
+    let if2 = c .before .before .before .before .before .if2 in
+    let if3 = c .before .before .before .before .if3 in
+    let if4 = c .before .before .before .if4 in
+    puts-as
+    (prefix-none (args .i) (if1 .left) (if2 .left) (if3 .left) (if4 .left) (c .before .before .if5 .left) (c .before .if6 .left) (c .if7 .left))
+    (done (start _))
 
 pub put-prefix-spec : {M : Type 1} → statement M
 put-prefix-spec =

@@ -49,7 +49,13 @@ next-number-requires : tie.Need-next-number-requires
 next-number-requires c κs = tt
 
 add-next : tie.Need-add-next
-add-next c = omega (arith, (made-low ((c .before .before .before .before .before .before .before .before .before .before .before .before .before .before .before .before .before .before .before .before .pre .1 .turning) .going) ((c .before .before .before .before .before .before .before .before .before .before .before .before .before .before .before .before .before .before .before .before .pre .1 .turning) .few) (c .next-number .ensures (now (c .before .before .before .before .before .before .before .before .before .before .before .before .before .before .before .before .before .before .before .before .args .prefix)) _ ((c .before .before .before .before .before .before .before .before .before .before .before .before .before .before .before .before .before .before .before .before .pre .1 .turning) .blocked) ((c .before .before .before .before .before .before .before .before .before .before .before .before .before .before .before .before .before .before .before .before .pre .1 .turning) .going .from))))
+add-next c =
+    let args = c .before .before .before .before .before .before .before .before .before .before .before .before .before .before .before .before .before .before .before .before .args in
+    let pre = c .before .before .before .before .before .before .before .before .before .before .before .before .before .before .before .before .before .before .before .before .pre in
+    omega (
+      arith,
+      (made-low ((pre .1 .turning) .going) ((pre .1 .turning) .few) (c .next-number .ensures (now (args .prefix)) _ ((pre .1 .turning) .blocked) ((pre .1 .turning) .going .from))),
+    )
 
 slice-aggregate-put-made : tie.Need-slice-aggregate-put-made
 slice-aggregate-put-made c = search needs
@@ -61,7 +67,16 @@ slice-aggregate-put-made-3 : tie.Need-slice-aggregate-put-made-3
 slice-aggregate-put-made-3 c = search needs
 
 put-made-requires : tie.Need-put-made-requires
-put-made-requires c κs = (record { rowed = record { wide = record { counts = search needs; froms = search needs; tos = search needs }; row = c .before .before .before .before .before .before .before .before .before .before .scan-rows .ensures; sound = (filled-holds (c .before .before .before .before .before .before .before .before .before .before .before .before .before .before .before .before .before .before .fill .result) (c .before .before .before .before .before .before .before .before .before .before .before .before .before .before .before .before .before .before .fill .ensures) (not-false _ (c .before .before .before .before .before .before .before .before .before .before .before .before .before .before .before .if1 .left))) .sound }; entry = c .before .before .before .before .before .before .before .before .before .before .before .before .before .before .before .before .before .before .before .before .before .before .before .before .before .pre .1 .entry; converts = held-converts (filled-holds (c .before .before .before .before .before .before .before .before .before .before .before .before .before .before .before .before .before .before .fill .result) (c .before .before .before .before .before .before .before .before .before .before .before .before .before .before .before .before .before .before .fill .ensures) (not-false _ (c .before .before .before .before .before .before .before .before .before .before .before .before .before .before .before .if1 .left))) ((c .before .before .before .before .before .before .before .before .before .before .before .before .before .before .before .before .before .before .before .before .before .before .before .before .before .pre .1 .turning) .enters) }, omega (arith, key-short (now (c .before .before .before .before .before .before .before .before .before .before .before .before .before .before .before .before .before .before .before .before .before .before .before .before .before .args .prefix)) (c .before .before .before .before .before .next-number .result) (made-low ((c .before .before .before .before .before .before .before .before .before .before .before .before .before .before .before .before .before .before .before .before .before .before .before .before .before .pre .1 .turning) .going) ((c .before .before .before .before .before .before .before .before .before .before .before .before .before .before .before .before .before .before .before .before .before .before .before .before .before .pre .1 .turning) .few) (c .before .before .before .before .before .next-number .ensures (now (c .before .before .before .before .before .before .before .before .before .before .before .before .before .before .before .before .before .before .before .before .before .before .before .before .before .args .prefix)) _ ((c .before .before .before .before .before .before .before .before .before .before .before .before .before .before .before .before .before .before .before .before .before .before .before .before .before .pre .1 .turning) .blocked) ((c .before .before .before .before .before .before .before .before .before .before .before .before .before .before .before .before .before .before .before .before .before .before .before .before .before .pre .1 .turning) .going .from))), c .before .before .before .before .before .before .before .before .before .before .before .before .before .before .before .before .before .before .before .before .before .before .before .before .before .pre .1 .short))
+put-made-requires c κs =
+    let args = c .before .before .before .before .before .before .before .before .before .before .before .before .before .before .before .before .before .before .before .before .before .before .before .before .before .args in
+    let pre = c .before .before .before .before .before .before .before .before .before .before .before .before .before .before .before .before .before .before .before .before .before .before .before .before .before .pre in
+    let fill = c .before .before .before .before .before .before .before .before .before .before .before .before .before .before .before .before .before .before .fill in
+    let if1 = c .before .before .before .before .before .before .before .before .before .before .before .before .before .before .before .if1 in
+    let scan-rows = c .before .before .before .before .before .before .before .before .before .before .scan-rows in
+    let next-number = c .before .before .before .before .before .next-number in (
+      record { rowed = record { wide = record { counts = search needs; froms = search needs; tos = search needs }; row = scan-rows .ensures; sound = (filled-holds (fill .result) (fill .ensures) (not-false _ (if1 .left))) .sound }; entry = pre .1 .entry; converts = held-converts (filled-holds (fill .result) (fill .ensures) (not-false _ (if1 .left))) ((pre .1 .turning) .enters) },
+      omega (arith, key-short (now (args .prefix)) (next-number .result) (made-low ((pre .1 .turning) .going) ((pre .1 .turning) .few) (next-number .ensures (now (args .prefix)) _ ((pre .1 .turning) .blocked) ((pre .1 .turning) .going .from))), pre .1 .short),
+    )
 
 enum-known-bytes : tie.Need-enum-known-bytes
 enum-known-bytes c = c .match .keys1
@@ -76,7 +91,18 @@ same-length-3 : tie.Need-same-length-3
 same-length-3 c = search needs
 
 returns-2 : tie.Need-returns-2
-returns-2 c = λ ids used e x. (piece-as (mapAt (c .before .before .before .before .before .before .before .before .before .before .before .before .before .before .before .before .before .before .before .before .before .before .before .before .before .before .before .before .before .before .args .i)) (c .before .before .before .before .before .before .before .before .before .before .before .before .before .before .before .before .before .before .before .before .before .before .before .before .before .before .before .before .before .before .args .begun) e (key-made x (c .before .before .before .before .before .before .before .before .before .before .next-number .ensures (now (c .before .before .before .before .before .before .before .before .before .before .before .before .before .before .before .before .before .before .before .before .before .before .before .before .before .before .before .before .before .before .args .prefix)) ids (x .blocked) (x .going .from)) (no-key (x .enters .seen) (x .enters .slot) (now (c .before .before .before .before .before .before .before .before .before .before .before .before .before .before .before .before .before .before .before .before .before .before .before .before .before .before .before .before .before .before .args .s)) (c .before .before .before .before .before .before .before .before .before .before .before .before .before .before .before .before .before .before .before .before .before .before .before .fill .last .0) (held-entry (filled-holds (c .before .before .before .before .before .before .before .before .before .before .before .before .before .before .before .before .before .before .before .before .before .before .before .fill .result) (c .before .before .before .before .before .before .before .before .before .before .before .before .before .before .before .before .before .before .before .before .before .before .before .fill .ensures) (not-false _ (c .before .before .before .before .before .before .before .before .before .before .before .before .before .before .before .before .before .before .before .before .if1 .left))) (x .enters)) (c .before .before .before .before .before .before .before .before .before .before .before .before .before .before .before .scan-rows .ensures) (c .before .before .before .before .before .before .before .before .before .before .before .if2 .taken))) (said-as (c .enum-told .given .1) (c .before .before .before .before .put-made .ensures e (held-converts (filled-holds (c .before .before .before .before .before .before .before .before .before .before .before .before .before .before .before .before .before .before .before .before .before .before .before .fill .result) (c .before .before .before .before .before .before .before .before .before .before .before .before .before .before .before .before .before .before .before .before .before .before .before .fill .ensures) (not-false _ (c .before .before .before .before .before .before .before .before .before .before .before .before .before .before .before .before .before .before .before .before .if1 .left))) (x .enters)))), tt)
+returns-2 c =
+    let args = c .before .before .before .before .before .before .before .before .before .before .before .before .before .before .before .before .before .before .before .before .before .before .before .before .before .before .before .before .before .before .args in
+    let fill = c .before .before .before .before .before .before .before .before .before .before .before .before .before .before .before .before .before .before .before .before .before .before .before .fill in
+    let if1 = c .before .before .before .before .before .before .before .before .before .before .before .before .before .before .before .before .before .before .before .before .if1 in
+    let scan-rows = c .before .before .before .before .before .before .before .before .before .before .before .before .before .before .before .scan-rows in
+    let if2 = c .before .before .before .before .before .before .before .before .before .before .before .if2 in
+    let next-number = c .before .before .before .before .before .before .before .before .before .before .next-number in
+    let put-made = c .before .before .before .before .put-made in
+    λ ids used e x. (
+      piece-as (mapAt (args .i)) (args .begun) e (key-made x (next-number .ensures (now (args .prefix)) ids (x .blocked) (x .going .from)) (no-key (x .enters .seen) (x .enters .slot) (now (args .s)) (fill .last .0) (held-entry (filled-holds (fill .result) (fill .ensures) (not-false _ (if1 .left))) (x .enters)) (scan-rows .ensures) (if2 .taken))) (said-as (c .enum-told .given .1) (put-made .ensures e (held-converts (filled-holds (fill .result) (fill .ensures) (not-false _ (if1 .left))) (x .enters)))),
+      tt,
+    )
 
 same-length-4 : tie.Need-same-length-4
 same-length-4 c = search needs
@@ -85,7 +111,18 @@ same-length-5 : tie.Need-same-length-5
 same-length-5 c = search needs
 
 returns-3 : tie.Need-returns-3
-returns-3 c = λ ids used e x. (piece-as (mapAt (c .before .before .before .before .before .before .before .before .before .before .before .before .before .before .before .before .before .before .before .before .before .before .before .before .before .before .before .before .before .before .before .args .i)) (c .before .before .before .before .before .before .before .before .before .before .before .before .before .before .before .before .before .before .before .before .before .before .before .before .before .before .before .before .before .before .before .args .begun) e (key-made x (c .before .before .before .before .before .before .before .before .before .before .before .next-number .ensures (now (c .before .before .before .before .before .before .before .before .before .before .before .before .before .before .before .before .before .before .before .before .before .before .before .before .before .before .before .before .before .before .before .args .prefix)) ids (x .blocked) (x .going .from)) (no-key (x .enters .seen) (x .enters .slot) (now (c .before .before .before .before .before .before .before .before .before .before .before .before .before .before .before .before .before .before .before .before .before .before .before .before .before .before .before .before .before .before .before .args .s)) (c .before .before .before .before .before .before .before .before .before .before .before .before .before .before .before .before .before .before .before .before .before .before .before .before .fill .last .0) (held-entry (filled-holds (c .before .before .before .before .before .before .before .before .before .before .before .before .before .before .before .before .before .before .before .before .before .before .before .before .fill .result) (c .before .before .before .before .before .before .before .before .before .before .before .before .before .before .before .before .before .before .before .before .before .before .before .before .fill .ensures) (not-false _ (c .before .before .before .before .before .before .before .before .before .before .before .before .before .before .before .before .before .before .before .before .before .if1 .left))) (x .enters)) (c .before .before .before .before .before .before .before .before .before .before .before .before .before .before .before .before .scan-rows .ensures) (c .before .before .before .before .before .before .before .before .before .before .before .before .if2 .taken))) (said-as (c .before .bytes .given .1) (c .before .before .before .before .before .put-made .ensures e (held-converts (filled-holds (c .before .before .before .before .before .before .before .before .before .before .before .before .before .before .before .before .before .before .before .before .before .before .before .before .fill .result) (c .before .before .before .before .before .before .before .before .before .before .before .before .before .before .before .before .before .before .before .before .before .before .before .before .fill .ensures) (not-false _ (c .before .before .before .before .before .before .before .before .before .before .before .before .before .before .before .before .before .before .before .before .before .if1 .left))) (x .enters)))), goes-made x (c .before .before .before .before .before .before .before .before .before .before .before .next-number .ensures (now (c .before .before .before .before .before .before .before .before .before .before .before .before .before .before .before .before .before .before .before .before .before .before .before .before .before .before .before .before .before .before .before .args .prefix)) ids (x .blocked) (x .going .from)) (no-key (x .enters .seen) (x .enters .slot) (now (c .before .before .before .before .before .before .before .before .before .before .before .before .before .before .before .before .before .before .before .before .before .before .before .before .before .before .before .before .before .before .before .args .s)) (c .before .before .before .before .before .before .before .before .before .before .before .before .before .before .before .before .before .before .before .before .before .before .before .before .fill .last .0) (held-entry (filled-holds (c .before .before .before .before .before .before .before .before .before .before .before .before .before .before .before .before .before .before .before .before .before .before .before .before .fill .result) (c .before .before .before .before .before .before .before .before .before .before .before .before .before .before .before .before .before .before .before .before .before .before .before .before .fill .ensures) (not-false _ (c .before .before .before .before .before .before .before .before .before .before .before .before .before .before .before .before .before .before .before .before .before .if1 .left))) (x .enters)) (c .before .before .before .before .before .before .before .before .before .before .before .before .before .before .before .before .scan-rows .ensures) (c .before .before .before .before .before .before .before .before .before .before .before .before .if2 .taken)))
+returns-3 c =
+    let args = c .before .before .before .before .before .before .before .before .before .before .before .before .before .before .before .before .before .before .before .before .before .before .before .before .before .before .before .before .before .before .before .args in
+    let fill = c .before .before .before .before .before .before .before .before .before .before .before .before .before .before .before .before .before .before .before .before .before .before .before .before .fill in
+    let if1 = c .before .before .before .before .before .before .before .before .before .before .before .before .before .before .before .before .before .before .before .before .before .if1 in
+    let scan-rows = c .before .before .before .before .before .before .before .before .before .before .before .before .before .before .before .before .scan-rows in
+    let if2 = c .before .before .before .before .before .before .before .before .before .before .before .before .if2 in
+    let next-number = c .before .before .before .before .before .before .before .before .before .before .before .next-number in
+    let put-made = c .before .before .before .before .before .put-made in
+    λ ids used e x. (
+      piece-as (mapAt (args .i)) (args .begun) e (key-made x (next-number .ensures (now (args .prefix)) ids (x .blocked) (x .going .from)) (no-key (x .enters .seen) (x .enters .slot) (now (args .s)) (fill .last .0) (held-entry (filled-holds (fill .result) (fill .ensures) (not-false _ (if1 .left))) (x .enters)) (scan-rows .ensures) (if2 .taken))) (said-as (c .before .bytes .given .1) (put-made .ensures e (held-converts (filled-holds (fill .result) (fill .ensures) (not-false _ (if1 .left))) (x .enters)))),
+      goes-made x (next-number .ensures (now (args .prefix)) ids (x .blocked) (x .going .from)) (no-key (x .enters .seen) (x .enters .slot) (now (args .s)) (fill .last .0) (held-entry (filled-holds (fill .result) (fill .ensures) (not-false _ (if1 .left))) (x .enters)) (scan-rows .ensures) (if2 .taken)),
+    )
 
 array-read-a : tie.Need-array-read-a
 array-read-a c = search needs
@@ -112,7 +149,22 @@ part-put-keyed-end : tie.Need-part-put-keyed-end
 part-put-keyed-end c = let v = first-id (c .before .before .before .before .before .before .before .before .before .scan-rows .ensures) (c .before .before .before .before .before .if2 .left) in omega (arith, v .ordered, v .within)
 
 put-keyed-requires : tie.Need-put-keyed-requires
-put-keyed-requires c κs = record { rowed = record { wide = record { counts = search needs; froms = search needs; tos = search needs }; row = c .before .before .before .before .before .before .before .before .before .before .scan-rows .ensures; sound = (filled-holds (c .before .before .before .before .before .before .before .before .before .before .before .before .before .before .before .before .before .before .fill .result) (c .before .before .before .before .before .before .before .before .before .before .before .before .before .before .before .before .before .before .fill .ensures) (not-false _ (c .before .before .before .before .before .before .before .before .before .before .before .before .before .before .before .if1 .left))) .sound }; entry = c .before .before .before .before .before .before .before .before .before .before .before .before .before .before .before .before .before .before .before .before .before .before .before .before .before .pre .1 .entry; converts = held-converts (filled-holds (c .before .before .before .before .before .before .before .before .before .before .before .before .before .before .before .before .before .before .fill .result) (c .before .before .before .before .before .before .before .before .before .before .before .before .before .before .before .before .before .before .fill .ensures) (not-false _ (c .before .before .before .before .before .before .before .before .before .before .before .before .before .before .before .if1 .left))) ((c .before .before .before .before .before .before .before .before .before .before .before .before .before .before .before .before .before .before .before .before .before .before .before .before .before .pre .1 .turning) .enters) }
+put-keyed-requires c κs =
+    let pre = c .before .before .before .before .before .before .before .before .before .before .before .before .before .before .before .before .before .before .before .before .before .before .before .before .before .pre in
+    let fill = c .before .before .before .before .before .before .before .before .before .before .before .before .before .before .before .before .before .before .fill in
+    let if1 = c .before .before .before .before .before .before .before .before .before .before .before .before .before .before .before .if1 in
+    let scan-rows = c .before .before .before .before .before .before .before .before .before .before .scan-rows in
+    record {
+      rowed = record {
+        wide = record { counts = search needs; froms = search needs; tos = search needs };
+        row = scan-rows .ensures;
+        sound =
+            (filled-holds (fill .result) (fill .ensures) (not-false _ (if1 .left))) .sound;
+      };
+      entry = pre .1 .entry;
+      converts = held-converts (filled-holds (fill .result) (fill .ensures) (not-false _ (if1 .left)))
+          ((pre .1 .turning) .enters);
+    }
 
 enum-known-bytes-2 : tie.Need-enum-known-bytes-2
 enum-known-bytes-2 c = c .match2 .keys1
@@ -127,7 +179,18 @@ same-length-7 : tie.Need-same-length-7
 same-length-7 c = search needs
 
 returns-4 : tie.Need-returns-4
-returns-4 c = λ ids used e x. let o = own-key (x .enters .seen) (x .enters .slot) (now (c .before .before .before .before .before .before .before .before .before .before .before .before .before .before .before .before .before .before .before .before .before .before .before .before .before .before .before .before .before .before .args .s)) (c .before .before .before .before .before .before .before .before .before .before .before .before .before .before .before .before .before .before .before .before .before .before .before .fill .last .0) (held-entry (filled-holds (c .before .before .before .before .before .before .before .before .before .before .before .before .before .before .before .before .before .before .before .before .before .before .before .fill .result) (c .before .before .before .before .before .before .before .before .before .before .before .before .before .before .before .before .before .before .before .before .before .before .before .fill .ensures) (not-false _ (c .before .before .before .before .before .before .before .before .before .before .before .before .before .before .before .before .before .before .before .before .if1 .left))) (x .enters)) (c .before .before .before .before .before .before .before .before .before .before .before .before .before .before .before .scan-rows .ensures) (c .before .before .before .before .before .before .before .before .before .before .before .if2 .left) in (piece-as (mapAt (c .before .before .before .before .before .before .before .before .before .before .before .before .before .before .before .before .before .before .before .before .before .before .before .before .before .before .before .before .before .before .args .i)) (c .before .before .before .before .before .before .before .before .before .before .before .before .before .before .before .before .before .before .before .before .before .before .before .before .before .before .before .before .before .before .args .begun) e (key-own x (o .1) ∙ o .0) (said-as (c .enum-told2 .given .1) (c .before .before .before .before .put-keyed .ensures e (held-converts (filled-holds (c .before .before .before .before .before .before .before .before .before .before .before .before .before .before .before .before .before .before .before .before .before .before .before .fill .result) (c .before .before .before .before .before .before .before .before .before .before .before .before .before .before .before .before .before .before .before .before .before .before .before .fill .ensures) (not-false _ (c .before .before .before .before .before .before .before .before .before .before .before .before .before .before .before .before .before .before .before .before .if1 .left))) (x .enters)))), tt)
+returns-4 c =
+    let args = c .before .before .before .before .before .before .before .before .before .before .before .before .before .before .before .before .before .before .before .before .before .before .before .before .before .before .before .before .before .before .args in
+    let fill = c .before .before .before .before .before .before .before .before .before .before .before .before .before .before .before .before .before .before .before .before .before .before .before .fill in
+    let if1 = c .before .before .before .before .before .before .before .before .before .before .before .before .before .before .before .before .before .before .before .before .if1 in
+    let scan-rows = c .before .before .before .before .before .before .before .before .before .before .before .before .before .before .before .scan-rows in
+    let if2 = c .before .before .before .before .before .before .before .before .before .before .before .if2 in
+    let put-keyed = c .before .before .before .before .put-keyed in
+    λ ids used e x. let o = own-key (x .enters .seen) (x .enters .slot) (now (args .s)) (fill .last .0)
+    (held-entry (filled-holds (fill .result) (fill .ensures) (not-false _ (if1 .left))) (x .enters)) (scan-rows .ensures) (if2 .left) in (
+      piece-as (mapAt (args .i)) (args .begun) e (key-own x (o .1) ∙ o .0) (said-as (c .enum-told2 .given .1) (put-keyed .ensures e (held-converts (filled-holds (fill .result) (fill .ensures) (not-false _ (if1 .left))) (x .enters)))),
+      tt,
+    )
 
 same-length-8 : tie.Need-same-length-8
 same-length-8 c = search needs
@@ -136,7 +199,18 @@ same-length-9 : tie.Need-same-length-9
 same-length-9 c = search needs
 
 returns-5 : tie.Need-returns-5
-returns-5 c = λ ids used e x. let o = own-key (x .enters .seen) (x .enters .slot) (now (c .before .before .before .before .before .before .before .before .before .before .before .before .before .before .before .before .before .before .before .before .before .before .before .before .before .before .before .before .before .before .before .args .s)) (c .before .before .before .before .before .before .before .before .before .before .before .before .before .before .before .before .before .before .before .before .before .before .before .before .fill .last .0) (held-entry (filled-holds (c .before .before .before .before .before .before .before .before .before .before .before .before .before .before .before .before .before .before .before .before .before .before .before .before .fill .result) (c .before .before .before .before .before .before .before .before .before .before .before .before .before .before .before .before .before .before .before .before .before .before .before .before .fill .ensures) (not-false _ (c .before .before .before .before .before .before .before .before .before .before .before .before .before .before .before .before .before .before .before .before .before .if1 .left))) (x .enters)) (c .before .before .before .before .before .before .before .before .before .before .before .before .before .before .before .before .scan-rows .ensures) (c .before .before .before .before .before .before .before .before .before .before .before .before .if2 .left) in (piece-as (mapAt (c .before .before .before .before .before .before .before .before .before .before .before .before .before .before .before .before .before .before .before .before .before .before .before .before .before .before .before .before .before .before .before .args .i)) (c .before .before .before .before .before .before .before .before .before .before .before .before .before .before .before .before .before .before .before .before .before .before .before .before .before .before .before .before .before .before .before .args .begun) e (key-own x (o .1) ∙ o .0) (said-as (c .before .bytes2 .given .1) (c .before .before .before .before .before .put-keyed .ensures e (held-converts (filled-holds (c .before .before .before .before .before .before .before .before .before .before .before .before .before .before .before .before .before .before .before .before .before .before .before .before .fill .result) (c .before .before .before .before .before .before .before .before .before .before .before .before .before .before .before .before .before .before .before .before .before .before .before .before .fill .ensures) (not-false _ (c .before .before .before .before .before .before .before .before .before .before .before .before .before .before .before .before .before .before .before .before .before .if1 .left))) (x .enters)))), goes-own x (o .1))
+returns-5 c =
+    let args = c .before .before .before .before .before .before .before .before .before .before .before .before .before .before .before .before .before .before .before .before .before .before .before .before .before .before .before .before .before .before .before .args in
+    let fill = c .before .before .before .before .before .before .before .before .before .before .before .before .before .before .before .before .before .before .before .before .before .before .before .before .fill in
+    let if1 = c .before .before .before .before .before .before .before .before .before .before .before .before .before .before .before .before .before .before .before .before .before .if1 in
+    let scan-rows = c .before .before .before .before .before .before .before .before .before .before .before .before .before .before .before .before .scan-rows in
+    let if2 = c .before .before .before .before .before .before .before .before .before .before .before .before .if2 in
+    let put-keyed = c .before .before .before .before .before .put-keyed in
+    λ ids used e x. let o = own-key (x .enters .seen) (x .enters .slot) (now (args .s)) (fill .last .0)
+    (held-entry (filled-holds (fill .result) (fill .ensures) (not-false _ (if1 .left))) (x .enters)) (scan-rows .ensures) (if2 .left) in (
+      piece-as (mapAt (args .i)) (args .begun) e (key-own x (o .1) ∙ o .0) (said-as (c .before .bytes2 .given .1) (put-keyed .ensures e (held-converts (filled-holds (fill .result) (fill .ensures) (not-false _ (if1 .left))) (x .enters)))),
+      goes-own x (o .1),
+    )
 
 pub put-turn-spec : {M : Type 1} → statement M
 put-turn-spec =

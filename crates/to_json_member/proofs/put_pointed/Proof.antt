@@ -10,7 +10,10 @@ use Rattle.to_json_member.proofs.put_pointed.Statement.{statement}
 use Rattle.to_json_member.proofs.put_pointed.Tie as tie
 
 abbrev s₁ : tie.After-known-told → Here
-s₁ c = first! (spelledAll (nameIn (now (c .before .before .before .before .before .before .before .before .before .before .args .p))) ∷ (34 ∷ 58 ∷ []) ∷ squeezed (now (c .before .before .before .before .before .before .before .before .before .before .args .text)) ∷ []) (c .before .before .before .before .before .put-byte .ensures) (c .before .a .given .1)
+s₁ c =
+    let args = c .before .before .before .before .before .before .before .before .before .before .args in
+    let put-byte = c .before .before .before .before .before .put-byte in
+    first! (spelledAll (nameIn (now (args .p))) ∷ (34 ∷ 58 ∷ []) ∷ squeezed (now (args .text)) ∷ []) (put-byte .ensures) (c .before .a .given .1)
 
 abbrev s₂ : tie.After-known-told2 → Here
 s₂ c =

@@ -84,7 +84,10 @@ part-put-parts-if-end : tie.Need-part-put-parts-if-end
 part-put-parts-if-end c = le-refl _
 
 put-parts-if-requires : tie.Need-put-parts-if-requires
-put-parts-if-requires c κs = λ e. good-name (now (c .before .before .before .before .before .before .before .before .before .before .before .before .before .before .before .before .before .before .before .args .nv)) (c .before .before .before .before .before .before .before .before .before .before .before .before .before .before .before .before .before .before .before .pre .name e)
+put-parts-if-requires c κs =
+    let args = c .before .before .before .before .before .before .before .before .before .before .before .before .before .before .before .before .before .before .before .args in
+    let pre = c .before .before .before .before .before .before .before .before .before .before .before .before .before .before .before .before .before .before .before .pre in
+    λ e. good-name (now (args .nv)) (pre .name e)
 
 enum-known-c : tie.Need-enum-known-c
 enum-known-c c = c .match3 .keys1

@@ -29,7 +29,12 @@ is-of-requires : tie.Need-is-of-requires Inv-loop μ-loop
 is-of-requires c κs = tt
 
 returns : tie.Need-returns Inv-loop μ-loop
-returns c = first-here (now (c .before .before .before .before .before .before .args .codes)) (c .before .before .before .before .before .before .args .n) (c .before .before .before .before .before .before .args .q) (c .before .is-of .result) (c .before .before .before .before .loop .k) (c .before .before .before .loop-test .taken) (c .before .before .before .before .loop .inv .1) (c .before .is-of .ensures) (c .if1 .taken)
+returns c =
+    let args = c .before .before .before .before .before .before .args in
+    let loop = c .before .before .before .before .loop in
+    let loop-test = c .before .before .before .loop-test in
+    let is-of = c .before .is-of in
+    first-here (now (args .codes)) (args .n) (args .q) (is-of .result) (loop .k) (loop-test .taken) (loop .inv .1) (is-of .ensures) (c .if1 .taken)
 
 add-k : tie.Need-add-k Inv-loop μ-loop
 add-k c = search needs
@@ -38,7 +43,11 @@ loop-less : tie.Need-loop-less Inv-loop μ-loop
 loop-less c = omega arith
 
 loop-again : tie.Need-loop-again Inv-loop μ-loop
-loop-again c = (omega arith, none-before (now (c .before .before .before .before .before .before .args .codes)) (c .before .before .before .before .before .before .args .q) (c .before .is-of .result) (c .before .before .before .before .loop .k) (c .before .before .before .before .loop .inv .1) (c .before .is-of .ensures) (c .if1 .left))
+loop-again c =
+    let args = c .before .before .before .before .before .before .args in
+    let loop = c .before .before .before .before .loop in
+    let is-of = c .before .is-of in
+    (omega arith, none-before (now (args .codes)) (args .q) (is-of .result) (loop .k) (loop .inv .1) (is-of .ensures) (c .if1 .left))
 
 returns-2 : tie.Need-returns-2 Inv-loop μ-loop
 returns-2 c = first-none (now (c .before .before .before .args .codes)) (c .before .before .before .args .n) (c .before .before .before .args .q) (c .before .loop .k) (c .loop-test .left) (c .before .loop .inv .1)

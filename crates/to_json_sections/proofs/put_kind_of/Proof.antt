@@ -29,7 +29,13 @@ same-length : tie.Need-same-length
 same-length c = search needs
 
 returns-2 : tie.Need-returns-2
-returns-2 c = λ cs h. found-unread h (c .before .before .before .before .before .before .before .first-of .ensures) (c .before .before .before .before .before .before .if1 .left) (c .before .before .before .before .before .line-at .ensures) (filled-none _ _ (c .before .before .before .fill .result) (c .before .before .before .fill .ensures) (not-true _ (c .if2 .taken)))
+returns-2 c =
+    let first-of = c .before .before .before .before .before .before .before .first-of in
+    let if1 = c .before .before .before .before .before .before .if1 in
+    let line-at = c .before .before .before .before .before .line-at in
+    let fill = c .before .before .before .fill in
+    λ cs h. found-unread h (first-of .ensures) (if1 .left) (line-at .ensures)
+    (filled-none _ _ (fill .result) (fill .ensures) (not-true _ (c .if2 .taken)))
 
 slice-read-a : tie.Need-slice-read-a
 slice-read-a c = omega (arith, (filled-holds (c .before .before .before .before .fill .result) (c .before .before .before .before .fill .ensures) (not-false _ (c .before .if2 .left))) .sound .wide)
@@ -56,7 +62,15 @@ same-length-3 : tie.Need-same-length-3
 same-length-3 c = search needs
 
 returns-3 : tie.Need-returns-3
-returns-3 c = λ cs h. puts-as (kind-given h (c .before .before .before .before .before .before .before .before .before .before .before .before .before .before .first-of .ensures) (c .before .before .before .before .before .before .before .before .before .before .before .before .before .if1 .left) (c .before .before .before .before .before .before .before .before .before .before .before .before .line-at .ensures) (filled-holds (c .before .before .before .before .before .before .before .before .before .before .fill .result) (c .before .before .before .before .before .before .before .before .before .before .fill .ensures) (not-false _ (c .before .before .before .before .before .before .before .if2 .left)))) (c .before .before .put-kind .ensures)
+returns-3 c =
+    let first-of = c .before .before .before .before .before .before .before .before .before .before .before .before .before .before .first-of in
+    let if1 = c .before .before .before .before .before .before .before .before .before .before .before .before .before .if1 in
+    let line-at = c .before .before .before .before .before .before .before .before .before .before .before .before .line-at in
+    let fill = c .before .before .before .before .before .before .before .before .before .before .fill in
+    let if2 = c .before .before .before .before .before .before .before .if2 in
+    λ cs h. puts-as
+    (kind-given h (first-of .ensures) (if1 .left) (line-at .ensures) (filled-holds (fill .result) (fill .ensures) (not-false _ (if2 .left))))
+    (c .before .before .put-kind .ensures)
 
 pub put-kind-of-spec : {M : Type 1} → statement M
 put-kind-of-spec =

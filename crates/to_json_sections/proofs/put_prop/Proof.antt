@@ -45,7 +45,10 @@ same-length-3 : tie.Need-same-length-3
 same-length-3 c = search needs
 
 returns-2 : tie.Need-returns-2
-returns-2 c = λ k x. puts-as (piece-is (c .before .before .before .before .before .before .before .before .before .before .before .before .before .before .args .begun) k) (more (written (keptJson k) []) (first-full (c .before .before .before .before .put-prop-head .ensures) (c .enum-told .given .1)))
+returns-2 c =
+    let args = c .before .before .before .before .before .before .before .before .before .before .before .before .before .before .args in
+    let put-prop-head = c .before .before .before .before .put-prop-head in
+    λ k x. puts-as (piece-is (args .begun) k) (more (written (keptJson k) []) (first-full (put-prop-head .ensures) (c .enum-told .given .1)))
 
 sub-put-kept : tie.Need-sub-put-kept
 sub-put-kept c = within (first (c .before .before .before .before .before .put-prop-head .ensures) (c .before .a .given .1))
@@ -57,7 +60,10 @@ part-put-kept-end : tie.Need-part-put-kept-end
 part-put-kept-end c = le-refl _
 
 put-kept-requires : tie.Need-put-kept-requires
-put-kept-requires c κs = (filled-holds (c .before .before .before .before .before .before .before .before .before .before .before .before .fill .result) (c .before .before .before .before .before .before .before .before .before .before .before .before .fill .ensures) (not-false _ (c .before .before .before .before .before .before .before .before .before .if1 .left))) .sound
+put-kept-requires c κs =
+    let fill = c .before .before .before .before .before .before .before .before .before .before .before .before .fill in
+    let if1 = c .before .before .before .before .before .before .before .before .before .if1 in
+    (filled-holds (fill .result) (fill .ensures) (not-false _ (if1 .left))) .sound
 
 enum-known-b : tie.Need-enum-known-b
 enum-known-b c = c .match2 .keys1
@@ -66,25 +72,76 @@ enum-told-2 : tie.Need-enum-told-2
 enum-told-2 c = c .match2 .keys2
 
 same-length-4 : tie.Need-same-length-4
-same-length-4 c = length-puts (stop (first (c .before .before .before .before .before .before .before .before .before .before .before .before .put-prop-head .ensures) (c .before .before .before .before .before .before .before .before .a .given .1)) (held-kept (filled-holds (c .before .before .before .before .before .before .before .before .before .before .before .before .before .before .before .before .before .fill .result) (c .before .before .before .before .before .before .before .before .before .before .before .before .before .before .before .before .before .fill .ensures) (not-false _ (c .before .before .before .before .before .before .before .before .before .before .before .before .before .before .if1 .left))) (c .before .before .before .before .before .before .before .before .before .before .before .before .before .before .before .before .before .before .before .before .before .before .pre .1 .1) (c .before .before .before .before .put-kept .ensures)) (c .enum-told2 .given .1))
+same-length-4 c =
+    let pre = c .before .before .before .before .before .before .before .before .before .before .before .before .before .before .before .before .before .before .before .before .before .before .pre in
+    let fill = c .before .before .before .before .before .before .before .before .before .before .before .before .before .before .before .before .before .fill in
+    let if1 = c .before .before .before .before .before .before .before .before .before .before .before .before .before .before .if1 in
+    let put-prop-head = c .before .before .before .before .before .before .before .before .before .before .before .before .put-prop-head in
+    let a = c .before .before .before .before .before .before .before .before .a in
+    let put-kept = c .before .before .before .before .put-kept in
+    length-puts
+    (stop (first (put-prop-head .ensures) (a .given .1))
+    (held-kept (filled-holds (fill .result) (fill .ensures) (not-false _ (if1 .left))) (pre .1 .1) (put-kept .ensures))
+    (c .enum-told2 .given .1))
 
 same-length-5 : tie.Need-same-length-5
 same-length-5 c = search needs
 
 returns-3 : tie.Need-returns-3
-returns-3 c = λ k x. puts-as (piece-is (c .before .before .before .before .before .before .before .before .before .before .before .before .before .before .before .before .before .before .before .before .before .before .args .begun) k) (stop (first (c .before .before .before .before .before .before .before .before .before .before .before .before .put-prop-head .ensures) (c .before .before .before .before .before .before .before .before .a .given .1)) (held-kept (filled-holds (c .before .before .before .before .before .before .before .before .before .before .before .before .before .before .before .before .before .fill .result) (c .before .before .before .before .before .before .before .before .before .before .before .before .before .before .before .before .before .fill .ensures) (not-false _ (c .before .before .before .before .before .before .before .before .before .before .before .before .before .before .if1 .left))) x (c .before .before .before .before .put-kept .ensures)) (c .enum-told2 .given .1))
+returns-3 c =
+    let args = c .before .before .before .before .before .before .before .before .before .before .before .before .before .before .before .before .before .before .before .before .before .before .args in
+    let fill = c .before .before .before .before .before .before .before .before .before .before .before .before .before .before .before .before .before .fill in
+    let if1 = c .before .before .before .before .before .before .before .before .before .before .before .before .before .before .if1 in
+    let put-prop-head = c .before .before .before .before .before .before .before .before .before .before .before .before .put-prop-head in
+    let a = c .before .before .before .before .before .before .before .before .a in
+    let put-kept = c .before .before .before .before .put-kept in
+    λ k x. puts-as (piece-is (args .begun) k)
+    (stop (first (put-prop-head .ensures) (a .given .1))
+    (held-kept (filled-holds (fill .result) (fill .ensures) (not-false _ (if1 .left))) x (put-kept .ensures)) (c .enum-told2 .given .1))
 
 add-ab : tie.Need-add-ab
-add-ab c = record { fits = lt-of-le-of-lt (next (first (c .before .before .before .before .before .before .before .before .before .before .before .before .before .put-prop-head .ensures) (c .before .before .before .before .before .before .before .before .before .a .given .1)) (held-kept (filled-holds (c .before .before .before .before .before .before .before .before .before .before .before .before .before .before .before .before .before .before .fill .result) (c .before .before .before .before .before .before .before .before .before .before .before .before .before .before .before .before .before .before .fill .ensures) (not-false _ (c .before .before .before .before .before .before .before .before .before .before .before .before .before .before .before .if1 .left))) (c .before .before .before .before .before .before .before .before .before .before .before .before .before .before .before .before .before .before .before .before .before .before .before .pre .1 .1) (c .before .before .before .before .before .put-kept .ensures)) (c .before .b .given .1) .fits) (c .before .before .before .before .before .before .before .before .before .before .before .before .before .before .before .before .before .before .before .before .before .before .before .good .0 .0) }
+add-ab c =
+    let pre = c .before .before .before .before .before .before .before .before .before .before .before .before .before .before .before .before .before .before .before .before .before .before .before .pre in
+    let good = c .before .before .before .before .before .before .before .before .before .before .before .before .before .before .before .before .before .before .before .before .before .before .before .good in
+    let fill = c .before .before .before .before .before .before .before .before .before .before .before .before .before .before .before .before .before .before .fill in
+    let if1 = c .before .before .before .before .before .before .before .before .before .before .before .before .before .before .before .if1 in
+    let put-prop-head = c .before .before .before .before .before .before .before .before .before .before .before .before .before .put-prop-head in
+    let a = c .before .before .before .before .before .before .before .before .before .a in
+    let put-kept = c .before .before .before .before .before .put-kept in
+    record {
+      fits = lt-of-le-of-lt
+          (next (first (put-prop-head .ensures) (a .given .1))
+          (held-kept (filled-holds (fill .result) (fill .ensures) (not-false _ (if1 .left))) (pre .1 .1) (put-kept .ensures))
+          (c .before .b .given .1) .fits)
+          (good .0 .0);
+    }
 
 same-length-6 : tie.Need-same-length-6
-same-length-6 c = next (first (c .before .before .before .before .before .before .before .before .before .before .before .before .before .put-prop-head .ensures) (c .before .before .before .before .before .before .before .before .before .a .given .1)) (held-kept (filled-holds (c .before .before .before .before .before .before .before .before .before .before .before .before .before .before .before .before .before .before .fill .result) (c .before .before .before .before .before .before .before .before .before .before .before .before .before .before .before .before .before .before .fill .ensures) (not-false _ (c .before .before .before .before .before .before .before .before .before .before .before .before .before .before .before .if1 .left))) (c .before .before .before .before .before .before .before .before .before .before .before .before .before .before .before .before .before .before .before .before .before .before .before .pre .1 .1) (c .before .before .before .before .before .put-kept .ensures)) (c .before .b .given .1) .same
+same-length-6 c =
+    let pre = c .before .before .before .before .before .before .before .before .before .before .before .before .before .before .before .before .before .before .before .before .before .before .before .pre in
+    let fill = c .before .before .before .before .before .before .before .before .before .before .before .before .before .before .before .before .before .before .fill in
+    let if1 = c .before .before .before .before .before .before .before .before .before .before .before .before .before .before .before .if1 in
+    let put-prop-head = c .before .before .before .before .before .before .before .before .before .before .before .before .before .put-prop-head in
+    let a = c .before .before .before .before .before .before .before .before .before .a in
+    let put-kept = c .before .before .before .before .before .put-kept in
+    next (first (put-prop-head .ensures) (a .given .1))
+    (held-kept (filled-holds (fill .result) (fill .ensures) (not-false _ (if1 .left))) (pre .1 .1) (put-kept .ensures)) (c .before .b .given .1) .same
 
 same-length-7 : tie.Need-same-length-7
 same-length-7 c = search needs
 
 returns-4 : tie.Need-returns-4
-returns-4 c = λ k x. puts-as (piece-is (c .before .before .before .before .before .before .before .before .before .before .before .before .before .before .before .before .before .before .before .before .before .before .before .args .begun) k) (done (next (first (c .before .before .before .before .before .before .before .before .before .before .before .before .before .put-prop-head .ensures) (c .before .before .before .before .before .before .before .before .before .a .given .1)) (held-kept (filled-holds (c .before .before .before .before .before .before .before .before .before .before .before .before .before .before .before .before .before .before .fill .result) (c .before .before .before .before .before .before .before .before .before .before .before .before .before .before .before .before .before .before .fill .ensures) (not-false _ (c .before .before .before .before .before .before .before .before .before .before .before .before .before .before .before .if1 .left))) x (c .before .before .before .before .before .put-kept .ensures)) (c .before .b .given .1)))
+returns-4 c =
+    let args = c .before .before .before .before .before .before .before .before .before .before .before .before .before .before .before .before .before .before .before .before .before .before .before .args in
+    let fill = c .before .before .before .before .before .before .before .before .before .before .before .before .before .before .before .before .before .before .fill in
+    let if1 = c .before .before .before .before .before .before .before .before .before .before .before .before .before .before .before .if1 in
+    let put-prop-head = c .before .before .before .before .before .before .before .before .before .before .before .before .before .put-prop-head in
+    let a = c .before .before .before .before .before .before .before .before .before .a in
+    let put-kept = c .before .before .before .before .before .put-kept in
+    λ k x. puts-as (piece-is (args .begun) k)
+    (done
+    (next (first (put-prop-head .ensures) (a .given .1))
+    (held-kept (filled-holds (fill .result) (fill .ensures) (not-false _ (if1 .left))) x (put-kept .ensures)) (c .before .b .given .1)))
 
 pub put-prop-spec : {M : Type 1} → statement M
 put-prop-spec =

@@ -42,7 +42,14 @@ loop-less : tie.Need-loop-less Inv-loop μ-loop
 loop-less c = omega arith
 
 loop-again : tie.Need-loop-again Inv-loop μ-loop
-loop-again c = (omega arith, c .before .before .before .before .loop .inv .1, λ cs h. props-skip h (c .before .before .before .before .loop .begun) (c .before .before .before .before .loop .k) (c .before .before .before .loop-test .taken) (c .before .is-of .result) (c .before .is-of .ensures) (not-true _ (c .if1 .taken)) (c .before .before .before .before .loop .inv .2 cs h))
+loop-again c =
+    let loop = c .before .before .before .before .loop in
+    let loop-test = c .before .before .before .loop-test in
+    let is-of = c .before .is-of in (
+      omega arith,
+      loop .inv .1,
+      λ cs h. props-skip h (loop .begun) (loop .k) (loop-test .taken) (is-of .result) (is-of .ensures) (not-true _ (c .if1 .taken)) (loop .inv .2 cs h),
+    )
 
 line-at-requires : tie.Need-line-at-requires Inv-loop μ-loop
 line-at-requires c κs = tt
@@ -57,7 +64,15 @@ part-put-prop-end : tie.Need-part-put-prop-end Inv-loop μ-loop
 part-put-prop-end c = le-refl _
 
 put-prop-requires : tie.Need-put-prop-requires Inv-loop μ-loop
-put-prop-requires c κs = (omega (arith, c .before .before .before .before .before .before .before .loop .inv .1, c .before .before .before .before .before .before .before .before .before .before .before .before .before .pre .0), has-kept (c .before .before .before .before .before .before .before .before .before .before .before .before .before .pre .1 .1) (c .before .before .before .before .before .before .before .loop .k) (c .before .before .before .before .before .before .loop-test .taken) (c .before .before .before .before .is-of .result) (c .before .before .before .before .is-of .ensures) (not-false _ (c .before .before .before .if1 .left)) (c .before .before .line-at .ensures))
+put-prop-requires c κs =
+    let pre = c .before .before .before .before .before .before .before .before .before .before .before .before .before .pre in
+    let loop = c .before .before .before .before .before .before .before .loop in
+    let loop-test = c .before .before .before .before .before .before .loop-test in
+    let is-of = c .before .before .before .before .is-of in
+    let if1 = c .before .before .before .if1 in (
+      omega (arith, loop .inv .1, pre .0),
+      has-kept (pre .1 .1) (loop .k) (loop-test .taken) (is-of .result) (is-of .ensures) (not-false _ (if1 .left)) (c .before .before .line-at .ensures),
+    )
 
 enum-known-m : tie.Need-enum-known-m Inv-loop μ-loop
 enum-known-m c = c .match .keys1
@@ -66,16 +81,46 @@ enum-told : tie.Need-enum-told Inv-loop μ-loop
 enum-told c = c .match .keys2
 
 same-length : tie.Need-same-length Inv-loop μ-loop
-same-length c = length-puts (props-stop (c .before .before .before .before .before .before .before .before .before .before .before .before .before .before .before .before .before .before .before .before .pre .1 .1) (c .before .before .before .before .before .before .before .before .before .before .before .before .before .before .loop .k) (c .before .before .before .before .before .before .before .before .before .before .before .before .before .loop-test .taken) (c .before .before .before .before .before .before .before .before .before .before .before .is-of .result) (c .before .before .before .before .before .before .before .before .before .before .before .is-of .ensures) (not-false _ (c .before .before .before .before .before .before .before .before .before .before .if1 .left)) (c .before .before .before .before .before .before .before .before .before .before .before .before .before .before .loop .begun) (c .before .before .before .before .before .before .before .before .before .before .before .before .before .before .loop .inv .2 (c .before .before .before .before .before .before .before .before .before .before .before .before .before .before .before .before .before .before .before .before .pre .1 .0) (c .before .before .before .before .before .before .before .before .before .before .before .before .before .before .before .before .before .before .before .before .pre .1 .1)) (c .before .before .before .before .before .before .before .before .before .line-at .ensures) (c .before .before .before .before .before .before .put-prop .ensures) (c .enum-told .given .1))
+same-length c =
+    let pre = c .before .before .before .before .before .before .before .before .before .before .before .before .before .before .before .before .before .before .before .before .pre in
+    let loop = c .before .before .before .before .before .before .before .before .before .before .before .before .before .before .loop in
+    let loop-test = c .before .before .before .before .before .before .before .before .before .before .before .before .before .loop-test in
+    let is-of = c .before .before .before .before .before .before .before .before .before .before .before .is-of in
+    let if1 = c .before .before .before .before .before .before .before .before .before .before .if1 in
+    let line-at = c .before .before .before .before .before .before .before .before .before .line-at in
+    let put-prop = c .before .before .before .before .before .before .put-prop in
+    length-puts
+    (props-stop (pre .1 .1) (loop .k) (loop-test .taken) (is-of .result) (is-of .ensures) (not-false _ (if1 .left)) (loop .begun)
+    (loop .inv .2 (pre .1 .0) (pre .1 .1)) (line-at .ensures) (put-prop .ensures) (c .enum-told .given .1))
 
 same-length-2 : tie.Need-same-length-2 Inv-loop μ-loop
 same-length-2 c = search needs
 
 returns : tie.Need-returns Inv-loop μ-loop
-returns c = λ cs h. props-stop h (c .before .before .before .before .before .before .before .before .before .before .before .before .before .before .loop .k) (c .before .before .before .before .before .before .before .before .before .before .before .before .before .loop-test .taken) (c .before .before .before .before .before .before .before .before .before .before .before .is-of .result) (c .before .before .before .before .before .before .before .before .before .before .before .is-of .ensures) (not-false _ (c .before .before .before .before .before .before .before .before .before .before .if1 .left)) (c .before .before .before .before .before .before .before .before .before .before .before .before .before .before .loop .begun) (c .before .before .before .before .before .before .before .before .before .before .before .before .before .before .loop .inv .2 cs h) (c .before .before .before .before .before .before .before .before .before .line-at .ensures) (c .before .before .before .before .before .before .put-prop .ensures) (c .enum-told .given .1)
+returns c =
+    let loop = c .before .before .before .before .before .before .before .before .before .before .before .before .before .before .loop in
+    let loop-test = c .before .before .before .before .before .before .before .before .before .before .before .before .before .loop-test in
+    let is-of = c .before .before .before .before .before .before .before .before .before .before .before .is-of in
+    let if1 = c .before .before .before .before .before .before .before .before .before .before .if1 in
+    let line-at = c .before .before .before .before .before .before .before .before .before .line-at in
+    let put-prop = c .before .before .before .before .before .before .put-prop in
+    λ cs h. props-stop h (loop .k) (loop-test .taken) (is-of .result) (is-of .ensures) (not-false _ (if1 .left)) (loop .begun) (loop .inv .2 cs h)
+    (line-at .ensures) (put-prop .ensures) (c .enum-told .given .1)
 
 add-at : tie.Need-add-at Inv-loop μ-loop
-add-at c = rest-fit (props-next (c .before .before .before .before .before .before .before .before .before .before .before .before .before .before .before .before .before .before .before .before .before .pre .1 .1) (c .before .before .before .before .before .before .before .before .before .before .before .before .before .before .before .loop .k) (c .before .before .before .before .before .before .before .before .before .before .before .before .before .before .loop-test .taken) (c .before .before .before .before .before .before .before .before .before .before .before .before .is-of .result) (c .before .before .before .before .before .before .before .before .before .before .before .before .is-of .ensures) (not-false _ (c .before .before .before .before .before .before .before .before .before .before .before .if1 .left)) (c .before .before .before .before .before .before .before .before .before .before .before .before .before .before .before .loop .begun) (c .before .before .before .before .before .before .before .before .before .before .before .before .before .before .before .loop .inv .2 (c .before .before .before .before .before .before .before .before .before .before .before .before .before .before .before .before .before .before .before .before .before .pre .1 .0) (c .before .before .before .before .before .before .before .before .before .before .before .before .before .before .before .before .before .before .before .before .before .pre .1 .1)) (c .before .before .before .before .before .before .before .before .before .before .line-at .ensures) (c .before .before .before .before .before .before .before .put-prop .ensures) _ (c .before .m .given .1)) (c .before .before .before .before .before .before .before .before .before .before .before .before .before .before .before .before .before .before .before .before .before .good .0 .0)
+add-at c =
+    let pre = c .before .before .before .before .before .before .before .before .before .before .before .before .before .before .before .before .before .before .before .before .before .pre in
+    let good = c .before .before .before .before .before .before .before .before .before .before .before .before .before .before .before .before .before .before .before .before .before .good in
+    let loop = c .before .before .before .before .before .before .before .before .before .before .before .before .before .before .before .loop in
+    let loop-test = c .before .before .before .before .before .before .before .before .before .before .before .before .before .before .loop-test in
+    let is-of = c .before .before .before .before .before .before .before .before .before .before .before .before .is-of in
+    let if1 = c .before .before .before .before .before .before .before .before .before .before .before .if1 in
+    let line-at = c .before .before .before .before .before .before .before .before .before .before .line-at in
+    let put-prop = c .before .before .before .before .before .before .before .put-prop in
+    rest-fit
+    (props-next (pre .1 .1) (loop .k) (loop-test .taken) (is-of .result) (is-of .ensures) (not-false _ (if1 .left)) (loop .begun)
+    (loop .inv .2 (pre .1 .0) (pre .1 .1)) (line-at .ensures) (put-prop .ensures) _ (c .before .m .given .1))
+    (good .0 .0)
 
 add-k-2 : tie.Need-add-k-2 Inv-loop μ-loop
 add-k-2 c = search needs
@@ -84,7 +129,17 @@ loop-less-2 : tie.Need-loop-less-2 Inv-loop μ-loop
 loop-less-2 c = omega arith
 
 loop-again-2 : tie.Need-loop-again-2 Inv-loop μ-loop
-loop-again-2 c = (omega arith, search needs, λ cs h. props-next h (c .before .before .before .before .before .before .before .before .before .before .before .before .before .before .before .loop .k) (c .before .before .before .before .before .before .before .before .before .before .before .before .before .before .loop-test .taken) (c .before .before .before .before .before .before .before .before .before .before .before .before .is-of .result) (c .before .before .before .before .before .before .before .before .before .before .before .before .is-of .ensures) (not-false _ (c .before .before .before .before .before .before .before .before .before .before .before .if1 .left)) (c .before .before .before .before .before .before .before .before .before .before .before .before .before .before .before .loop .begun) (c .before .before .before .before .before .before .before .before .before .before .before .before .before .before .before .loop .inv .2 cs h) (c .before .before .before .before .before .before .before .before .before .before .line-at .ensures) (c .before .before .before .before .before .before .before .put-prop .ensures) _ (c .before .m .given .1))
+loop-again-2 c =
+    let loop = c .before .before .before .before .before .before .before .before .before .before .before .before .before .before .before .loop in
+    let loop-test = c .before .before .before .before .before .before .before .before .before .before .before .before .before .before .loop-test in
+    let is-of = c .before .before .before .before .before .before .before .before .before .before .before .before .is-of in
+    let if1 = c .before .before .before .before .before .before .before .before .before .before .before .if1 in
+    let line-at = c .before .before .before .before .before .before .before .before .before .before .line-at in
+    let put-prop = c .before .before .before .before .before .before .before .put-prop in (
+      omega arith,
+      search needs,
+      λ cs h. props-next h (loop .k) (loop-test .taken) (is-of .result) (is-of .ensures) (not-false _ (if1 .left)) (loop .begun) (loop .inv .2 cs h) (line-at .ensures) (put-prop .ensures) _ (c .before .m .given .1),
+    )
 
 same-length-3 : tie.Need-same-length-3 Inv-loop μ-loop
 same-length-3 c = rest-same (c .before .before .loop .inv .2 (c .before .before .before .before .before .before .before .before .pre .1 .0) (c .before .before .before .before .before .before .before .before .pre .1 .1))
@@ -114,25 +169,77 @@ enum-told-2 : tie.Need-enum-told-2 Inv-loop μ-loop
 enum-told-2 c = c .match2 .keys2
 
 same-length-5 : tie.Need-same-length-5 Inv-loop μ-loop
-same-length-5 c = length-puts (rest-stop [] (rest-as (end-some _ (not-false _ (c .before .before .before .before .before .before .if2 .left))) (rest-as (props-end (c .before .before .before .before .before .before .before .before .before .before .before .before .before .before .pre .1 .1) (c .before .before .before .before .before .before .before .before .loop .begun) (c .before .before .before .before .before .before .before .before .loop .k) (c .before .before .before .before .before .before .before .loop-test .left) ∙ from-nil (c .before .before .before .before .before .before .before .before .loop .begun)) (c .before .before .before .before .before .before .before .before .loop .inv .2 (c .before .before .before .before .before .before .before .before .before .before .before .before .before .before .pre .1 .0) (c .before .before .before .before .before .before .before .before .before .before .before .before .before .before .pre .1 .1)))) (c .before .before .before .before .put-byte .ensures) (c .enum-told2 .given .1))
+same-length-5 c =
+    let pre = c .before .before .before .before .before .before .before .before .before .before .before .before .before .before .pre in
+    let loop = c .before .before .before .before .before .before .before .before .loop in
+    let loop-test = c .before .before .before .before .before .before .before .loop-test in
+    let if2 = c .before .before .before .before .before .before .if2 in
+    let put-byte = c .before .before .before .before .put-byte in
+    length-puts
+    (rest-stop []
+    (rest-as (end-some _ (not-false _ (if2 .left)))
+    (rest-as (props-end (pre .1 .1) (loop .begun) (loop .k) (loop-test .left) ∙ from-nil (loop .begun))
+    (loop .inv .2 (pre .1 .0) (pre .1 .1))))
+    (put-byte .ensures) (c .enum-told2 .given .1))
 
 same-length-6 : tie.Need-same-length-6 Inv-loop μ-loop
 same-length-6 c = c .before .before .before .before .before .before .before .before .loop .inv .1
 
 returns-3 : tie.Need-returns-3 Inv-loop μ-loop
-returns-3 c = λ cs h. rest-stop [] (rest-as (end-some _ (not-false _ (c .before .before .before .before .before .before .if2 .left))) (rest-as (props-end h (c .before .before .before .before .before .before .before .before .loop .begun) (c .before .before .before .before .before .before .before .before .loop .k) (c .before .before .before .before .before .before .before .loop-test .left) ∙ from-nil (c .before .before .before .before .before .before .before .before .loop .begun)) (c .before .before .before .before .before .before .before .before .loop .inv .2 cs h))) (c .before .before .before .before .put-byte .ensures) (c .enum-told2 .given .1)
+returns-3 c =
+    let loop = c .before .before .before .before .before .before .before .before .loop in
+    let loop-test = c .before .before .before .before .before .before .before .loop-test in
+    let if2 = c .before .before .before .before .before .before .if2 in
+    let put-byte = c .before .before .before .before .put-byte in
+    λ cs h. rest-stop []
+    (rest-as (end-some _ (not-false _ (if2 .left)))
+    (rest-as (props-end h (loop .begun) (loop .k) (loop-test .left) ∙ from-nil (loop .begun)) (loop .inv .2 cs h)))
+    (put-byte .ensures) (c .enum-told2 .given .1)
 
 add-all : tie.Need-add-all Inv-loop μ-loop
-add-all c = rest-fit (rest-next [] (rest-as (end-some _ (not-false _ (c .before .before .before .before .before .before .before .if2 .left))) (rest-as (props-end (c .before .before .before .before .before .before .before .before .before .before .before .before .before .before .before .pre .1 .1) (c .before .before .before .before .before .before .before .before .before .loop .begun) (c .before .before .before .before .before .before .before .before .before .loop .k) (c .before .before .before .before .before .before .before .before .loop-test .left) ∙ from-nil (c .before .before .before .before .before .before .before .before .before .loop .begun)) (c .before .before .before .before .before .before .before .before .before .loop .inv .2 (c .before .before .before .before .before .before .before .before .before .before .before .before .before .before .before .pre .1 .0) (c .before .before .before .before .before .before .before .before .before .before .before .before .before .before .before .pre .1 .1)))) (c .before .before .before .before .before .put-byte .ensures) (c .before .m2 .given .1)) (c .before .before .before .before .before .before .before .before .before .before .before .before .before .before .before .good .0 .0)
+add-all c =
+    let pre = c .before .before .before .before .before .before .before .before .before .before .before .before .before .before .before .pre in
+    let good = c .before .before .before .before .before .before .before .before .before .before .before .before .before .before .before .good in
+    let loop = c .before .before .before .before .before .before .before .before .before .loop in
+    let loop-test = c .before .before .before .before .before .before .before .before .loop-test in
+    let if2 = c .before .before .before .before .before .before .before .if2 in
+    let put-byte = c .before .before .before .before .before .put-byte in
+    rest-fit
+    (rest-next []
+    (rest-as (end-some _ (not-false _ (if2 .left)))
+    (rest-as (props-end (pre .1 .1) (loop .begun) (loop .k) (loop-test .left) ∙ from-nil (loop .begun))
+    (loop .inv .2 (pre .1 .0) (pre .1 .1))))
+    (put-byte .ensures) (c .before .m2 .given .1))
+    (good .0 .0)
 
 same-length-7 : tie.Need-same-length-7 Inv-loop μ-loop
-same-length-7 c = rest-same (rest-next [] (rest-as (end-some _ (not-false _ (c .before .before .before .before .before .before .before .if2 .left))) (rest-as (props-end (c .before .before .before .before .before .before .before .before .before .before .before .before .before .before .before .pre .1 .1) (c .before .before .before .before .before .before .before .before .before .loop .begun) (c .before .before .before .before .before .before .before .before .before .loop .k) (c .before .before .before .before .before .before .before .before .loop-test .left) ∙ from-nil (c .before .before .before .before .before .before .before .before .before .loop .begun)) (c .before .before .before .before .before .before .before .before .before .loop .inv .2 (c .before .before .before .before .before .before .before .before .before .before .before .before .before .before .before .pre .1 .0) (c .before .before .before .before .before .before .before .before .before .before .before .before .before .before .before .pre .1 .1)))) (c .before .before .before .before .before .put-byte .ensures) (c .before .m2 .given .1))
+same-length-7 c =
+    let pre = c .before .before .before .before .before .before .before .before .before .before .before .before .before .before .before .pre in
+    let loop = c .before .before .before .before .before .before .before .before .before .loop in
+    let loop-test = c .before .before .before .before .before .before .before .before .loop-test in
+    let if2 = c .before .before .before .before .before .before .before .if2 in
+    let put-byte = c .before .before .before .before .before .put-byte in
+    rest-same
+    (rest-next []
+    (rest-as (end-some _ (not-false _ (if2 .left)))
+    (rest-as (props-end (pre .1 .1) (loop .begun) (loop .k) (loop-test .left) ∙ from-nil (loop .begun))
+    (loop .inv .2 (pre .1 .0) (pre .1 .1))))
+    (put-byte .ensures) (c .before .m2 .given .1))
 
 same-length-8 : tie.Need-same-length-8 Inv-loop μ-loop
 same-length-8 c = c .before .before .before .before .before .before .before .before .before .loop .inv .1
 
 returns-4 : tie.Need-returns-4 Inv-loop μ-loop
-returns-4 c = λ cs h. rest-done refl (rest-next [] (rest-as (end-some _ (not-false _ (c .before .before .before .before .before .before .before .if2 .left))) (rest-as (props-end h (c .before .before .before .before .before .before .before .before .before .loop .begun) (c .before .before .before .before .before .before .before .before .before .loop .k) (c .before .before .before .before .before .before .before .before .loop-test .left) ∙ from-nil (c .before .before .before .before .before .before .before .before .before .loop .begun)) (c .before .before .before .before .before .before .before .before .before .loop .inv .2 cs h))) (c .before .before .before .before .before .put-byte .ensures) (c .before .m2 .given .1))
+returns-4 c =
+    let loop = c .before .before .before .before .before .before .before .before .before .loop in
+    let loop-test = c .before .before .before .before .before .before .before .before .loop-test in
+    let if2 = c .before .before .before .before .before .before .before .if2 in
+    let put-byte = c .before .before .before .before .before .put-byte in
+    λ cs h. rest-done refl
+    (rest-next []
+    (rest-as (end-some _ (not-false _ (if2 .left)))
+    (rest-as (props-end h (loop .begun) (loop .k) (loop-test .left) ∙ from-nil (loop .begun)) (loop .inv .2 cs h)))
+    (put-byte .ensures) (c .before .m2 .given .1))
 
 pub put-props-spec : {M : Type 1} → statement M
 put-props-spec =

@@ -24,7 +24,12 @@ same-length : tie.Need-same-length
 same-length c = search needs
 
 returns : tie.Need-returns
-returns c = λ cs h. puts-as (ap startBytes (uid-made h (c .before .before .before .before .before .first-of .ensures) (now (c .before .before .before .before .before .before .before .before .before .before .before .before .args .stem)) (c .before .before .before .before .before .before .before .before .before .before .before .before .args .number) (now (c .before .before .before .before .before .before .before .before .before .before .before .before .args .stem)) (c .before .before .before .before .if1 .taken))) (c .before .before .put-start .ensures)
+returns c =
+    let args = c .before .before .before .before .before .before .before .before .before .before .before .before .args in
+    let first-of = c .before .before .before .before .before .first-of in
+    let if1 = c .before .before .before .before .if1 in
+    λ cs h. puts-as (ap startBytes (uid-made h (first-of .ensures) (now (args .stem)) (args .number) (now (args .stem)) (if1 .taken)))
+    (c .before .before .put-start .ensures)
 
 line-at-requires : tie.Need-line-at-requires
 line-at-requires c κs = tt
@@ -36,7 +41,13 @@ same-length-2 : tie.Need-same-length-2
 same-length-2 c = search needs
 
 returns-2 : tie.Need-returns-2
-returns-2 c = λ cs h. found-unread h (c .before .before .before .before .before .before .before .first-of .ensures) (c .before .before .before .before .before .before .if1 .left) (c .before .before .before .before .before .line-at .ensures) (filled-none _ _ (c .before .before .before .fill .result) (c .before .before .before .fill .ensures) (not-true _ (c .if2 .taken)))
+returns-2 c =
+    let first-of = c .before .before .before .before .before .before .before .first-of in
+    let if1 = c .before .before .before .before .before .before .if1 in
+    let line-at = c .before .before .before .before .before .line-at in
+    let fill = c .before .before .before .fill in
+    λ cs h. found-unread h (first-of .ensures) (if1 .left) (line-at .ensures)
+    (filled-none _ _ (fill .result) (fill .ensures) (not-true _ (c .if2 .taken)))
 
 slice-read-a : tie.Need-slice-read-a
 slice-read-a c = omega (arith, (filled-holds (c .before .before .before .before .fill .result) (c .before .before .before .before .fill .ensures) (not-false _ (c .before .if2 .left))) .sound .wide)
@@ -63,7 +74,18 @@ same-length-4 : tie.Need-same-length-4
 same-length-4 c = search needs
 
 returns-3 : tie.Need-returns-3
-returns-3 c = λ cs h. puts-as (ap startBytes (uid-given h (c .before .before .before .before .before .before .before .before .before .before .before .before .before .before .first-of .ensures) (now (c .before .before .before .before .before .before .before .before .before .before .before .before .before .before .before .before .before .before .before .before .before .args .stem)) (c .before .before .before .before .before .before .before .before .before .before .before .before .before .before .before .before .before .before .before .before .before .args .number) (c .before .before .before .before .before .before .before .before .before .before .before .before .before .if1 .left) (c .before .before .before .before .before .before .before .before .before .before .before .before .line-at .ensures) (filled-holds (c .before .before .before .before .before .before .before .before .before .before .fill .result) (c .before .before .before .before .before .before .before .before .before .before .fill .ensures) (not-false _ (c .before .before .before .before .before .before .before .if2 .left))))) (c .before .before .put-start2 .ensures)
+returns-3 c =
+    let args = c .before .before .before .before .before .before .before .before .before .before .before .before .before .before .before .before .before .before .before .before .before .args in
+    let first-of = c .before .before .before .before .before .before .before .before .before .before .before .before .before .before .first-of in
+    let if1 = c .before .before .before .before .before .before .before .before .before .before .before .before .before .if1 in
+    let line-at = c .before .before .before .before .before .before .before .before .before .before .before .before .line-at in
+    let fill = c .before .before .before .before .before .before .before .before .before .before .fill in
+    let if2 = c .before .before .before .before .before .before .before .if2 in
+    λ cs h. puts-as
+    (ap startBytes
+    (uid-given h (first-of .ensures) (now (args .stem)) (args .number) (if1 .left) (line-at .ensures)
+    (filled-holds (fill .result) (fill .ensures) (not-false _ (if2 .left)))))
+    (c .before .before .put-start2 .ensures)
 
 pub put-start-of-spec : {M : Type 1} → statement M
 put-start-of-spec =

@@ -1,4 +1,0 @@
-pub mod Finding
-pub mod Given
-pub mod Told
-pub mod Sections

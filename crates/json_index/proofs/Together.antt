@@ -1,0 +1,125 @@
+-- A string and a name that are the same byte by byte, and what the byte after that tells.
+use mathlib.Core.Path.{_≡_, refl, sym, ap, subst, _∙_}
+use mathlib.Core.Bool.{Bool, true, false, not}
+use mathlib.Core.List.{[], _∷_}
+use mathlib.Core.Option.{Option, none, some}
+use Prim.Native.Nat.{ℕ, suc, _+_, _-_, _≤_, _<_}
+use native.Mathlib.Omega.{arith}
+use lib.Dec.{eqb}
+use lib.ListN.{length, take, drop, getD, List·getD-eq-default}
+use borrow.Author.Tests.{eq-eqb, ne-eqb, eqb-true, eqb-false}
+use Rattle.text.specs.Bytes.{Bytes, is, between, same}
+use Rattle.text.specs.Places.{byteAt}
+use Rattle.text.proofs.Cases.{byBool, between-true, in-between, beyond}
+use Rattle.text.proofs.Places.{byte-default, on-yes, on-no}
+use Rattle.json.specs.Strings.{before}
+use Rattle.json_units.specs.Units.{unit}
+use Rattle.json_units.specs.declared.Piece.the-variants.{Of, End, Wrong}
+use Rattle.json_strings.specs.Spelled.{spelled, spells}
+use Rattle.json_strings.proofs.Laws.{raw-is, end-is, wrong-is}
+use Rattle.json_index.specs.Index.{NameEnds, nameIn, RawByte, Together, Alike}
+use Rattle.json_index.proofs.Names.{front, ends-on}
+
+-- ---- a byte of a string
+
+module _ (s : Bytes) (i b : ℕ) (e : b ≡ byteAt s i) where
+  pub quote-at : b ≡ 34 → spelled s i ≡ some []
+  unfolding unit
+  quote-at q = end-is s i {r = End (i + 1)} (on-yes (is 34) s i b e _ _ (eq-eqb _ _ q)) refl
+
+  module _ (n : b ≡ 34 → ⊥) (m : b ≡ 92 → ⊥) where
+    pub byte-at : between 32 255 b ≡ true → b < 256 → spelled s i ≡ before (b ∷ []) (spelled s (i + 1))
+    unfolding unit
+    byte-at h l =
+        raw-is s i {r = Of b (i + 1)}
+        (on-no (is 34) s i b e _ _ (ne-eqb _ _ n) ∙ on-no (is 92) s i b e _ _ (ne-eqb _ _ m) ∙ on-yes (between 32 255) s i b e _ _ h) b (i + 1) refl l
+
+    pub none-at : between 32 255 b ≡ false → spelled s i ≡ none
+    unfolding unit
+    none-at h =
+        wrong-is s i {r = Wrong i}
+        (on-no (is 34) s i b e _ _ (ne-eqb _ _ n) ∙ on-no (is 92) s i b e _ _ (ne-eqb _ _ m) ∙ on-no (between 32 255) s i b e _ _ h) refl
+
+pub raw-low : (c : ℕ) {r : Bool} → 32 ≤ c → c ≤ 92 → (c ≡ 34 → ⊥) → r ≡ not (eqb c 92) → RawByte c r
+raw-low c l u n e = subst (RawByte c) (sym e) (go (eqb c 92) (eqb-false c 92))
+  where
+    go : (x : Bool) → (x ≡ false → c ≡ 92 → ⊥) → RawByte c (not x)
+    go true f = tt
+    go false f = (l, omega arith, n, f refl)
+
+pub raw-as : (c : ℕ) {r q : Bool} → RawByte c r → r ≡ q → RawByte c q
+raw-as c h e = subst (RawByte c) e h
+
+-- ---- with a name
+
+spells-on : (c : ℕ) (o : Option Bytes) (x : Bytes) → spells (before (c ∷ []) o) (c ∷ x) ≡ spells o x
+unfolding same
+spells-on c none x = refl
+spells-on c (some y) x = rw (eq-eqb c c refl)
+
+spells-other : (b c : ℕ) (o : Option Bytes) (x : Bytes) → (c ≡ b → ⊥) → spells (before (b ∷ []) o) (c ∷ x) ≡ false
+unfolding same
+spells-other b c none x n = refl
+spells-other b c (some y) x n = rw (ne-eqb c b n)
+
+spells-short : (b : ℕ) (o : Option Bytes) → spells (before (b ∷ []) o) [] ≡ false
+unfolding same
+spells-short b none = refl
+spells-short b (some y) = refl
+
+pub byte-same : (s : Bytes) (i : ℕ) → i < length s → getD s i 0 ≡ byteAt s i
+byte-same s i h = byte-default s i 0 256 h
+
+pub together-first : (s : Bytes) (at : ℕ) (names : Bytes) (a : ℕ) → Together s at names a at a
+together-first s at names a = record { within = λ l. l; ends = λ e p. p; same = λ e l. refl }
+
+module _ (s : Bytes) (at : ℕ) (names : Bytes) (a i k : ℕ) (t : Together s at names a i k) (in-names : k < length names) (b c : ℕ) (is-b : b ≡ byteAt s i) (is-c : c ≡ getD names k 0) where
+  pub together-on : (c ≡ 44 → ⊥) → b ≡ c → RawByte c true → Together s at names a (i + 1) (k + 1)
+  together-on n q r = record {
+    within = λ h. omega arith;
+    ends = λ e p. t .ends e (ends-on names k e in-names (λ z. n (is-c ∙ z)) p);
+    same = λ e p. t .same e (omega arith) ∙ one e p;
+  }
+    where
+      one : (e : ℕ) → k + 1 ≤ e → spells (spelled s i) (nameIn names k e) ≡ spells (spelled s (i + 1)) (nameIn names (k + 1) e)
+      one e p =
+          let x : spelled s i ≡ before (c ∷ []) (spelled s (i + 1)) = byte-at s i b is-b (λ z. r .2 (sym q ∙ z)) (λ z. r .3 (sym q ∙ z)) (in-between 32 255 b (omega (arith, r .0)) (omega (arith, r .1))) (omega (arith, r .1)) ∙ ap (λ (y : ℕ). before (y ∷ []) (spelled s (i + 1))) q in
+          let y : nameIn names k e ≡ c ∷ nameIn names (k + 1) e = front names k e in-names p ∙ ap (λ (z : ℕ). z ∷ nameIn names (k + 1) e) (sym is-c) in
+          ap (λ (o : Option Bytes). spells o (nameIn names k e)) x ∙ ap (spells (before (c ∷ []) (spelled s (i + 1)))) y ∙ spells-on c (spelled s (i + 1)) (nameIn names (k + 1) e)
+
+-- ---- by the byte at which the string stands
+
+none-in : (names : Bytes) (a e : ℕ) → e ≡ a → nameIn names a e ≡ []
+none-in names a e q = let z : e - a ≡ 0 = omega arith in ap (λ (n : ℕ). take n (drop a names)) z
+
+module _ (s : Bytes) (at : ℕ) (names : Bytes) (a e : ℕ) (from : a ≤ e) (within : e ≤ length names) where
+  pub part-past : length s ≤ at → false ≡ spells (spelled s at) (nameIn names a e)
+  part-past l =
+      let z : 256 ≡ byteAt s at = sym (List·getD-eq-default s 256 l) in
+      sym (ap (λ (o : Option Bytes). spells o (nameIn names a e)) (none-at s at 256 z (λ z. omega arith) (λ z. omega arith) (beyond 32 255 256 (omega arith))))
+
+  module _ (b : ℕ) (is-b : b ≡ byteAt s at) where
+    pub part-quote : b ≡ 34 → eqb e a ≡ spells (spelled s at) (nameIn names a e)
+    unfolding same
+    part-quote q =
+        ap (λ (x : Bool). x)
+        (byBool (eqb e a)
+        (λ z. z ∙ sym (ap (spells (some [])) (none-in names a e (eqb-true e a z))))
+        (λ z. let n : a + 1 ≤ e = (let m = eqb-false e a z in omega arith) in
+        z ∙ sym (ap (spells (some [])) (front names a e (omega arith) n))))
+        ∙ sym (ap (λ (o : Option Bytes). spells o (nameIn names a e)) (quote-at s at b is-b q))
+
+    module _ (n : b ≡ 34 → ⊥) (m : b ≡ 92 → ⊥) where
+      by-byte : ((x : Option Bytes) → spells (before (b ∷ []) x) (nameIn names a e) ≡ false) → false ≡ spells (spelled s at) (nameIn names a e)
+      by-byte f =
+          byBool (between 32 255 b)
+          (λ h. sym (ap (λ (o : Option Bytes). spells o (nameIn names a e)) (byte-at s at b is-b n m h (omega (arith, between-true 32 255 b h .1))) ∙ f (spelled s (at + 1))))
+          (λ h. sym (ap (λ (o : Option Bytes). spells o (nameIn names a e)) (none-at s at b is-b n m h)))
+
+      pub part-short : e ≡ a → false ≡ spells (spelled s at) (nameIn names a e)
+      part-short q = by-byte (λ x. ap (spells (before (b ∷ []) x)) (none-in names a e q) ∙ spells-short b x)
+
+      pub part-other : (e ≡ a → ⊥) → (getD names a 0 ≡ b → ⊥) → false ≡ spells (spelled s at) (nameIn names a e)
+      part-other p q =
+          let l : a + 1 ≤ e = omega arith in
+          by-byte (λ x. ap (spells (before (b ∷ []) x)) (front names a e (omega arith) l) ∙ spells-other b (getD names a 0) x (nameIn names (a + 1) e) q)
