@@ -1,32 +1,37 @@
 -- Bytes that stand for themselves: read and written as they are.
 use mathlib.Core.Path.{_≡_, refl, sym, ap, subst, _∙_}
 use mathlib.Core.Bool.{Bool, true, false, _&&_, not}
-use mathlib.Core.List.{[], _∷_}
-use Prim.Native.Nat.{ℕ, _+_, _-_, _≤_, _<_}
+use mathlib.Core.List.{[], _∷_, _++_, append-assoc}
+use mathlib.Core.Option.{some}
+use Prim.Native.Nat.{ℕ, zero, suc, _+_, _-_, _≤_, _<_}
 use native.Mathlib.Omega.{arith}
-use lib.ListN.{length}
+use native.Mathlib.Numerals.{add-one}
+use native.Mathlib.Nat.{add-zero}
+use lib.ListN.{length, take, drop}
+use lib.Seq.{drop-cons}
 use lib.Dec.{eqb, ltb}
-use borrow.Author.Tests.{ne-eqb, le-ltb, ltb-true, eqb-true, eqb-false}
+use borrow.Author.Tests.{ne-eqb, le-ltb, ltb-true, eqb-false}
 use borrow.Rule.Slice.PartMut.{midOf, putMid}
 use Rattle.text.specs.Choice.{pick}
-use Rattle.text.specs.Bytes.{Bytes, is, between}
+use Rattle.text.specs.Bytes.{Bytes, all, is, between}
 use Rattle.text.specs.Places.{byteAt}
 use Rattle.text.proofs.Places.{on-yes, on-no}
-use Rattle.text.proofs.Cases.{byBool, and-left, and-right, in-between}
+use Rattle.text.proofs.Cases.{byBool, split, in-between}
 use Rattle.json.specs.Strings.{before}
 use Rattle.json_units.specs.Units.{unit}
 use Rattle.json_units.specs.declared.Piece.the-variants.{Of}
 use Rattle.json_strings.specs.declared.Byte.the-variants.{One}
 use Rattle.json_strings.specs.Spelled.{spelled, left, weight, byteOf}
 use Rattle.json_strings.proofs.Laws.{left-none, raw-is}
+use Rattle.json_strings.proofs.NextByte.{one-left}
 use Rattle.line.specs.Class.{isControl}
 use Rattle.line.specs.Text.{escape}
 use Rattle.line_pen.specs.declared.Pen.{Pen}
 use Rattle.line_pen.specs.Pen.{Pens}
-use Rattle.line_pen.proofs.Laws.{pens-as}
-use Rattle.card_pen.specs.Styles.{byteIn, standsIn, PlainByte}
+use Rattle.line_pen.proofs.Laws.{pens-as, pens-then}
+use Rattle.card_pen.specs.Styles.{byteIn, writtenIn, standsIn, allStandIn, PlainByte, PlainRun}
 use Rattle.card_pen.proofs.Styles.{control-low, escape-none}
-use Rattle.card_pen.proofs.Strings.{Far, far-one}
+use Rattle.card_pen.proofs.Strings.{Far, written-both, stand-both}
 
 pub plain-high : (b : ℕ) (r : Bool) → 92 < b → r ≡ ltb b 256 && not (eqb b 127) → PlainByte b r
 plain-high b r l e = subst (PlainByte b) (sym e) (go (ltb b 256) (eqb b 127) (ltb-true b 256) (eqb-false b 127))
@@ -42,9 +47,6 @@ plain-low b r u l n m o e = subst (PlainByte b) (sym e) (go (eqb b 92) (eqb-fals
     go : (y : Bool) → (y ≡ false → b ≡ 92 → ⊥) → PlainByte b (not y)
     go true g = tt
     go false g = (l, omega arith, n, g refl, m, o, λ z. omega arith)
-
-pub plain-taken : (h b : ℕ) (r : Bool) → PlainByte b r → (eqb h 0 && r) ≡ true → (h ≡ 0) × PlainByte b true
-plain-taken h b r p e = (eqb-true h 0 (and-left (eqb h 0) r e), subst (PlainByte b) (and-right (eqb h 0) r e) p)
 
 module _ (style b : ℕ) (h : PlainByte b true) where
   escaped : (semi : Bool) → escape semi b ≡ b ∷ []
@@ -74,22 +76,78 @@ module _ (s : Bytes) (i b : ℕ) (e : b ≡ byteAt s i) (h : PlainByte b true) w
       raw-is s i {r = Of b (i + 1)}
       (on-no (is 34) s i b e _ _ (ne-eqb _ _ (h .2)) ∙ on-no (is 92) s i b e _ _ (ne-eqb _ _ (h .3)) ∙ on-yes (between 32 255) s i b e _ _ (in-between 32 255 b (h .0) (omega (arith, h .1)))) b (i + 1) refl (h .1)
 
-  pub plain-left : left s i 0 ≡ byteOf s (One b (i + 1) 0)
+  plain-left : left s i 0 ≡ byteOf s (One b (i + 1) 0)
   plain-left = left-none s i ∙ read ∙ ap (before (b ∷ [])) (sym (left-none s (i + 1)))
 
-pub plain-less : (s : Bytes) (i h : ℕ) → i < length s → weight s (i + 1) h < weight s i h
-unfolding weight
-plain-less s i h l = omega arith
+-- ---- runs of them
 
-and-true : (b : Bool) → b && true ≡ b
+pub run-none : (s : Bytes) (h i : ℕ) → PlainRun s h i i
+run-none s h i j a l = let x : _≡_ {A = ℕ} 0 1 = omega arith in omega arith
+
+pub run-more : (s : Bytes) (h a i b : ℕ) → PlainRun s h a i → h ≡ 0 → b ≡ byteAt s i → PlainByte b true → PlainRun s h a (i + 1)
+run-more s h a i b w z e p j m l =
+    split i j
+    (λ u. let q : i ≡ j = omega arith in (z, subst (λ (x : ℕ). PlainByte x true) (e ∙ ap (byteAt s) q) p))
+    (λ u. w j m u)
+
+pub run-weight : (s : Bytes) (h i e : ℕ) → i ≤ e → weight s e h ≤ weight s i h
+unfolding weight
+run-weight s h i e l = omega arith
+
+module _ (s : Bytes) (h : ℕ) where
+  run-first : (i m : ℕ) → i < length s → take (suc m) (drop i s) ≡ byteAt s i ∷ take m (drop (suc i) s)
+  run-first i m l = rw (drop-cons s i 256 l)
+
+  run-rest : (i m : ℕ) → PlainRun s h i (i + suc m) → PlainRun s h (suc i) (suc i + m)
+  run-rest i m w j a l = w j (omega arith) (omega arith)
+
+  run-written : (style i m : ℕ) → i + m ≤ length s → PlainRun s h i (i + m) → writtenIn style (take m (drop i s)) ≡ take m (drop i s)
+  unfolding writtenIn
+  run-written style i zero l w = refl
+  run-written style i (suc m) l w =
+      let r : writtenIn style (take m (drop (suc i) s)) ≡ take m (drop (suc i) s) = run-written style (suc i) m (omega arith) (run-rest i m w) in
+      rw (run-first i m (omega arith), written style (byteAt s i) (w i (omega arith) (omega arith) .1), r)
+
+  run-stands : (style i m : ℕ) → i + m ≤ length s → PlainRun s h i (i + m) → allStandIn style (take m (drop i s)) ≡ true
+  unfolding allStandIn all
+  run-stands style i zero l w = refl
+  run-stands style i (suc m) l w =
+      let r : allStandIn style (take m (drop (suc i) s)) ≡ true = run-stands style (suc i) m (omega arith) (run-rest i m w) in
+      rw (run-first i m (omega arith), ← stands style (byteAt s i) (w i (omega arith) (omega arith) .1)) r
+
+  run-left : (i m : ℕ) → i + m ≤ length s → PlainRun s h i (i + m) → (y : Bytes) → left s i h ≡ some y → (u : Bytes) × (left s (i + m) h ≡ some u) × (y ≡ take m (drop i s) ++ u)
+  run-left i zero l w y q = (y, ap (λ (j : ℕ). left s j h) (add-zero i) ∙ q, refl)
+  run-left i (suc m) l w y q =
+      let z = w i (omega arith) (omega arith) in
+      let o = one-left s (ap (left s i) (z .0) ∙ plain-left s i (byteAt s i) refl (z .1)) y q refl in
+      let n : left s (suc i) h ≡ some (o .0) = ap (λ (j : ℕ). left s j h) (sym (add-one i)) ∙ ap (left s (i + 1)) (z .0) ∙ o .1 in
+      let r = run-left (suc i) m (omega arith) (run-rest i m w) (o .0) n in
+      let e : i + suc m ≡ suc i + m = omega arith in
+      (r .0, ap (λ (j : ℕ). left s j h) e ∙ r .1, o .2 ∙ ap (λ (t : Bytes). byteAt s i ∷ t) (r .2) ∙ ap (λ (t : Bytes). t ++ r .0) (sym (run-first i m (omega arith))))
+
+and-true : (b : Bool) → b ≡ b && true
 and-true true = refl
 and-true false = refl
 
--- one turn of the loop over such a byte
-module _ (s : Bytes) (at style : ℕ) (room : Bytes) (column n k : ℕ) (ok : Bool) (i h : ℕ) (out : Bytes) (f : Far s at style room column n k ok i h out) (z : h ≡ 0) (b : ℕ) (e : b ≡ byteAt s i) (w : PlainByte b true) where
-  pub far-plain : {p : Pen} {last : Bytes} → Pens (midOf n (length out - n) out) k (b ∷ []) p last → Far s at style room column (n + p .bytes) (p .column) ok (i + 1) h (putMid n (length out - n) out last)
-  far-plain {p} {last} m =
-      let q : left s i h ≡ byteOf s (One b (i + 1) 0) = ap (left s i) z ∙ plain-left s i b e w in
-      let g = far-one s at style room column n k ok i h out f (One b (i + 1) 0) q refl (pens-as (sym (written style b w)) m) (stands style b w) in
-      subst (λ (x : ℕ). Far s at style room column (n + p .bytes) (p .column) ok (i + 1) x (putMid n (length out - n) out last)) (sym z)
-      (subst (λ (x : Bool). Far s at style room column (n + p .bytes) (p .column) x (i + 1) 0 (putMid n (length out - n) out last)) (and-true ok) g)
+-- a turn of the loop over such a run
+module _ {s : Bytes} {at style : ℕ} {room : Bytes} {column n k : ℕ} {ok : Bool} {i h : ℕ} {out : Bytes} (f : Far s at style room column n k ok i h out) where
+  far-some : (m : ℕ) → i + m ≤ length s → PlainRun s h i (i + m) → {p : Pen} {last : Bytes} → Pens (midOf n (length out - n) out) k (take m (drop i s)) p last
+      → Far s at style room column (n + p .bytes) (p .column) ok (i + m) h (putMid n (length out - n) out last)
+  far-some m l w {p} {last} q =
+      let y = take m (drop i s) in
+      record {
+        done = f .done ++ y;
+        rest = λ x v.
+            let t = f .rest x v in
+            let o = run-left s h i m l w (t .0) (t .1) in
+            (o .0, o .1, t .2 ∙ ap (λ (z : Bytes). f .done ++ z) (o .2) ∙ sym (append-assoc (f .done) y (o .0)));
+        pens = pens-as (ap (λ (z : Bytes). writtenIn style (f .done) ++ z) (sym (run-written s h style i m l w)) ∙ sym (written-both style (f .done) y)) (pens-then (f .pens) q);
+        stands = f .stands ∙ and-true _ ∙ ap (λ (b : Bool). allStandIn style (f .done) && b) (sym (run-stands s h style i m l w)) ∙ sym (stand-both style (f .done) y);
+      }
+
+  pub far-run : (e : ℕ) → i ≤ e → e ≤ length s → PlainRun s h i e → {p : Pen} {last : Bytes} → Pens (midOf n (length out - n) out) k (take (e - i) (drop i s)) p last
+      → Far s at style room column (n + p .bytes) (p .column) ok e h (putMid n (length out - n) out last)
+  far-run e a b w {p} {last} q =
+      let d : i + (e - i) ≡ e = omega arith in
+      subst (λ (x : ℕ). Far s at style room column (n + p .bytes) (p .column) ok x h (putMid n (length out - n) out last)) d
+      (far-some (e - i) (omega arith) (subst (PlainRun s h i) (sym d) w) q)
