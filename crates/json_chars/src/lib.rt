@@ -87,7 +87,7 @@ fn plain_end(s: &[u8], at: usize) -> usize
     let mut i = at;
     loop {
         let b = look(s, i);
-        if b > 92 {
+        if b > BACKSLASH {
             if b > 127 {
                 return i;
             }

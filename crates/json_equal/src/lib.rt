@@ -4,6 +4,8 @@ use json_strings::Byte;
 use json_strings::Letter;
 use json_strings::letter_at;
 use json_strings::next_byte;
+use text::BACKSLASH;
+use text::QUOTE;
 use text::look;
 ghost use mathlib.Core.Path.{_≡_};
 ghost use mathlib.Core.List.{[]};
@@ -22,17 +24,17 @@ fn bare_end(s: &[u8], at: usize) -> usize
     let mut i = at;
     loop {
         let b = look(s, i);
-        if b > 92 {
+        if b > BACKSLASH {
             if b > 255 {
                 return i;
             }
             i += 1;
             continue;
         }
-        if b == 34 {
+        if b == QUOTE {
             return i;
         }
-        if b == 92 {
+        if b == BACKSLASH {
             return i;
         }
         if b < 32 {
@@ -80,16 +82,16 @@ pub fn equals<'a, 'b>(s: &'a [u8], at: usize, bytes: &'b [u8]) -> bool
     let mut k = 0;
     loop {
         let b = look(s, i);
-        if b == 92 {
+        if b == BACKSLASH {
             return equals_from(s, i, bytes, k);
         }
         if k == bytes.len() {
-            return b == 34;
+            return b == QUOTE;
         }
         if b != bytes[k] as u16 {
             return false;
         }
-        if b == 34 {
+        if b == QUOTE {
             return false;
         }
         if b < 32 {

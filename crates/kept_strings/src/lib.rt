@@ -8,6 +8,8 @@ use line_class::Class;
 use line_class::all_of;
 use line_table::put_row;
 use output::Wrote;
+use text::LEFT_BRACKET;
+use text::RIGHT_BRACKET;
 use text::Turn;
 use text::look;
 ghost use mathlib.Core.Path.{_≡_};
@@ -124,7 +126,7 @@ fn put_elements<'a, 'b, 'c>(
         };
         k = end;
         rows = count;
-        match separator(s, x, 93) {
+        match separator(s, x, RIGHT_BRACKET) {
             Turn::Go(j) => {
                 i = j;
             }
@@ -157,11 +159,11 @@ pub fn put_values<'a, 'b, 'c>(
     ensures { λ r. ⌜ AddsValues (now (b .entry)) n (now (t .entry)) m a e (now (s .entry)) at r (now (b .exit)) (now (t .exit)) ⌝ }
 {
     let i = skip_space(s, at);
-    if look(s, i) != 91 {
+    if look(s, i) != LEFT_BRACKET {
         return put_value(b, n, t, m, a, e, s, at);
     }
     let j = skip_space(s, i + 1);
-    if look(s, j) == 93 {
+    if look(s, j) == RIGHT_BRACKET {
         return Rows::Wrong;
     }
     put_elements(b, n, t, m, a, e, s, j)
@@ -173,17 +175,17 @@ fn sole_string(s: &[u8], at: usize) -> usize
     ensures { λ r. ⌜ TellsSole (now (s .entry)) at r ⌝ }
 {
     let i = skip_space(s, at);
-    if look(s, i) != 91 {
+    if look(s, i) != LEFT_BRACKET {
         return string_in(s, at);
     }
     let j = skip_space(s, i + 1);
-    if look(s, j) == 93 {
+    if look(s, j) == RIGHT_BRACKET {
         return 0;
     }
     let p = element_at(s, j, 11);
     let v = p.start;
     let x = p.end;
-    match separator(s, x, 93) {
+    match separator(s, x, RIGHT_BRACKET) {
         Turn::Go(k) => {
             return 0;
         }

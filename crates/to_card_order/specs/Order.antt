@@ -4,6 +4,7 @@ use mathlib.Core.Bool.{Bool, true, false, _&&_, _||_, not}
 use mathlib.Core.List.{List, [], _∷_, _++_, map}
 use mathlib.Core.Option.{some}
 use Prim.Native.Nat.{ℕ, _-_}
+use Prim.Native.Char.{code}
 use lib.Dec.{eqb, ltb}
 use Rattle.text.specs.Choice.{pick}
 use Rattle.text.specs.Bytes.{Bytes, all, among, empty}
@@ -25,13 +26,13 @@ unfoldable pub valuesAt : List (List Bytes) → ℕ → List Bytes
 valuesAt ps c = pick (ltb c 48) [] (part ps (c - 48))
 
 abbrev pub placeText : ℕ → ℕ → List (List Bytes) → Bool → ℕ → Bytes
-placeText style mark ps b c = pick (eqb c 59) (c ∷ []) (listFrom mark b (map (writtenIn style) (valuesAt ps c)))
+placeText style mark ps b c = pick (eqb c (code ";")) (c ∷ []) (listFrom mark b (map (writtenIn style) (valuesAt ps c)))
 
 abbrev pub placeBegun : List (List Bytes) → Bool → ℕ → Bool
-placeBegun ps b c = pick (eqb c 59) false (b || not (empty (valuesAt ps c)))
+placeBegun ps b c = pick (eqb c (code ";")) false (b || not (empty (valuesAt ps c)))
 
 abbrev pub placeCarried : ℕ → List (List Bytes) → ℕ → Bool
-placeCarried style ps c = pick (eqb c 59) true (all (allStandIn style) (valuesAt ps c))
+placeCarried style ps c = pick (eqb c (code ";")) true (all (allStandIn style) (valuesAt ps c))
 
 -- the flag says that a value of the part has been written
 unfoldable pub orderFrom : ℕ → ℕ → List (List Bytes) → Bool → Bytes → Bytes

@@ -4,6 +4,7 @@ use json_access::element_at;
 use json_equal::same_text;
 use json_marks::separator;
 use line_pen::pen_byte;
+use text::RIGHT_BRACKET;
 use text::Turn;
 use to_card_head::is_filled;
 use to_card_parts::Found;
@@ -170,7 +171,7 @@ fn is_among(s: &[u8], at: usize, kind: usize, value: usize) -> bool
             return found;
         };
         found = found | agrees(s, kind == k, value, v);
-        match separator(s, e, 93) {
+        match separator(s, e, RIGHT_BRACKET) {
             Turn::Go(j) => {
                 i = j;
             }
@@ -261,7 +262,7 @@ fn walk_apart<'a, 'b, 'c>(
             return ok;
         };
         ok = ok & !clashes(s, at, kinds, values, rows, one == k, v, other);
-        match separator(s, e, 93) {
+        match separator(s, e, RIGHT_BRACKET) {
             Turn::Go(j) => {
                 i = j;
             }

@@ -7,6 +7,8 @@ use json_index::which_name;
 use json_marks::separator;
 use json_marks::skip_space;
 use line_pen::pen_byte;
+use text::LEFT_BRACKET;
+use text::RIGHT_BRACKET;
 use text::Turn;
 use text::look;
 use to_card_head::is_filled;
@@ -93,11 +95,11 @@ pub fn open_array(s: &[u8], at: usize) -> Array
     ensures { λ r. ⌜ OpensAs (now (s .entry)) at r ⌝ }
 {
     let i = skip_space(s, at);
-    if look(s, i) != 91 {
+    if look(s, i) != LEFT_BRACKET {
         return Array::Wrong;
     }
     let j = skip_space(s, i + 1);
-    if look(s, j) == 93 {
+    if look(s, j) == RIGHT_BRACKET {
         return Array::Empty;
     }
     Array::At(j)
@@ -162,7 +164,7 @@ pub fn list_rows<'a, 'b, 'c, 'd>(
         };
         mark_kind(marks, s, k, v);
         n = put_row(kinds, values, n, k, v);
-        match separator(s, e, 93) {
+        match separator(s, e, RIGHT_BRACKET) {
             Turn::Go(j) => {
                 i = j;
             }
@@ -264,7 +266,7 @@ pub fn pen_kind<'a, 'b>(
         c = t.column;
         b = t.begun;
         ok = ok & t.carried;
-        match separator(s, e, 93) {
+        match separator(s, e, RIGHT_BRACKET) {
             Turn::Go(j) => {
                 i = j;
             }

@@ -144,7 +144,17 @@ same-length c = same! (s5 c)
 
 -- src/lib.rt:161:1
 returns : tie.Need-returns
-returns c = record { key-text = c .before .before .before .before .before .before .before .before .before .before .before .before .before .before .pen-string .ensures .text; is-key = c .before .before .before .before .before .before .before .before .before .before .before .before .before .before .pen-string .ensures .is; pens = pens-as (line-pieces _ _ (c .before .before .before .before .before .before .before .before .before .before .before .before .before .before .pen-string .ensures .text) (spanOf (now (c .before .before .before .before .before .before .before .before .before .before .before .before .before .before .before .before .before .before .before .before .before .before .before .before .before .before .before .before .before .before .before .before .args .s)) (c .before .before .before .before .before .before .before .before .before .before .before .before .before .before .before .before .before .before .before .before .before .before .before .before .before .before .before .before .before .before .before .before .args .a) (c .before .before .before .before .before .before .before .before .before .before .before .before .before .before .before .before .before .before .before .before .before .before .before .before .before .before .before .before .before .before .before .before .args .e)) (now (c .before .before .before .before .before .before .before .before .before .before .before .before .before .before .before .before .before .before .before .before .before .before .before .before .before .before .before .before .before .before .before .before .args .row)) (c .before .before .before .before .before .before .before .before .before .before .before .before .before .before .before .before .before .before .before .before .before .before .before .before .before .before .before .nth-name .ensures .is)) (s5 c .so) }
+returns c =
+    let args = c .before .before .before .before .before .before .before .before .before .before .before .before .before .before .before .before .before .before .before .before .before .before .before .before .before .before .before .before .before .before .before .before .args in
+    let nth-name = c .before .before .before .before .before .before .before .before .before .before .before .before .before .before .before .before .before .before .before .before .before .before .before .before .before .before .before .nth-name in
+    let pen-string = c .before .before .before .before .before .before .before .before .before .before .before .before .before .before .pen-string in
+    record {
+      key-text = pen-string .ensures .text;
+      is-key = pen-string .ensures .is;
+      pens = pens-as
+          (line-pieces _ _ (pen-string .ensures .text) (spanOf (now (args .s)) (args .a) (args .e)) (now (args .row)) (nth-name .ensures .is))
+          (s5 c .so);
+    }
 
 pub pen-head-spec : {M : Type 1} → statement M
 pen-head-spec =

@@ -46,19 +46,47 @@ same-length c = search needs
 
 -- src/lib.rt:216:9
 returns : tie.Need-returns
-returns c = (tt, (bounds (c .before .before .before .before .before .before .before .before .pen-head .result .bytes) 0 (now (c .before .before .before .before .before .before .before .before .before .before .before .before .before .before .args .out)) (c .before .before .before .before .before .before .before .before .pen-head .last .0) (c .before .before .before .before .put-value .last .0) (pens-length (c .before .before .before .before .before .before .before .before .pen-head .ensures .pens)) (pens-in (c .before .before .before .before .before .before .before .before .pen-head .ensures .pens)) (omega arith) (c .before .before .before .before .put-value .ensures .1 .0) .1, line-none (now (c .before .before .before .before .before .before .before .before .before .before .before .before .before .before .args .s)) (now (c .before .before .before .before .before .before .before .before .before .before .before .before .before .before .args .heads)) (c .before .before .before .before .before .before .before .before .before .before .before .before .before .before .args .which) (c .before .before .before .before .before .before .before .before .before .before .before .before .before .before .args .key) (now (c .before .before .before .before .before .before .before .before .before .before .before .before .before .before .args .row)) (c .before .before .before .before .before .before .before .before .before .before .before .before .before .before .args .a) (c .before .before .before .before .before .before .before .before .before .before .before .before .before .before .args .e) (c .before .before .before .before .before .before .before .before .before .before .before .before .before .before .args .content) (c .before .before .before .before .before .before .before .before .before .before .before .before .before .before .args .units) (c .before .before .before .before .before .before .before .before .before .before .before .before .before .before .args .form) _ _ (c .before .before .before .before .before .before .before .before .pen-head .result) (c .before .before .before .before .before .before .before .before .pen-head .ensures) _ (c .before .before .before .before .put-value .result) (c .before .before .before .before .put-value .ensures .1 .1) _ (c .enum-told .given .1)))
+returns c =
+    let args = c .before .before .before .before .before .before .before .before .before .before .before .before .before .before .args in
+    let pen-head = c .before .before .before .before .before .before .before .before .pen-head in
+    let put-value = c .before .before .before .before .put-value in (
+      tt,
+      (bounds (pen-head .result .bytes) 0 (now (args .out)) (pen-head .last .0) (put-value .last .0) (pens-length (pen-head .ensures .pens)) (pens-in (pen-head .ensures .pens)) (omega arith) (put-value .ensures .1 .0) .1, line-none (now (args .s)) (now (args .heads)) (args .which) (args .key) (now (args .row)) (args .a) (args .e) (args .content) (args .units) (args .form) _ _ (pen-head .result) (pen-head .ensures) _ (put-value .result) (put-value .ensures .1 .1) _ (c .enum-told .given .1)),
+    )
 
 -- src/lib.rt:218:14
 add-nm : tie.Need-add-nm
-add-nm c = let b = bounds (c .before .before .before .before .before .before .before .before .before .pen-head .result .bytes) (c .before .m .given .0 .0) (now (c .before .before .before .before .before .before .before .before .before .before .before .before .before .before .before .args .out)) (c .before .before .before .before .before .before .before .before .before .pen-head .last .0) (c .before .before .before .before .before .put-value .last .0) (pens-length (c .before .before .before .before .before .before .before .before .before .pen-head .ensures .pens)) (pens-in (c .before .before .before .before .before .before .before .before .before .pen-head .ensures .pens)) (put-in (c .before .before .before .before .before .put-value .ensures .0) (c .before .m .given .1)) (c .before .before .before .before .before .put-value .ensures .1 .0) in record { fits = omega (arith, b .0, b .1, c .before .before .before .before .before .before .before .before .before .before .before .before .before .before .before .good .0 .0) }
+add-nm c =
+    let args = c .before .before .before .before .before .before .before .before .before .before .before .before .before .before .before .args in
+    let good = c .before .before .before .before .before .before .before .before .before .before .before .before .before .before .before .good in
+    let pen-head = c .before .before .before .before .before .before .before .before .before .pen-head in
+    let put-value = c .before .before .before .before .before .put-value in
+    let m = c .before .m in
+    let b = bounds (pen-head .result .bytes) (m .given .0 .0) (now (args .out)) (pen-head .last .0) (put-value .last .0)
+    (pens-length (pen-head .ensures .pens)) (pens-in (pen-head .ensures .pens)) (put-in (put-value .ensures .0) (m .given .1))
+    (put-value .ensures .1 .0) in record { fits = omega (arith, b .0, b .1, good .0 .0) }
 
 -- src/lib.rt:219:18
 sub-fill : tie.Need-sub-fill
-sub-fill c = bounds (c .before .before .before .before .before .before .before .before .before .pen-head .result .bytes) (c .before .m .given .0 .0) (now (c .before .before .before .before .before .before .before .before .before .before .before .before .before .before .before .args .out)) (c .before .before .before .before .before .before .before .before .before .pen-head .last .0) (c .before .before .before .before .before .put-value .last .0) (pens-length (c .before .before .before .before .before .before .before .before .before .pen-head .ensures .pens)) (pens-in (c .before .before .before .before .before .before .before .before .before .pen-head .ensures .pens)) (put-in (c .before .before .before .before .before .put-value .ensures .0) (c .before .m .given .1)) (c .before .before .before .before .before .put-value .ensures .1 .0) .0
+sub-fill c =
+    let args = c .before .before .before .before .before .before .before .before .before .before .before .before .before .before .before .args in
+    let pen-head = c .before .before .before .before .before .before .before .before .before .pen-head in
+    let put-value = c .before .before .before .before .before .put-value in
+    let m = c .before .m in
+    bounds (pen-head .result .bytes) (m .given .0 .0) (now (args .out)) (pen-head .last .0) (put-value .last .0)
+    (pens-length (pen-head .ensures .pens)) (pens-in (pen-head .ensures .pens)) (put-in (put-value .ensures .0) (m .given .1))
+    (put-value .ensures .1 .0) .0
 
 -- src/lib.rt:219:18
 part-fill-start : tie.Need-part-fill-start
-part-fill-start c = bounds (c .before .before .before .before .before .before .before .before .before .pen-head .result .bytes) (c .before .m .given .0 .0) (now (c .before .before .before .before .before .before .before .before .before .before .before .before .before .before .before .args .out)) (c .before .before .before .before .before .before .before .before .before .pen-head .last .0) (c .before .before .before .before .before .put-value .last .0) (pens-length (c .before .before .before .before .before .before .before .before .before .pen-head .ensures .pens)) (pens-in (c .before .before .before .before .before .before .before .before .before .pen-head .ensures .pens)) (put-in (c .before .before .before .before .before .put-value .ensures .0) (c .before .m .given .1)) (c .before .before .before .before .before .put-value .ensures .1 .0) .0
+part-fill-start c =
+    let args = c .before .before .before .before .before .before .before .before .before .before .before .before .before .before .before .args in
+    let pen-head = c .before .before .before .before .before .before .before .before .before .pen-head in
+    let put-value = c .before .before .before .before .before .put-value in
+    let m = c .before .m in
+    bounds (pen-head .result .bytes) (m .given .0 .0) (now (args .out)) (pen-head .last .0) (put-value .last .0)
+    (pens-length (pen-head .ensures .pens)) (pens-in (pen-head .ensures .pens)) (put-in (put-value .ensures .0) (m .given .1))
+    (put-value .ensures .1 .0) .0
 
 -- src/lib.rt:219:18
 part-fill-end : tie.Need-part-fill-end
@@ -74,15 +102,38 @@ fill-requires c κs = search needs
 
 -- src/lib.rt:220:13
 add-t : tie.Need-add-t
-add-t c = let x = all-in (c .before .before .before .before .before .before .before .before .before .before .before .before .before .before .pen-head .result .bytes) (c .before .before .before .before .before .before .m .given .0 .0) (now (c .before .before .before .before .before .before .before .before .before .before .before .before .before .before .before .before .before .before .before .before .args .out)) (c .before .before .before .before .before .before .before .before .before .before .before .before .before .before .pen-head .last .0) (c .before .before .before .before .before .before .before .before .before .before .put-value .last .0) (pens-length (c .before .before .before .before .before .before .before .before .before .before .before .before .before .before .pen-head .ensures .pens)) (pens-in (c .before .before .before .before .before .before .before .before .before .before .before .before .before .before .pen-head .ensures .pens)) (put-in (c .before .before .before .before .before .before .before .before .before .before .put-value .ensures .0) (c .before .before .before .before .before .before .m .given .1)) (c .before .before .before .before .before .before .before .before .before .before .put-value .ensures .1 .0) (c .before .before .fill .ensures) in record { fits = omega (arith, x .0, c .before .before .before .before .before .before .before .before .before .before .before .before .before .before .before .before .before .before .before .before .good .0 .0) }
+add-t c =
+    let good = c .before .before .before .before .before .before .before .before .before .before .before .before .before .before .before .before .before .before .before .before .good in
+    let args = c .before .before .before .before .before .before .before .before .before .before .before .before .before .before .before .before .before .before .before .before .args in
+    let pen-head = c .before .before .before .before .before .before .before .before .before .before .before .before .before .before .pen-head in
+    let put-value = c .before .before .before .before .before .before .before .before .before .before .put-value in
+    let m = c .before .before .before .before .before .before .m in
+    let x = all-in (pen-head .result .bytes) (m .given .0 .0) (now (args .out)) (pen-head .last .0) (put-value .last .0)
+    (pens-length (pen-head .ensures .pens)) (pens-in (pen-head .ensures .pens)) (put-in (put-value .ensures .0) (m .given .1))
+    (put-value .ensures .1 .0) (c .before .before .fill .ensures) in record { fits = omega (arith, x .0, good .0 .0) }
 
 -- src/lib.rt:195:1
 same-length-2 : tie.Need-same-length-2
-same-length-2 c = all-in (c .before .before .before .before .before .before .before .before .before .before .before .before .before .before .pen-head .result .bytes) (c .before .before .before .before .before .before .m .given .0 .0) (now (c .before .before .before .before .before .before .before .before .before .before .before .before .before .before .before .before .before .before .before .before .args .out)) (c .before .before .before .before .before .before .before .before .before .before .before .before .before .before .pen-head .last .0) (c .before .before .before .before .before .before .before .before .before .before .put-value .last .0) (pens-length (c .before .before .before .before .before .before .before .before .before .before .before .before .before .before .pen-head .ensures .pens)) (pens-in (c .before .before .before .before .before .before .before .before .before .before .before .before .before .before .pen-head .ensures .pens)) (put-in (c .before .before .before .before .before .before .before .before .before .before .put-value .ensures .0) (c .before .before .before .before .before .before .m .given .1)) (c .before .before .before .before .before .before .before .before .before .before .put-value .ensures .1 .0) (c .before .before .fill .ensures) .1
+same-length-2 c =
+    let args = c .before .before .before .before .before .before .before .before .before .before .before .before .before .before .before .before .before .before .before .before .args in
+    let pen-head = c .before .before .before .before .before .before .before .before .before .before .before .before .before .before .pen-head in
+    let put-value = c .before .before .before .before .before .before .before .before .before .before .put-value in
+    let m = c .before .before .before .before .before .before .m in
+    all-in (pen-head .result .bytes) (m .given .0 .0) (now (args .out)) (pen-head .last .0) (put-value .last .0)
+    (pens-length (pen-head .ensures .pens)) (pens-in (pen-head .ensures .pens)) (put-in (put-value .ensures .0) (m .given .1))
+    (put-value .ensures .1 .0) (c .before .before .fill .ensures) .1
 
 -- src/lib.rt:195:1
 returns-2 : tie.Need-returns-2
-returns-2 c = (all-in (c .before .before .before .before .before .before .before .before .before .before .before .before .before .before .pen-head .result .bytes) (c .before .before .before .before .before .before .m .given .0 .0) (now (c .before .before .before .before .before .before .before .before .before .before .before .before .before .before .before .before .before .before .before .before .args .out)) (c .before .before .before .before .before .before .before .before .before .before .before .before .before .before .pen-head .last .0) (c .before .before .before .before .before .before .before .before .before .before .put-value .last .0) (pens-length (c .before .before .before .before .before .before .before .before .before .before .before .before .before .before .pen-head .ensures .pens)) (pens-in (c .before .before .before .before .before .before .before .before .before .before .before .before .before .before .pen-head .ensures .pens)) (put-in (c .before .before .before .before .before .before .before .before .before .before .put-value .ensures .0) (c .before .before .before .before .before .before .m .given .1)) (c .before .before .before .before .before .before .before .before .before .before .put-value .ensures .1 .0) (c .before .before .fill .ensures) .0, (all-in (c .before .before .before .before .before .before .before .before .before .before .before .before .before .before .pen-head .result .bytes) (c .before .before .before .before .before .before .m .given .0 .0) (now (c .before .before .before .before .before .before .before .before .before .before .before .before .before .before .before .before .before .before .before .before .args .out)) (c .before .before .before .before .before .before .before .before .before .before .before .before .before .before .pen-head .last .0) (c .before .before .before .before .before .before .before .before .before .before .put-value .last .0) (pens-length (c .before .before .before .before .before .before .before .before .before .before .before .before .before .before .pen-head .ensures .pens)) (pens-in (c .before .before .before .before .before .before .before .before .before .before .before .before .before .before .pen-head .ensures .pens)) (put-in (c .before .before .before .before .before .before .before .before .before .before .put-value .ensures .0) (c .before .before .before .before .before .before .m .given .1)) (c .before .before .before .before .before .before .before .before .before .before .put-value .ensures .1 .0) (c .before .before .fill .ensures) .1, line-all (now (c .before .before .before .before .before .before .before .before .before .before .before .before .before .before .before .before .before .before .before .before .args .s)) (now (c .before .before .before .before .before .before .before .before .before .before .before .before .before .before .before .before .before .before .before .before .args .heads)) (c .before .before .before .before .before .before .before .before .before .before .before .before .before .before .before .before .before .before .before .before .args .which) (c .before .before .before .before .before .before .before .before .before .before .before .before .before .before .before .before .before .before .before .before .args .key) (now (c .before .before .before .before .before .before .before .before .before .before .before .before .before .before .before .before .before .before .before .before .args .row)) (c .before .before .before .before .before .before .before .before .before .before .before .before .before .before .before .before .before .before .before .before .args .a) (c .before .before .before .before .before .before .before .before .before .before .before .before .before .before .before .before .before .before .before .before .args .e) (c .before .before .before .before .before .before .before .before .before .before .before .before .before .before .before .before .before .before .before .before .args .content) (c .before .before .before .before .before .before .before .before .before .before .before .before .before .before .before .before .before .before .before .before .args .units) (c .before .before .before .before .before .before .before .before .before .before .before .before .before .before .before .before .before .before .before .before .args .form) _ _ (c .before .before .before .before .before .before .before .before .before .before .before .before .before .before .pen-head .result) (c .before .before .before .before .before .before .before .before .before .before .before .before .before .before .pen-head .ensures) _ (c .before .before .before .before .before .before .before .before .before .before .put-value .result) (c .before .before .before .before .before .before .before .before .before .before .put-value .ensures .1 .1) _ _ (c .before .before .before .before .before .before .m .given .1) _ _ (c .before .before .fill .ensures)))
+returns-2 c =
+    let args = c .before .before .before .before .before .before .before .before .before .before .before .before .before .before .before .before .before .before .before .before .args in
+    let pen-head = c .before .before .before .before .before .before .before .before .before .before .before .before .before .before .pen-head in
+    let put-value = c .before .before .before .before .before .before .before .before .before .before .put-value in
+    let m = c .before .before .before .before .before .before .m in
+    let fill = c .before .before .fill in (
+      all-in (pen-head .result .bytes) (m .given .0 .0) (now (args .out)) (pen-head .last .0) (put-value .last .0) (pens-length (pen-head .ensures .pens)) (pens-in (pen-head .ensures .pens)) (put-in (put-value .ensures .0) (m .given .1)) (put-value .ensures .1 .0) (fill .ensures) .0,
+      (all-in (pen-head .result .bytes) (m .given .0 .0) (now (args .out)) (pen-head .last .0) (put-value .last .0) (pens-length (pen-head .ensures .pens)) (pens-in (pen-head .ensures .pens)) (put-in (put-value .ensures .0) (m .given .1)) (put-value .ensures .1 .0) (fill .ensures) .1, line-all (now (args .s)) (now (args .heads)) (args .which) (args .key) (now (args .row)) (args .a) (args .e) (args .content) (args .units) (args .form) _ _ (pen-head .result) (pen-head .ensures) _ (put-value .result) (put-value .ensures .1 .1) _ _ (m .given .1) _ _ (fill .ensures)),
+    )
 
 pub put-line-spec : {M : Type 1} → statement M
 put-line-spec =

@@ -18,10 +18,12 @@ skip-value-requires : tie.Need-skip-value-requires
 skip-value-requires c κs = search needs
 
 returns-2 : tie.Need-returns-2
-returns-2 c = (
-  record { from = λ l. c .before .skip-space .ensures .from; ordered = c .skip-value .ensures .0 .0 (c .before .skip-space .ensures .to); end-in = c .skip-value .ensures .0 .1 },
-  stands (c .before .before .before .before .args .depth) (now (c .before .before .before .before .args .s)) (drop (c .before .before .before .before .args .at) (now (c .before .before .before .before .args .s))) (skip-to (c .before .skip-space .ensures)) (c .before .skip-space .ensures .to) (c .skip-value .ensures .0 .1) (c .skip-value .ensures .1 (c .before .before .before .before .args .depth)),
-)
+returns-2 c =
+    let args = c .before .before .before .before .args in
+    let skip-space = c .before .skip-space in (
+      record { from = λ l. skip-space .ensures .from; ordered = c .skip-value .ensures .0 .0 (skip-space .ensures .to); end-in = c .skip-value .ensures .0 .1 },
+      stands (args .depth) (now (args .s)) (drop (args .at) (now (args .s))) (skip-to (skip-space .ensures)) (skip-space .ensures .to) (c .skip-value .ensures .0 .1) (c .skip-value .ensures .1 (args .depth)),
+    )
 
 pub element-at-spec : {M : Type 1} → statement M
 element-at-spec =

@@ -31,7 +31,14 @@ in-range-requires : tie.Need-in-range-requires Inv-loop μ-loop
 in-range-requires c κs = search needs
 
 returns : tie.Need-returns Inv-loop μ-loop
-returns c = c .before .before .before .before .loop .inv .1 _ (tails-bad (now (c .before .before .before .before .before .before .args .s)) (c .before .before .before .before .loop .i) (c .before .before .look .result) (c .before .before .before .before .loop .left) (c .before .before .before .before .loop .inv .0) (c .before .before .look .ensures .0) (sym (c .before .in-range .ensures) ∙ not-true _ (c .if1 .taken)) (c .before .before .before .loop-test .taken))
+returns c =
+    let args = c .before .before .before .before .before .before .args in
+    let loop = c .before .before .before .before .loop in
+    let loop-test = c .before .before .before .loop-test in
+    let look = c .before .before .look in
+    loop .inv .1 _
+    (tails-bad (now (args .s)) (loop .i) (look .result) (loop .left) (loop .inv .0) (look .ensures .0)
+    (sym (c .before .in-range .ensures) ∙ not-true _ (c .if1 .taken)) (loop-test .taken))
 
 add-i : tie.Need-add-i Inv-loop μ-loop
 add-i c = search needs
@@ -43,9 +50,16 @@ loop-less : tie.Need-loop-less Inv-loop μ-loop
 loop-less c = search needs
 
 loop-again : tie.Need-loop-again Inv-loop μ-loop
-loop-again c = let t = sym (c .before .in-range .ensures) ∙ not-false _ (c .if1 .left) in
-    let l = inside-at (between 0x80 0xbf) (now (c .before .before .before .before .before .before .args .s)) (c .before .before .before .before .loop .i) (c .before .before .look .result) tail-256 (c .before .before .before .before .loop .inv .0) (c .before .before .look .ensures .0) t in
-    (omega arith, λ r x. c .before .before .before .before .loop .inv .1 r (tails-more (now (c .before .before .before .before .before .before .args .s)) (c .before .before .before .before .loop .i) (c .before .before .look .result) (c .before .before .before .before .loop .left) r (c .before .before .look .ensures .0) t (c .before .before .before .loop-test .taken) x))
+loop-again c =
+    let args = c .before .before .before .before .before .before .args in
+    let loop = c .before .before .before .before .loop in
+    let loop-test = c .before .before .before .loop-test in
+    let look = c .before .before .look in
+    let t = sym (c .before .in-range .ensures) ∙ not-false _ (c .if1 .left) in let l = inside-at (between 0x80 0xbf) (now (args .s)) (loop .i)
+    (look .result) tail-256 (loop .inv .0) (look .ensures .0) t in (
+      omega arith,
+      λ r x. loop .inv .1 r (tails-more (now (args .s)) (loop .i) (look .result) (loop .left) r (look .ensures .0) t (loop-test .taken) x),
+    )
 
 returns-2 : tie.Need-returns-2 Inv-loop μ-loop
 returns-2 c = c .before .loop .inv .1 _ (tails-none (now (c .before .before .before .args .s)) (c .before .loop .i) (c .before .loop .left) (c .before .loop .inv .0) (omega arith))

@@ -23,7 +23,11 @@ returns : tie.Need-returns Inv-loop μ-loop
 returns c = sym (ap (λ (x : Option Bytes). agree x (spelled (now (c .before .before .args .s)) (c .before .before .args .b))) (spelled-past (now (c .before .before .args .s)) (c .before .before .args .a) (c .if1 .taken)))
 
 returns-2 : tie.Need-returns-2 Inv-loop μ-loop
-returns-2 c = sym (ap (agree (spelled (now (c .before .before .before .args .s)) (c .before .before .before .args .a))) (spelled-past (now (c .before .before .before .args .s)) (c .before .before .before .args .b) (c .if2 .taken)) ∙ agree-none (spelled (now (c .before .before .before .args .s)) (c .before .before .before .args .a)))
+returns-2 c =
+    let args = c .before .before .before .args in
+    sym
+    (ap (agree (spelled (now (args .s)) (args .a))) (spelled-past (now (args .s)) (args .b) (c .if2 .taken)) ∙ agree-none
+    (spelled (now (args .s)) (args .a)))
 
 loop-holds : tie.Need-loop-holds Inv-loop μ-loop
 loop-holds c = (omega (arith, c .before .if1 .left), omega (arith, c .if2 .left), rw (left-none (now (c .before .before .before .args .s)) (c .before .before .before .args .a), left-none (now (c .before .before .before .args .s)) (c .before .before .before .args .b)))
@@ -35,7 +39,12 @@ enum-told : tie.Need-enum-told Inv-loop μ-loop
 enum-told c = search needs
 
 returns-3 : tie.Need-returns-3 Inv-loop μ-loop
-returns-3 c = sym (c .before .before .before .loop .inv .2 ∙ ap (λ (x : Option Bytes). agree x (left (now (c .before .before .before .before .before .before .before .args .s)) (c .before .before .before .loop .j) (c .before .before .before .loop .h))) (is-alone (now (c .before .before .before .before .before .before .before .args .s)) (c .before .before .next-byte .ensures .0) (c .enum-told .given .1)))
+returns-3 c =
+    let args = c .before .before .before .before .before .before .before .args in
+    let loop = c .before .before .before .loop in
+    sym
+    (loop .inv .2 ∙ ap (λ (x : Option Bytes). agree x (left (now (args .s)) (loop .j) (loop .h)))
+    (is-alone (now (args .s)) (c .before .before .next-byte .ensures .0) (c .enum-told .given .1)))
 
 enum-told-2 : tie.Need-enum-told-2 Inv-loop μ-loop
 enum-told-2 c = search needs
@@ -44,7 +53,13 @@ ends-requires : tie.Need-ends-requires Inv-loop μ-loop
 ends-requires c κs = c .before .before .before .loop .inv .1
 
 returns-4 : tie.Need-returns-4 Inv-loop μ-loop
-returns-4 c = sym (c .before .before .before .before .loop .inv .2 ∙ ap (λ (x : Option Bytes). agree x (left (now (c .before .before .before .before .before .before .before .before .args .s)) (c .before .before .before .before .loop .j) (c .before .before .before .before .loop .h))) (is-end (now (c .before .before .before .before .before .before .before .before .args .s)) (c .before .before .before .next-byte .ensures .0) (c .before .enum-told2 .given .1)) ∙ sym (c .ends .ensures))
+returns-4 c =
+    let args = c .before .before .before .before .before .before .before .before .args in
+    let loop = c .before .before .before .before .loop in
+    let next-byte = c .before .before .before .next-byte in
+    sym
+    (loop .inv .2 ∙ ap (λ (x : Option Bytes). agree x (left (now (args .s)) (loop .j) (loop .h)))
+    (is-end (now (args .s)) (next-byte .ensures .0) (c .before .enum-told2 .given .1)) ∙ sym (c .ends .ensures))
 
 enum-known-x : tie.Need-enum-known-x Inv-loop μ-loop
 enum-known-x c = search needs
@@ -56,29 +71,62 @@ enum-told-3 : tie.Need-enum-told-3 Inv-loop μ-loop
 enum-told-3 c = search needs
 
 returns-5 : tie.Need-returns-5 Inv-loop μ-loop
-returns-5 c = sym (c .before .before .before .before .before .before .before .loop .inv .2 ∙ ap (agree (left (now (c .before .before .before .before .before .before .before .before .before .before .before .args .s)) (c .before .before .before .before .before .before .before .loop .i) (c .before .before .before .before .before .before .before .loop .g))) (is-alone (now (c .before .before .before .before .before .before .before .before .before .before .before .args .s)) (c .before .before .next-byte2 .ensures .0) (c .enum-told3 .given .1)) ∙ agree-none (left (now (c .before .before .before .before .before .before .before .before .before .before .before .args .s)) (c .before .before .before .before .before .before .before .loop .i) (c .before .before .before .before .before .before .before .loop .g)))
+returns-5 c =
+    let args = c .before .before .before .before .before .before .before .before .before .before .before .args in
+    let loop = c .before .before .before .before .before .before .before .loop in
+    sym
+    (loop .inv .2 ∙ ap (agree (left (now (args .s)) (loop .i) (loop .g)))
+    (is-alone (now (args .s)) (c .before .before .next-byte2 .ensures .0) (c .enum-told3 .given .1)) ∙ agree-none
+    (left (now (args .s)) (loop .i) (loop .g)))
 
 enum-told-4 : tie.Need-enum-told-4 Inv-loop μ-loop
 enum-told-4 c = search needs
 
 returns-6 : tie.Need-returns-6 Inv-loop μ-loop
-returns-6 c = sym (c .before .before .before .before .before .before .before .loop .inv .2 ∙ ap (agree (left (now (c .before .before .before .before .before .before .before .before .before .before .before .args .s)) (c .before .before .before .before .before .before .before .loop .i) (c .before .before .before .before .before .before .before .loop .g))) (is-end (now (c .before .before .before .before .before .before .before .before .before .before .before .args .s)) (c .before .before .next-byte2 .ensures .0) (c .enum-told4 .given .1)) ∙ agree-ends (now (c .before .before .before .before .before .before .before .before .before .before .before .args .s)) (c .before .before .before .before .before .before .next-byte .ensures .0) (c .before .before .before .before .x .given .1))
+returns-6 c =
+    let args = c .before .before .before .before .before .before .before .before .before .before .before .args in
+    let loop = c .before .before .before .before .before .before .before .loop in
+    let next-byte = c .before .before .before .before .before .before .next-byte in
+    let x = c .before .before .before .before .x in
+    sym
+    (loop .inv .2 ∙ ap (agree (left (now (args .s)) (loop .i) (loop .g)))
+    (is-end (now (args .s)) (c .before .before .next-byte2 .ensures .0) (c .enum-told4 .given .1)) ∙ agree-ends (now (args .s))
+    (next-byte .ensures .0) (x .given .1))
 
 enum-known-y : tie.Need-enum-known-y Inv-loop μ-loop
 enum-known-y c = search needs
 
 returns-7 : tie.Need-returns-7 Inv-loop μ-loop
-returns-7 c = sym (c .before .before .before .before .before .before .before .before .before .loop .inv .2 ∙ both-other (now (c .before .before .before .before .before .before .before .before .before .before .before .before .before .args .s)) (c .before .before .before .before .before .before .before .before .next-byte .ensures .0) (c .before .before .before .before .before .before .x .given .1) (c .before .before .before .before .next-byte2 .ensures .0) (c .before .before .y .given .1) (c .if3 .taken))
+returns-7 c =
+    let args = c .before .before .before .before .before .before .before .before .before .before .before .before .before .args in
+    let loop = c .before .before .before .before .before .before .before .before .before .loop in
+    let next-byte = c .before .before .before .before .before .before .before .before .next-byte in
+    let x = c .before .before .before .before .before .before .x in
+    let next-byte2 = c .before .before .before .before .next-byte2 in
+    sym
+    (loop .inv .2 ∙ both-other (now (args .s)) (next-byte .ensures .0) (x .given .1) (next-byte2 .ensures .0) (c .before .before .y .given .1)
+    (c .if3 .taken))
 
 loop-less : tie.Need-loop-less Inv-loop μ-loop
-loop-less c = byte-in (now (c .before .before .before .before .before .before .before .before .before .before .before .before .before .args .s)) (c .before .before .before .before .before .before .before .before .before .loop .i) (c .before .before .before .before .before .before .before .before .before .loop .g) (c .before .before .before .before .before .before .before .before .next-byte .ensures .1) (c .before .before .before .before .before .before .x .given .1) .1
+loop-less c =
+    let args = c .before .before .before .before .before .before .before .before .before .before .before .before .before .args in
+    let loop = c .before .before .before .before .before .before .before .before .before .loop in
+    let next-byte = c .before .before .before .before .before .before .before .before .next-byte in
+    let x = c .before .before .before .before .before .before .x in
+    byte-in (now (args .s)) (loop .i) (loop .g) (next-byte .ensures .1) (x .given .1) .1
 
 loop-again : tie.Need-loop-again Inv-loop μ-loop
-loop-again c = (
-  byte-in (now (c .before .before .before .before .before .before .before .before .before .before .before .before .before .args .s)) (c .before .before .before .before .before .before .before .before .before .loop .i) (c .before .before .before .before .before .before .before .before .before .loop .g) (c .before .before .before .before .before .before .before .before .next-byte .ensures .1) (c .before .before .before .before .before .before .x .given .1) .0,
-  byte-in (now (c .before .before .before .before .before .before .before .before .before .before .before .before .before .args .s)) (c .before .before .before .before .before .before .before .before .before .loop .j) (c .before .before .before .before .before .before .before .before .before .loop .h) (c .before .before .before .before .next-byte2 .ensures .1) (c .before .before .y .given .1) .0,
-  c .before .before .before .before .before .before .before .before .before .loop .inv .2 ∙ both-same (now (c .before .before .before .before .before .before .before .before .before .before .before .before .before .args .s)) (c .before .before .before .before .before .before .before .before .next-byte .ensures .0) (c .before .before .before .before .before .before .x .given .1) (c .before .before .before .before .next-byte2 .ensures .0) (c .before .before .y .given .1) (c .if3 .left),
-)
+loop-again c =
+    let args = c .before .before .before .before .before .before .before .before .before .before .before .before .before .args in
+    let loop = c .before .before .before .before .before .before .before .before .before .loop in
+    let next-byte = c .before .before .before .before .before .before .before .before .next-byte in
+    let x = c .before .before .before .before .before .before .x in
+    let next-byte2 = c .before .before .before .before .next-byte2 in
+    let y = c .before .before .y in (
+      byte-in (now (args .s)) (loop .i) (loop .g) (next-byte .ensures .1) (x .given .1) .0,
+      byte-in (now (args .s)) (loop .j) (loop .h) (next-byte2 .ensures .1) (y .given .1) .0,
+      loop .inv .2 ∙ both-same (now (args .s)) (next-byte .ensures .0) (x .given .1) (next-byte2 .ensures .0) (y .given .1) (c .if3 .left),
+    )
 
 pub same-text-spec : {M : Type 1} → statement M
 same-text-spec =

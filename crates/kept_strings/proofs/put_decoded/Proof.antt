@@ -39,11 +39,24 @@ same-length c = search needs
 
 -- src/lib.rt:48:9
 returns : tie.Need-returns
-returns c = no-room (now (c .before .before .before .before .before .before .before .before .args .b)) (c .before .before .before .before .before .before .before .before .args .n) (c .before .before .before .before .before .before .before .before .pre) (textAt (now (c .before .before .before .before .before .before .before .before .args .s)) (c .before .before .before .before .before .before .before .before .args .at)) _ (c .before .before .before .before .decode-into .result) (c .before .before .before .before .decode-into .ensures) (c .enum-told .given .1)
+returns c =
+    let pre = c .before .before .before .before .before .before .before .before .pre in
+    let args = c .before .before .before .before .before .before .before .before .args in
+    let decode-into = c .before .before .before .before .decode-into in
+    no-room (now (args .b)) (args .n) (pre) (textAt (now (args .s)) (args .at)) _ (decode-into .result) (decode-into .ensures)
+    (c .enum-told .given .1)
 
 -- src/lib.rt:50:13
 add-t8 : tie.Need-add-t8
-add-t8 c = record { fits = let g = grew (now (c .before .before .before .before .before .before .before .before .before .args .b)) (c .before .before .before .before .before .before .before .before .before .args .n) (c .before .before .before .before .before .before .before .before .before .pre) (textAt (now (c .before .before .before .before .before .before .before .before .before .args .s)) (c .before .before .before .before .before .before .before .before .before .args .at)) _ (c .before .before .before .before .before .decode-into .result) (c .before .before .before .before .before .decode-into .ensures) (c .before .k .given .1) in omega (arith, g .within, c .before .before .before .before .before .before .before .before .before .good .0 .0) }
+add-t8 c =
+    let pre = c .before .before .before .before .before .before .before .before .before .pre in
+    let args = c .before .before .before .before .before .before .before .before .before .args in
+    let good = c .before .before .before .before .before .before .before .before .before .good in
+    let decode-into = c .before .before .before .before .before .decode-into in
+    record {
+      fits = let g = grew (now (args .b)) (args .n) (pre) (textAt (now (args .s)) (args .at)) _ (decode-into .result) (decode-into .ensures)
+          (c .before .k .given .1) in omega (arith, g .within, good .0 .0);
+    }
 
 -- src/lib.rt:43:1
 same-length-2 : tie.Need-same-length-2
@@ -51,7 +64,11 @@ same-length-2 c = search needs
 
 -- src/lib.rt:43:1
 returns-2 : tie.Need-returns-2
-returns-2 c = grew (now (c .before .before .before .before .before .before .before .before .before .args .b)) (c .before .before .before .before .before .before .before .before .before .args .n) (c .before .before .before .before .before .before .before .before .before .pre) (textAt (now (c .before .before .before .before .before .before .before .before .before .args .s)) (c .before .before .before .before .before .before .before .before .before .args .at)) _ (c .before .before .before .before .before .decode-into .result) (c .before .before .before .before .before .decode-into .ensures) (c .before .k .given .1)
+returns-2 c =
+    let pre = c .before .before .before .before .before .before .before .before .before .pre in
+    let args = c .before .before .before .before .before .before .before .before .before .args in
+    let decode-into = c .before .before .before .before .before .decode-into in
+    grew (now (args .b)) (args .n) (pre) (textAt (now (args .s)) (args .at)) _ (decode-into .result) (decode-into .ensures) (c .before .k .given .1)
 
 pub put-decoded-spec : {M : Type 1} → statement M
 put-decoded-spec =

@@ -26,7 +26,16 @@ abbrev μ-loop : tie.MeasureT-loop
 
 -- src/lib.rt:118:5
 loop-holds : tie.Need-loop-holds Inv-loop μ-loop
-loop-holds c = (c .before .before .before .pre .1 .1, c .before .before .before .pre .0, refl, refl, omega arith, going-first (now (c .before .before .before .args .b)) (c .before .before .before .args .n) (now (c .before .before .before .args .t)) (c .before .before .before .args .m) (c .before .before .before .args .a) (c .before .before .before .args .e) (now (c .before .before .before .args .s)) (c .before .before .before .args .at) (c .before .before .before .pre .0))
+loop-holds c =
+    let pre = c .before .before .before .pre in
+    let args = c .before .before .before .args in (
+      pre .1 .1,
+      pre .0,
+      refl,
+      refl,
+      omega arith,
+      going-first (now (args .b)) (args .n) (now (args .t)) (args .m) (args .a) (args .e) (now (args .s)) (args .at) (pre .0),
+    )
 
 -- src/lib.rt:119:13
 element-at-requires : tie.Need-element-at-requires Inv-loop μ-loop
@@ -54,7 +63,14 @@ same-length-2 c = c .before .before .before .before .before .before .put-value .
 
 -- src/lib.rt:123:13
 returns : tie.Need-returns Inv-loop μ-loop
-returns c = (record { long = c .before .before .before .before .before .before .put-value .ensures .0 .long ∙ (c .before .before .before .before .before .before .before .before .before .before .loop .inv .2); wide = c .before .before .before .before .before .before .put-value .ensures .0 .wide ∙ (c .before .before .before .before .before .before .before .before .before .before .loop .inv .3) }, (tt, from-wrong (now (c .before .before .before .before .before .before .before .before .before .before .before .before .before .before .args .b)) (c .before .before .before .before .before .before .before .before .before .before .before .before .before .before .args .n) (now (c .before .before .before .before .before .before .before .before .before .before .before .before .before .before .args .t)) (c .before .before .before .before .before .before .before .before .before .before .before .before .before .before .args .m) (c .before .before .before .before .before .before .before .before .before .before .before .before .before .before .args .a) (c .before .before .before .before .before .before .before .before .before .before .before .before .before .before .args .e) (now (c .before .before .before .before .before .before .before .before .before .before .before .before .before .before .args .s)) (c .before .before .before .before .before .before .before .before .before .before .before .before .before .before .args .at) (c .before .before .before .before .before .before .before .before .before .before .loop .i) (c .before .before .before .before .before .before .before .before .before .before .loop .k) (c .before .before .before .before .before .before .before .before .before .before .loop .rows) (c .before .before .before .before .before .before .before .before .before .before .loop .b) (c .before .before .before .before .before .before .before .before .before .before .loop .t) (c .before .before .before .before .before .before .before .before .before .before .loop .inv .5) (c .before .before .before .before .before .before .before .before .before .element-at .result) (c .before .before .before .before .before .before .before .before .before .element-at .ensures .1) (c .before .before .before .before .before .before .put-value .result) _ _ (c .before .before .before .before .before .before .put-value .ensures .1 .1) (c .enum-told .given .1) _ _))
+returns c =
+    let args = c .before .before .before .before .before .before .before .before .before .before .before .before .before .before .args in
+    let loop = c .before .before .before .before .before .before .before .before .before .before .loop in
+    let element-at = c .before .before .before .before .before .before .before .before .before .element-at in
+    let put-value = c .before .before .before .before .before .before .put-value in (
+      record { long = put-value .ensures .0 .long ∙ (loop .inv .2); wide = put-value .ensures .0 .wide ∙ (loop .inv .3) },
+      (tt, from-wrong (now (args .b)) (args .n) (now (args .t)) (args .m) (args .a) (args .e) (now (args .s)) (args .at) (loop .i) (loop .k) (loop .rows) (loop .b) (loop .t) (loop .inv .5) (element-at .result) (element-at .ensures .1) (put-value .result) _ _ (put-value .ensures .1 .1) (c .enum-told .given .1) _ _),
+    )
 
 -- src/lib.rt:127:15
 separator-requires : tie.Need-separator-requires Inv-loop μ-loop
@@ -66,11 +82,30 @@ enum-known-j c = search needs
 
 -- src/lib.rt:118:5
 loop-less : tie.Need-loop-less Inv-loop μ-loop
-loop-less c = let h = turn-as (c .before .before .before .separator .ensures) (c .before .j .given .1) in omega (arith, h .within .0, h .within .1, c .before .before .before .before .before .before .before .before .before .before .before .before .before .before .element-at .ensures .0 .from (c .before .before .before .before .before .before .before .before .before .before .before .before .before .before .before .loop .inv .0), c .before .before .before .before .before .before .before .before .before .before .before .before .before .before .element-at .ensures .0 .ordered)
+loop-less c =
+    let loop = c .before .before .before .before .before .before .before .before .before .before .before .before .before .before .before .loop in
+    let element-at = c .before .before .before .before .before .before .before .before .before .before .before .before .before .before .element-at in
+    let separator = c .before .before .before .separator in
+    let h = turn-as (separator .ensures) (c .before .j .given .1) in omega
+    (arith, h .within .0, h .within .1, element-at .ensures .0 .from (loop .inv .0), element-at .ensures .0 .ordered)
 
 -- src/lib.rt:118:5
 loop-again : tie.Need-loop-again Inv-loop μ-loop
-loop-again c = let h = turn-as (c .before .before .before .separator .ensures) (c .before .j .given .1) in let g = rows-in (c .before .before .before .before .before .before .before .before .before .before .before .put-value .ensures .1 .0) (c .before .before .before .before .before .end .given .1) in (h .within .1, omega (arith, g .1, c .before .before .before .before .before .before .before .before .before .before .before .put-value .ensures .0 .long), c .before .before .before .before .before .before .before .before .before .before .before .put-value .ensures .0 .long ∙ (c .before .before .before .before .before .before .before .before .before .before .before .before .before .before .before .loop .inv .2), c .before .before .before .before .before .before .before .before .before .before .before .put-value .ensures .0 .wide ∙ (c .before .before .before .before .before .before .before .before .before .before .before .before .before .before .before .loop .inv .3), omega (arith, g .0, c .before .before .before .before .before .before .before .before .before .before .before .before .before .before .before .loop .inv .4), from-on (now (c .before .before .before .before .before .before .before .before .before .before .before .before .before .before .before .before .before .before .before .args .b)) (c .before .before .before .before .before .before .before .before .before .before .before .before .before .before .before .before .before .before .before .args .n) (now (c .before .before .before .before .before .before .before .before .before .before .before .before .before .before .before .before .before .before .before .args .t)) (c .before .before .before .before .before .before .before .before .before .before .before .before .before .before .before .before .before .before .before .args .m) (c .before .before .before .before .before .before .before .before .before .before .before .before .before .before .before .before .before .before .before .args .a) (c .before .before .before .before .before .before .before .before .before .before .before .before .before .before .before .before .before .before .before .args .e) (now (c .before .before .before .before .before .before .before .before .before .before .before .before .before .before .before .before .before .before .before .args .s)) (c .before .before .before .before .before .before .before .before .before .before .before .before .before .before .before .before .before .before .before .args .at) (c .before .before .before .before .before .before .before .before .before .before .before .before .before .before .before .loop .i) (c .before .before .before .before .before .before .before .before .before .before .before .before .before .before .before .loop .k) (c .before .before .before .before .before .before .before .before .before .before .before .before .before .before .before .loop .rows) (c .before .before .before .before .before .before .before .before .before .before .before .before .before .before .before .loop .b) (c .before .before .before .before .before .before .before .before .before .before .before .before .before .before .before .loop .t) (c .before .before .before .before .before .before .before .before .before .before .before .before .before .before .before .loop .inv .5) (c .before .before .before .before .before .before .before .before .before .before .before .before .before .before .element-at .result) (c .before .before .before .before .before .before .before .before .before .before .before .before .before .before .element-at .ensures .1) (c .before .before .before .before .before .before .before .before .before .before .before .put-value .result) _ _ (c .before .before .before .before .before .before .before .before .before .before .before .put-value .ensures .1 .1) _ _ (c .before .before .before .before .before .end .given .1) _ h)
+loop-again c =
+    let args = c .before .before .before .before .before .before .before .before .before .before .before .before .before .before .before .before .before .before .before .args in
+    let loop = c .before .before .before .before .before .before .before .before .before .before .before .before .before .before .before .loop in
+    let element-at = c .before .before .before .before .before .before .before .before .before .before .before .before .before .before .element-at in
+    let put-value = c .before .before .before .before .before .before .before .before .before .before .before .put-value in
+    let end = c .before .before .before .before .before .end in
+    let separator = c .before .before .before .separator in
+    let h = turn-as (separator .ensures) (c .before .j .given .1) in let g = rows-in (put-value .ensures .1 .0) (end .given .1) in (
+      h .within .1,
+      omega (arith, g .1, put-value .ensures .0 .long),
+      put-value .ensures .0 .long ∙ (loop .inv .2),
+      put-value .ensures .0 .wide ∙ (loop .inv .3),
+      omega (arith, g .0, loop .inv .4),
+      from-on (now (args .b)) (args .n) (now (args .t)) (args .m) (args .a) (args .e) (now (args .s)) (args .at) (loop .i) (loop .k) (loop .rows) (loop .b) (loop .t) (loop .inv .5) (element-at .result) (element-at .ensures .1) (put-value .result) _ _ (put-value .ensures .1 .1) _ _ (end .given .1) _ h,
+    )
 
 -- src/lib.rt:131:24
 enum-known-r : tie.Need-enum-known-r Inv-loop μ-loop
@@ -86,7 +121,17 @@ same-length-4 c = c .before .before .before .before .before .before .before .bef
 
 -- src/lib.rt:132:17
 returns-2 : tie.Need-returns-2 Inv-loop μ-loop
-returns-2 c = let g = rows-in (c .before .before .before .before .before .before .before .before .before .before .before .put-value .ensures .1 .0) (c .before .before .before .before .before .end .given .1) in (record { long = c .before .before .before .before .before .before .before .before .before .before .before .put-value .ensures .0 .long ∙ (c .before .before .before .before .before .before .before .before .before .before .before .before .before .before .before .loop .inv .2); wide = c .before .before .before .before .before .before .before .before .before .before .before .put-value .ensures .0 .wide ∙ (c .before .before .before .before .before .before .before .before .before .before .before .before .before .before .before .loop .inv .3) }, ((omega (arith, g .0, c .before .before .before .before .before .before .before .before .before .before .before .before .before .before .before .loop .inv .4), omega (arith, g .1, c .before .before .before .before .before .before .before .before .before .before .before .before .before .before .before .loop .inv .2), g .2), from-all (now (c .before .before .before .before .before .before .before .before .before .before .before .before .before .before .before .before .before .before .before .args .b)) (c .before .before .before .before .before .before .before .before .before .before .before .before .before .before .before .before .before .before .before .args .n) (now (c .before .before .before .before .before .before .before .before .before .before .before .before .before .before .before .before .before .before .before .args .t)) (c .before .before .before .before .before .before .before .before .before .before .before .before .before .before .before .before .before .before .before .args .m) (c .before .before .before .before .before .before .before .before .before .before .before .before .before .before .before .before .before .before .before .args .a) (c .before .before .before .before .before .before .before .before .before .before .before .before .before .before .before .before .before .before .before .args .e) (now (c .before .before .before .before .before .before .before .before .before .before .before .before .before .before .before .before .before .before .before .args .s)) (c .before .before .before .before .before .before .before .before .before .before .before .before .before .before .before .before .before .before .before .args .at) (c .before .before .before .before .before .before .before .before .before .before .before .before .before .before .before .loop .i) (c .before .before .before .before .before .before .before .before .before .before .before .before .before .before .before .loop .k) (c .before .before .before .before .before .before .before .before .before .before .before .before .before .before .before .loop .rows) (c .before .before .before .before .before .before .before .before .before .before .before .before .before .before .before .loop .b) (c .before .before .before .before .before .before .before .before .before .before .before .before .before .before .before .loop .t) (c .before .before .before .before .before .before .before .before .before .before .before .before .before .before .before .loop .inv .5) (c .before .before .before .before .before .before .before .before .before .before .before .before .before .before .element-at .result) (c .before .before .before .before .before .before .before .before .before .before .before .before .before .before .element-at .ensures .1) (c .before .before .before .before .before .before .before .before .before .before .before .put-value .result) _ _ (c .before .before .before .before .before .before .before .before .before .before .before .put-value .ensures .1 .1) _ _ (c .before .before .before .before .before .end .given .1) _ (turn-as (c .before .before .before .separator .ensures) (c .before .r .given .1))))
+returns-2 c =
+    let args = c .before .before .before .before .before .before .before .before .before .before .before .before .before .before .before .before .before .before .before .args in
+    let loop = c .before .before .before .before .before .before .before .before .before .before .before .before .before .before .before .loop in
+    let element-at = c .before .before .before .before .before .before .before .before .before .before .before .before .before .before .element-at in
+    let put-value = c .before .before .before .before .before .before .before .before .before .before .before .put-value in
+    let end = c .before .before .before .before .before .end in
+    let separator = c .before .before .before .separator in
+    let g = rows-in (put-value .ensures .1 .0) (end .given .1) in (
+      record { long = put-value .ensures .0 .long ∙ (loop .inv .2); wide = put-value .ensures .0 .wide ∙ (loop .inv .3) },
+      ((omega (arith, g .0, loop .inv .4), omega (arith, g .1, loop .inv .2), g .2), from-all (now (args .b)) (args .n) (now (args .t)) (args .m) (args .a) (args .e) (now (args .s)) (args .at) (loop .i) (loop .k) (loop .rows) (loop .b) (loop .t) (loop .inv .5) (element-at .result) (element-at .ensures .1) (put-value .result) _ _ (put-value .ensures .1 .1) _ _ (end .given .1) _ (turn-as (separator .ensures) (c .before .r .given .1))),
+    )
 
 pub put-elements-spec : {M : Type 1} → statement M
 put-elements-spec =

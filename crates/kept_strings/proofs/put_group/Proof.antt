@@ -24,7 +24,10 @@ sole-string-requires c κs = search needs
 
 -- src/lib.rt:202:9
 returns : tie.Need-returns
-returns c = (refl, (tt, no-group (now (c .before .before .before .before .args .b)) (c .before .before .before .before .args .n) (now (c .before .before .before .before .args .s)) (c .before .before .before .before .args .at) (c .before .sole-string .result) (c .before .sole-string .ensures) (c .if1 .taken) _))
+returns c =
+    let args = c .before .before .before .before .args in
+    let sole-string = c .before .sole-string in
+    (refl, (tt, no-group (now (args .b)) (args .n) (now (args .s)) (args .at) (sole-string .result) (sole-string .ensures) (c .if1 .taken) _))
 
 -- src/lib.rt:204:22
 put-decoded-requires : tie.Need-put-decoded-requires
@@ -44,19 +47,44 @@ same-length c = search needs
 
 -- src/lib.rt:205:9
 returns-2 : tie.Need-returns-2
-returns-2 c = (puts-long (now (c .before .before .before .before .before .before .before .before .before .before .args .b)) (c .before .before .before .before .before .before .before .before .before .before .args .n) (textAt (now (c .before .before .before .before .before .before .before .before .before .before .args .s)) (c .before .before .before .before .before .before .before .sole-string .result)) (c .before .before .before .before .put-decoded .result) _ (c .before .before .before .before .put-decoded .ensures), (tt, group-full (now (c .before .before .before .before .before .before .before .before .before .before .args .b)) (c .before .before .before .before .before .before .before .before .before .before .args .n) (now (c .before .before .before .before .before .before .before .before .before .before .args .s)) (c .before .before .before .before .before .before .before .before .before .before .args .at) (c .before .before .before .before .before .before .before .sole-string .result) (c .before .before .before .before .before .before .before .sole-string .ensures) (c .before .before .before .before .before .before .if1 .left) (c .before .before .before .before .put-decoded .result) _ (c .before .before .before .before .put-decoded .ensures) (c .enum-told .given .1)))
+returns-2 c =
+    let args = c .before .before .before .before .before .before .before .before .before .before .args in
+    let sole-string = c .before .before .before .before .before .before .before .sole-string in
+    let if1 = c .before .before .before .before .before .before .if1 in
+    let put-decoded = c .before .before .before .before .put-decoded in (
+      puts-long (now (args .b)) (args .n) (textAt (now (args .s)) (sole-string .result)) (put-decoded .result) _ (put-decoded .ensures),
+      (tt, group-full (now (args .b)) (args .n) (now (args .s)) (args .at) (sole-string .result) (sole-string .ensures) (if1 .left) (put-decoded .result) _ (put-decoded .ensures) (c .enum-told .given .1)),
+    )
 
 -- src/lib.rt:207:17
 sub-is-word : tie.Need-sub-is-word
-sub-is-word c = let g = group-in (now (c .before .before .before .before .before .before .before .before .before .before .before .args .b)) (c .before .before .before .before .before .before .before .before .before .before .before .args .n) (now (c .before .before .before .before .before .before .before .before .before .before .before .args .s)) (c .before .before .before .before .before .before .before .before .before .before .before .args .at) (c .before .before .before .before .before .before .before .before .sole-string .result) (c .before .before .before .before .before .before .before .before .sole-string .ensures) (c .before .before .before .before .before .before .before .if1 .left) (c .before .before .before .before .before .put-decoded .result) _ (c .before .before .before .before .before .put-decoded .ensures) _ (c .before .k .given .1) in omega (arith, g .to, g .within, g .long)
+sub-is-word c =
+    let args = c .before .before .before .before .before .before .before .before .before .before .before .args in
+    let sole-string = c .before .before .before .before .before .before .before .before .sole-string in
+    let if1 = c .before .before .before .before .before .before .before .if1 in
+    let put-decoded = c .before .before .before .before .before .put-decoded in
+    let g = group-in (now (args .b)) (args .n) (now (args .s)) (args .at) (sole-string .result) (sole-string .ensures) (if1 .left)
+    (put-decoded .result) _ (put-decoded .ensures) _ (c .before .k .given .1) in omega (arith, g .to, g .within, g .long)
 
 -- src/lib.rt:207:17
 part-is-word-start : tie.Need-part-is-word-start
-part-is-word-start c = let g = group-in (now (c .before .before .before .before .before .before .before .before .before .before .before .before .args .b)) (c .before .before .before .before .before .before .before .before .before .before .before .before .args .n) (now (c .before .before .before .before .before .before .before .before .before .before .before .before .args .s)) (c .before .before .before .before .before .before .before .before .before .before .before .before .args .at) (c .before .before .before .before .before .before .before .before .before .sole-string .result) (c .before .before .before .before .before .before .before .before .before .sole-string .ensures) (c .before .before .before .before .before .before .before .before .if1 .left) (c .before .before .before .before .before .before .put-decoded .result) _ (c .before .before .before .before .before .before .put-decoded .ensures) _ (c .before .before .k .given .1) in omega (arith, g .to, g .within, g .long)
+part-is-word-start c =
+    let args = c .before .before .before .before .before .before .before .before .before .before .before .before .args in
+    let sole-string = c .before .before .before .before .before .before .before .before .before .sole-string in
+    let if1 = c .before .before .before .before .before .before .before .before .if1 in
+    let put-decoded = c .before .before .before .before .before .before .put-decoded in
+    let g = group-in (now (args .b)) (args .n) (now (args .s)) (args .at) (sole-string .result) (sole-string .ensures) (if1 .left)
+    (put-decoded .result) _ (put-decoded .ensures) _ (c .before .before .k .given .1) in omega (arith, g .to, g .within, g .long)
 
 -- src/lib.rt:207:17
 part-is-word-end : tie.Need-part-is-word-end
-part-is-word-end c = let g = group-in (now (c .before .before .before .before .before .before .before .before .before .before .before .before .args .b)) (c .before .before .before .before .before .before .before .before .before .before .before .before .args .n) (now (c .before .before .before .before .before .before .before .before .before .before .before .before .args .s)) (c .before .before .before .before .before .before .before .before .before .before .before .before .args .at) (c .before .before .before .before .before .before .before .before .before .sole-string .result) (c .before .before .before .before .before .before .before .before .before .sole-string .ensures) (c .before .before .before .before .before .before .before .before .if1 .left) (c .before .before .before .before .before .before .put-decoded .result) _ (c .before .before .before .before .before .before .put-decoded .ensures) _ (c .before .before .k .given .1) in omega (arith, g .to, g .within, g .long)
+part-is-word-end c =
+    let args = c .before .before .before .before .before .before .before .before .before .before .before .before .args in
+    let sole-string = c .before .before .before .before .before .before .before .before .before .sole-string in
+    let if1 = c .before .before .before .before .before .before .before .before .if1 in
+    let put-decoded = c .before .before .before .before .before .before .put-decoded in
+    let g = group-in (now (args .b)) (args .n) (now (args .s)) (args .at) (sole-string .result) (sole-string .ensures) (if1 .left)
+    (put-decoded .result) _ (put-decoded .ensures) _ (c .before .before .k .given .1) in omega (arith, g .to, g .within, g .long)
 
 -- src/lib.rt:207:9
 is-word-requires : tie.Need-is-word-requires
@@ -68,7 +96,16 @@ same-length-2 c = search needs
 
 -- src/lib.rt:208:9
 returns-3 : tie.Need-returns-3
-returns-3 c = (puts-long (now (c .before .before .before .before .before .before .before .before .before .before .before .before .before .before .before .args .b)) (c .before .before .before .before .before .before .before .before .before .before .before .before .before .before .before .args .n) (textAt (now (c .before .before .before .before .before .before .before .before .before .before .before .before .before .before .before .args .s)) (c .before .before .before .before .before .before .before .before .before .before .before .before .sole-string .result)) (c .before .before .before .before .before .before .before .before .before .put-decoded .result) _ (c .before .before .before .before .before .before .before .before .before .put-decoded .ensures), (tt, group-other (now (c .before .before .before .before .before .before .before .before .before .before .before .before .before .before .before .args .b)) (c .before .before .before .before .before .before .before .before .before .before .before .before .before .before .before .args .n) (now (c .before .before .before .before .before .before .before .before .before .before .before .before .before .before .before .args .s)) (c .before .before .before .before .before .before .before .before .before .before .before .before .before .before .before .args .at) (c .before .before .before .before .before .before .before .before .before .before .before .before .sole-string .result) (c .before .before .before .before .before .before .before .before .before .before .before .before .sole-string .ensures) (c .before .before .before .before .before .before .before .before .before .before .before .if1 .left) (c .before .before .before .before .before .before .before .before .before .put-decoded .result) _ (c .before .before .before .before .before .before .before .before .before .put-decoded .ensures) _ (c .before .before .before .before .before .k .given .1) (c .before .before .before .before .before .before .before .before .before .before .before .before .before .before .before .pre .0) (sym (c .before .is-word .ensures) ∙ not-true _ (c .if2 .taken))))
+returns-3 c =
+    let args = c .before .before .before .before .before .before .before .before .before .before .before .before .before .before .before .args in
+    let pre = c .before .before .before .before .before .before .before .before .before .before .before .before .before .before .before .pre in
+    let sole-string = c .before .before .before .before .before .before .before .before .before .before .before .before .sole-string in
+    let if1 = c .before .before .before .before .before .before .before .before .before .before .before .if1 in
+    let put-decoded = c .before .before .before .before .before .before .before .before .before .put-decoded in
+    let k = c .before .before .before .before .before .k in (
+      puts-long (now (args .b)) (args .n) (textAt (now (args .s)) (sole-string .result)) (put-decoded .result) _ (put-decoded .ensures),
+      (tt, group-other (now (args .b)) (args .n) (now (args .s)) (args .at) (sole-string .result) (sole-string .ensures) (if1 .left) (put-decoded .result) _ (put-decoded .ensures) _ (k .given .1) (pre .0) (sym (c .before .is-word .ensures) ∙ not-true _ (c .if2 .taken))),
+    )
 
 -- src/lib.rt:193:1
 same-length-3 : tie.Need-same-length-3
@@ -76,7 +113,18 @@ same-length-3 c = search needs
 
 -- src/lib.rt:193:1
 returns-4 : tie.Need-returns-4
-returns-4 c = let g = group-in (now (c .before .before .before .before .before .before .before .before .before .before .before .before .before .before .before .args .b)) (c .before .before .before .before .before .before .before .before .before .before .before .before .before .before .before .args .n) (now (c .before .before .before .before .before .before .before .before .before .before .before .before .before .before .before .args .s)) (c .before .before .before .before .before .before .before .before .before .before .before .before .before .before .before .args .at) (c .before .before .before .before .before .before .before .before .before .before .before .before .sole-string .result) (c .before .before .before .before .before .before .before .before .before .before .before .before .sole-string .ensures) (c .before .before .before .before .before .before .before .before .before .before .before .if1 .left) (c .before .before .before .before .before .before .before .before .before .put-decoded .result) _ (c .before .before .before .before .before .before .before .before .before .put-decoded .ensures) _ (c .before .before .before .before .before .k .given .1) in (puts-long (now (c .before .before .before .before .before .before .before .before .before .before .before .before .before .before .before .args .b)) (c .before .before .before .before .before .before .before .before .before .before .before .before .before .before .before .args .n) (textAt (now (c .before .before .before .before .before .before .before .before .before .before .before .before .before .before .before .args .s)) (c .before .before .before .before .before .before .before .before .before .before .before .before .sole-string .result)) (c .before .before .before .before .before .before .before .before .before .put-decoded .result) _ (c .before .before .before .before .before .before .before .before .before .put-decoded .ensures), ((omega (arith, g .to), g .within), group-is (now (c .before .before .before .before .before .before .before .before .before .before .before .before .before .before .before .args .b)) (c .before .before .before .before .before .before .before .before .before .before .before .before .before .before .before .args .n) (now (c .before .before .before .before .before .before .before .before .before .before .before .before .before .before .before .args .s)) (c .before .before .before .before .before .before .before .before .before .before .before .before .before .before .before .args .at) (c .before .before .before .before .before .before .before .before .before .before .before .before .sole-string .result) (c .before .before .before .before .before .before .before .before .before .before .before .before .sole-string .ensures) (c .before .before .before .before .before .before .before .before .before .before .before .if1 .left) (c .before .before .before .before .before .before .before .before .before .put-decoded .result) _ (c .before .before .before .before .before .before .before .before .before .put-decoded .ensures) _ (c .before .before .before .before .before .k .given .1) (c .before .before .before .before .before .before .before .before .before .before .before .before .before .before .before .pre .0) (sym (c .before .is-word .ensures) ∙ not-false _ (c .if2 .left))))
+returns-4 c =
+    let args = c .before .before .before .before .before .before .before .before .before .before .before .before .before .before .before .args in
+    let pre = c .before .before .before .before .before .before .before .before .before .before .before .before .before .before .before .pre in
+    let sole-string = c .before .before .before .before .before .before .before .before .before .before .before .before .sole-string in
+    let if1 = c .before .before .before .before .before .before .before .before .before .before .before .if1 in
+    let put-decoded = c .before .before .before .before .before .before .before .before .before .put-decoded in
+    let k = c .before .before .before .before .before .k in
+    let g = group-in (now (args .b)) (args .n) (now (args .s)) (args .at) (sole-string .result) (sole-string .ensures) (if1 .left)
+    (put-decoded .result) _ (put-decoded .ensures) _ (k .given .1) in (
+      puts-long (now (args .b)) (args .n) (textAt (now (args .s)) (sole-string .result)) (put-decoded .result) _ (put-decoded .ensures),
+      ((omega (arith, g .to), g .within), group-is (now (args .b)) (args .n) (now (args .s)) (args .at) (sole-string .result) (sole-string .ensures) (if1 .left) (put-decoded .result) _ (put-decoded .ensures) _ (k .given .1) (pre .0) (sym (c .before .is-word .ensures) ∙ not-false _ (c .if2 .left))),
+    )
 
 pub put-group-spec : {M : Type 1} → statement M
 put-group-spec =

@@ -17,7 +17,10 @@ string-in-requires c κs = search needs
 
 -- src/lib.rt:62:9
 returns : tie.Need-returns
-returns c = (refl, (tt, no-string (now (c .before .before .before .before .args .b)) (c .before .before .before .before .args .n) (now (c .before .before .before .before .args .s)) (c .before .before .before .before .args .at) (c .before .string-in .result) (c .before .string-in .ensures) (c .if1 .taken) _))
+returns c =
+    let args = c .before .before .before .before .args in
+    let string-in = c .before .string-in in
+    (refl, (tt, no-string (now (args .b)) (args .n) (now (args .s)) (args .at) (string-in .result) (string-in .ensures) (c .if1 .taken) _))
 
 -- src/lib.rt:64:5
 put-decoded-requires : tie.Need-put-decoded-requires
@@ -29,7 +32,14 @@ same-length c = search needs
 
 -- src/lib.rt:54:1
 returns-2 : tie.Need-returns-2
-returns-2 c = (puts-long (now (c .before .before .before .before .before .before .before .before .args .b)) (c .before .before .before .before .before .before .before .before .args .n) _ (c .before .before .put-decoded .result) _ (c .before .before .put-decoded .ensures), (puts-within (now (c .before .before .before .before .before .before .before .before .args .b)) (c .before .before .before .before .before .before .before .before .args .n) _ (c .before .before .put-decoded .result) _ (c .before .before .put-decoded .ensures), a-string (now (c .before .before .before .before .before .before .before .before .args .b)) (c .before .before .before .before .before .before .before .before .args .n) (now (c .before .before .before .before .before .before .before .before .args .s)) (c .before .before .before .before .before .before .before .before .args .at) (c .before .before .before .before .before .string-in .result) (c .before .before .before .before .before .string-in .ensures) (c .before .before .before .before .if1 .left) (c .before .before .put-decoded .result) _ (c .before .before .put-decoded .ensures)))
+returns-2 c =
+    let args = c .before .before .before .before .before .before .before .before .args in
+    let string-in = c .before .before .before .before .before .string-in in
+    let if1 = c .before .before .before .before .if1 in
+    let put-decoded = c .before .before .put-decoded in (
+      puts-long (now (args .b)) (args .n) _ (put-decoded .result) _ (put-decoded .ensures),
+      (puts-within (now (args .b)) (args .n) _ (put-decoded .result) _ (put-decoded .ensures), a-string (now (args .b)) (args .n) (now (args .s)) (args .at) (string-in .result) (string-in .ensures) (if1 .left) (put-decoded .result) _ (put-decoded .ensures)),
+    )
 
 pub put-string-spec : {M : Type 1} → statement M
 put-string-spec =

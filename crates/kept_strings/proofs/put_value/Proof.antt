@@ -19,7 +19,11 @@ use Rattle.line_table.proofs.put_row.Reads as put-row-reads
 
 -- src/lib.rt:85:9
 returns : tie.Need-returns
-returns c = (record { long = refl; wide = refl }, (tt, value-over (now (c .before .before .before .before .args .b)) (c .before .before .before .before .args .n) (now (c .before .before .before .before .args .t)) (c .before .before .before .before .args .m) (c .before .before .before .before .args .a) (c .before .before .before .before .args .e) (now (c .before .before .before .before .args .s)) (c .before .before .before .before .args .at) (c .if1 .taken)))
+returns c =
+    let args = c .before .before .before .before .args in (
+      record { long = refl; wide = refl },
+      (tt, value-over (now (args .b)) (args .n) (now (args .t)) (args .m) (args .a) (args .e) (now (args .s)) (args .at) (c .if1 .taken)),
+    )
 
 -- src/lib.rt:87:22
 put-string-requires : tie.Need-put-string-requires
@@ -39,7 +43,13 @@ same-length c = search needs
 
 -- src/lib.rt:88:9
 returns-2 : tie.Need-returns-2
-returns-2 c = (record { long = c .before .before .before .before .put-string .ensures .0; wide = refl }, (tt, value-none (now (c .before .before .before .before .before .before .before .before .before .before .args .b)) (c .before .before .before .before .before .before .before .before .before .before .args .n) (now (c .before .before .before .before .before .before .before .before .before .before .args .t)) (c .before .before .before .before .before .before .before .before .before .before .args .m) (c .before .before .before .before .before .before .before .before .before .before .args .a) (c .before .before .before .before .before .before .before .before .before .before .args .e) (now (c .before .before .before .before .before .before .before .before .before .before .args .s)) (c .before .before .before .before .before .before .before .before .before .before .args .at) (c .before .before .before .before .before .before .if1 .left) (c .before .before .before .before .put-string .result) _ (c .before .before .before .before .put-string .ensures .1 .1) (c .enum-told .given .1)))
+returns-2 c =
+    let args = c .before .before .before .before .before .before .before .before .before .before .args in
+    let if1 = c .before .before .before .before .before .before .if1 in
+    let put-string = c .before .before .before .before .put-string in (
+      record { long = put-string .ensures .0; wide = refl },
+      (tt, value-none (now (args .b)) (args .n) (now (args .t)) (args .m) (args .a) (args .e) (now (args .s)) (args .at) (if1 .left) (put-string .result) _ (put-string .ensures .1 .1) (c .enum-told .given .1)),
+    )
 
 -- src/lib.rt:90:9
 put-row-requires : tie.Need-put-row-requires
@@ -55,7 +65,16 @@ same-length-3 c = search needs
 
 -- src/lib.rt:68:1
 returns-3 : tie.Need-returns-3
-returns-3 c = (record { long = c .before .before .before .before .before .before .before .before .before .put-string .ensures .0; wide = ap length (c .before .before .put-row .ensures .1) ∙ stored-long (now (c .before .before .before .before .before .before .before .before .before .before .before .before .before .before .before .args .t)) (c .before .before .before .before .before .before .before .before .before .before .before .before .before .before .before .args .m) (c .before .before .before .before .before .before .before .before .before .before .before .before .before .before .before .args .a) (c .before .before .before .before .before .before .before .before .before .before .before .before .before .before .before .args .e) (c .before .before .before .before .before .before .before .before .before .before .before .before .before .before .before .args .n) _ }, (value-rows (c .before .before .before .before .before .before .before .before .before .before .before .before .before .before .before .args .n) (length (now (c .before .before .before .before .before .before .before .before .before .before .before .before .before .before .before .args .b))) _ (c .before .before .before .before .before .before .before .before .before .before .before .before .before .before .before .args .m) (c .before .before .before .before .before .before .before .before .before .put-string .result) (c .before .before .before .before .before .before .before .before .before .put-string .ensures .1 .0) (c .before .before .before .before .before .k .given .1) (c .before .before .before .before .before .before .before .before .before .before .before .if1 .left) (c .before .before .put-row .result) (c .before .before .put-row .ensures .0), value-one (now (c .before .before .before .before .before .before .before .before .before .before .before .before .before .before .before .args .b)) (c .before .before .before .before .before .before .before .before .before .before .before .before .before .before .before .args .n) (now (c .before .before .before .before .before .before .before .before .before .before .before .before .before .before .before .args .t)) (c .before .before .before .before .before .before .before .before .before .before .before .before .before .before .before .args .m) (c .before .before .before .before .before .before .before .before .before .before .before .before .before .before .before .args .a) (c .before .before .before .before .before .before .before .before .before .before .before .before .before .before .before .args .e) (now (c .before .before .before .before .before .before .before .before .before .before .before .before .before .before .before .args .s)) (c .before .before .before .before .before .before .before .before .before .before .before .before .before .before .before .args .at) (c .before .before .before .before .before .before .before .before .before .before .before .if1 .left) (c .before .before .before .before .before .before .before .before .before .put-string .result) _ (c .before .before .before .before .before .before .before .before .before .put-string .ensures .1 .1) (c .before .before .before .before .before .before .before .before .before .before .before .before .before .before .before .pre .1) _ (c .before .before .before .before .before .k .given .1) (c .before .before .before .before .before .before .before .before .before .before .before .before .before .before .before .pre .0) (c .before .before .put-row .ensures .0) (c .before .before .put-row .ensures .1)))
+returns-3 c =
+    let args = c .before .before .before .before .before .before .before .before .before .before .before .before .before .before .before .args in
+    let pre = c .before .before .before .before .before .before .before .before .before .before .before .before .before .before .before .pre in
+    let if1 = c .before .before .before .before .before .before .before .before .before .before .before .if1 in
+    let put-string = c .before .before .before .before .before .before .before .before .before .put-string in
+    let k = c .before .before .before .before .before .k in
+    let put-row = c .before .before .put-row in (
+      record { long = put-string .ensures .0; wide = ap length (put-row .ensures .1) ∙ stored-long (now (args .t)) (args .m) (args .a) (args .e) (args .n) _ },
+      (value-rows (args .n) (length (now (args .b))) _ (args .m) (put-string .result) (put-string .ensures .1 .0) (k .given .1) (if1 .left) (put-row .result) (put-row .ensures .0), value-one (now (args .b)) (args .n) (now (args .t)) (args .m) (args .a) (args .e) (now (args .s)) (args .at) (if1 .left) (put-string .result) _ (put-string .ensures .1 .1) (pre .1) _ (k .given .1) (pre .0) (put-row .ensures .0) (put-row .ensures .1)),
+    )
 
 pub put-value-spec : {M : Type 1} → statement M
 put-value-spec =

@@ -41,7 +41,15 @@ same-length-2 c = search needs
 
 -- src/lib.rt:161:9
 returns : tie.Need-returns
-returns c = (c .before .before .before .before .put-value .ensures .0, (c .before .before .before .before .put-value .ensures .1 .0, values-one (now (c .before .before .before .before .before .before .before .before .before .before .before .before .before .args .b)) (c .before .before .before .before .before .before .before .before .before .before .before .before .before .args .n) (now (c .before .before .before .before .before .before .before .before .before .before .before .before .before .args .t)) (c .before .before .before .before .before .before .before .before .before .before .before .before .before .args .m) (c .before .before .before .before .before .before .before .before .before .before .before .before .before .args .a) (c .before .before .before .before .before .before .before .before .before .before .before .before .before .args .e) (now (c .before .before .before .before .before .before .before .before .before .before .before .before .before .args .s)) (c .before .before .before .before .before .before .before .before .before .before .before .before .before .args .at) (c .before .before .before .before .before .before .before .before .before .skip-space .result) (c .before .before .before .before .before .before .before .before .look .result) (c .before .before .before .before .before .before .before .before .before .skip-space .ensures) (c .before .before .before .before .before .before .before .before .look .ensures .0) (c .before .before .before .before .before .before .before .if1 .taken) (c .before .before .before .before .put-value .result) _ _ (c .before .before .before .before .put-value .ensures .1 .1)))
+returns c =
+    let args = c .before .before .before .before .before .before .before .before .before .before .before .before .before .args in
+    let skip-space = c .before .before .before .before .before .before .before .before .before .skip-space in
+    let look = c .before .before .before .before .before .before .before .before .look in
+    let if1 = c .before .before .before .before .before .before .before .if1 in
+    let put-value = c .before .before .before .before .put-value in (
+      put-value .ensures .0,
+      (put-value .ensures .1 .0, values-one (now (args .b)) (args .n) (now (args .t)) (args .m) (args .a) (args .e) (now (args .s)) (args .at) (skip-space .result) (look .result) (skip-space .ensures) (look .ensures .0) (if1 .taken) (put-value .result) _ _ (put-value .ensures .1 .1)),
+    )
 
 -- src/lib.rt:163:27
 add-skip-space : tie.Need-add-skip-space
@@ -57,7 +65,16 @@ look-requires-2 c κs = search needs
 
 -- src/lib.rt:165:9
 returns-2 : tie.Need-returns-2
-returns-2 c = (record { long = refl; wide = refl }, (tt, values-none (now (c .before .before .before .before .before .before .before .before .before .args .b)) (c .before .before .before .before .before .before .before .before .before .args .n) (now (c .before .before .before .before .before .before .before .before .before .args .t)) (c .before .before .before .before .before .before .before .before .before .args .m) (c .before .before .before .before .before .before .before .before .before .args .a) (c .before .before .before .before .before .before .before .before .before .args .e) (now (c .before .before .before .before .before .before .before .before .before .args .s)) (c .before .before .before .before .before .before .before .before .before .args .at) (c .before .before .before .before .before .skip-space .result) (c .before .before .before .before .look .result) (c .before .before .before .before .before .skip-space .ensures) (c .before .before .before .before .look .ensures .0) (c .before .before .before .if1 .left) (c .before .before .skip-space2 .result) (c .before .look2 .result) (c .before .before .skip-space2 .ensures) (c .before .look2 .ensures .0) (c .if2 .taken)))
+returns-2 c =
+    let args = c .before .before .before .before .before .before .before .before .before .args in
+    let skip-space = c .before .before .before .before .before .skip-space in
+    let look = c .before .before .before .before .look in
+    let if1 = c .before .before .before .if1 in
+    let skip-space2 = c .before .before .skip-space2 in
+    let look2 = c .before .look2 in (
+      record { long = refl; wide = refl },
+      (tt, values-none (now (args .b)) (args .n) (now (args .t)) (args .m) (args .a) (args .e) (now (args .s)) (args .at) (skip-space .result) (look .result) (skip-space .ensures) (look .ensures .0) (if1 .left) (skip-space2 .result) (look2 .result) (skip-space2 .ensures) (look2 .ensures .0) (c .if2 .taken)),
+    )
 
 -- src/lib.rt:167:5
 put-elements-requires : tie.Need-put-elements-requires
@@ -73,7 +90,18 @@ same-length-4 c = search needs
 
 -- src/lib.rt:142:1
 returns-3 : tie.Need-returns-3
-returns-3 c = (c .before .before .before .before .put-elements .ensures .0, (c .before .before .before .before .put-elements .ensures .1 .0, values-many (now (c .before .before .before .before .before .before .before .before .before .before .before .before .before .before .before .before .args .b)) (c .before .before .before .before .before .before .before .before .before .before .before .before .before .before .before .before .args .n) (now (c .before .before .before .before .before .before .before .before .before .before .before .before .before .before .before .before .args .t)) (c .before .before .before .before .before .before .before .before .before .before .before .before .before .before .before .before .args .m) (c .before .before .before .before .before .before .before .before .before .before .before .before .before .before .before .before .args .a) (c .before .before .before .before .before .before .before .before .before .before .before .before .before .before .before .before .args .e) (now (c .before .before .before .before .before .before .before .before .before .before .before .before .before .before .before .before .args .s)) (c .before .before .before .before .before .before .before .before .before .before .before .before .before .before .before .before .args .at) (c .before .before .before .before .before .before .before .before .before .before .before .before .skip-space .result) (c .before .before .before .before .before .before .before .before .before .before .before .look .result) (c .before .before .before .before .before .before .before .before .before .before .before .before .skip-space .ensures) (c .before .before .before .before .before .before .before .before .before .before .before .look .ensures .0) (c .before .before .before .before .before .before .before .before .before .before .if1 .left) (c .before .before .before .before .before .before .before .before .before .skip-space2 .result) (c .before .before .before .before .before .before .before .before .look2 .result) (c .before .before .before .before .before .before .before .before .before .skip-space2 .ensures) (c .before .before .before .before .before .before .before .before .look2 .ensures .0) (c .before .before .before .before .before .before .before .if2 .left) (c .before .before .before .before .put-elements .result) _ _ (c .before .before .before .before .put-elements .ensures .1 .1)))
+returns-3 c =
+    let args = c .before .before .before .before .before .before .before .before .before .before .before .before .before .before .before .before .args in
+    let skip-space = c .before .before .before .before .before .before .before .before .before .before .before .before .skip-space in
+    let look = c .before .before .before .before .before .before .before .before .before .before .before .look in
+    let if1 = c .before .before .before .before .before .before .before .before .before .before .if1 in
+    let skip-space2 = c .before .before .before .before .before .before .before .before .before .skip-space2 in
+    let look2 = c .before .before .before .before .before .before .before .before .look2 in
+    let if2 = c .before .before .before .before .before .before .before .if2 in
+    let put-elements = c .before .before .before .before .put-elements in (
+      put-elements .ensures .0,
+      (put-elements .ensures .1 .0, values-many (now (args .b)) (args .n) (now (args .t)) (args .m) (args .a) (args .e) (now (args .s)) (args .at) (skip-space .result) (look .result) (skip-space .ensures) (look .ensures .0) (if1 .left) (skip-space2 .result) (look2 .result) (skip-space2 .ensures) (look2 .ensures .0) (if2 .left) (put-elements .result) _ _ (put-elements .ensures .1 .1)),
+    )
 
 pub put-values-spec : {M : Type 1} → statement M
 put-values-spec =

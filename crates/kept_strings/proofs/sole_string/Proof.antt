@@ -27,7 +27,12 @@ string-in-requires c κs = search needs
 
 -- src/lib.rt:177:9
 returns : tie.Need-returns
-returns c = sole-one (now (c .before .before .before .before .before .args .s)) (c .before .before .before .before .before .args .at) (c .before .before .before .skip-space .result) (c .before .before .look .result) (c .before .before .before .skip-space .ensures) (c .before .before .look .ensures .0) (c .before .if1 .taken) (c .string-in .result) (c .string-in .ensures)
+returns c =
+    let args = c .before .before .before .before .before .args in
+    let skip-space = c .before .before .before .skip-space in
+    let look = c .before .before .look in
+    sole-one (now (args .s)) (args .at) (skip-space .result) (look .result) (skip-space .ensures) (look .ensures .0) (c .before .if1 .taken)
+    (c .string-in .result) (c .string-in .ensures)
 
 -- src/lib.rt:179:27
 add-skip-space : tie.Need-add-skip-space
@@ -43,7 +48,15 @@ look-requires-2 c κs = search needs
 
 -- src/lib.rt:181:9
 returns-2 : tie.Need-returns-2
-returns-2 c = sole-none (now (c .before .before .before .before .before .before .before .args .s)) (c .before .before .before .before .before .before .before .args .at) (c .before .before .before .before .before .skip-space .result) (c .before .before .before .before .look .result) (c .before .before .before .before .before .skip-space .ensures) (c .before .before .before .before .look .ensures .0) (c .before .before .before .if1 .left) (c .before .before .skip-space2 .result) (c .before .look2 .result) (c .before .before .skip-space2 .ensures) (c .before .look2 .ensures .0) (c .if2 .taken)
+returns-2 c =
+    let args = c .before .before .before .before .before .before .before .args in
+    let skip-space = c .before .before .before .before .before .skip-space in
+    let look = c .before .before .before .before .look in
+    let if1 = c .before .before .before .if1 in
+    let skip-space2 = c .before .before .skip-space2 in
+    let look2 = c .before .look2 in
+    sole-none (now (args .s)) (args .at) (skip-space .result) (look .result) (skip-space .ensures) (look .ensures .0) (if1 .left)
+    (skip-space2 .result) (look2 .result) (skip-space2 .ensures) (look2 .ensures .0) (c .if2 .taken)
 
 -- src/lib.rt:183:9
 element-at-requires : tie.Need-element-at-requires
@@ -59,7 +72,19 @@ enum-known-k c = search needs
 
 -- src/lib.rt:188:13
 returns-3 : tie.Need-returns-3
-returns-3 c = sole-many (now (c .before .before .before .before .before .before .before .before .before .before .before .before .args .s)) (c .before .before .before .before .before .before .before .before .before .before .before .before .args .at) (c .before .before .before .before .before .before .before .before .before .before .skip-space .result) (c .before .before .before .before .before .before .before .before .before .look .result) (c .before .before .before .before .before .before .before .before .before .before .skip-space .ensures) (c .before .before .before .before .before .before .before .before .before .look .ensures .0) (c .before .before .before .before .before .before .before .before .if1 .left) (c .before .before .before .before .before .before .before .skip-space2 .result) (c .before .before .before .before .before .before .look2 .result) (c .before .before .before .before .before .before .before .skip-space2 .ensures) (c .before .before .before .before .before .before .look2 .ensures .0) (c .before .before .before .before .before .if2 .left) (c .before .before .before .before .element-at .result) (c .before .before .before .before .element-at .ensures .1) _ (turn-as (c .before .before .before .separator .ensures) (c .before .k .given .1))
+returns-3 c =
+    let args = c .before .before .before .before .before .before .before .before .before .before .before .before .args in
+    let skip-space = c .before .before .before .before .before .before .before .before .before .before .skip-space in
+    let look = c .before .before .before .before .before .before .before .before .before .look in
+    let if1 = c .before .before .before .before .before .before .before .before .if1 in
+    let skip-space2 = c .before .before .before .before .before .before .before .skip-space2 in
+    let look2 = c .before .before .before .before .before .before .look2 in
+    let if2 = c .before .before .before .before .before .if2 in
+    let element-at = c .before .before .before .before .element-at in
+    let separator = c .before .before .before .separator in
+    sole-many (now (args .s)) (args .at) (skip-space .result) (look .result) (skip-space .ensures) (look .ensures .0) (if1 .left)
+    (skip-space2 .result) (look2 .result) (skip-space2 .ensures) (look2 .ensures .0) (if2 .left) (element-at .result) (element-at .ensures .1) _
+    (turn-as (separator .ensures) (c .before .k .given .1))
 
 -- src/lib.rt:190:20
 enum-known-r : tie.Need-enum-known-r
@@ -71,7 +96,19 @@ string-in-requires-2 c κs = search needs
 
 -- src/lib.rt:191:13
 returns-4 : tie.Need-returns-4
-returns-4 c = sole-elem (now (c .before .before .before .before .before .before .before .before .before .before .before .before .before .args .s)) (c .before .before .before .before .before .before .before .before .before .before .before .before .before .args .at) (c .before .before .before .before .before .before .before .before .before .before .before .skip-space .result) (c .before .before .before .before .before .before .before .before .before .before .look .result) (c .before .before .before .before .before .before .before .before .before .before .before .skip-space .ensures) (c .before .before .before .before .before .before .before .before .before .before .look .ensures .0) (c .before .before .before .before .before .before .before .before .before .if1 .left) (c .before .before .before .before .before .before .before .before .skip-space2 .result) (c .before .before .before .before .before .before .before .look2 .result) (c .before .before .before .before .before .before .before .before .skip-space2 .ensures) (c .before .before .before .before .before .before .before .look2 .ensures .0) (c .before .before .before .before .before .before .if2 .left) (c .before .before .before .before .before .element-at .result) (c .before .before .before .before .before .element-at .ensures .1) _ (turn-as (c .before .before .before .before .separator .ensures) (c .before .before .r .given .1)) (c .string-in2 .result) (c .string-in2 .ensures)
+returns-4 c =
+    let args = c .before .before .before .before .before .before .before .before .before .before .before .before .before .args in
+    let skip-space = c .before .before .before .before .before .before .before .before .before .before .before .skip-space in
+    let look = c .before .before .before .before .before .before .before .before .before .before .look in
+    let if1 = c .before .before .before .before .before .before .before .before .before .if1 in
+    let skip-space2 = c .before .before .before .before .before .before .before .before .skip-space2 in
+    let look2 = c .before .before .before .before .before .before .before .look2 in
+    let if2 = c .before .before .before .before .before .before .if2 in
+    let element-at = c .before .before .before .before .before .element-at in
+    let separator = c .before .before .before .before .separator in
+    sole-elem (now (args .s)) (args .at) (skip-space .result) (look .result) (skip-space .ensures) (look .ensures .0) (if1 .left)
+    (skip-space2 .result) (look2 .result) (skip-space2 .ensures) (look2 .ensures .0) (if2 .left) (element-at .result) (element-at .ensures .1) _
+    (turn-as (separator .ensures) (c .before .before .r .given .1)) (c .string-in2 .result) (c .string-in2 .ensures)
 
 pub sole-string-spec : {M : Type 1} → statement M
 sole-string-spec =

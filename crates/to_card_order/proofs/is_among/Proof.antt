@@ -36,7 +36,13 @@ enum-told : tie.Need-enum-told Inv-loop μ-loop
 enum-told c = search needs
 
 returns : tie.Need-returns Inv-loop μ-loop
-returns c = finds-wrong (now (c .before .before .before .before .before .before .args .s)) (c .before .before .before .before .before .before .args .at) (c .before .before .before .before .before .before .args .kind) (c .before .before .before .before .before .before .args .value) (c .before .before .before .before .loop .i) (c .before .before .before .before .loop .found) (c .before .before .before .before .loop .inv .1) (c .before .before .before .element-at .result) (c .before .before .before .element-at .ensures .1) (c .before .before .component-at .result) (c .before .before .component-at .ensures .1) (c .enum-told .given .1)
+returns c =
+    let args = c .before .before .before .before .before .before .args in
+    let loop = c .before .before .before .before .loop in
+    let element-at = c .before .before .before .element-at in
+    let component-at = c .before .before .component-at in
+    finds-wrong (now (args .s)) (args .at) (args .kind) (args .value) (loop .i) (loop .found) (loop .inv .1) (element-at .result)
+    (element-at .ensures .1) (component-at .result) (component-at .ensures .1) (c .enum-told .given .1)
 
 agrees-requires : tie.Need-agrees-requires Inv-loop μ-loop
 agrees-requires c κs = tt
@@ -48,16 +54,42 @@ enum-known-j : tie.Need-enum-known-j Inv-loop μ-loop
 enum-known-j c = search needs
 
 loop-less : tie.Need-loop-less Inv-loop μ-loop
-loop-less c = let h = turn-as (c .before .before .before .separator .ensures) (c .before .j .given .1) in omega (arith, h .within .0, h .within .1, c .before .before .before .before .before .before .before .before .before .element-at .ensures .0 .from (c .before .before .before .before .before .before .before .before .before .before .loop .inv .0), c .before .before .before .before .before .before .before .before .before .element-at .ensures .0 .ordered)
+loop-less c =
+    let loop = c .before .before .before .before .before .before .before .before .before .before .loop in
+    let element-at = c .before .before .before .before .before .before .before .before .before .element-at in
+    let separator = c .before .before .before .separator in
+    let h = turn-as (separator .ensures) (c .before .j .given .1) in omega
+    (arith, h .within .0, h .within .1, element-at .ensures .0 .from (loop .inv .0), element-at .ensures .0 .ordered)
 
 loop-again : tie.Need-loop-again Inv-loop μ-loop
-loop-again c = let h = turn-as (c .before .before .before .separator .ensures) (c .before .j .given .1) in (h .within .1, finding-on (now (c .before .before .before .before .before .before .before .before .before .before .before .before .args .s)) (c .before .before .before .before .before .before .before .before .before .before .before .before .args .at) (c .before .before .before .before .before .before .before .before .before .before .before .before .args .kind) (c .before .before .before .before .before .before .before .before .before .before .before .before .args .value) (c .before .before .before .before .before .before .before .before .before .before .loop .i) (c .before .before .before .before .before .before .before .before .before .before .loop .found) (c .before .before .before .before .before .before .before .before .before .before .loop .inv .1) (c .before .before .before .before .before .before .before .before .before .element-at .result) (c .before .before .before .before .before .before .before .before .before .element-at .ensures .1) (c .before .before .before .before .before .before .before .before .component-at .result) (c .before .before .before .before .before .before .before .before .component-at .ensures .1) _ _ (c .before .before .before .before .before .before .k .given .1) (c .before .before .before .before .agrees .result) (c .before .before .before .before .agrees .ensures) _ h)
+loop-again c =
+    let args = c .before .before .before .before .before .before .before .before .before .before .before .before .args in
+    let loop = c .before .before .before .before .before .before .before .before .before .before .loop in
+    let element-at = c .before .before .before .before .before .before .before .before .before .element-at in
+    let component-at = c .before .before .before .before .before .before .before .before .component-at in
+    let k = c .before .before .before .before .before .before .k in
+    let agrees = c .before .before .before .before .agrees in
+    let separator = c .before .before .before .separator in
+    let h = turn-as (separator .ensures) (c .before .j .given .1) in (
+      h .within .1,
+      finding-on (now (args .s)) (args .at) (args .kind) (args .value) (loop .i) (loop .found) (loop .inv .1) (element-at .result) (element-at .ensures .1) (component-at .result) (component-at .ensures .1) _ _ (k .given .1) (agrees .result) (agrees .ensures) _ h,
+    )
 
 enum-known-r : tie.Need-enum-known-r Inv-loop μ-loop
 enum-known-r c = search needs
 
 returns-2 : tie.Need-returns-2 Inv-loop μ-loop
-returns-2 c = finds-all (now (c .before .before .before .before .before .before .before .before .before .before .before .before .args .s)) (c .before .before .before .before .before .before .before .before .before .before .before .before .args .at) (c .before .before .before .before .before .before .before .before .before .before .before .before .args .kind) (c .before .before .before .before .before .before .before .before .before .before .before .before .args .value) (c .before .before .before .before .before .before .before .before .before .before .loop .i) (c .before .before .before .before .before .before .before .before .before .before .loop .found) (c .before .before .before .before .before .before .before .before .before .before .loop .inv .1) (c .before .before .before .before .before .before .before .before .before .element-at .result) (c .before .before .before .before .before .before .before .before .before .element-at .ensures .1) (c .before .before .before .before .before .before .before .before .component-at .result) (c .before .before .before .before .before .before .before .before .component-at .ensures .1) _ _ (c .before .before .before .before .before .before .k .given .1) (c .before .before .before .before .agrees .result) (c .before .before .before .before .agrees .ensures) _ (turn-as (c .before .before .before .separator .ensures) (c .before .r .given .1))
+returns-2 c =
+    let args = c .before .before .before .before .before .before .before .before .before .before .before .before .args in
+    let loop = c .before .before .before .before .before .before .before .before .before .before .loop in
+    let element-at = c .before .before .before .before .before .before .before .before .before .element-at in
+    let component-at = c .before .before .before .before .before .before .before .before .component-at in
+    let k = c .before .before .before .before .before .before .k in
+    let agrees = c .before .before .before .before .agrees in
+    let separator = c .before .before .before .separator in
+    finds-all (now (args .s)) (args .at) (args .kind) (args .value) (loop .i) (loop .found) (loop .inv .1) (element-at .result)
+    (element-at .ensures .1) (component-at .result) (component-at .ensures .1) _ _ (k .given .1) (agrees .result) (agrees .ensures) _
+    (turn-as (separator .ensures) (c .before .r .given .1))
 
 pub is-among-spec : {M : Type 1} → statement M
 is-among-spec =

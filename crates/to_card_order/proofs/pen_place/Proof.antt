@@ -17,16 +17,27 @@ same-length : tie.Need-same-length
 same-length c = pens-length (c .before .before .pen-byte .ensures)
 
 returns : tie.Need-returns
-returns c = inks-semi (now (c .before .before .before .before .before .before .before .before .before .before .args .s)) (c .before .before .before .before .before .before .before .before .before .before .args .at) (now (c .before .before .before .before .before .before .before .before .before .before .args .marks)) (c .before .before .before .before .before .before .before .before .before .before .args .style) (c .before .before .before .before .before .before .before .before .before .before .args .mark) (c .before .before .before .before .before .before .before .before .before .before .args .place) (c .before .before .before .before .before .before .before .before .before .before .args .begun) (now (c .before .before .before .before .before .before .before .before .before .before .args .out)) (c .before .before .before .before .before .before .before .before .before .before .args .column) (c .before .before .before .before .if1 .taken) (c .before .before .pen-byte .result) _ (c .before .before .pen-byte .ensures)
+returns c =
+    let args = c .before .before .before .before .before .before .before .before .before .before .args in
+    let if1 = c .before .before .before .before .if1 in
+    let pen-byte = c .before .before .pen-byte in
+    inks-semi (now (args .s)) (args .at) (now (args .marks)) (args .style) (args .mark) (args .place) (args .begun) (now (args .out)) (args .column)
+    (if1 .taken) (pen-byte .result) _ (pen-byte .ensures)
 
 returns-2 : tie.Need-returns-2
-returns-2 c = inks-low (now (c .before .before .before .before .before .before .before .args .s)) (c .before .before .before .before .before .before .before .args .at) (now (c .before .before .before .before .before .before .before .args .marks)) (c .before .before .before .before .before .before .before .args .style) (c .before .before .before .before .before .before .before .args .mark) (c .before .before .before .before .before .before .before .args .place) (c .before .before .before .before .before .before .before .args .begun) (now (c .before .before .before .before .before .before .before .args .out)) (c .before .before .before .before .before .before .before .args .column) (c .before .if1 .left) (c .if2 .taken)
+returns-2 c =
+    let args = c .before .before .before .before .before .before .before .args in
+    inks-low (now (args .s)) (args .at) (now (args .marks)) (args .style) (args .mark) (args .place) (args .begun) (now (args .out)) (args .column)
+    (c .before .if1 .left) (c .if2 .taken)
 
 cast-kind : tie.Need-cast-kind
 cast-kind c = search needs
 
 returns-3 : tie.Need-returns-3
-returns-3 c = inks-high (now (c .before .before .before .before .before .before .before .before .args .s)) (c .before .before .before .before .before .before .before .before .args .at) (now (c .before .before .before .before .before .before .before .before .args .marks)) (c .before .before .before .before .before .before .before .before .args .style) (c .before .before .before .before .before .before .before .before .args .mark) (c .before .before .before .before .before .before .before .before .args .place) (c .before .before .before .before .before .before .before .before .args .begun) (now (c .before .before .before .before .before .before .before .before .args .out)) (c .before .before .before .before .before .before .before .before .args .column) (c .before .before .if1 .left) (c .before .if2 .left) (c .if3 .taken)
+returns-3 c =
+    let args = c .before .before .before .before .before .before .before .before .args in
+    inks-high (now (args .s)) (args .at) (now (args .marks)) (args .style) (args .mark) (args .place) (args .begun) (now (args .out)) (args .column)
+    (c .before .before .if1 .left) (c .before .if2 .left) (c .if3 .taken)
 
 mul-if4 : tie.Need-mul-if4
 mul-if4 c = search needs
@@ -35,16 +46,30 @@ shared-slice-read-if4 : tie.Need-shared-slice-read-if4
 shared-slice-read-if4 c = search needs
 
 returns-4 : tie.Need-returns-4
-returns-4 c = inks-unmarked (now (c .before .before .before .before .before .before .before .before .before .before .args .s)) (c .before .before .before .before .before .before .before .before .before .before .args .at) (now (c .before .before .before .before .before .before .before .before .before .before .args .marks)) (c .before .before .before .before .before .before .before .before .before .before .args .style) (c .before .before .before .before .before .before .before .before .before .before .args .mark) (c .before .before .before .before .before .before .before .before .before .before .args .place) (c .before .before .before .before .before .before .before .before .before .before .args .begun) (now (c .before .before .before .before .before .before .before .before .before .before .args .out)) (c .before .before .before .before .before .before .before .before .before .before .args .column) (c .before .before .before .before .if1 .left) (c .before .before .before .if2 .left) (omega (arith, c .before .before .if3 .left)) (c .if4 .taken)
+returns-4 c =
+    let args = c .before .before .before .before .before .before .before .before .before .before .args in
+    let if1 = c .before .before .before .before .if1 in
+    let if2 = c .before .before .before .if2 in
+    inks-unmarked (now (args .s)) (args .at) (now (args .marks)) (args .style) (args .mark) (args .place) (args .begun) (now (args .out))
+    (args .column) (if1 .left) (if2 .left) (omega (arith, c .before .before .if3 .left)) (c .if4 .taken)
 
 pen-listed-requires : tie.Need-pen-listed-requires
-pen-listed-requires c κs = (c .before .before .before .before .before .before .before .before .before .before .before .pre .0, (c .before .before .before .before .before .before .before .before .before .before .before .pre .1 .1 .0, (c .before .before .before .before .before .before .before .before .before .before .before .pre .1 .1 .1 .0, c .before .before .before .before .before .before .before .before .before .before .before .pre .1 .1 .1 .1)))
+pen-listed-requires c κs =
+    let pre = c .before .before .before .before .before .before .before .before .before .before .before .pre in
+    (pre .0, (pre .1 .1 .0, (pre .1 .1 .1 .0, pre .1 .1 .1 .1)))
 
 same-length-2 : tie.Need-same-length-2
 same-length-2 c = pens-length (c .before .before .pen-listed .ensures .pens)
 
 returns-5 : tie.Need-returns-5
-returns-5 c = inks-values (now (c .before .before .before .before .before .before .before .before .before .before .before .before .before .before .args .s)) (c .before .before .before .before .before .before .before .before .before .before .before .before .before .before .args .at) (now (c .before .before .before .before .before .before .before .before .before .before .before .before .before .before .args .marks)) (c .before .before .before .before .before .before .before .before .before .before .before .before .before .before .args .style) (c .before .before .before .before .before .before .before .before .before .before .before .before .before .before .args .mark) (c .before .before .before .before .before .before .before .before .before .before .before .before .before .before .args .place) (c .before .before .before .before .before .before .before .before .before .before .before .before .before .before .args .begun) (now (c .before .before .before .before .before .before .before .before .before .before .before .before .before .before .args .out)) (c .before .before .before .before .before .before .before .before .before .before .before .before .before .before .args .column) (c .before .before .before .before .before .before .before .before .if1 .left) (c .before .before .before .before .before .before .before .if2 .left) (omega (arith, c .before .before .before .before .before .before .if3 .left)) (c .before .before .pen-listed .result) _ (c .before .before .pen-listed .ensures)
+returns-5 c =
+    let args = c .before .before .before .before .before .before .before .before .before .before .before .before .before .before .args in
+    let if1 = c .before .before .before .before .before .before .before .before .if1 in
+    let if2 = c .before .before .before .before .before .before .before .if2 in
+    let if3 = c .before .before .before .before .before .before .if3 in
+    let pen-listed = c .before .before .pen-listed in
+    inks-values (now (args .s)) (args .at) (now (args .marks)) (args .style) (args .mark) (args .place) (args .begun) (now (args .out)) (args .column)
+    (if1 .left) (if2 .left) (omega (arith, if3 .left)) (pen-listed .result) _ (pen-listed .ensures)
 
 pub pen-place-spec : {M : Type 1} → statement M
 pen-place-spec =

@@ -34,13 +34,23 @@ array-read-other : tie.Need-array-read-other
 array-read-other c = search needs
 
 returns-2 : tie.Need-returns-2
-returns-2 c = (tt, object-strange (now (c .before .before .before .before .before .before .before .args .s)) (c .before .before .before .before .before .before .before .args .at) _ (c .before .before .before .index-object .result) (c .before .before .before .index-object .ensures) (not-false _ (c .before .if1 .left)) (c .if2 .taken))
+returns-2 c =
+    let args = c .before .before .before .before .before .before .before .args in
+    let index-object = c .before .before .before .index-object in (
+      tt,
+      object-strange (now (args .s)) (args .at) _ (index-object .result) (index-object .ensures) (not-false _ (c .before .if1 .left)) (c .if2 .taken),
+    )
 
 component-of-requires : tie.Need-component-of-requires
 component-of-requires c κs = tt
 
 returns-3 : tie.Need-returns-3
-returns-3 c = (c .component-of .ensures .0, object-of (now (c .before .before .before .before .before .before .before .before .args .s)) (c .before .before .before .before .before .before .before .before .args .at) _ (c .before .before .before .before .index-object .result) (c .before .before .before .before .index-object .ensures) (not-false _ (c .before .before .if1 .left)) (c .before .if2 .left) (c .component-of .result) (c .component-of .ensures .1))
+returns-3 c =
+    let args = c .before .before .before .before .before .before .before .before .args in
+    let index-object = c .before .before .before .before .index-object in (
+      c .component-of .ensures .0,
+      object-of (now (args .s)) (args .at) _ (index-object .result) (index-object .ensures) (not-false _ (c .before .before .if1 .left)) (c .before .if2 .left) (c .component-of .result) (c .component-of .ensures .1),
+    )
 
 pub component-at-spec : {M : Type 1} → statement M
 component-at-spec =

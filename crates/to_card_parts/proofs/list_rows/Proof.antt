@@ -72,7 +72,10 @@ mark-kind-requires c κs =
     omega (arith, kind-in (found .result) (found .ensures .0) (c .before .before .k .given .1), c .before .before .before .before .before .before .loop .inv .1, c .before .before .before .before .before .before .before .before .before .before .before .pre .1 .0)
 
 put-row-requires : tie.Need-put-row-requires Inv-loop μ-loop
-put-row-requires c κs = (omega (arith, c .before .before .before .before .before .before .before .before .before .before .before .loop .inv .2, c .before .before .before .before .before .before .before .before .before .before .before .before .before .before .before .before .pre .1 .1 .1 .0), omega (arith, c .before .before .before .before .before .before .before .before .before .before .before .loop .inv .3, c .before .before .before .before .before .before .before .before .before .before .before .before .before .before .before .before .pre .1 .1 .1 .1))
+put-row-requires c κs =
+    let pre = c .before .before .before .before .before .before .before .before .before .before .before .before .before .before .before .before .pre in
+    let loop = c .before .before .before .before .before .before .before .before .before .before .before .loop in
+    (omega (arith, loop .inv .2, pre .1 .1 .1 .0), omega (arith, loop .inv .3, pre .1 .1 .1 .1))
 
 separator-requires : tie.Need-separator-requires Inv-loop μ-loop
 separator-requires c κs = (c .before .before .before .before .before .before .before .before .before .before .before .before .before .before .before .element-at .ensures .0 .end-in, omega arith)
@@ -88,23 +91,24 @@ loop-less c =
 
 loop-again : tie.Need-loop-again Inv-loop μ-loop
 loop-again c =
-    let args = c .before .before .before .before .before .before .before .before .before .before .before .before .before .before .before .before .before .before .before .before .before .before .before .before .before .args in
-    let s = now (args .s) in
-    let pre = c .before .before .before .before .before .before .before .before .before .before .before .before .before .before .before .before .before .before .before .before .before .before .before .before .before .pre in
-    let now-at = c .before .before .before .before .before .before .before .before .before .before .before .before .before .before .before .before .before .before .before .before .loop in
-    let element = c .before .before .before .before .before .before .before .before .before .before .before .before .before .before .before .before .before .before .before .element-at in
-    let found = c .before .before .before .before .before .before .before .before .before .before .before .before .before .before .before .before .before .before .component-at in
-    let k = c .before .before .before .before .before .before .before .before .before .before .before .before .before .before .before .before .k in
-    let row = c .before .before .before .before .before .before .before .before .put-row in
-    let h = turn-as (c .before .before .before .separator .ensures) (c .before .j .given .1) in
-    let low : k .given .0 .0 < length (now-at .marks) = omega (arith, kind-in (found .result) (found .ensures .0) (k .given .1), now-at .inv .1, pre .1 .0) in
-    let lk : 16 ≤ length (now-at .kinds) = omega (arith, now-at .inv .2, pre .1 .1 .1 .0) in
-    let lv : 16 ≤ length (now-at .values) = omega (arith, now-at .inv .3, pre .1 .1 .1 .1) in (
+    let pre′ = c .before .before .before .before .before .before .before .before .before .before .before .before .before .before .before .before .before .before .before .before .before .before .before .before .before .pre in
+    let args′ = c .before .before .before .before .before .before .before .before .before .before .before .before .before .before .before .before .before .before .before .before .before .before .before .before .before .args in
+    let loop = c .before .before .before .before .before .before .before .before .before .before .before .before .before .before .before .before .before .before .before .before .loop in
+    let element-at = c .before .before .before .before .before .before .before .before .before .before .before .before .before .before .before .before .before .before .before .element-at in
+    let component-at = c .before .before .before .before .before .before .before .before .before .before .before .before .before .before .before .before .before .before .component-at in
+    let k′ = c .before .before .before .before .before .before .before .before .before .before .before .before .before .before .before .before .k in
+    let mark-kind = c .before .before .before .before .before .before .before .before .before .before .before .before .before .mark-kind in
+    let put-row = c .before .before .before .before .before .before .before .before .put-row in
+    let separator = c .before .before .before .separator in
+    let args = args′ in let s = now (args .s) in let pre = pre′ in let now-at = loop in let element = element-at in let found = component-at in let k
+    = k′ in let row = put-row in let h = turn-as (separator .ensures) (c .before .j .given .1) in let low : k .given .0 .0 < length (now-at .marks) =
+    omega (arith, kind-in (found .result) (found .ensures .0) (k .given .1), now-at .inv .1, pre .1 .0) in let lk : 16 ≤ length (now-at .kinds) =
+    omega (arith, now-at .inv .2, pre .1 .1 .1 .0) in let lv : 16 ≤ length (now-at .values) = omega (arith, now-at .inv .3, pre .1 .1 .1 .1) in (
       h .within .1,
-      c .before .before .before .before .before .before .before .before .before .before .before .before .before .mark-kind .ensures .long ∙ (now-at .inv .1),
+      mark-kind .ensures .long ∙ (now-at .inv .1),
       row .ensures .long-kinds ∙ (now-at .inv .2),
       row .ensures .long-values ∙ (now-at .inv .3),
-      checking-on s (args .at) (now-at .i) (now-at .marks) (now-at .inv .4) (element .result) (element .ensures .1) (found .result) (found .ensures .1) _ _ (k .given .1) _ low (c .before .before .before .before .before .before .before .before .before .before .before .before .before .mark-kind .ensures) _ h,
+      checking-on s (args .at) (now-at .i) (now-at .marks) (now-at .inv .4) (element .result) (element .ensures .1) (found .result) (found .ensures .1) _ _ (k .given .1) _ low (mark-kind .ensures) _ h,
       listing-on s (args .at) (now-at .i) (now-at .kinds) (now-at .values) (now-at .n) (now-at .inv .5) (element .result) (element .ensures .1) (found .result) (found .ensures .1) _ _ (k .given .1) lk lv _ _ (row .result) (row .ensures) _ h,
     )
 
@@ -112,7 +116,10 @@ enum-known-r : tie.Need-enum-known-r Inv-loop μ-loop
 enum-known-r c = search needs
 
 same-length-4 : tie.Need-same-length-4 Inv-loop μ-loop
-same-length-4 c = c .before .before .before .before .before .before .before .before .before .before .before .before .before .mark-kind .ensures .long ∙ (c .before .before .before .before .before .before .before .before .before .before .before .before .before .before .before .before .before .before .before .before .loop .inv .1)
+same-length-4 c =
+    let loop = c .before .before .before .before .before .before .before .before .before .before .before .before .before .before .before .before .before .before .before .before .loop in
+    let mark-kind = c .before .before .before .before .before .before .before .before .before .before .before .before .before .mark-kind in
+    mark-kind .ensures .long ∙ (loop .inv .1)
 
 same-length-5 : tie.Need-same-length-5 Inv-loop μ-loop
 same-length-5 c = c .before .before .before .before .before .before .before .before .put-row .ensures .long-kinds ∙ (c .before .before .before .before .before .before .before .before .before .before .before .before .before .before .before .before .before .before .before .before .loop .inv .2)
@@ -122,19 +129,20 @@ same-length-6 c = c .before .before .before .before .before .before .before .bef
 
 returns-2 : tie.Need-returns-2 Inv-loop μ-loop
 returns-2 c =
-    let args = c .before .before .before .before .before .before .before .before .before .before .before .before .before .before .before .before .before .before .before .before .before .before .before .before .before .args in
-    let s = now (args .s) in
-    let pre = c .before .before .before .before .before .before .before .before .before .before .before .before .before .before .before .before .before .before .before .before .before .before .before .before .before .pre in
-    let now-at = c .before .before .before .before .before .before .before .before .before .before .before .before .before .before .before .before .before .before .before .before .loop in
-    let element = c .before .before .before .before .before .before .before .before .before .before .before .before .before .before .before .before .before .before .before .element-at in
-    let found = c .before .before .before .before .before .before .before .before .before .before .before .before .before .before .before .before .before .before .component-at in
-    let k = c .before .before .before .before .before .before .before .before .before .before .before .before .before .before .before .before .k in
-    let row = c .before .before .before .before .before .before .before .before .put-row in
-    let h = turn-as (c .before .before .before .separator .ensures) (c .before .r .given .1) in
-    let low : k .given .0 .0 < length (now-at .marks) = omega (arith, kind-in (found .result) (found .ensures .0) (k .given .1), now-at .inv .1, pre .1 .0) in
-    let lk : 16 ≤ length (now-at .kinds) = omega (arith, now-at .inv .2, pre .1 .1 .1 .0) in
-    let lv : 16 ≤ length (now-at .values) = omega (arith, now-at .inv .3, pre .1 .1 .1 .1) in (
-      checks-all s (args .at) (now-at .i) (now-at .marks) (now-at .inv .4) (element .result) (element .ensures .1) (found .result) (found .ensures .1) _ _ (k .given .1) _ low (c .before .before .before .before .before .before .before .before .before .before .before .before .before .mark-kind .ensures) _ h (row .result) (row .ensures .some-row),
+    let pre′ = c .before .before .before .before .before .before .before .before .before .before .before .before .before .before .before .before .before .before .before .before .before .before .before .before .before .pre in
+    let args′ = c .before .before .before .before .before .before .before .before .before .before .before .before .before .before .before .before .before .before .before .before .before .before .before .before .before .args in
+    let loop = c .before .before .before .before .before .before .before .before .before .before .before .before .before .before .before .before .before .before .before .before .loop in
+    let element-at = c .before .before .before .before .before .before .before .before .before .before .before .before .before .before .before .before .before .before .before .element-at in
+    let component-at = c .before .before .before .before .before .before .before .before .before .before .before .before .before .before .before .before .before .before .component-at in
+    let k′ = c .before .before .before .before .before .before .before .before .before .before .before .before .before .before .before .before .k in
+    let mark-kind = c .before .before .before .before .before .before .before .before .before .before .before .before .before .mark-kind in
+    let put-row = c .before .before .before .before .before .before .before .before .put-row in
+    let separator = c .before .before .before .separator in
+    let args = args′ in let s = now (args .s) in let pre = pre′ in let now-at = loop in let element = element-at in let found = component-at in let k
+    = k′ in let row = put-row in let h = turn-as (separator .ensures) (c .before .r .given .1) in let low : k .given .0 .0 < length (now-at .marks) =
+    omega (arith, kind-in (found .result) (found .ensures .0) (k .given .1), now-at .inv .1, pre .1 .0) in let lk : 16 ≤ length (now-at .kinds) =
+    omega (arith, now-at .inv .2, pre .1 .1 .1 .0) in let lv : 16 ≤ length (now-at .values) = omega (arith, now-at .inv .3, pre .1 .1 .1 .1) in (
+      checks-all s (args .at) (now-at .i) (now-at .marks) (now-at .inv .4) (element .result) (element .ensures .1) (found .result) (found .ensures .1) _ _ (k .given .1) _ low (mark-kind .ensures) _ h (row .result) (row .ensures .some-row),
       lists-all s (args .at) (now-at .i) (now-at .kinds) (now-at .values) (now-at .n) (now-at .inv .5) (element .result) (element .ensures .1) (found .result) (found .ensures .1) _ _ (k .given .1) lk lv _ _ (row .result) (row .ensures) _ h,
     )
 

@@ -15,7 +15,10 @@ is-filled-requires : tie.Need-is-filled-requires
 is-filled-requires c κs = tt
 
 returns : tie.Need-returns
-returns c = marks-none (now (c .before .before .before .before .args .s)) (c .before .before .before .before .args .value) (c .before .before .before .before .args .kind) (now (c .before .before .before .before .args .marks)) (subst (λ (b : Bool). TellsFilled (now (c .before .before .before .before .args .s)) (c .before .before .before .before .args .value) b) (not-true _ (c .if1 .taken)) (c .before .is-filled .ensures))
+returns c =
+    let args = c .before .before .before .before .args in
+    marks-none (now (args .s)) (args .value) (args .kind) (now (args .marks))
+    (subst (λ (b : Bool). TellsFilled (now (args .s)) (args .value) b) (not-true _ (c .if1 .taken)) (c .before .is-filled .ensures))
 
 mul-marks : tie.Need-mul-marks
 mul-marks c = search needs
@@ -27,7 +30,10 @@ same-length : tie.Need-same-length
 same-length c = search needs
 
 returns-2 : tie.Need-returns-2
-returns-2 c = marks-one (now (c .before .before .before .before .args .s)) (c .before .before .before .before .args .value) (c .before .before .before .before .args .kind) (now (c .before .before .before .before .args .marks)) (subst (λ (b : Bool). TellsFilled (now (c .before .before .before .before .args .s)) (c .before .before .before .before .args .value) b) (not-false _ (c .if1 .left)) (c .before .is-filled .ensures))
+returns-2 c =
+    let args = c .before .before .before .before .args in
+    marks-one (now (args .s)) (args .value) (args .kind) (now (args .marks))
+    (subst (λ (b : Bool). TellsFilled (now (args .s)) (args .value) b) (not-false _ (c .if1 .left)) (c .before .is-filled .ensures))
 
 pub mark-kind-spec : {M : Type 1} → statement M
 mark-kind-spec =

@@ -23,7 +23,11 @@ abbrev μ-loop : tie.MeasureT-loop
 μ-loop out₀ column style mark s at kind begun i₀ n₀ c₀ b₀ ok₀ out i n c b ok = length s - i
 
 loop-holds : tie.Need-loop-holds Inv-loop μ-loop
-loop-holds c = (c .before .before .pre, inking-first (now (c .before .before .args .s)) (c .before .before .args .at) (c .before .before .args .style) (c .before .before .args .mark) (c .before .before .args .kind) (c .before .before .args .begun) (now (c .before .before .args .out)) (c .before .before .args .column))
+loop-holds c =
+    let args = c .before .before .args in (
+      c .before .before .pre,
+      inking-first (now (args .s)) (args .at) (args .style) (args .mark) (args .kind) (args .begun) (now (args .out)) (args .column),
+    )
 
 element-at-requires : tie.Need-element-at-requires Inv-loop μ-loop
 element-at-requires c κs = tt
@@ -41,7 +45,14 @@ same-length : tie.Need-same-length Inv-loop μ-loop
 same-length c = pens-length (c .before .before .before .before .loop .inv .1 .pens)
 
 returns : tie.Need-returns Inv-loop μ-loop
-returns c = inks-wrong (now (c .before .before .before .before .before .before .before .args .s)) (c .before .before .before .before .before .before .before .args .at) (c .before .before .before .before .before .before .before .args .style) (c .before .before .before .before .before .before .before .args .mark) (c .before .before .before .before .before .before .before .args .kind) (c .before .before .before .before .before .before .before .args .begun) (now (c .before .before .before .before .before .before .before .args .out)) (c .before .before .before .before .before .before .before .args .column) (c .before .before .before .before .loop .i) (c .before .before .before .before .loop .n) (c .before .before .before .before .loop .c) (c .before .before .before .before .loop .b) (c .before .before .before .before .loop .ok) (c .before .before .before .before .loop .out) (c .before .before .before .before .loop .inv .1) (c .before .before .before .element-at .result) (c .before .before .before .element-at .ensures .1) (c .before .before .component-at .result) (c .before .before .component-at .ensures .1) (c .enum-told .given .1)
+returns c =
+    let args = c .before .before .before .before .before .before .before .args in
+    let loop = c .before .before .before .before .loop in
+    let element-at = c .before .before .before .element-at in
+    let component-at = c .before .before .component-at in
+    inks-wrong (now (args .s)) (args .at) (args .style) (args .mark) (args .kind) (args .begun) (now (args .out)) (args .column) (loop .i) (loop .n)
+    (loop .c) (loop .b) (loop .ok) (loop .out) (loop .inv .1) (element-at .result) (element-at .ensures .1) (component-at .result)
+    (component-at .ensures .1) (c .enum-told .given .1)
 
 sub-pen-value : tie.Need-sub-pen-value Inv-loop μ-loop
 sub-pen-value c = omega (arith, pens-in (c .before .before .before .before .before .loop .inv .1 .pens), pens-length (c .before .before .before .before .before .loop .inv .1 .pens))
@@ -56,7 +67,11 @@ pen-value-requires : tie.Need-pen-value-requires Inv-loop μ-loop
 pen-value-requires c κs = tt
 
 add-n : tie.Need-add-n Inv-loop μ-loop
-add-n c = record { fits = omega (arith, pens-in (pens-then (c .before .before .before .before .before .before .before .before .before .before .loop .inv .1 .pens) (c .before .before .before .pen-value .ensures .pens)), c .before .before .before .before .before .before .before .before .before .before .before .before .before .good .0 .0) }
+add-n c =
+    let good = c .before .before .before .before .before .before .before .before .before .before .before .before .before .good in
+    let loop = c .before .before .before .before .before .before .before .before .before .before .loop in
+    let pen-value = c .before .before .before .pen-value in
+    record { fits = omega (arith, pens-in (pens-then (loop .inv .1 .pens) (pen-value .ensures .pens)), good .0 .0) }
 
 separator-requires : tie.Need-separator-requires Inv-loop μ-loop
 separator-requires c κs = (c .before .before .before .before .before .before .before .before .before .before .element-at .ensures .0 .end-in, omega arith)
@@ -65,10 +80,26 @@ enum-known-j : tie.Need-enum-known-j Inv-loop μ-loop
 enum-known-j c = search needs
 
 loop-less : tie.Need-loop-less Inv-loop μ-loop
-loop-less c = let h = turn-as (c .before .before .before .separator .ensures) (c .before .j .given .1) in omega (arith, h .within .0, h .within .1, c .before .before .before .before .before .before .before .before .before .before .before .before .before .before .element-at .ensures .0 .from (c .before .before .before .before .before .before .before .before .before .before .before .before .before .before .before .loop .inv .0), c .before .before .before .before .before .before .before .before .before .before .before .before .before .before .element-at .ensures .0 .ordered)
+loop-less c =
+    let loop = c .before .before .before .before .before .before .before .before .before .before .before .before .before .before .before .loop in
+    let element-at = c .before .before .before .before .before .before .before .before .before .before .before .before .before .before .element-at in
+    let separator = c .before .before .before .separator in
+    let h = turn-as (separator .ensures) (c .before .j .given .1) in omega
+    (arith, h .within .0, h .within .1, element-at .ensures .0 .from (loop .inv .0), element-at .ensures .0 .ordered)
 
 loop-again : tie.Need-loop-again Inv-loop μ-loop
-loop-again c = let h = turn-as (c .before .before .before .separator .ensures) (c .before .j .given .1) in (h .within .1, inking-on (now (c .before .before .before .before .before .before .before .before .before .before .before .before .before .before .before .before .before .before .args .s)) (c .before .before .before .before .before .before .before .before .before .before .before .before .before .before .before .before .before .before .args .at) (c .before .before .before .before .before .before .before .before .before .before .before .before .before .before .before .before .before .before .args .style) (c .before .before .before .before .before .before .before .before .before .before .before .before .before .before .before .before .before .before .args .mark) (c .before .before .before .before .before .before .before .before .before .before .before .before .before .before .before .before .before .before .args .kind) (c .before .before .before .before .before .before .before .before .before .before .before .before .before .before .before .before .before .before .args .begun) (now (c .before .before .before .before .before .before .before .before .before .before .before .before .before .before .before .before .before .before .args .out)) (c .before .before .before .before .before .before .before .before .before .before .before .before .before .before .before .before .before .before .args .column) (c .before .before .before .before .before .before .before .before .before .before .before .before .before .before .before .loop .i) (c .before .before .before .before .before .before .before .before .before .before .before .before .before .before .before .loop .n) (c .before .before .before .before .before .before .before .before .before .before .before .before .before .before .before .loop .c) (c .before .before .before .before .before .before .before .before .before .before .before .before .before .before .before .loop .b) (c .before .before .before .before .before .before .before .before .before .before .before .before .before .before .before .loop .ok) (c .before .before .before .before .before .before .before .before .before .before .before .before .before .before .before .loop .out) (c .before .before .before .before .before .before .before .before .before .before .before .before .before .before .before .loop .inv .1) (c .before .before .before .before .before .before .before .before .before .before .before .before .before .before .element-at .result) (c .before .before .before .before .before .before .before .before .before .before .before .before .before .before .element-at .ensures .1) (c .before .before .before .before .before .before .before .before .before .before .before .before .before .component-at .result) (c .before .before .before .before .before .before .before .before .before .before .before .before .before .component-at .ensures .1) _ _ (c .before .before .before .before .before .before .before .before .before .before .before .k .given .1) (c .before .before .before .before .before .before .before .before .pen-value .result) _ (c .before .before .before .before .before .before .before .before .pen-value .ensures) _ h)
+loop-again c =
+    let args = c .before .before .before .before .before .before .before .before .before .before .before .before .before .before .before .before .before .before .args in
+    let loop = c .before .before .before .before .before .before .before .before .before .before .before .before .before .before .before .loop in
+    let element-at = c .before .before .before .before .before .before .before .before .before .before .before .before .before .before .element-at in
+    let component-at = c .before .before .before .before .before .before .before .before .before .before .before .before .before .component-at in
+    let k = c .before .before .before .before .before .before .before .before .before .before .before .k in
+    let pen-value = c .before .before .before .before .before .before .before .before .pen-value in
+    let separator = c .before .before .before .separator in
+    let h = turn-as (separator .ensures) (c .before .j .given .1) in (
+      h .within .1,
+      inking-on (now (args .s)) (args .at) (args .style) (args .mark) (args .kind) (args .begun) (now (args .out)) (args .column) (loop .i) (loop .n) (loop .c) (loop .b) (loop .ok) (loop .out) (loop .inv .1) (element-at .result) (element-at .ensures .1) (component-at .result) (component-at .ensures .1) _ _ (k .given .1) (pen-value .result) _ (pen-value .ensures) _ h,
+    )
 
 enum-known-r : tie.Need-enum-known-r Inv-loop μ-loop
 enum-known-r c = search needs
@@ -77,7 +108,17 @@ same-length-2 : tie.Need-same-length-2 Inv-loop μ-loop
 same-length-2 c = pens-length (pens-then (c .before .before .before .before .before .before .before .before .before .before .before .before .before .before .before .loop .inv .1 .pens) (c .before .before .before .before .before .before .before .before .pen-value .ensures .pens))
 
 returns-2 : tie.Need-returns-2 Inv-loop μ-loop
-returns-2 c = inks-all (now (c .before .before .before .before .before .before .before .before .before .before .before .before .before .before .before .before .before .before .args .s)) (c .before .before .before .before .before .before .before .before .before .before .before .before .before .before .before .before .before .before .args .at) (c .before .before .before .before .before .before .before .before .before .before .before .before .before .before .before .before .before .before .args .style) (c .before .before .before .before .before .before .before .before .before .before .before .before .before .before .before .before .before .before .args .mark) (c .before .before .before .before .before .before .before .before .before .before .before .before .before .before .before .before .before .before .args .kind) (c .before .before .before .before .before .before .before .before .before .before .before .before .before .before .before .before .before .before .args .begun) (now (c .before .before .before .before .before .before .before .before .before .before .before .before .before .before .before .before .before .before .args .out)) (c .before .before .before .before .before .before .before .before .before .before .before .before .before .before .before .before .before .before .args .column) (c .before .before .before .before .before .before .before .before .before .before .before .before .before .before .before .loop .i) (c .before .before .before .before .before .before .before .before .before .before .before .before .before .before .before .loop .n) (c .before .before .before .before .before .before .before .before .before .before .before .before .before .before .before .loop .c) (c .before .before .before .before .before .before .before .before .before .before .before .before .before .before .before .loop .b) (c .before .before .before .before .before .before .before .before .before .before .before .before .before .before .before .loop .ok) (c .before .before .before .before .before .before .before .before .before .before .before .before .before .before .before .loop .out) (c .before .before .before .before .before .before .before .before .before .before .before .before .before .before .before .loop .inv .1) (c .before .before .before .before .before .before .before .before .before .before .before .before .before .before .element-at .result) (c .before .before .before .before .before .before .before .before .before .before .before .before .before .before .element-at .ensures .1) (c .before .before .before .before .before .before .before .before .before .before .before .before .before .component-at .result) (c .before .before .before .before .before .before .before .before .before .before .before .before .before .component-at .ensures .1) _ _ (c .before .before .before .before .before .before .before .before .before .before .before .k .given .1) (c .before .before .before .before .before .before .before .before .pen-value .result) _ (c .before .before .before .before .before .before .before .before .pen-value .ensures) _ (turn-as (c .before .before .before .separator .ensures) (c .before .r .given .1))
+returns-2 c =
+    let args = c .before .before .before .before .before .before .before .before .before .before .before .before .before .before .before .before .before .before .args in
+    let loop = c .before .before .before .before .before .before .before .before .before .before .before .before .before .before .before .loop in
+    let element-at = c .before .before .before .before .before .before .before .before .before .before .before .before .before .before .element-at in
+    let component-at = c .before .before .before .before .before .before .before .before .before .before .before .before .before .component-at in
+    let k = c .before .before .before .before .before .before .before .before .before .before .before .k in
+    let pen-value = c .before .before .before .before .before .before .before .before .pen-value in
+    let separator = c .before .before .before .separator in
+    inks-all (now (args .s)) (args .at) (args .style) (args .mark) (args .kind) (args .begun) (now (args .out)) (args .column) (loop .i) (loop .n)
+    (loop .c) (loop .b) (loop .ok) (loop .out) (loop .inv .1) (element-at .result) (element-at .ensures .1) (component-at .result)
+    (component-at .ensures .1) _ _ (k .given .1) (pen-value .result) _ (pen-value .ensures) _ (turn-as (separator .ensures) (c .before .r .given .1))
 
 pub pen-kind-spec : {M : Type 1} → statement M
 pen-kind-spec =

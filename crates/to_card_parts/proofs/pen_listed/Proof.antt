@@ -31,7 +31,9 @@ returns c = c .before .before .pen-kind .ensures
 
 -- src/lib.rt:318:5
 loop-holds : tie.Need-loop-holds Inv-loop μ-loop
-loop-holds c = by-rows-first (now (c .before .before .before .before .before .args .s)) (c .before .before .before .before .before .args .at) (c .before .before .before .before .before .args .style) (c .before .before .before .before .before .args .mark) (c .before .before .before .before .before .args .kind) (c .before .before .before .before .before .args .begun) (now (c .before .before .before .before .before .args .out)) (c .before .before .before .before .before .args .column)
+loop-holds c =
+    let args = c .before .before .before .before .before .args in
+    by-rows-first (now (args .s)) (args .at) (args .style) (args .mark) (args .kind) (args .begun) (now (args .out)) (args .column)
 
 -- src/lib.rt:319:27
 sub-pen-value : tie.Need-sub-pen-value Inv-loop μ-loop
@@ -51,7 +53,10 @@ mul-pen-value c = omega (arith, c .before .loop-test .taken, c .before .before .
 
 -- src/lib.rt:319:61
 shared-slice-read-pen-value : tie.Need-shared-slice-read-pen-value Inv-loop μ-loop
-shared-slice-read-pen-value c = omega (arith, c .before .before .loop-test .taken, c .before .before .before .before .if1 .left, c .before .before .before .before .before .before .before .before .before .pre .1 .0, c .before .before .before .before .before .before .before .before .before .pre .1 .1 .0)
+shared-slice-read-pen-value c =
+    let pre = c .before .before .before .before .before .before .before .before .before .pre in
+    let if1 = c .before .before .before .before .if1 in
+    omega (arith, c .before .before .loop-test .taken, if1 .left, pre .1 .0, pre .1 .1 .0)
 
 -- src/lib.rt:319:80
 mul-pen-value-2 : tie.Need-mul-pen-value-2 Inv-loop μ-loop
@@ -59,7 +64,11 @@ mul-pen-value-2 c = omega (arith, c .before .before .loop-test .taken, c .before
 
 -- src/lib.rt:319:80
 shared-slice-read-pen-value-2 : tie.Need-shared-slice-read-pen-value-2 Inv-loop μ-loop
-shared-slice-read-pen-value-2 c = omega (arith, c .before .before .before .loop-test .taken, c .before .before .before .before .before .if1 .left, c .before .before .before .before .before .before .before .before .before .before .pre .1 .0, c .before .before .before .before .before .before .before .before .before .before .pre .1 .1 .0)
+shared-slice-read-pen-value-2 c =
+    let pre = c .before .before .before .before .before .before .before .before .before .before .pre in
+    let if1 = c .before .before .before .before .before .if1 in
+    let loop-test = c .before .before .before .loop-test in
+    omega (arith, loop-test .taken, if1 .left, pre .1 .0, pre .1 .1 .0)
 
 -- src/lib.rt:319:13
 pen-value-requires : tie.Need-pen-value-requires Inv-loop μ-loop
@@ -67,7 +76,11 @@ pen-value-requires c κs = tt
 
 -- src/lib.rt:320:9
 add-n : tie.Need-add-n Inv-loop μ-loop
-add-n c = record { fits = omega (arith, pens-in (pens-then (c .before .before .before .before .before .before .before .before .loop .inv .pens) (c .before .before .before .pen-value .ensures .pens)), c .before .before .before .before .before .before .before .before .before .before .before .before .before .before .good .0 .0) }
+add-n c =
+    let good = c .before .before .before .before .before .before .before .before .before .before .before .before .before .before .good in
+    let loop = c .before .before .before .before .before .before .before .before .loop in
+    let pen-value = c .before .before .before .pen-value in
+    record { fits = omega (arith, pens-in (pens-then (loop .inv .pens) (pen-value .ensures .pens)), good .0 .0) }
 
 -- src/lib.rt:324:9
 add-i : tie.Need-add-i Inv-loop μ-loop
@@ -79,7 +92,16 @@ loop-less c = omega (arith, c .before .before .before .before .before .before .b
 
 -- src/lib.rt:318:5
 loop-again : tie.Need-loop-again Inv-loop μ-loop
-loop-again c = by-rows-on (now (c .before .before .before .before .before .before .before .before .before .before .before .before .before .before .before .args .s)) (c .before .before .before .before .before .before .before .before .before .before .before .before .before .before .before .args .at) (c .before .before .before .before .before .before .before .before .before .before .before .before .before .before .before .args .style) (c .before .before .before .before .before .before .before .before .before .before .before .before .before .before .before .args .mark) (c .before .before .before .before .before .before .before .before .before .before .before .before .before .before .before .args .kind) (c .before .before .before .before .before .before .before .before .before .before .before .before .before .before .before .args .begun) (now (c .before .before .before .before .before .before .before .before .before .before .before .before .before .before .before .args .out)) (c .before .before .before .before .before .before .before .before .before .before .before .before .before .before .before .args .column) (c .before .before .before .before .before .before .before .before .before .loop .i) (c .before .before .before .before .before .before .before .before .before .loop .n) (c .before .before .before .before .before .before .before .before .before .loop .c) (c .before .before .before .before .before .before .before .before .before .loop .b) (c .before .before .before .before .before .before .before .before .before .loop .ok) (c .before .before .before .before .before .before .before .before .before .loop .out) (c .before .before .before .before .before .before .before .before .before .loop .inv) (now (c .before .before .before .before .before .before .before .before .before .before .before .before .before .before .before .args .kinds)) (now (c .before .before .before .before .before .before .before .before .before .before .before .before .before .before .before .args .values)) (c .before .before .before .before .before .before .before .before .before .before .before .before .before .before .before .args .rows) (omega (arith, c .before .before .before .before .before .before .before .before .before .before .if1 .left)) (c .before .before .before .before .before .before .before .before .before .before .before .before .before .before .before .pre .1 .1 .1) (c .before .before .before .before .before .before .before .before .loop-test .taken) (c .before .before .before .before .pen-value .result) _ (c .before .before .before .before .pen-value .ensures)
+loop-again c =
+    let args = c .before .before .before .before .before .before .before .before .before .before .before .before .before .before .before .args in
+    let pre = c .before .before .before .before .before .before .before .before .before .before .before .before .before .before .before .pre in
+    let if1 = c .before .before .before .before .before .before .before .before .before .before .if1 in
+    let loop = c .before .before .before .before .before .before .before .before .before .loop in
+    let loop-test = c .before .before .before .before .before .before .before .before .loop-test in
+    let pen-value = c .before .before .before .before .pen-value in
+    by-rows-on (now (args .s)) (args .at) (args .style) (args .mark) (args .kind) (args .begun) (now (args .out)) (args .column) (loop .i) (loop .n)
+    (loop .c) (loop .b) (loop .ok) (loop .out) (loop .inv) (now (args .kinds)) (now (args .values)) (args .rows) (omega (arith, if1 .left))
+    (pre .1 .1 .1) (loop-test .taken) (pen-value .result) _ (pen-value .ensures)
 
 -- src/lib.rt:291:1
 same-length-2 : tie.Need-same-length-2 Inv-loop μ-loop
@@ -87,7 +109,13 @@ same-length-2 c = pens-length (c .before .loop .inv .pens)
 
 -- src/lib.rt:291:1
 returns-2 : tie.Need-returns-2 Inv-loop μ-loop
-returns-2 c = by-rows-all (now (c .before .before .before .before .before .before .before .args .s)) (c .before .before .before .before .before .before .before .args .at) (c .before .before .before .before .before .before .before .args .style) (c .before .before .before .before .before .before .before .args .mark) (c .before .before .before .before .before .before .before .args .kind) (c .before .before .before .before .before .before .before .args .begun) (now (c .before .before .before .before .before .before .before .args .out)) (c .before .before .before .before .before .before .before .args .column) (c .before .loop .i) (c .before .loop .n) (c .before .loop .c) (c .before .loop .b) (c .before .loop .ok) (c .before .loop .out) (c .before .loop .inv) (now (c .before .before .before .before .before .before .before .args .kinds)) (now (c .before .before .before .before .before .before .before .args .values)) (c .before .before .before .before .before .before .before .args .rows) (omega (arith, c .before .before .if1 .left)) (c .before .before .before .before .before .before .before .pre .1 .1 .1) (c .loop-test .left)
+returns-2 c =
+    let pre = c .before .before .before .before .before .before .before .pre in
+    let args = c .before .before .before .before .before .before .before .args in
+    let loop = c .before .loop in
+    by-rows-all (now (args .s)) (args .at) (args .style) (args .mark) (args .kind) (args .begun) (now (args .out)) (args .column) (loop .i) (loop .n)
+    (loop .c) (loop .b) (loop .ok) (loop .out) (loop .inv) (now (args .kinds)) (now (args .values)) (args .rows)
+    (omega (arith, c .before .before .if1 .left)) (pre .1 .1 .1) (c .loop-test .left)
 
 pub pen-listed-spec : {M : Type 1} → statement M
 pen-listed-spec =

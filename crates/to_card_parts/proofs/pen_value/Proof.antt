@@ -13,13 +13,20 @@ use Rattle.line_pen.proofs.pen_byte.Reads as pen-byte-reads
 use Rattle.to_card_head.proofs.is_filled.Reads as is-filled-reads
 
 returns : tie.Need-returns
-returns c = one-unwanted (now (c .before .before .before .args .s)) (c .before .before .before .args .at) (c .before .before .before .args .style) (c .before .before .before .args .mark) (c .before .before .before .args .wanted) (c .before .before .before .args .begun) (now (c .before .before .before .args .out)) (c .before .before .before .args .column) (not-true _ (c .if1 .taken))
+returns c =
+    let args = c .before .before .before .args in
+    one-unwanted (now (args .s)) (args .at) (args .style) (args .mark) (args .wanted) (args .begun) (now (args .out)) (args .column)
+    (not-true _ (c .if1 .taken))
 
 is-filled-requires : tie.Need-is-filled-requires
 is-filled-requires c κs = tt
 
 returns-2 : tie.Need-returns-2
-returns-2 c = one-empty (now (c .before .before .before .before .before .args .s)) (c .before .before .before .before .before .args .at) (c .before .before .before .before .before .args .style) (c .before .before .before .before .before .args .mark) (c .before .before .before .before .before .args .wanted) (c .before .before .before .before .before .args .begun) (now (c .before .before .before .before .before .args .out)) (c .before .before .before .before .before .args .column) (c .before .is-filled .result) (c .before .is-filled .ensures) (not-true _ (c .if2 .taken))
+returns-2 c =
+    let args = c .before .before .before .before .before .args in
+    let is-filled = c .before .is-filled in
+    one-empty (now (args .s)) (args .at) (args .style) (args .mark) (args .wanted) (args .begun) (now (args .out)) (args .column) (is-filled .result)
+    (is-filled .ensures) (not-true _ (c .if2 .taken))
 
 pen-string-requires : tie.Need-pen-string-requires
 pen-string-requires c κs = tt
@@ -28,7 +35,15 @@ same-length : tie.Need-same-length
 same-length c = pens-length (c .before .before .pen-string .ensures .pens)
 
 returns-3 : tie.Need-returns-3
-returns-3 c = one-first (now (c .before .before .before .before .before .before .before .before .before .before .args .s)) (c .before .before .before .before .before .before .before .before .before .before .args .at) (c .before .before .before .before .before .before .before .before .before .before .args .style) (c .before .before .before .before .before .before .before .before .before .before .args .mark) (c .before .before .before .before .before .before .before .before .before .before .args .wanted) (c .before .before .before .before .before .before .before .before .before .before .args .begun) (now (c .before .before .before .before .before .before .before .before .before .before .args .out)) (c .before .before .before .before .before .before .before .before .before .before .args .column) (c .before .before .before .before .before .before .is-filled .result) (c .before .before .before .before .before .before .is-filled .ensures) (not-false _ (c .before .before .before .before .before .before .before .if1 .left)) (not-false _ (c .before .before .before .before .before .if2 .left)) (not-true _ (c .before .before .before .before .if3 .taken)) (c .before .before .pen-string .result) _ (c .before .before .pen-string .ensures)
+returns-3 c =
+    let args = c .before .before .before .before .before .before .before .before .before .before .args in
+    let if1 = c .before .before .before .before .before .before .before .if1 in
+    let is-filled = c .before .before .before .before .before .before .is-filled in
+    let if2 = c .before .before .before .before .before .if2 in
+    let if3 = c .before .before .before .before .if3 in
+    let pen-string = c .before .before .pen-string in
+    one-first (now (args .s)) (args .at) (args .style) (args .mark) (args .wanted) (args .begun) (now (args .out)) (args .column) (is-filled .result)
+    (is-filled .ensures) (not-false _ (if1 .left)) (not-false _ (if2 .left)) (not-true _ (if3 .taken)) (pen-string .result) _ (pen-string .ensures)
 
 pen-byte-requires : tie.Need-pen-byte-requires
 pen-byte-requires c κs = tt
@@ -46,13 +61,27 @@ pen-string-requires-2 : tie.Need-pen-string-requires-2
 pen-string-requires-2 c κs = tt
 
 add-m : tie.Need-add-m
-add-m c = fit! (next! (first! (c .before .before .before .before .before .before .before .pen-byte .ensures)) (c .before .before .before .pen-string2 .ensures .pens)) (c .before .before .before .before .before .before .before .before .before .before .before .before .before .before .before .good .0 .0)
+add-m c =
+    let good = c .before .before .before .before .before .before .before .before .before .before .before .before .before .before .before .good in
+    let pen-byte = c .before .before .before .before .before .before .before .pen-byte in
+    let pen-string2 = c .before .before .before .pen-string2 in
+    fit! (next! (first! (pen-byte .ensures)) (pen-string2 .ensures .pens)) (good .0 .0)
 
 same-length-2 : tie.Need-same-length-2
 same-length-2 c = same! (next! (first! (c .before .before .before .before .before .before .before .pen-byte .ensures)) (c .before .before .before .pen-string2 .ensures .pens))
 
 returns-4 : tie.Need-returns-4
-returns-4 c = one-later (now (c .before .before .before .before .before .before .before .before .before .before .before .before .before .before .before .args .s)) (c .before .before .before .before .before .before .before .before .before .before .before .before .before .before .before .args .at) (c .before .before .before .before .before .before .before .before .before .before .before .before .before .before .before .args .style) (c .before .before .before .before .before .before .before .before .before .before .before .before .before .before .before .args .mark) (c .before .before .before .before .before .before .before .before .before .before .before .before .before .before .before .args .wanted) (c .before .before .before .before .before .before .before .before .before .before .before .before .before .before .before .args .begun) (now (c .before .before .before .before .before .before .before .before .before .before .before .before .before .before .before .args .out)) (c .before .before .before .before .before .before .before .before .before .before .before .before .before .before .before .args .column) (c .before .before .before .before .before .before .before .before .before .before .before .is-filled .result) (c .before .before .before .before .before .before .before .before .before .before .before .is-filled .ensures) (not-false _ (c .before .before .before .before .before .before .before .before .before .before .before .before .if1 .left)) (not-false _ (c .before .before .before .before .before .before .before .before .before .before .if2 .left)) (not-false _ (c .before .before .before .before .before .before .before .before .before .if3 .left)) (c .before .before .before .before .before .before .before .pen-byte .result) _ (c .before .before .before .before .before .before .before .pen-byte .ensures) (c .before .before .before .pen-string2 .result) _ (c .before .before .before .pen-string2 .ensures)
+returns-4 c =
+    let args = c .before .before .before .before .before .before .before .before .before .before .before .before .before .before .before .args in
+    let if1 = c .before .before .before .before .before .before .before .before .before .before .before .before .if1 in
+    let is-filled = c .before .before .before .before .before .before .before .before .before .before .before .is-filled in
+    let if2 = c .before .before .before .before .before .before .before .before .before .before .if2 in
+    let if3 = c .before .before .before .before .before .before .before .before .before .if3 in
+    let pen-byte = c .before .before .before .before .before .before .before .pen-byte in
+    let pen-string2 = c .before .before .before .pen-string2 in
+    one-later (now (args .s)) (args .at) (args .style) (args .mark) (args .wanted) (args .begun) (now (args .out)) (args .column) (is-filled .result)
+    (is-filled .ensures) (not-false _ (if1 .left)) (not-false _ (if2 .left)) (not-false _ (if3 .left)) (pen-byte .result) _ (pen-byte .ensures)
+    (pen-string2 .result) _ (pen-string2 .ensures)
 
 pub pen-value-spec : {M : Type 1} → statement M
 pen-value-spec =
