@@ -21,10 +21,10 @@ use Rattle.to_card_lines.specs.declared.Lines.{Lines}
 use Rattle.to_card_lines.specs.declared.Lines.the-variants.{All, Wrong}
 use Rattle.to_card_lines.specs.Lines.{Part, PartAs, joinParts}
 use Rattle.to_card_members.specs.Members.{membersPart}
-use Rattle.to_card_name.specs.Name.{nameLines, nLine, PutsName}
+use Rattle.to_card_name.specs.Name.{nameLines, nLine, PutsName, FullGiven}
 use Rattle.to_card_kept.specs.Kept.{Known, seenOf, keptParts, PutsKept}
 use Rattle.to_card_sections.specs.Sections.{nameIn, mapsPart, lastParts, restParts, bodyParts}
-use Rattle.to_card_card.specs.Whole.{few, FewAs, TellsFull, Object, PutsOthers, PutsLast, PutsRest, PutsBody}
+use Rattle.to_card_card.specs.Whole.{few, FewAs, Object, PutsOthers, PutsLast, PutsRest, PutsBody}
 use Rattle.to_card_card.proofs.Joining.{Has, has-few, has-as, has-said, has-both, few-wrong, as-wrong, few-none, both-first, both-second}
 
 -- ---- other members, then kept lines
@@ -151,7 +151,7 @@ module _ (s : Bytes) (slots : List ℕ) (room : Bytes) (r : Lines) (out : Bytes)
   body-first e after mm object =
       few-wrong room after (bodyParts (membersOf mm)) (body-is mm object none (none-name (nameIn (membersOf mm)) (as-wrong room out r (Option·map nameLines (nameIn (membersOf mm))) (name-put mm object) e)))
 
-  module _ (n l : ℕ) (c : Bool) (e : r ≡ All n l c) (full : Bool) (tells : TellsFull s (getD slots 4 0) full) (q : Lines) (last : Bytes)
+  module _ (n l : ℕ) (c : Bool) (e : r ≡ All n l c) (full : Bool) (tells : FullGiven s (getD slots 4 0) full) (q : Lines) (last : Bytes)
       (rest : PutsRest s slots full (eqb l 2) (midOf n (length out - n) out) q last) where
     module _ (mm : Members) (object : Object s slots mm) (name : Name) (g : nameIn (membersOf mm) ≡ some name) where
       name-here : PartAs room r out (some (nameLines name))

@@ -9,7 +9,7 @@ use Rattle.text.specs.Choice.{is-some}
 use Rattle.text.specs.Bytes.{Bytes}
 use Rattle.json.specs.Tree.{Json, jobj, Members, membersOf}
 use Rattle.json.specs.Strings.{distinctNames}
-use Rattle.json_index.specs.Index.{jsonAt, Slot, Indexed}
+use Rattle.json_index.specs.Index.{jsonAt, Indexed}
 use Rattle.line_pen.specs.Pen.{Fills}
 use Rattle.convert.specs.Table.{reserved}
 use Rattle.convert.specs.Model.{Entry, Card, hasParts}
@@ -21,7 +21,6 @@ use Rattle.to_card_lines.specs.declared.Lines.the-variants.{All, Wrong}
 use Rattle.to_card_lines.specs.Lines.{linesBytes, Part, PartAs}
 use Rattle.to_card_members.specs.Members.{membersPart}
 use Rattle.to_card_kept.specs.Kept.{Known, seenOf}
-use Rattle.to_card_name.specs.Name.{nameGiven}
 use Rattle.to_card_sections.specs.Sections.{restParts, lastParts, bodyParts, sections}
 
 -- 512 lines are 01's room for a card: 513 stands for every greater number
@@ -37,10 +36,6 @@ FewAs room r after (some p) = (n : ℕ) × (r ≡ All n (few (length (p .lines))
 abbrev pub FewIn : ℕ → Lines → Type 0
 FewIn room (All n k c) = (n ≤ room) × (k ≤ 513)
 FewIn room Wrong = Unit {0}
-
--- whether a name says a full name
-abbrev pub TellsFull : Bytes → ℕ → Bool → Type 0
-TellsFull s slot r = (o : Option Json) → Slot 15 s slot o → (n : Name) → nameGiven o ≡ some n → is-some (n .full) ≡ r
 
 -- the text is an object with these slots, whose names differ
 pub record Object (s : Bytes) (slots : List ℕ) (mm : Members) : Type 0 where

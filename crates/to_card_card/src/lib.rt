@@ -6,13 +6,14 @@ use to_card_head::put_head;
 use to_card_kept::put_kept;
 use to_card_lines::Lines;
 use to_card_members::put_members;
+use to_card_name::Named;
 use to_card_name::put_name;
 ghost use mathlib.Core.Path.{_≡_};
 ghost use Prim.Native.Nat.{_≤_};
 ghost use lib.ListN.{length};
 ghost use Rattle.to_card_lines.specs.Lines.{LinesIn};
 ghost use Rattle.to_card_kept.specs.Kept.{Lent, LentText};
-ghost use Rattle.to_card_card.specs.Whole.{few, FewIn, TellsFull, PutsOthers, PutsLast, PutsRest, PutsBody, PutsWhole, PutsCard};
+ghost use Rattle.to_card_card.specs.Whole.{few, FewIn, PutsOthers, PutsLast, PutsRest, PutsBody, PutsWhole, PutsCard};
 
 // 513 for every number over 512.
 fn up_to(n: usize) -> usize
@@ -22,23 +23,6 @@ fn up_to(n: usize) -> usize
         return 513;
     }
     n
-}
-
-// Whether the name in a slot says a full name.
-fn has_full(s: &[u8], slot: usize) -> bool
-    ensures { λ r. ⌜ TellsFull (now (s .entry)) slot r ⌝ }
-{
-    if slot == 0 {
-        return false;
-    }
-    if slot > s.len() {
-        return false;
-    }
-    let mut full = [0usize; 2];
-    if !index_object(&mut full, s, slot, 14, b"full") {
-        return false;
-    }
-    full[0] != 0
 }
 
 // The other members: none where their slot, after those of the reserved names, is empty, and then the text is not gone through again.
@@ -138,10 +122,9 @@ fn put_body<'a, 'b, 'c, 'd, 'e, 'f, 'g>(
     ensures { λ r. ⌜ PutsBody (now (s .entry)) (now (slots .entry)) (now (out .entry)) r (now (out .exit)) ⌝ }
 {
     let name = slots[4];
-    let Lines::All(n, l, c) = put_name(out, s, name) else {
+    let Named::All(n, l, c, full) = put_name(out, s, name) else {
         return Lines::Wrong;
     };
-    let full = has_full(s, name);
     let parts = l == 2;
     let Lines::All(m, k, d) = put_rest(&mut out[n..], buffer, b, t, scratch, s, slots, full, parts)
     else {

@@ -2,3 +2,4 @@ pub mod Members
 pub mod Orders
 pub mod Rows
 pub mod Whole
+pub mod Fulls

@@ -170,14 +170,14 @@ module _ (s : Bytes) (full components ordered other : ℕ) (room : Bytes) where
 
 -- ---- by the slot
 
-abbrev names : List Bytes
+abbrev pub names : List Bytes
 names = ascii "full" ∷ ascii "components" ∷ ascii "isOrdered" ∷ []
 
 pub names-are : parts 44 (ascii "full,components,isOrdered") ≡ names
 unfolding parts onHead
 names-are = refl
 
-new-0 : among (ascii "full") [] ≡ false
+pub new-0 : among (ascii "full") [] ≡ false
 unfolding among any
 new-0 = refl
 

@@ -21,6 +21,7 @@ use Rattle.convert.specs.Property.{property}
 use Rattle.convert.specs.ToCard.{lineWhere, derivedLine}
 use Rattle.card_value.specs.Values.{StringIs}
 use Rattle.to_card_lines.specs.declared.Lines.{Lines}
+use Rattle.to_card_lines.specs.declared.Lines.the-variants.{All, Wrong as Twelve}
 use Rattle.to_card_lines.specs.declared.Penned.{Penned}
 use Rattle.to_card_lines.specs.Lines.{lineBytes, linesBytes, Part, PartAs}
 use Rattle.to_card_parts.specs.Parts.{Lists, valuesOf, Marked, RowsFrom}
@@ -30,6 +31,8 @@ use Rattle.to_card_name.specs.declared.Full.the-variants.{At, Absent, Wr
 use Rattle.to_card_name.specs.declared.Listed.{Listed}
 use Rattle.to_card_name.specs.declared.Listed.the-variants.{At as ListAt, Nothing, Wrong as NoList}
 use Rattle.to_card_name.specs.declared.Counted.{Counted}
+use Rattle.to_card_name.specs.declared.Named.{Named}
+use Rattle.to_card_name.specs.declared.Named.the-variants.{All as NamedAll, Wrong as NoName}
 
 -- ---- the members of name, as `nameFrom` reads them
 
@@ -139,3 +142,15 @@ nameGiven o = with-some o nameFrom (some nameless)
 -- 12, or FN and N of the value in the slot of `name`
 abbrev pub PutsName : Bytes → ℕ → Bytes → Lines → Bytes → Type 0
 PutsName s slot room r after = (o : Option Json) → Slot 15 s slot o → PartAs room r after (Option·map nameLines (nameGiven o))
+
+abbrev pub asLines : Named → Lines
+asLines (NamedAll n l c f) = All n l c
+asLines NoName = Twelve
+
+-- whether the name in a slot says a full name
+abbrev pub FullGiven : Bytes → ℕ → Bool → Type 0
+FullGiven s slot b = (o : Option Json) → Slot 15 s slot o → (n : Name) → nameGiven o ≡ some n → is-some (n .full) ≡ b
+
+abbrev pub SaysFull : Bytes → ℕ → Named → Type 0
+SaysFull s slot (NamedAll n l c f) = FullGiven s slot f
+SaysFull s slot NoName = Unit {0}

@@ -19,7 +19,7 @@ ghost use lib.ListN.{length};
 ghost use Rattle.json_index.specs.Index.{Clear};
 ghost use Rattle.to_card_lines.specs.Lines.{LinesIn};
 ghost use Rattle.to_card_parts.specs.Parts.{RowsFrom};
-ghost use Rattle.to_card_name.specs.Name.{TellsUnordered, TellsFull, ListedIn, ListsAs, TellsParts, TellsApart, OrderLine, FnLine, NLine, PutsAlone, PutsBoth, PutsList, PutsSlots, PutsName};
+ghost use Rattle.to_card_name.specs.Name.{TellsUnordered, TellsFull, ListedIn, ListsAs, TellsParts, TellsApart, OrderLine, FnLine, NLine, PutsAlone, PutsBoth, PutsList, PutsSlots, asLines, PutsName, SaysFull};
 
 // The full name: where its string stands; it is absent; or 12.
 pub enum Full {
@@ -32,6 +32,12 @@ pub enum Full {
 pub enum Listed {
     At(usize, usize),
     Nothing,
+    Wrong,
+}
+
+// How many bytes and lines of a name were written, whether lines can carry what they say, and whether it says a full name; or 12.
+pub enum Named {
+    All(usize, usize, bool, bool),
     Wrong,
 }
 
@@ -374,24 +380,31 @@ fn put_slots<'a, 'b>(
 }
 
 // FN, and N where there is a component, by the slot of `name`.
-pub fn put_name<'a, 'b>(out: &'a mut [u8], s: &'b [u8], slot: usize) -> Lines
-    ensures { λ r. ⌜ LinesIn (length (now (out .entry))) r ⌝ }
+pub fn put_name<'a, 'b>(out: &'a mut [u8], s: &'b [u8], slot: usize) -> Named
+    ensures { λ r. ⌜ LinesIn (length (now (out .entry))) (asLines r) ⌝ }
     ensures { λ r. ⌜ length (now (out .exit)) ≡ length (now (out .entry)) ⌝ }
-    ensures { λ r. ⌜ PutsName (now (s .entry)) slot (now (out .entry)) r (now (out .exit)) ⌝ }
+    ensures { λ r. ⌜ PutsName (now (s .entry)) slot (now (out .entry)) (asLines r) (now (out .exit)) ⌝ }
+    ensures { λ r. ⌜ SaysFull (now (s .entry)) slot r ⌝ }
 {
     if slot == 0 {
-        return put_alone(out, s, 0);
+        let Lines::All(n, l, ok) = put_alone(out, s, 0) else {
+            return Named::Wrong;
+        };
+        return Named::All(n, l, ok, false);
     }
     if slot > s.len() {
-        return Lines::Wrong;
+        return Named::Wrong;
     }
     let mut slots = [0usize; 4];
     if !index_object(&mut slots, s, slot, 14, b"full,components,isOrdered") {
-        return Lines::Wrong;
+        return Named::Wrong;
     }
     let a = slots[0];
     let b = slots[1];
     let c = slots[2];
     let d = slots[3];
-    put_slots(out, s, a, b, c, d)
+    let Lines::All(n, l, ok) = put_slots(out, s, a, b, c, d) else {
+        return Named::Wrong;
+    };
+    Named::All(n, l, ok, a != 0)
 }

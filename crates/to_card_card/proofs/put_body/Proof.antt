@@ -4,10 +4,11 @@ use mathlib.Core.Path.{sym, ap, subst, _∙_}
 use borrow.Author.Needs.{needs}
 use borrow.Rule.Slice.PartMut.{putMid}
 use Prim.Native.Nat.{ℕ, _+_, _-_}
-use lib.ListN.{length}
+use lib.ListN.{length, getD}
 use Rattle.to_card_lines.proofs.Laws.{lines-in, part-length, part-in}
 use Rattle.to_card_lines.specs.declared.Lines.the-variants.{All}
 use mathlib.Core.Bool.{_&&_}
+use Rattle.to_card_name.specs.Name.{asLines, SaysFull}
 use Rattle.to_card_card.specs.Whole.{few, PutsBody}
 use Rattle.to_card_card.proofs.Joining.{few-at}
 use Rattle.to_card_card.proofs.Steps.{body-first, body-second, body-all}
@@ -15,166 +16,131 @@ use Rattle.to_card_card.proofs.put_body.Statement.{statement}
 use Rattle.to_card_card.proofs.put_body.Tie as tie
 use Rattle.to_card_card.proofs.put_body.Reads as reads
 use Rattle.to_card_card.proofs.put_body.Lts as lts
-use Rattle.to_card_card.proofs.has_full.Reads as has-full-reads
 use Rattle.to_card_card.proofs.put_rest.Reads as put-rest-reads
 use Rattle.to_card_card.proofs.up_to.Reads as up-to-reads
 use Rattle.to_card_name.proofs.put_name.Reads as put-name-reads
 
--- src/lib.rt:120:16
 shared-slice-read-name : tie.Need-shared-slice-read-name
 shared-slice-read-name c = search needs
 
--- src/lib.rt:121:31
 put-name-requires : tie.Need-put-name-requires
 put-name-requires c κs = search needs
 
--- src/lib.rt:121:20
 enum-known-n : tie.Need-enum-known-n
 enum-known-n c = search needs
 
--- src/lib.rt:122:9
 enum-told : tie.Need-enum-told
 enum-told c = search needs
 
--- src/lib.rt:122:9
 same-length : tie.Need-same-length
 same-length c = search needs
 
--- src/lib.rt:122:9
 returns : tie.Need-returns
 returns c =
     let args = c .before .before .before .before .before .before .before .before .before .before .before .before .before .before .args in
     let put-name = c .before .before .before .before .put-name in (
       tt,
-      (put-name .ensures .1 .0, body-first (now (args .s)) (now (args .slots)) (now (args .out)) (put-name .result) (put-name .last .0) (put-name .ensures .1 .1) (c .enum-told .given .1) (put-name .last .0)),
+      (put-name .ensures .1 .0, body-first (now (args .s)) (now (args .slots)) (now (args .out)) (asLines (put-name .result)) (put-name .last .0) (put-name .ensures .1 .1 .0) (ap asLines (c .enum-told .given .1)) (put-name .last .0)),
     )
 
--- src/lib.rt:124:9
-has-full-requires : tie.Need-has-full-requires
-has-full-requires c κs = search needs
-
--- src/lib.rt:126:40
 sub-put-rest : tie.Need-sub-put-rest
 sub-put-rest c =
-    let put-name = c .before .before .before .before .before .before .put-name in
-    omega (arith, lines-in (put-name .ensures .0) (c .before .before .n .given .1), put-name .ensures .1 .0)
+    let put-name = c .before .before .before .before .before .put-name in
+    omega (arith, lines-in (put-name .ensures .0) (ap asLines (c .before .n .given .1)), put-name .ensures .1 .0)
 
--- src/lib.rt:126:40
 part-put-rest-start : tie.Need-part-put-rest-start
 part-put-rest-start c =
-    let put-name = c .before .before .before .before .before .before .put-name in
-    omega (arith, lines-in (put-name .ensures .0) (c .before .before .n .given .1), put-name .ensures .1 .0)
+    let put-name = c .before .before .before .before .before .put-name in
+    omega (arith, lines-in (put-name .ensures .0) (ap asLines (c .before .n .given .1)), put-name .ensures .1 .0)
 
--- src/lib.rt:126:40
 part-put-rest-end : tie.Need-part-put-rest-end
 part-put-rest-end c = search needs
 
--- src/lib.rt:126:31
 put-rest-requires : tie.Need-put-rest-requires
 put-rest-requires c κs = search needs
 
--- src/lib.rt:126:20
 enum-known-m : tie.Need-enum-known-m
 enum-known-m c = search needs
 
--- src/lib.rt:128:9
 enum-told-2 : tie.Need-enum-told-2
 enum-told-2 c = search needs
 
--- src/lib.rt:128:9
 same-length-2 : tie.Need-same-length-2
 same-length-2 c = search needs
 
--- src/lib.rt:128:9
 same-length-3 : tie.Need-same-length-3
 same-length-3 c = search needs
 
--- src/lib.rt:128:9
 same-length-4 : tie.Need-same-length-4
 same-length-4 c = search needs
 
--- src/lib.rt:128:9
 same-length-5 : tie.Need-same-length-5
 same-length-5 c = search needs
 
--- src/lib.rt:128:9
 same-length-6 : tie.Need-same-length-6
 same-length-6 c = search needs
 
--- src/lib.rt:128:9
 returns-2 : tie.Need-returns-2
 returns-2 c =
-    let args = c .before .before .before .before .before .before .before .before .before .before .before .before .before .before .before .before .before .before .before .before .before .before .before .before .before .before .before .before .before .before .before .before .before .before .args in
-    let put-name = c .before .before .before .before .before .before .before .before .before .before .before .before .before .before .before .before .before .before .before .before .before .before .before .before .put-name in
-    let n = c .before .before .before .before .before .before .before .before .before .before .before .before .before .before .before .before .before .before .before .before .n in
-    let has-full = c .before .before .before .before .before .before .before .before .before .before .before .before .before .before .before .before .before .before .has-full in
+    let args = c .before .before .before .before .before .before .before .before .before .before .before .before .before .before .before .before .before .before .before .before .before .before .before .before .before .before .before .before .before .before .before .before .before .args in
+    let put-name = c .before .before .before .before .before .before .before .before .before .before .before .before .before .before .before .before .before .before .before .before .before .before .before .put-name in
+    let n = c .before .before .before .before .before .before .before .before .before .before .before .before .before .before .before .before .before .before .before .n in
     let put-rest = c .before .before .before .before .before .before .before .before .before .before .before .before .put-rest in (
       tt,
-      (part-length (n .given .0 .0) (put-name .last .0) (put-rest .last .0) (omega (arith, lines-in (put-name .ensures .0) (n .given .1), put-name .ensures .1 .0)) (put-rest .ensures .1 .0) ∙ (put-name .ensures .1 .0), body-second (now (args .s)) (now (args .slots)) (now (args .out)) (put-name .result) (put-name .last .0) (put-name .ensures .1 .1) (n .given .0 .0) (n .given .0 .1 .0) (n .given .0 .1 .1 .0) (n .given .1) (has-full .result) (has-full .ensures) (put-rest .result) (put-rest .last .0) (put-rest .ensures .1 .1) (c .enum-told2 .given .1) _),
+      (part-length (n .given .0 .0) (put-name .last .0) (put-rest .last .0) (omega (arith, lines-in (put-name .ensures .0) (ap asLines (n .given .1)), put-name .ensures .1 .0)) (put-rest .ensures .1 .0) ∙ (put-name .ensures .1 .0), body-second (now (args .s)) (now (args .slots)) (now (args .out)) (asLines (put-name .result)) (put-name .last .0) (put-name .ensures .1 .1 .0) (n .given .0 .0) (n .given .0 .1 .0) (n .given .0 .1 .1 .0) (ap asLines (n .given .1)) (n .given .0 .1 .1 .1 .0) (subst (SaysFull (now (args .s)) (getD (now (args .slots)) 4 0)) (n .given .1) (put-name .ensures .1 .1 .1)) (put-rest .result) (put-rest .last .0) (put-rest .ensures .1 .1) (c .enum-told2 .given .1) _),
     )
 
--- src/lib.rt:130:17
 add-bytes : tie.Need-add-bytes
 add-bytes c =
-    let good = c .before .before .before .before .before .before .before .before .before .before .before .before .before .before .before .before .before .before .before .before .before .before .before .before .before .before .before .before .before .before .before .before .before .before .before .good in
-    let put-name = c .before .before .before .before .before .before .before .before .before .before .before .before .before .before .before .before .before .before .before .before .before .before .before .before .before .put-name in
-    let n = c .before .before .before .before .before .before .before .before .before .before .before .before .before .before .before .before .before .before .before .before .before .n in
+    let good = c .before .before .before .before .before .before .before .before .before .before .before .before .before .before .before .before .before .before .before .before .before .before .before .before .before .before .before .before .before .before .before .before .before .before .good in
+    let put-name = c .before .before .before .before .before .before .before .before .before .before .before .before .before .before .before .before .before .before .before .before .before .before .before .before .put-name in
+    let n = c .before .before .before .before .before .before .before .before .before .before .before .before .before .before .before .before .before .before .before .before .n in
     let put-rest = c .before .before .before .before .before .before .before .before .before .before .before .before .before .put-rest in
     record {
       fits = omega (
         arith,
-        part-in (n .given .0 .0) (put-name .last .0) (omega (arith, lines-in (put-name .ensures .0) (n .given .1), put-name .ensures .1 .0)) ((few-at (put-rest .ensures .0) (c .before .m .given .1)) .0),
+        part-in (n .given .0 .0) (put-name .last .0) (omega (arith, lines-in (put-name .ensures .0) (ap asLines (n .given .1)), put-name .ensures .1 .0)) ((few-at (put-rest .ensures .0) (c .before .m .given .1)) .0),
         put-name .ensures .1 .0,
         good .0 .0,
       );
     }
 
--- src/lib.rt:131:23
 up-to-requires : tie.Need-up-to-requires
 up-to-requires c κs = search needs
 
--- src/lib.rt:131:23
 add-up-to : tie.Need-add-up-to
 add-up-to c =
     let put-rest = c .before .before .before .before .before .before .before .before .before .before .before .before .before .before .put-rest in
     record { fits = omega (arith, c .up-to .ensures, (few-at (put-rest .ensures .0) (c .before .before .m .given .1)) .1) }
 
--- src/lib.rt:131:9
 up-to-requires-2 : tie.Need-up-to-requires-2
 up-to-requires-2 c κs = search needs
 
--- src/lib.rt:105:1
 same-length-7 : tie.Need-same-length-7
 same-length-7 c = search needs
 
--- src/lib.rt:105:1
 same-length-8 : tie.Need-same-length-8
 same-length-8 c = search needs
 
--- src/lib.rt:105:1
 same-length-9 : tie.Need-same-length-9
 same-length-9 c = search needs
 
--- src/lib.rt:105:1
 same-length-10 : tie.Need-same-length-10
 same-length-10 c = search needs
 
--- src/lib.rt:105:1
 same-length-11 : tie.Need-same-length-11
 same-length-11 c = search needs
 
--- src/lib.rt:105:1
 returns-3 : tie.Need-returns-3
 returns-3 c =
-    let args = c .before .before .before .before .before .before .before .before .before .before .before .before .before .before .before .before .before .before .before .before .before .before .before .before .before .before .before .before .before .before .before .before .before .before .before .before .before .args in
-    let put-name = c .before .before .before .before .before .before .before .before .before .before .before .before .before .before .before .before .before .before .before .before .before .before .before .before .before .before .before .put-name in
-    let n = c .before .before .before .before .before .before .before .before .before .before .before .before .before .before .before .before .before .before .before .before .before .before .before .n in
-    let has-full = c .before .before .before .before .before .before .before .before .before .before .before .before .before .before .before .before .before .before .before .before .before .has-full in
+    let args = c .before .before .before .before .before .before .before .before .before .before .before .before .before .before .before .before .before .before .before .before .before .before .before .before .before .before .before .before .before .before .before .before .before .before .before .before .args in
+    let put-name = c .before .before .before .before .before .before .before .before .before .before .before .before .before .before .before .before .before .before .before .before .before .before .before .before .before .before .put-name in
+    let n = c .before .before .before .before .before .before .before .before .before .before .before .before .before .before .before .before .before .before .before .before .before .before .n in
     let put-rest = c .before .before .before .before .before .before .before .before .before .before .before .before .before .before .before .put-rest in
     let m = c .before .before .before .m in
     let counted = c .up-to2 .ensures ∙ ap (λ (k : ℕ). few (k + (m .given .0 .1 .0))) (c .before .up-to .ensures) in (
-      (omega (arith, part-in (n .given .0 .0) (put-name .last .0) (omega (arith, lines-in (put-name .ensures .0) (n .given .1), put-name .ensures .1 .0)) ((few-at (put-rest .ensures .0) (m .given .1)) .0), put-name .ensures .1 .0), omega (arith, c .up-to2 .ensures)),
-      (part-length (n .given .0 .0) (put-name .last .0) (put-rest .last .0) (omega (arith, lines-in (put-name .ensures .0) (n .given .1), put-name .ensures .1 .0)) (put-rest .ensures .1 .0) ∙ (put-name .ensures .1 .0), subst (λ (k : ℕ). PutsBody (now (args .s)) (now (args .slots)) (now (args .out)) (All (n .given .0 .0 + (m .given .0 .0)) k (n .given .0 .1 .1 .0 && (m .given .0 .1 .1 .0))) (putMid (n .given .0 .0) (length (put-name .last .0) - (n .given .0 .0)) (put-name .last .0) (put-rest .last .0))) (sym counted) (body-all (now (args .s)) (now (args .slots)) (now (args .out)) (put-name .result) (put-name .last .0) (put-name .ensures .1 .1) (n .given .0 .0) (n .given .0 .1 .0) (n .given .0 .1 .1 .0) (n .given .1) (has-full .result) (has-full .ensures) (put-rest .result) (put-rest .last .0) (put-rest .ensures .1 .1) (m .given .0 .0) (m .given .0 .1 .0) (m .given .0 .1 .1 .0) (m .given .1))),
+      (omega (arith, part-in (n .given .0 .0) (put-name .last .0) (omega (arith, lines-in (put-name .ensures .0) (ap asLines (n .given .1)), put-name .ensures .1 .0)) ((few-at (put-rest .ensures .0) (m .given .1)) .0), put-name .ensures .1 .0), omega (arith, c .up-to2 .ensures)),
+      (part-length (n .given .0 .0) (put-name .last .0) (put-rest .last .0) (omega (arith, lines-in (put-name .ensures .0) (ap asLines (n .given .1)), put-name .ensures .1 .0)) (put-rest .ensures .1 .0) ∙ (put-name .ensures .1 .0), subst (λ (k : ℕ). PutsBody (now (args .s)) (now (args .slots)) (now (args .out)) (All (n .given .0 .0 + (m .given .0 .0)) k (n .given .0 .1 .1 .0 && (m .given .0 .1 .1 .0))) (putMid (n .given .0 .0) (length (put-name .last .0) - (n .given .0 .0)) (put-name .last .0) (put-rest .last .0))) (sym counted) (body-all (now (args .s)) (now (args .slots)) (now (args .out)) (asLines (put-name .result)) (put-name .last .0) (put-name .ensures .1 .1 .0) (n .given .0 .0) (n .given .0 .1 .0) (n .given .0 .1 .1 .0) (ap asLines (n .given .1)) (n .given .0 .1 .1 .1 .0) (subst (SaysFull (now (args .s)) (getD (now (args .slots)) 4 0)) (n .given .1) (put-name .ensures .1 .1 .1)) (put-rest .result) (put-rest .last .0) (put-rest .ensures .1 .1) (m .given .0 .0) (m .given .0 .1 .0) (m .given .0 .1 .1 .0) (m .given .1))),
     )
 
 pub put-body-spec : {M : Type 1} → statement M
@@ -187,7 +153,6 @@ put-body-spec =
     enum-told
     same-length
     returns
-    has-full-requires
     sub-put-rest
     part-put-rest-start
     part-put-rest-end
