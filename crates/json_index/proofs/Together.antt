@@ -8,37 +8,15 @@ use native.Mathlib.Omega.{arith}
 use lib.Dec.{eqb}
 use lib.ListN.{length, take, drop, getD, List·getD-eq-default}
 use borrow.Author.Tests.{eq-eqb, ne-eqb, eqb-true, eqb-false}
-use Rattle.text.specs.Bytes.{Bytes, is, between, same}
+use Rattle.text.specs.Bytes.{Bytes, between, same}
 use Rattle.text.specs.Places.{byteAt}
-use Rattle.text.proofs.Cases.{byBool, between-true, in-between, beyond}
-use Rattle.text.proofs.Places.{byte-default, on-yes, on-no}
+use Rattle.text.proofs.Cases.{byBool, between-true, beyond}
+use Rattle.text.proofs.Places.{byte-default}
 use Rattle.json.specs.Strings.{before}
-use Rattle.json_units.specs.Units.{unit}
-use Rattle.json_units.specs.declared.Piece.the-variants.{Of, End, Wrong}
 use Rattle.json_strings.specs.Spelled.{spelled, spells}
-use Rattle.json_strings.proofs.Laws.{raw-is, end-is, wrong-is}
+use Rattle.json_strings.proofs.Laws.{quote-at, bare-at, nothing-at}
 use Rattle.json_index.specs.Index.{NameEnds, nameIn, RawByte, Together, Alike}
 use Rattle.json_index.proofs.Names.{front, ends-on}
-
--- ---- a byte of a string
-
-module _ (s : Bytes) (i b : ℕ) (e : b ≡ byteAt s i) where
-  pub quote-at : b ≡ 34 → spelled s i ≡ some []
-  unfolding unit
-  quote-at q = end-is s i {r = End (i + 1)} (on-yes (is 34) s i b e _ _ (eq-eqb _ _ q)) refl
-
-  module _ (n : b ≡ 34 → ⊥) (m : b ≡ 92 → ⊥) where
-    pub byte-at : between 32 255 b ≡ true → b < 256 → spelled s i ≡ before (b ∷ []) (spelled s (i + 1))
-    unfolding unit
-    byte-at h l =
-        raw-is s i {r = Of b (i + 1)}
-        (on-no (is 34) s i b e _ _ (ne-eqb _ _ n) ∙ on-no (is 92) s i b e _ _ (ne-eqb _ _ m) ∙ on-yes (between 32 255) s i b e _ _ h) b (i + 1) refl l
-
-    pub none-at : between 32 255 b ≡ false → spelled s i ≡ none
-    unfolding unit
-    none-at h =
-        wrong-is s i {r = Wrong i}
-        (on-no (is 34) s i b e _ _ (ne-eqb _ _ n) ∙ on-no (is 92) s i b e _ _ (ne-eqb _ _ m) ∙ on-no (between 32 255) s i b e _ _ h) refl
 
 pub raw-low : (c : ℕ) {r : Bool} → 32 ≤ c → c ≤ 92 → (c ≡ 34 → ⊥) → r ≡ not (eqb c 92) → RawByte c r
 raw-low c l u n e = subst (RawByte c) (sym e) (go (eqb c 92) (eqb-false c 92))
@@ -83,7 +61,7 @@ module _ (s : Bytes) (at : ℕ) (names : Bytes) (a i k : ℕ) (t : Together s at
     where
       one : (e : ℕ) → k + 1 ≤ e → spells (spelled s i) (nameIn names k e) ≡ spells (spelled s (i + 1)) (nameIn names (k + 1) e)
       one e p =
-          let x : spelled s i ≡ before (c ∷ []) (spelled s (i + 1)) = byte-at s i b is-b (λ z. r .2 (sym q ∙ z)) (λ z. r .3 (sym q ∙ z)) (in-between 32 255 b (omega (arith, r .0)) (omega (arith, r .1))) (omega (arith, r .1)) ∙ ap (λ (y : ℕ). before (y ∷ []) (spelled s (i + 1))) q in
+          let x : spelled s i ≡ before (c ∷ []) (spelled s (i + 1)) = bare-at s i b is-b (λ z. r .2 (sym q ∙ z)) (λ z. r .3 (sym q ∙ z)) (omega (arith, r .0)) (omega (arith, r .1)) ∙ ap (λ (y : ℕ). before (y ∷ []) (spelled s (i + 1))) q in
           let y : nameIn names k e ≡ c ∷ nameIn names (k + 1) e = front names k e in-names p ∙ ap (λ (z : ℕ). z ∷ nameIn names (k + 1) e) (sym is-c) in
           ap (λ (o : Option Bytes). spells o (nameIn names k e)) x ∙ ap (spells (before (c ∷ []) (spelled s (i + 1)))) y ∙ spells-on c (spelled s (i + 1)) (nameIn names (k + 1) e)
 
@@ -96,7 +74,7 @@ module _ (s : Bytes) (at : ℕ) (names : Bytes) (a e : ℕ) (from : a ≤ e) (wi
   pub part-past : length s ≤ at → false ≡ spells (spelled s at) (nameIn names a e)
   part-past l =
       let z : 256 ≡ byteAt s at = sym (List·getD-eq-default s 256 l) in
-      sym (ap (λ (o : Option Bytes). spells o (nameIn names a e)) (none-at s at 256 z (λ z. omega arith) (λ z. omega arith) (beyond 32 255 256 (omega arith))))
+      sym (ap (λ (o : Option Bytes). spells o (nameIn names a e)) (nothing-at s at 256 z (λ z. omega arith) (λ z. omega arith) (beyond 32 255 256 (omega arith))))
 
   module _ (b : ℕ) (is-b : b ≡ byteAt s at) where
     pub part-quote : b ≡ 34 → eqb e a ≡ spells (spelled s at) (nameIn names a e)
@@ -113,8 +91,8 @@ module _ (s : Bytes) (at : ℕ) (names : Bytes) (a e : ℕ) (from : a ≤ e) (wi
       by-byte : ((x : Option Bytes) → spells (before (b ∷ []) x) (nameIn names a e) ≡ false) → false ≡ spells (spelled s at) (nameIn names a e)
       by-byte f =
           byBool (between 32 255 b)
-          (λ h. sym (ap (λ (o : Option Bytes). spells o (nameIn names a e)) (byte-at s at b is-b n m h (omega (arith, between-true 32 255 b h .1))) ∙ f (spelled s (at + 1))))
-          (λ h. sym (ap (λ (o : Option Bytes). spells o (nameIn names a e)) (none-at s at b is-b n m h)))
+          (λ h. sym (ap (λ (o : Option Bytes). spells o (nameIn names a e)) (bare-at s at b is-b n m (between-true 32 255 b h .0) (omega (arith, between-true 32 255 b h .1))) ∙ f (spelled s (at + 1))))
+          (λ h. sym (ap (λ (o : Option Bytes). spells o (nameIn names a e)) (nothing-at s at b is-b n m h)))
 
       pub part-short : e ≡ a → false ≡ spells (spelled s at) (nameIn names a e)
       part-short q = by-byte (λ x. ap (spells (before (b ∷ []) x)) (none-in names a e q) ∙ spells-short b x)
