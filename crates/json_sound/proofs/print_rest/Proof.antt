@@ -1,0 +1,31 @@
+use native.Mathlib.Omega.{arith}
+use denote.Ref.{now}
+use mathlib.Core.Path.{sym, ap, _∙_}
+use borrow.Author.Needs.{needs}
+use Rattle.json_strings.proofs.Laws.{quote-at}
+use Rattle.json_sound.specs.Kept.{printOf}
+use Rattle.json_sound.proofs.Names.{print-end}
+use Rattle.json_sound.proofs.print_rest.Statement.{statement}
+use Rattle.json_sound.proofs.print_rest.Tie as tie
+
+look-requires : tie.Need-look-requires
+look-requires c κs = search needs
+
+returns : tie.Need-returns
+returns c =
+    let args = c .before .before .before .args in
+    let look = c .before .look in (
+      sym (ap (printOf (args .from)) (quote-at (now (args .s)) (args .at) (look .result) (look .ensures .0) (c .if1 .taken)) ∙ print-end (args .from)),
+      omega arith,
+    )
+
+print-from-requires : tie.Need-print-from-requires
+print-from-requires c κs = search needs
+
+returns-2 : tie.Need-returns-2
+returns-2 c = c .print-from .ensures
+
+pub print-rest-spec : {M : Type 1} → statement M
+print-rest-spec =
+    tie.close
+    (tie.spec look-requires returns print-from-requires returns-2)
