@@ -67,7 +67,8 @@ uint8_t thymebarrel_json_to_card(const uint8_t *json, size_t json_length, uint8_
 /* A call of a stream of cards with a piece, which may be cut anywhere. It is read until a line answers, else all of it; how many bytes were consumed is put behind
  * `consumed`, and the rest is handed in again. Answered are THYMEBARREL_MORE, THYMEBARREL_CONVERTED with the JSON at the front of `out` and its length behind `written`, or a
  * refusal's number with its place behind `place`; every other byte of `out` is as it was. `state` is THYMEBARREL_STREAM_WORDS numbers; `buffer` holds the open card and is at
- * least THYMEBARREL_CARD_BYTES, `out` at least THYMEBARREL_JSON_BYTES. State and buffer are the caller's to keep from call to call, and not to change; 15 and 16 consume and change nothing.
+ * least THYMEBARREL_CARD_BYTES, `out` at least THYMEBARREL_JSON_BYTES. State and buffer are the caller's to keep from call to call, and not to change; 15 and 16 consume and change nothing
+ * (four of the seven numbers are flags: one that is neither 0 nor 1 stands for 0, and comes back as 0).
  * No pointer may be null, but that of an empty text.
  *
  *     size_t state[THYMEBARREL_STREAM_WORDS] = {0}, consumed, place, written;
