@@ -5,6 +5,7 @@ use mathlib.Core.List.{List, [], _∷_}
 use mathlib.Core.Option.{Option, none, some}
 use Prim.Native.Nat.{ℕ, _+_, _<_}
 use native.Mathlib.Omega.{arith}
+use lib.Dec.{eqb}
 use Rattle.text.specs.Choice.{pick, with-some, provided, is-some}
 use Rattle.text.specs.Bytes.{Bytes, empty, among, lowered}
 use Rattle.text.proofs.Cases.{byBool, not-both}
@@ -17,7 +18,7 @@ use Rattle.convert.specs.Model.{Entry}
 use Rattle.convert.specs.Value.{isKeyText, readName}
 use Rattle.convert.specs.Classify.{Class, as-version, as-uid, as-kind, as-dropped, as-full, as-parts, as-entry, as-member, as-kept, Seen, Id, id, withId, see, bare, isDerived, fullClass, partsClass, memberClass, entryOf, entryClass, classify}
 use Rattle.line_table.specs.Table.{part, lineIn}
-use Rattle.convert_entry.specs.Rows.{codeOf, Is}
+use Rattle.convert_entry.specs.Rows.{namesIn, codeOf, Is}
 use Rattle.convert_entry.proofs.Classes.{entry-there}
 use Rattle.table_entry.specs.Key.{EntryKey}
 use Rattle.table_entry.specs.declared.Key.the-variants.{Bad, Free, At as At-key}
@@ -174,7 +175,7 @@ module _ (s : Bytes) (t : List ℕ) where
     w = of .slot
 
     row : Is w i types form
-    row = record { index = of .row .index; types = of .row .types ∙ sym ts; form = of .row .form ∙ sym fs }
+    row = record { index = of .row .index; types = of .row .types ∙ sym ts; parameters = of .row .parameters ∙ ap (λ k. namesIn (not (eqb k 0))) (sym ts); form = of .row .form ∙ sym fs }
 
     none-kept : (seen : Seen) → is-some (entryOf seen w l) ≡ false → classify seen l ≡ as-kept
     unfolding entryClass

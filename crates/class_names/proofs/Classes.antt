@@ -21,7 +21,7 @@ use Rattle.class_names.proofs.Numbers.{wordsOf, words-of, sole-word, nu
 -- ---- maps
 
 abbrev noMap : Map
-noMap = record { member = []; prefix = []; properties = []; kinds = []; content = []; form = text; types = 0 }
+noMap = record { member = []; prefix = []; properties = []; kinds = []; content = []; form = text; parameters = []; types = 0 }
 
 -- the slot of the map i, and which of its properties
 abbrev slotAt : ℕ → ℕ → Slot
@@ -29,35 +29,35 @@ slotAt i which = record { index = i; map = getD maps i noMap; which = which }
 
 slot-nickname : Slotted (ascii "nickname") 0
 unfolding slotOf slotFrom position same typesOf formOf
-slot-nickname = record { slot = slotAt 0 0; is = refl; row = record { index = refl; types = refl; form = refl } }
+slot-nickname = record { slot = slotAt 0 0; is = refl; row = record { index = refl; types = refl; parameters = refl; form = refl } }
 
 slot-email : Slotted (ascii "email") 1
 unfolding slotOf slotFrom position same typesOf formOf
-slot-email = record { slot = slotAt 1 0; is = refl; row = record { index = refl; types = refl; form = refl } }
+slot-email = record { slot = slotAt 1 0; is = refl; row = record { index = refl; types = refl; parameters = refl; form = refl } }
 
 slot-tel : Slotted (ascii "tel") 2
 unfolding slotOf slotFrom position same typesOf formOf
-slot-tel = record { slot = slotAt 2 0; is = refl; row = record { index = refl; types = refl; form = refl } }
+slot-tel = record { slot = slotAt 2 0; is = refl; row = record { index = refl; types = refl; parameters = refl; form = refl } }
 
 slot-url : Slotted (ascii "url") 3
 unfolding slotOf slotFrom position same typesOf formOf
-slot-url = record { slot = slotAt 3 0; is = refl; row = record { index = refl; types = refl; form = refl } }
+slot-url = record { slot = slotAt 3 0; is = refl; row = record { index = refl; types = refl; parameters = refl; form = refl } }
 
 slot-note : Slotted (ascii "note") 4
 unfolding slotOf slotFrom position same typesOf formOf
-slot-note = record { slot = slotAt 4 0; is = refl; row = record { index = refl; types = refl; form = refl } }
+slot-note = record { slot = slotAt 4 0; is = refl; row = record { index = refl; types = refl; parameters = refl; form = refl } }
 
 slot-title : Slotted (ascii "title") 5
 unfolding slotOf slotFrom position same typesOf formOf
-slot-title = record { slot = slotAt 5 0; is = refl; row = record { index = refl; types = refl; form = refl } }
+slot-title = record { slot = slotAt 5 0; is = refl; row = record { index = refl; types = refl; parameters = refl; form = refl } }
 
 slot-role : Slotted (ascii "role") 5
 unfolding slotOf slotFrom position same typesOf formOf
-slot-role = record { slot = slotAt 5 1; is = refl; row = record { index = refl; types = refl; form = refl } }
+slot-role = record { slot = slotAt 5 1; is = refl; row = record { index = refl; types = refl; parameters = refl; form = refl } }
 
 slot-org : Slotted (ascii "org") 6
 unfolding slotOf slotFrom position same typesOf formOf
-slot-org = record { slot = slotAt 6 0; is = refl; row = record { index = refl; types = refl; form = refl } }
+slot-org = record { slot = slotAt 6 0; is = refl; row = record { index = refl; types = refl; parameters = refl; form = refl } }
 
 at-word : {n w : Bytes} {i : ℕ} → n ≡ w → Slotted w i → Slotted n i
 at-word e h = record { slot = h .slot; is = ap slotOf e ∙ h .is; row = h .row }

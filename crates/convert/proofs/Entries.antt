@@ -1,6 +1,6 @@
 -- The line of an entry is read back as that entry.
 use mathlib.Core.Path.{_≡_, refl, ap, _∙_}
-use mathlib.Core.Bool.{Bool, true, false, _&&_, _||_, not}
+use mathlib.Core.Bool.{Bool, true, false, _&&_, _||_}
 use mathlib.Core.List.{List, [], _∷_, _++_, map, append-nil}
 use mathlib.Core.Option.{some}
 use Prim.Native.Nat.{ℕ}
@@ -10,18 +10,31 @@ use native.Mathlib.Omega.{arith}
 use Rattle.text.proofs.Lists.{all-head}
 use Rattle.text.specs.Choice.{pick}
 use Rattle.text.specs.Bytes.{Bytes, ascii, any, all, empty, same, among, lower, lowered, between}
-use Rattle.text.proofs.Cases.{byBool, and-right, not-both}
+use Rattle.text.proofs.Cases.{byBool, and-left, and-right, not-both}
 use Rattle.line.specs.Grammar.{Param, param}
 use Rattle.line.specs.Params.{valuesNamed, lacking, onlyNamed, valueType, besidesValue}
 use Rattle.line.proofs.Named.{valuesNamed-append, lacking-append, onlyNamed-append, valuesNamed-one, valuesNamed-other, lacking-one, lacking-other, onlyNamed-one, valuesNamed-none, lacking-none, onlyNamed-none}
 use Rattle.convert.specs.Table.{Map, Slot, inOrder}
 use Rattle.convert.specs.Model.{Entry}
 use Rattle.convert.specs.Value.{isKeyText, isPref, writeAs, writtenType}
-use Rattle.convert.specs.Classify.{isId, Seen, prefFrom, allowed, entryOf}
+use Rattle.convert.specs.Classify.{isId, Seen, prefFrom, entryOf}
 use Rattle.convert.specs.Property.{paramOf}
 use Rattle.convert.specs.ToCard.{entryLine}
 use Rattle.convert.proofs.Forms.{formed, typeOf, read-form, takes-written, type-lowered}
 use Rattle.convert.proofs.Types.{typeText, below, types-read}
+
+-- a row's fields agree: TYPE has nine values, every map takes PROP-ID, and one that takes values of TYPE takes TYPE
+abbrev pub coherent : Map → Bool
+coherent m = ltb (m .types) 10 && (among (ascii "prop-id") (m .parameters) && (eqb (m .types) 0 || among (ascii "type") (m .parameters)))
+
+pub few-types : (m : Map) → coherent m ≡ true → ltb (m .types) 10 ≡ true
+few-types m h = and-left (ltb (m .types) 10) _ h
+
+takes-key : (m : Map) → coherent m ≡ true → among (ascii "prop-id") (m .parameters) ≡ true
+takes-key m h = and-left (among (ascii "prop-id") (m .parameters)) _ (and-right (ltb (m .types) 10) _ h)
+
+takes-types : (m : Map) → coherent m ≡ true → eqb (m .types) 0 || among (ascii "type") (m .parameters) ≡ true
+takes-types m h = and-right (among (ascii "prop-id") (m .parameters)) _ (and-right (ltb (m .types) 10) _ h)
 
 -- an entry that a map can have
 pub record Proper (m : Map) (e : Entry) : Type 0 where
@@ -29,8 +42,8 @@ pub record Proper (m : Map) (e : Entry) : Type 0 where
   pub texts : formed (m .form) (e .texts) ≡ true
   pub codes : all (below (m .types)) (e .types) ≡ true
   pub order : inOrder (e .types) ≡ e .types
-  pub table : ltb (m .types) 10 ≡ true
-  pub pref : empty (e .pref) || (not (eqb (m .types) 0) && isPref (e .pref)) ≡ true
+  pub row : coherent m ≡ true
+  pub pref : empty (e .pref) || (among (ascii "pref") (m .parameters) && isPref (e .pref)) ≡ true
 
 -- ---- a parameter that is there where it has values
 
@@ -111,24 +124,16 @@ module _ (ks ps ts vs : List Bytes) where
         of-same (ascii "value") vs refl,
       )
 
-  only-list : (ns : List Bytes) → among (lowered (ascii "prop-id")) ns || empty ks ≡ true → among (lowered (ascii "pref")) ns || empty ps ≡ true → among (lowered (ascii "type")) ns || empty ts ≡ true
-      → onlyNamed ns three ≡ true
-  only-list ns a b c =
+  only-three : (ns : List Bytes) → among (ascii "prop-id") ns ≡ true → among (ascii "pref") ns || empty ps ≡ true → among (ascii "type") ns || empty ts ≡ true → onlyNamed ns three ≡ true
+  unfolding lowered lower between
+  only-three ns a b c =
       rw (
         onlyNamed-append ns (paramOf (ascii "prop-id") ks) (paramOf (ascii "pref") ps ++ paramOf (ascii "type") ts),
         onlyNamed-append ns (paramOf (ascii "pref") ps) (paramOf (ascii "type") ts),
-        only-of ns (ascii "prop-id") ks a,
+        only-of ns (ascii "prop-id") ks (rw a),
         only-of ns (ascii "pref") ps b,
         only-of ns (ascii "type") ts c,
       )
-
-  -- where a map takes no types, there are neither types nor a preference
-  only-three : (n : ℕ) → (eqb n 0 ≡ true → (empty ps ≡ true) × (empty ts ≡ true)) → onlyNamed (allowed n) three ≡ true
-  unfolding same lowered lower between among any
-  only-three n h =
-      byBool (eqb n 0)
-      (λ e. rw e (only-list (ascii "prop-id" ∷ []) refl (h e .0) (h e .1)))
-      (λ e. rw e (only-list (ascii "prop-id" ∷ ascii "pref" ∷ ascii "type" ∷ []) refl refl refl))
 
 -- ---- the entry
 
@@ -149,14 +154,18 @@ unfolding prefValues
 read-pref [] b h = refl
 read-pref (c ∷ p) b h = rw (and-right b _ h)
 
-no-pref : (n : ℕ) (p : Bytes) → eqb n 0 ≡ true → empty p || (not (eqb n 0) && isPref p) ≡ true → empty (prefValues p) ≡ true
+-- an entry has a preference or types only where the map takes PREF or TYPE
+pref-listed : (b : Bool) (p : Bytes) → empty p || (b && isPref p) ≡ true → b || empty (prefValues p) ≡ true
 unfolding prefValues
-no-pref n [] q h = refl
-no-pref n (c ∷ p) q h = not-both (rw q at h) refl
+pref-listed true p h = refl
+pref-listed false [] h = refl
+pref-listed false (c ∷ p) h = not-both h refl
 
-no-types : (n : ℕ) (ts : List ℕ) → eqb n 0 ≡ true → all (below n) ts ≡ true → empty (map typeText ts) ≡ true
-no-types n [] q h = refl
-no-types n (t ∷ ts) q h = let l = ltb-true t n (all-head (below n) t ts h) in let z = eqb-true n 0 q in absurd (omega arith)
+types-listed : (n : ℕ) (b : Bool) (ts : List ℕ) → eqb n 0 || b ≡ true → all (below n) ts ≡ true → b || empty (map typeText ts) ≡ true
+types-listed n true ts q h = refl
+types-listed n false [] q h = refl
+types-listed n false (t ∷ ts) q h =
+    byBool (eqb n 0) (λ z. let l = ltb-true t n (all-head (below n) t ts h) in let e = eqb-true n 0 z in absurd (omega arith)) (λ z. not-both (rw z at q) refl)
 
 entry-type : (m : Map) (e : Entry) → valueType (entryLine m e .params) ≡ typeOf (m .form) (e .texts)
 unfolding valueType
@@ -185,15 +194,16 @@ entry-read s w e g q n =
       entry-group m e,
       b,
       entry-type m e,
-      only-three ks ps ts vs (m .types) (λ z. (no-pref (m .types) (e .pref) z (g .pref), no-types (m .types) (e .types) z (g .codes))),
+      only-three ks ps ts vs (m .parameters) (takes-key m (g .row)) (pref-listed (among (ascii "pref") (m .parameters)) (e .pref) (g .pref))
+          (types-listed (m .types) (among (ascii "type") (m .parameters)) (e .types) (takes-types m (g .row)) (g .codes)),
       takes-written (m .form) (e .texts),
       the-key ks ps ts vs,
       the-pref ks ps ts vs,
       the-types ks ps ts vs,
       g .key,
       n,
-      read-pref (e .pref) (not (eqb (m .types) 0)) (g .pref),
-      types-read (m .types) (e .types) (g .table) (g .codes) (g .order),
+      read-pref (e .pref) (among (ascii "pref") (m .parameters)) (g .pref),
+      types-read (m .types) (e .types) (few-types m (g .row)) (g .codes) (g .order),
       entry-value m e,
       read-form (m .form) (e .texts) (g .texts),
       q,

@@ -114,9 +114,10 @@ small-code n h c l =
 no-code : (n : ℕ) → eqb n 0 ≡ true → (c : ℕ) → ltb c n ≡ true → isContext c ≡ false
 no-code n h c l = let a = eqb-true n 0 h in let b = ltb-true c n l in absurd (omega arith)
 
-no-pref : (n : ℕ) (p : Bytes) → eqb n 0 ≡ true → empty p || (not (eqb n 0) && isPref p) ≡ true → filled p ≡ false
-no-pref n [] q h = refl
-no-pref n (c ∷ p) q h = not-both (rw q at h) refl
+no-pref : (b : Bool) (p : Bytes) → not b ≡ true → empty p || (b && isPref p) ≡ true → filled p ≡ false
+no-pref true p q h = not-both q refl
+no-pref false [] q h = refl
+no-pref false (c ∷ p) q h = not-both h refl
 
 module _ (m : Map) (e : Entry) (r : Row m) (g : Proper m e) where
   only-known : onlyMembers (entryMembers m) (whole m e) ≡ true
@@ -129,7 +130,7 @@ module _ (m : Map) (e : Entry) (r : Row m) (g : Proper m e) where
       (content-only (m .form) (m .content) (e .texts) ns (r .content-known) (r .units-known)))
       (only-where ns _ (ascii "contexts") _ (known (eqb (m .types) 0) _ (ascii "contexts") ns (r .contexts-known) (λ z. no-codes isContext (m .types) (e .types) (g .codes) (no-code (m .types) z)))))
       (only-where ns _ (ascii "features") _ (known (leb (m .types) 2) _ (ascii "features") ns (r .features-known) (λ z. no-codes isFeature (m .types) (e .types) (g .codes) (small-code (m .types) z)))))
-      (only-where ns (filled (e .pref)) (ascii "pref") _ (known (eqb (m .types) 0) _ (ascii "pref") ns (r .pref-known) (λ z. no-pref (m .types) (e .pref) z (g .pref))))
+      (only-where ns (filled (e .pref)) (ascii "pref") _ (known (not (among (ascii "pref") (m .parameters))) _ (ascii "pref") ns (r .pref-known) (λ z. no-pref (among (ascii "pref") (m .parameters)) (e .pref) z (g .pref))))
 
   read-kind : (w : ℕ) → pick (empty (m .kinds)) (some 0) (position (same (getD (m .kinds) (e .which) [])) (m .kinds)) ≡ some w
       → optional (ascii "kind") 0 (λ v. chain (asString v) λ s. position (same s) (m .kinds)) (whole m e) ≡ some w
@@ -150,7 +151,7 @@ module _ (m : Map) (e : Entry) (r : Row m) (g : Proper m e) where
       by (c ∷ cs) h = h
 
   read-pref : optional (ascii "pref") [] (λ v. chain (asNumber v) λ p. provided (isPref p) (some p)) (whole m e) ≡ some (e .pref)
-  read-pref = rw (look-pref m e r) (by (e .pref) (not (eqb (m .types) 0)) (g .pref))
+  read-pref = rw (look-pref m e r) (by (e .pref) (among (ascii "pref") (m .parameters)) (g .pref))
     where
       by : (p : Bytes) (b : Bool) → empty p || (b && isPref p) ≡ true → with-some (pick (filled p) (some (jnum p)) none) (λ v. chain (asNumber v) λ p. provided (isPref p) (some p)) (some []) ≡ some p
       by [] b h = refl

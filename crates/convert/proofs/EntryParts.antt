@@ -70,7 +70,7 @@ pub record Row (m : Map) : Type 0 where
   pub kind-known : empty (m .kinds) || among (ascii "kind") (entryMembers m) ≡ true
   pub units-known : not (isOrganization (m .form)) || among (ascii "units") (entryMembers m) ≡ true
   pub contexts-known : eqb (m .types) 0 || among (ascii "contexts") (entryMembers m) ≡ true
-  pub pref-known : eqb (m .types) 0 || among (ascii "pref") (entryMembers m) ≡ true
+  pub pref-known : not (among (ascii "pref") (m .parameters)) || among (ascii "pref") (entryMembers m) ≡ true
   pub features-known : leb (m .types) 2 || among (ascii "features") (entryMembers m) ≡ true
 
 -- ---- the parts of an entry

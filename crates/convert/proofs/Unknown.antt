@@ -39,6 +39,9 @@ unfoldable pub unknown-params : List Case
 unknown-params =
     converts (lines "TEL;USERNAME=x:1|g.TEL:1|NOTE;PREF=1:n|JSPROP;JSPTR='a';LABEL=b:1|g.JSPROP;JSPTR='a':1|N;TYPE=x:b|g.N:b")
     (made ",'vCardProps':[['tel',{'username':'x'},'unknown','1'],['tel',{'group':'g'},'unknown','1'],['note',{'pref':'1'},'unknown','n'],['jsprop',{'jsptr':'a','label':'b'},'unknown','1'],['jsprop',{'group':'g','jsptr':'a'},'unknown','1'],['n',{'type':'x'},'unknown','b'],['n',{'group':'g'},'unknown','b']]")
+    -- a parameter that no map takes, on a line of each
+    ∷ converts (lines "NICKNAME;LABEL=x:a|EMAIL;LABEL=x:a|TEL;LABEL=x:1|URL;LABEL=x:a|NOTE;LABEL=x:a|TITLE;LABEL=x:a|ROLE;LABEL=x:a|ORG;LABEL=x:a")
+    (made ",'vCardProps':[['nickname',{'label':'x'},'unknown','a'],['email',{'label':'x'},'unknown','a'],['tel',{'label':'x'},'unknown','1'],['url',{'label':'x'},'unknown','a'],['note',{'label':'x'},'unknown','a'],['title',{'label':'x'},'unknown','a'],['role',{'label':'x'},'unknown','a'],['org',{'label':'x'},'unknown','a']]")
     ∷ []
 
 pub unknown-params-hold : map given unknown-params ≡ map wanted unknown-params

@@ -132,15 +132,11 @@ unfoldable pub typesFrom : ℕ → List Bytes → Option (List ℕ)
 typesFrom n vs =
     Option·map inOrder (each (λ v. position (λ t. same (lowered v) (vcardType t)) (take n typeNames)) (flat (map (parts (code ",")) vs)))
 
--- the parameters that a map's lines take, besides VALUE
-abbrev pub allowed : ℕ → List Bytes
-allowed n = pick (eqb n 0) (ascii "prop-id" ∷ []) (ascii "prop-id" ∷ ascii "pref" ∷ ascii "type" ∷ [])
-
 unfoldable pub entryOf : Seen → Slot → Line → Option Entry
 entryOf s w l =
     let ps : List Param = besidesValue (l .params) in
     let type : Bytes = valueType (l .params) in
-    provided (empty (l .group) && onlyNamed (allowed (w .map .types)) ps && takesType (w .map .form) type)
+    provided (empty (l .group) && onlyNamed (w .map .parameters) ps && takesType (w .map .form) type)
     (chain (keyFrom s (w .index) (valuesNamed (ascii "prop-id") ps)) λ k.
     chain (prefFrom (valuesNamed (ascii "pref") ps)) λ p.
     chain (typesFrom (w .map .types) (valuesNamed (ascii "type") ps)) λ ts.

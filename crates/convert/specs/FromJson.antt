@@ -124,7 +124,8 @@ entryMembers m =
     m .content
     ∷ (pick (empty (m .kinds)) [] (ascii "kind" ∷ [])
     ++ contentMembers (m .form)
-    ++ pick (eqb (m .types) 0) [] (ascii "contexts" ∷ ascii "pref" ∷ [])
+    ++ pick (among (ascii "type") (m .parameters)) (ascii "contexts" ∷ []) []
+    ++ pick (among (ascii "pref") (m .parameters)) (ascii "pref" ∷ []) []
     ++ pick (eqb (m .types) 9) (ascii "features" ∷ []) [])
   where
     contentMembers : Form → List Bytes

@@ -24,17 +24,18 @@ pub record Map : Type 0 where
   pub kinds : List Bytes  -- the entry's kind for each of them, where it has one
   pub content : Bytes  -- the member that holds the string
   pub form : Form
-  pub types : ℕ  -- how many values of the table of TYPE it takes; 0: neither TYPE nor PREF
+  pub parameters : List Bytes  -- that its lines take besides VALUE, lower-case
+  pub types : ℕ  -- how many values of the table of TYPE it takes
 
 abbrev pub maps : List Map
 maps =
-    record { member = ascii "nicknames"; prefix = ascii "NICK"; properties = ascii "nickname" ∷ []; kinds = []; content = ascii "name"; form = single; types = 2 }
-    ∷ record { member = ascii "emails"; prefix = ascii "EMAIL"; properties = ascii "email" ∷ []; kinds = []; content = ascii "address"; form = text; types = 2 }
-    ∷ record { member = ascii "phones"; prefix = ascii "PHONE"; properties = ascii "tel" ∷ []; kinds = []; content = ascii "number"; form = phone; types = 9 }
-    ∷ record { member = ascii "links"; prefix = ascii "LINK"; properties = ascii "url" ∷ []; kinds = []; content = ascii "uri"; form = uri; types = 2 }
-    ∷ record { member = ascii "notes"; prefix = ascii "NOTE"; properties = ascii "note" ∷ []; kinds = []; content = ascii "note"; form = text; types = 0 }
-    ∷ record { member = ascii "titles"; prefix = ascii "TITLE"; properties = ascii "title" ∷ ascii "role" ∷ []; kinds = ascii "title" ∷ ascii "role" ∷ []; content = ascii "name"; form = text; types = 0 }
-    ∷ record { member = ascii "organizations"; prefix = ascii "ORG"; properties = ascii "org" ∷ []; kinds = []; content = ascii "name"; form = organization; types = 0 }
+    record { member = ascii "nicknames"; prefix = ascii "NICK"; properties = ascii "nickname" ∷ []; kinds = []; content = ascii "name"; form = single; parameters = ascii "prop-id" ∷ ascii "pref" ∷ ascii "type" ∷ []; types = 2 }
+    ∷ record { member = ascii "emails"; prefix = ascii "EMAIL"; properties = ascii "email" ∷ []; kinds = []; content = ascii "address"; form = text; parameters = ascii "prop-id" ∷ ascii "pref" ∷ ascii "type" ∷ []; types = 2 }
+    ∷ record { member = ascii "phones"; prefix = ascii "PHONE"; properties = ascii "tel" ∷ []; kinds = []; content = ascii "number"; form = phone; parameters = ascii "prop-id" ∷ ascii "pref" ∷ ascii "type" ∷ []; types = 9 }
+    ∷ record { member = ascii "links"; prefix = ascii "LINK"; properties = ascii "url" ∷ []; kinds = []; content = ascii "uri"; form = uri; parameters = ascii "prop-id" ∷ ascii "pref" ∷ ascii "type" ∷ []; types = 2 }
+    ∷ record { member = ascii "notes"; prefix = ascii "NOTE"; properties = ascii "note" ∷ []; kinds = []; content = ascii "note"; form = text; parameters = ascii "prop-id" ∷ []; types = 0 }
+    ∷ record { member = ascii "titles"; prefix = ascii "TITLE"; properties = ascii "title" ∷ ascii "role" ∷ []; kinds = ascii "title" ∷ ascii "role" ∷ []; content = ascii "name"; form = text; parameters = ascii "prop-id" ∷ []; types = 0 }
+    ∷ record { member = ascii "organizations"; prefix = ascii "ORG"; properties = ascii "org" ∷ []; kinds = []; content = ascii "name"; form = organization; parameters = ascii "prop-id" ∷ []; types = 0 }
     ∷ []
 
 -- top-level members that no JSPROP line makes: those of a card, the maps', and that of kept lines

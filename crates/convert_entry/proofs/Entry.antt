@@ -17,7 +17,7 @@ use Rattle.line.specs.Params.{valuesNamed, onlyNamed, besidesValue, valueType}
 use Rattle.convert.specs.Table.{Slot, inOrder}
 use Rattle.convert.specs.Model.{Entry}
 use Rattle.convert.specs.Value.{takesType, readAs}
-use Rattle.convert.specs.Classify.{Seen, allowed, keyFrom, prefFrom, typesFrom, entryOf}
+use Rattle.convert.specs.Classify.{Seen, keyFrom, prefFrom, typesFrom, entryOf}
 use Rattle.convert_types.specs.Marks.{typeAt, marks, told, split}
 use Rattle.convert_marks.specs.Row.{Wide, Clear}
 use Rattle.convert_entry.specs.Rows.{Is, fitting, lineAt}
@@ -75,14 +75,14 @@ chained true (some a) (some b) (some c) none f = refl
 chained true (some a) (some b) (some c) (some d) f = refl
 
 pub entry-some : (s : Seen) (w : Slot) (l : Line) → is-some (entryOf s w l)
-    ≡ (empty (l .group) && onlyNamed (allowed (w .map .types)) (besidesValue (l .params)) && takesType (w .map .form) (valueType (l .params)))
+    ≡ (empty (l .group) && onlyNamed (w .map .parameters) (besidesValue (l .params)) && takesType (w .map .form) (valueType (l .params)))
     && is-some (keyFrom s (w .index) (valuesNamed (ascii "prop-id") (besidesValue (l .params)))) && is-some (prefFrom (valuesNamed (ascii "pref") (besidesValue (l .params))))
     && is-some (typesFrom (w .map .types) (valuesNamed (ascii "type") (besidesValue (l .params)))) && is-some (readAs (w .map .form) (valueType (l .params)) (l .value))
 unfolding entryOf
 entry-some s w l =
     let ps : List Param = besidesValue (l .params) in
     let type : Bytes = valueType (l .params) in
-    chained {E = Entry} (empty (l .group) && onlyNamed (allowed (w .map .types)) ps && takesType (w .map .form) type) (keyFrom s (w .index) (valuesNamed (ascii "prop-id") ps))
+    chained {E = Entry} (empty (l .group) && onlyNamed (w .map .parameters) ps && takesType (w .map .form) type) (keyFrom s (w .index) (valuesNamed (ascii "prop-id") ps))
     (prefFrom (valuesNamed (ascii "pref") ps)) (typesFrom (w .map .types) (valuesNamed (ascii "type") ps)) (readAs (w .map .form) type (l .value)) (λ k p ts vs. record { key = k; which = w .which; texts = vs; types = ts; pref = p })
 
 taken : (g : ℕ) (s : Bytes) → (g ≡ 0 → ⊥) → 0 < length s → empty (take g s) ≡ false

@@ -6,7 +6,7 @@ use mathlib.Core.List.{List, [], _∷_, append-nil}
 use mathlib.Core.Option.{some}
 use Prim.Native.Nat.{ℕ}
 use lib.ListN.{length}
-use lib.Dec.{ltb, leb}
+use lib.Dec.{leb}
 use Rattle.text.specs.Choice.{provided}
 use Rattle.text.specs.Bytes.{Bytes, ascii, any, all, empty, same, among, between, lower, lowered, keep, flat, each}
 use Rattle.text.proofs.Cases.{byBool, not-both, and-left}
@@ -32,7 +32,7 @@ use Rattle.convert.specs.Property.{property}
 use Rattle.convert.specs.NormalCard.{renewed, nameValues, nameText, entryForm, keptForm, propId}
 use Rattle.convert.specs.Answers.{isNamed, onlyUri, misused}
 use Rattle.convert.proofs.Names.{read-parts}
-use Rattle.convert.proofs.Entries.{Proper, entry-read}
+use Rattle.convert.proofs.Entries.{coherent, Proper, entry-read}
 use Rattle.convert.proofs.KeptLines.{ProperKept, kept-line}
 use Rattle.home.specs.Allowed.{plain, nameStrings, partStrings, SameName, SameKept, Allowed, uid, kind, full, parts, entry, member, kept}
 use Rattle.home.proofs.Known.{onProvided, onChain}
@@ -123,11 +123,11 @@ parts-allowed l ps c n p e = parts (n, refl) p (plain-line (ascii "n") (nameText
 
 -- ---- the maps
 
-module _ (l : Line) (w : Slot) (e : Entry) (c : CleanLine l) (o : slotOf (lowered (l .name)) ≡ some w) (t : ltb (w .map .types) 10 ≡ true) (h : entryOf nothing w l ≡ some e) where
+module _ (l : Line) (w : Slot) (e : Entry) (c : CleanLine l) (o : slotOf (lowered (l .name)) ≡ some w) (t : coherent (w .map) ≡ true) (h : entryOf nothing w l ≡ some e) where
   proper : (k : Bytes) → isKeyText k ≡ true → Proper (w .map) (rekeyed k e)
   proper k v =
       let d = entry-drawn nothing w l e c (slot-row (lowered (l .name)) w o .1) h .0 in
-      record { key = v; texts = d .texts .form; codes = d .codes; order = d .order; table = t; pref = d .pref }
+      record { key = v; texts = d .texts .form; codes = d .codes; order = d .order; row = t; pref = d .pref }
 
   entry-back : (k : Bytes) → isKeyText k ≡ true → entryOf nothing w (entryForm (w .map) k l) ≡ some (rekeyed k e)
   unfolding any

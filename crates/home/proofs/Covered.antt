@@ -16,7 +16,7 @@ use Rattle.line.specs.Params.{valuesNamed, onlyNamed, valueType, besidesValue}
 use Rattle.convert.specs.Table.{Slot, slotOf, reserved}
 use Rattle.convert.specs.Value.{isKeyText, takesType}
 use Rattle.convert.specs.Pointer.{pointed}
-use Rattle.convert.specs.Classify.{Class, as-version, as-uid, as-kind, as-dropped, as-full, as-parts, as-entry, as-member, as-kept, Id, isId, withId, Seen, see, bare, isDerived, fullClass, partsClass, sole, memberName, memberClass, keyFrom, allowed, entryOf, entryClass, classify}
+use Rattle.convert.specs.Classify.{Class, as-version, as-uid, as-kind, as-dropped, as-full, as-parts, as-entry, as-member, as-kept, Id, isId, withId, Seen, see, bare, isDerived, fullClass, partsClass, sole, memberName, memberClass, keyFrom, entryOf, entryClass, classify}
 use Rattle.convert.specs.FromJson.{isKept}
 
 -- all that was seen in s was seen in t
@@ -87,7 +87,7 @@ module _ (t s : Seen) (h : Covers t s) (l : Line) where
   entry-still : (w : Slot) → (entryOf t w l ≡ none) ⊎ (entryOf t w l ≡ entryOf s w l)
   unfolding entryOf
   entry-still w =
-      let b : Bool = empty (l .group) && onlyNamed (allowed (w .map .types)) (besidesValue (l .params)) && takesType (w .map .form) (valueType (l .params)) in
+      let b : Bool = empty (l .group) && onlyNamed (w .map .parameters) (besidesValue (l .params)) && takesType (w .map .form) (valueType (l .params)) in
       elim (key-still (w .index) (valuesNamed (ascii "prop-id") (besidesValue (l .params)))) [ inl q ↦ inl (rw q (provided-none b)) | inr q ↦ inr (rw q) ]
 
   slot-still : (w : Option Slot) → with-some w (λ w. entryClass s w l) as-kept ≡ as-kept → with-some w (λ w. entryClass t w l) as-kept ≡ as-kept

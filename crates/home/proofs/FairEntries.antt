@@ -22,7 +22,7 @@ use Rattle.convert.specs.FromJson.{isLowerWord}
 use Rattle.convert.specs.Property.{paramOf}
 use Rattle.convert.specs.ToCard.{entryLine}
 use Rattle.convert.proofs.Types.{typeText, below}
-use Rattle.convert.proofs.Entries.{Proper}
+use Rattle.convert.proofs.Entries.{few-types, Proper}
 use Rattle.home.proofs.Proper.{ProperEntry}
 use Rattle.home.proofs.Rows.{others, Row}
 use Rattle.home.proofs.Fair.{Fair, fairValue, fairParam}
@@ -120,7 +120,7 @@ unfolding entryParams all
 params-fair m e g =
     rw (entry-words .0, key-fair (e .key) (g .key))
     (all-both fairParam (prefParam (e .pref) ++ paramOf (ascii "type") (map typeText (e .types))) (paramOf (ascii "value") (writtenType (m .form) (e .texts)))
-    (all-both fairParam (prefParam (e .pref)) (paramOf (ascii "type") (map typeText (e .types))) (pref-fair (e .pref) (not (eqb (m .types) 0)) (g .pref)) (of-fair (ascii "type") (map typeText (e .types)) (entry-words .1) (types-fair (m .types) (e .types) (g .table) (g .codes))))
+    (all-both fairParam (prefParam (e .pref)) (paramOf (ascii "type") (map typeText (e .types))) (pref-fair (e .pref) (among (ascii "pref") (m .parameters)) (g .pref)) (of-fair (ascii "type") (map typeText (e .types)) (entry-words .1) (types-fair (m .types) (e .types) (few-types m (g .row)) (g .codes))))
     (of-fair (ascii "value") (writtenType (m .form) (e .texts)) (entry-words .2) (written-fair (m .form) (e .texts))))
 
 params-fit : (m : Map) (e : Entry) → Proper m e → fits (entryParams m e) ≡ true

@@ -6,7 +6,7 @@ use mathlib.Core.List.{List, [], _∷_, _++_, map}
 use mathlib.Core.Option.{Option, some, Option·map}
 use Prim.Native.Nat.{ℕ, _+_}
 use lib.ListN.{length, take, drop}
-use lib.Dec.{eqb, leb, ltb}
+use lib.Dec.{leb, ltb}
 use borrow.Author.Tests.{lt-ltb}
 use Rattle.text.specs.Choice.{chain, provided}
 use Rattle.text.specs.Bytes.{Bytes, ascii, any, all, empty, same, among, distinct, each}
@@ -21,6 +21,7 @@ use Rattle.convert.specs.Value.{isKeyText, isPref}
 use Rattle.convert.specs.FromJson.{onlyMembers, optional, isTrue, flagOf, flagsFrom, contentFrom, entryMembers, entryFrom, mapFrom}
 use Rattle.convert.proofs.Orders.{inOrder-again}
 use Rattle.convert.proofs.Types.{below}
+use Rattle.convert.proofs.Entries.{coherent}
 use Rattle.home.proofs.Proper.{ProperEntry, ProperEntries, ProperMaps}
 use Rattle.home.proofs.Alls.{All, all-test, test-all, all-mono, each-gives, each-called}
 use Rattle.home.proofs.SoundLists.{SoundMember, object-sound, optional-inv, optional-holds, no-field}
@@ -28,7 +29,7 @@ use Rattle.home.proofs.Positions.{position-inside, inOrder-all}
 use Rattle.home.proofs.JsonTexts.{content-formed}
 use Rattle.home.proofs.MapLines.{keyOf}
 
--- ---- rows of the table: what an entry may have agrees with how many values of TYPE the row takes
+-- ---- rows of the table: what an entry may have agrees with the row's parameters and with how many values of TYPE it takes
 
 -- a member is allowed only under the condition
 abbrev onlyIf : Bytes → Bool → Map → Bool
@@ -37,26 +38,26 @@ onlyIf n b m = not (among n (entryMembers m)) || b
 pub record Row (m : Map) : Type 0 where
   pub some-property : leb 1 (length (m .properties)) ≡ true
   pub kinds : leb (length (m .kinds)) (length (m .properties)) ≡ true
-  pub table : ltb (m .types) 10 ≡ true
+  pub row : coherent m ≡ true
   pub contexts : onlyIf (ascii "contexts") (leb 2 (m .types)) m ≡ true
   pub features : onlyIf (ascii "features") (leb 9 (m .types)) m ≡ true
-  pub pref : onlyIf (ascii "pref") (not (eqb (m .types) 0)) m ≡ true
+  pub pref : onlyIf (ascii "pref") (among (ascii "pref") (m .parameters)) m ≡ true
 
 abbrev isRow : Map → Bool
 isRow m =
-    leb 1 (length (m .properties)) && (leb (length (m .kinds)) (length (m .properties)) && (ltb (m .types) 10
-    && (onlyIf (ascii "contexts") (leb 2 (m .types)) m && (onlyIf (ascii "features") (leb 9 (m .types)) m && onlyIf (ascii "pref") (not (eqb (m .types) 0)) m))))
+    leb 1 (length (m .properties)) && (leb (length (m .kinds)) (length (m .properties)) && (coherent m
+    && (onlyIf (ascii "contexts") (leb 2 (m .types)) m && (onlyIf (ascii "features") (leb 9 (m .types)) m && onlyIf (ascii "pref") (among (ascii "pref") (m .parameters)) m))))
 
 is-row : (m : Map) → isRow m ≡ true → Row m
 is-row m h =
     let b = and-right (leb 1 (length (m .properties))) _ h in
     let c = and-right (leb (length (m .kinds)) (length (m .properties))) _ b in
-    let d = and-right (ltb (m .types) 10) _ c in
+    let d = and-right (coherent m) _ c in
     let e = and-right (onlyIf (ascii "contexts") (leb 2 (m .types)) m) _ d in
     record {
       some-property = and-left _ _ h;
       kinds = and-left _ _ b;
-      table = and-left _ _ c;
+      row = and-left (coherent m) _ c;
       contexts = and-left (onlyIf (ascii "contexts") (leb 2 (m .types)) m) _ d;
       features = and-left (onlyIf (ascii "features") (leb 9 (m .types)) m) _ e;
       pref = and-right (onlyIf (ascii "features") (leb 9 (m .types)) m) _ e;
@@ -108,19 +109,19 @@ module _ (m : Map) (r : Row m) (ms : List Member) (o : onlyMembers (entryMembers
         | inr q ↦ weaker (m .types) k cs (allowed n (leb k (m .types)) m ms (q .0) o u (q .1)) (flags-below i k ts l (q .0) cs (q .2))
       ]
 
-  pref-fits : (p : Bytes) → optional (ascii "pref") [] (λ v. chain (asNumber v) λ p. provided (isPref p) (some p)) ms ≡ some p → empty p || (not (eqb (m .types) 0) && isPref p) ≡ true
+  pref-fits : (p : Bytes) → optional (ascii "pref") [] (λ v. chain (asNumber v) λ p. provided (isPref p) (some p)) ms ≡ some p → empty p || (among (ascii "pref") (m .parameters) && isPref p) ≡ true
   pref-fits p e =
       elim (optional-inv (ascii "pref") [] (λ v. chain (asNumber v) λ p. provided (isPref p) (some p)) ms p e) [
         | inl q ↦ rw (← q .1)
         | inr q ↦ there (q .0) (q .1) (q .2)
       ]
     where
-      there : (j : Json) → field (ascii "pref") ms ≡ some j → chain (asNumber j) (λ p. provided (isPref p) (some p)) ≡ some p → empty p || (not (eqb (m .types) 0) && isPref p) ≡ true
+      there : (j : Json) → field (ascii "pref") ms ≡ some j → chain (asNumber j) (λ p. provided (isPref p) (some p)) ≡ some p → empty p || (among (ascii "pref") (m .parameters) && isPref p) ≡ true
       there j f g =
           let c = chain-inv (asNumber j) (λ p. provided (isPref p) (some p)) g in
           let d = provided-inv (isPref (c .0)) (some (c .0)) (c .2) in
           let i : isPref p ≡ true = ap isPref (sym (some-same (d .1))) ∙ d .0 in
-          byBool (empty p) (λ q. rw q) (λ q. rw (q, allowed (ascii "pref") (not (eqb (m .types) 0)) m ms j o (r .pref) f, i))
+          byBool (empty p) (λ q. rw q) (λ q. rw (q, allowed (ascii "pref") (among (ascii "pref") (m .parameters)) m ms j o (r .pref) f, i))
 
   kind-fits : (w : ℕ) → optional (ascii "kind") 0 (λ v. chain (asString v) λ s. position (same s) (m .kinds)) ms ≡ some w → ltb w (length (m .properties)) ≡ true
   kind-fits w e =
@@ -158,7 +159,7 @@ entry-proper d m r (member k j) e h q =
         texts = t .0;
         codes = inOrder-all (below (m .types)) (xs .0 ++ fs .0) u;
         order = inOrder-again (xs .0 ++ fs .0);
-        table = r .table;
+        row = r .row;
         pref = pref-fits m r ms (c .0) (p .0) (p .1);
       };
       which = kind-fits m r ms (c .0) (w .0) (w .1);

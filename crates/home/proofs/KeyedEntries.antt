@@ -7,7 +7,7 @@ use mathlib.Core.Option.{some}
 use Prim.Native.Nat.{ℕ, zero, suc, _+_, _≤_}
 use native.Mathlib.Omega.{arith}
 use lib.ListN.{length}
-use lib.Dec.{eqb, ltb}
+use lib.Dec.{eqb}
 use borrow.Author.Tests.{eqb-true, eq-eqb}
 use Rattle.text.specs.Choice.{pick}
 use Rattle.text.specs.Bytes.{Bytes, any, all, empty, same, among, distinct, between, keep}
@@ -25,6 +25,7 @@ use Rattle.convert.specs.Classify.{id, isId}
 use Rattle.convert.specs.FromCard.{Placed, placed, inMap, withKeys, keyedEntries, mapsFrom}
 use Rattle.convert.specs.FromJson.{idsFrom}
 use Rattle.convert.proofs.Keyed.{keys-distinct}
+use Rattle.convert.proofs.Entries.{coherent}
 use Rattle.home.proofs.Proper.{ProperEntries, ProperMaps}
 use Rattle.home.proofs.Alls.{All, In}
 use Rattle.home.proofs.Slots.{at}
@@ -34,7 +35,7 @@ use Rattle.home.proofs.MapLines.{keyOf}
 
 -- ---- with keys
 
-module _ (m : Map) (t : ltb (m .types) 10 ≡ true) where
+module _ (m : Map) (t : coherent m ≡ true) where
   with-proper : (ks : List Bytes) (es : List Entry) → all isKeyText ks ≡ true → All (Drawn m) es → ProperEntries m (withKeys ks es)
   unfolding withKeys
   with-proper [] es h d = tt
@@ -42,7 +43,7 @@ module _ (m : Map) (t : ltb (m .types) 10 ≡ true) where
   with-proper (k ∷ ks) (e ∷ es) h d =
       let f = d .0 in (
         record {
-          proper = record { key = all-head isKeyText k ks h; texts = f .texts .form; codes = f .codes; order = f .order; table = t; pref = f .pref };
+          proper = record { key = all-head isKeyText k ks h; texts = f .texts .form; codes = f .codes; order = f .order; row = t; pref = f .pref };
           which = f .which;
           texts-utf8 = f .texts .in-utf8;
         },
@@ -79,10 +80,10 @@ abbrev pub given : Bytes → Bool
 given k = not (empty k)
 
 abbrev fitRow : Map → Bool
-fitRow m = ltb (m .types) 10 && isPrefix (m .prefix)
+fitRow m = coherent m && isPrefix (m .prefix)
 
 fit-rows : all fitRow maps ≡ true
-unfolding all isKey isName between
+unfolding all among any same isKey isName between
 fit-rows = refl
 
 abbrev pub PlacedWell : Placed → Type 0
@@ -121,10 +122,10 @@ maps-from i [] ps x r h l d = (tt, refl)
 maps-from i (m ∷ ms) ps x r h l d =
     let es : List Entry = inMap i ps in
     let f = all-head fitRow m ms r in
-    let t : ltb (m .types) 10 ≡ true = and-left (ltb (m .types) 10) _ f in
+    let t : coherent m ≡ true = and-left (coherent m) _ f in
     let g = in-map m i ps (suffix-head i m ms x) h in
     let later = maps-from (suc i) ms ps (suffix-later i m ms x) (all-tail fitRow m ms r) h l d in
-    let texts = keys-texts (m .prefix) (map keyOf es) (and-right (ltb (m .types) 10) _ f) (omega (arith, map-length es, in-length i ps)) (drawn-ids m es g) in (
+    let texts = keys-texts (m .prefix) (map keyOf es) (and-right (coherent m) _ f) (omega (arith, map-length es, in-length i ps)) (drawn-ids m es g) in (
       (with-proper m t (keys (m .prefix) (map keyOf es)) es texts g, ap distinct (keyed-keys m es) ∙ keys-distinct (m .prefix) (map keyOf es) (d i), later .0),
       and-true (with-carried m t (keys (m .prefix) (map keyOf es)) es g) (later .1),
     )

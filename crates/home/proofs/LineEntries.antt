@@ -5,7 +5,7 @@ use mathlib.Core.List.{List, [], _∷_, map}
 use mathlib.Core.Option.{some}
 use Prim.Native.Nat.{ℕ}
 use lib.ListN.{length, take}
-use lib.Dec.{eqb, ltb}
+use lib.Dec.{ltb}
 use borrow.Author.Tests.{lt-ltb}
 use Rattle.text.specs.Bytes.{Bytes, ascii, any, all, empty, same, among, lowered, parts, flat, each}
 use Rattle.text.proofs.Cases.{byBool, and-left, and-right, not-both, or-second, tests}
@@ -17,7 +17,7 @@ use Rattle.line.specs.Params.{named, valuesNamed, onlyNamed, valueType, besides
 use Rattle.convert.specs.Table.{Map, Slot, typeNames, vcardType, inOrder}
 use Rattle.convert.specs.Model.{Entry}
 use Rattle.convert.specs.Value.{isKeyText, isPref, readAs, takesType}
-use Rattle.convert.specs.Classify.{Seen, isId, keyFrom, prefFrom, typesFrom, allowed, entryOf}
+use Rattle.convert.specs.Classify.{Seen, isId, keyFrom, prefFrom, typesFrom, entryOf}
 use Rattle.convert.proofs.Orders.{inOrder-again}
 use Rattle.convert.proofs.Types.{below, codeOf}
 use Rattle.home.proofs.Alls.{All, all-test, each-gives}
@@ -30,7 +30,7 @@ pub record Drawn (m : Map) (e : Entry) : Type 0 where
   pub texts : ReadWell (m .form) (e .texts)
   pub codes : all (below (m .types)) (e .types) ≡ true
   pub order : inOrder (e .types) ≡ e .types
-  pub pref : empty (e .pref) || (not (eqb (m .types) 0) && isPref (e .pref)) ≡ true
+  pub pref : empty (e .pref) || (among (ascii "pref") (m .parameters) && isPref (e .pref)) ≡ true
   pub which : ltb (e .which) (length (m .properties)) ≡ true
 
 -- ---- PROP-ID: none, or a key text that is new
@@ -44,7 +44,7 @@ key-inv s i (j ∷ []) k e =
     (or-second (empty j) _ (and-left (isKeyText j) _ (p .0)), or-second (empty j) _ (and-right (isKeyText j) _ (p .0)))
 key-inv s i (j ∷ (l ∷ ks)) k e = none-some e
 
--- ---- PREF: none where the map takes no types
+-- ---- PREF: none where the map does not take it
 
 unnamed : (ns : List Bytes) (n : Bytes) (ps : List Param) → onlyNamed ns ps ≡ true → among n ns ≡ false → valuesNamed n ps ≡ []
 unfolding onlyNamed valuesNamed flat named
@@ -61,15 +61,12 @@ pref-text (q ∷ (r ∷ rs)) p e = none-some e
 no-pref : (vs : List Bytes) (p : Bytes) → vs ≡ [] → prefFrom vs ≡ some p → empty p ≡ true
 no-pref vs p z e = let f : some [] ≡ some p = rw z at e in ap (λ (p : Bytes). empty p) (sym (some-same f))
 
-not-allowed : among (ascii "pref") (ascii "prop-id" ∷ []) ≡ false
-unfolding among any same
-not-allowed = refl
-
-pref-inv : (n : ℕ) (ps : List Param) (p : Bytes) → onlyNamed (allowed n) ps ≡ true → prefFrom (valuesNamed (ascii "pref") ps) ≡ some p → empty p || (not (eqb n 0) && isPref p) ≡ true
-pref-inv n ps p h e =
-    byBool (eqb n 0)
-    (λ q. let z = unnamed (ascii "prop-id" ∷ []) (ascii "pref") ps (rw q at h) not-allowed in rw (no-pref (valuesNamed (ascii "pref") ps) p z e))
+pref-inv : (ns : List Bytes) (ps : List Param) (p : Bytes) → onlyNamed ns ps ≡ true → prefFrom (valuesNamed (ascii "pref") ps) ≡ some p
+    → empty p || (among (ascii "pref") ns && isPref p) ≡ true
+pref-inv ns ps p h e =
+    byBool (among (ascii "pref") ns)
     (λ q. rw q (pref-text (valuesNamed (ascii "pref") ps) p e))
+    (λ q. rw (no-pref (valuesNamed (ascii "pref") ps) p (unnamed ns (ascii "pref") ps h q) e))
 
 -- ---- TYPE
 
@@ -95,7 +92,7 @@ unfolding entryOf
 entry-drawn s w l e h o q =
     let ps : List Param = besidesValue (l .params) in
     let type : Bytes = valueType (l .params) in
-    let n : Bool = empty (l .group) && onlyNamed (allowed (w .map .types)) ps in
+    let n : Bool = empty (l .group) && onlyNamed (w .map .parameters) ps in
     let a = provided-inv (n && takesType (w .map .form) type) _ q in
     let k = chain-inv (keyFrom s (w .index) (valuesNamed (ascii "prop-id") ps)) _ (a .1) in
     let p = chain-inv (prefFrom (valuesNamed (ascii "pref") ps)) _ (k .2) in
@@ -103,14 +100,14 @@ entry-drawn s w l e h o q =
     let v = chain-inv (readAs (w .map .form) type (l .value)) _ (t .2) in
     let key = key-inv s (w .index) (valuesNamed (ascii "prop-id") ps) (k .0) (k .1) in
     let types = types-inv (w .map .types) (valuesNamed (ascii "type") ps) (t .0) (t .1) in
-    let only = and-right (empty (l .group)) (onlyNamed (allowed (w .map .types)) ps) (and-left n (takesType (w .map .form) type) (a .0)) in
+    let only = and-right (empty (l .group)) (onlyNamed (w .map .parameters) ps) (and-left n (takesType (w .map .form) type) (a .0)) in
     subst (λ (e : Entry). Drawn (w .map) e × (empty (e .key) || not (any (isId (w .index) (e .key)) (s .ids)) ≡ true)) (some-same (v .2)) (
       record {
         key = key .0;
         texts = read-well (w .map .form) type (l .value) (v .0) (h .value) (v .1);
         codes = types .0;
         order = types .1;
-        pref = pref-inv (w .map .types) ps (p .0) only (p .1);
+        pref = pref-inv (w .map .parameters) ps (p .0) only (p .1);
         which = o;
       },
       key .1,

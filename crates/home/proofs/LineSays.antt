@@ -16,7 +16,7 @@ use Rattle.convert.specs.Table.{Slot, slotOf, reserved}
 use Rattle.convert.specs.Value.{isKeyText, takesType, readName}
 use Rattle.convert.specs.Pointer.{pointed}
 use Rattle.convert.specs.Model.{Entry}
-use Rattle.convert.specs.Classify.{Class, as-version, as-uid, as-kind, as-dropped, as-full, as-parts, as-entry, as-member, as-kept, Seen, nothing, isId, bare, isDerived, fullClass, partsClass, sole, memberName, memberValue, memberClass, keyFrom, allowed, entryOf, entryClass, classify}
+use Rattle.convert.specs.Classify.{Class, as-version, as-uid, as-kind, as-dropped, as-full, as-parts, as-entry, as-member, as-kept, Seen, nothing, isId, bare, isDerived, fullClass, partsClass, sole, memberName, memberValue, memberClass, keyFrom, entryOf, entryClass, classify}
 use Rattle.convert.specs.Answers.{isNamed}
 use Rattle.home.specs.Allowed.{plain, onlyDerived, carries}
 use Rattle.home.proofs.Known.{onProvided, onChain, onSome}
@@ -33,7 +33,7 @@ entry-alone : (s : Seen) (w : Slot) (l : Line) (e : Entry) → entryOf s w l ≡
 unfolding entryOf
 entry-alone s w l e h =
     let ps : List Param = besidesValue (l .params) in
-    onProvided (empty (l .group) && onlyNamed (allowed (w .map .types)) ps && takesType (w .map .form) (valueType (l .params))) _ h λ t a.
+    onProvided (empty (l .group) && onlyNamed (w .map .parameters) ps && takesType (w .map .form) (valueType (l .params))) _ h λ t a.
     onChain (keyFrom s (w .index) (valuesNamed (ascii "prop-id") ps)) _ a λ k b c.
     rw (t, key-alone s (w .index) (valuesNamed (ascii "prop-id") ps) k b) c
 

@@ -14,7 +14,7 @@ use Rattle.line.specs.Params.{valuesNamed, onlyNamed, valueType, besidesValue}
 use Rattle.convert.specs.Table.{Map, Slot, slotFrom, slotOf, position, maps}
 use Rattle.convert.specs.Model.{Entry}
 use Rattle.convert.specs.Value.{isKeyText, isPref, readAs, takesType, writeAs, writtenType}
-use Rattle.convert.specs.Classify.{Seen, isId, keyFrom, prefFrom, typesFrom, allowed, entryOf}
+use Rattle.convert.specs.Classify.{Seen, isId, keyFrom, prefFrom, typesFrom, entryOf}
 use Rattle.convert.specs.Property.{property, paramOf}
 use Rattle.convert.specs.ToCard.{entryLine}
 use Rattle.convert.specs.NormalCard.{typeForm, valueForm, entryValue, entryForm, propId}
@@ -72,7 +72,7 @@ module _ (s : Seen) (w : Slot) (l : Line) (e : Entry) where
       → typesFrom (w .map .types) (valuesNamed (ascii "type") ps) ≡ some (e .types) → readAs (w .map .form) (valueType (l .params)) (l .value) ≡ some (e .texts) → w .which ≡ e .which → P) → P
   unfolding entryOf
   onEntry h go =
-      onProvided (empty (l .group) && onlyNamed (allowed (w .map .types)) ps && takesType (w .map .form) (valueType (l .params))) _ h λ t a.
+      onProvided (empty (l .group) && onlyNamed (w .map .parameters) ps && takesType (w .map .form) (valueType (l .params))) _ h λ t a.
       onChain (keyFrom s (w .index) (valuesNamed (ascii "prop-id") ps)) _ a λ k e1 a1.
       onChain (prefFrom (valuesNamed (ascii "pref") ps)) _ a1 λ p e2 a2.
       onChain (typesFrom (w .map .types) (valuesNamed (ascii "type") ps)) _ a2 λ ts e3 a3.

@@ -6,10 +6,10 @@ use mathlib.Core.Option.{some}
 use Prim.Native.Nat.{ℕ, zero, suc, _+_, _≤_}
 use native.Mathlib.Omega.{arith}
 use lib.ListN.{length}
-use lib.Dec.{eqb, ltb}
+use lib.Dec.{eqb}
 use borrow.Author.Tests.{eqb-true}
 use Rattle.text.specs.Choice.{pick}
-use Rattle.text.specs.Bytes.{Bytes, ascii, all, empty, lowered, keep, flat, between}
+use Rattle.text.specs.Bytes.{Bytes, ascii, any, all, empty, same, among, lowered, keep, flat, between}
 use Rattle.text.specs.Decimal.{decimal}
 use Rattle.text.proofs.Cases.{byBool, and-true, and-left, and-right}
 use Rattle.text.proofs.Choices.{some-same}
@@ -22,6 +22,7 @@ use Rattle.convert.specs.Classify.{Class, as-version, as-uid, as-kind, as-dropp
 use Rattle.convert.specs.Property.{property}
 use Rattle.convert.specs.NormalCard.{renewed, nameValues, nameText, entryForm, keptForm, Section, nowhere, uids, kinds, fulls, names, members, kepts, map-at, sectionOf, sectionNumber, section, propId, entryForms, mapForms, memberForm, derivedForm, normalLines}
 use Rattle.convert.specs.Keys.{fresh, keysAfter, keys}
+use Rattle.convert.proofs.Entries.{coherent}
 use Rattle.home.specs.Allowed.{Allowed, here, AllStand, no-more, one-more, whereNone}
 use Rattle.home.specs.Members.{Pairwise, no-pair, pair}
 use Rattle.home.proofs.Alls.{All}
@@ -39,10 +40,10 @@ use Rattle.home.proofs.Standing.{stand-both, stand-each, stand-made}
 -- ---- rows of the table
 
 abbrev RowFits : Map → Type 0
-RowFits m = (ltb (m .types) 10 ≡ true) × (isPrefix (m .prefix) ≡ true)
+RowFits m = (coherent m ≡ true) × (isPrefix (m .prefix) ≡ true)
 
 rows-fit : All RowFits maps
-unfolding all isKey isName between
+unfolding all among any same isKey isName between
 rows-fit = ((refl, refl), ((refl, refl), ((refl, refl), ((refl, refl), ((refl, refl), ((refl, refl), ((refl, refl), tt)))))))
 
 -- ---- one line

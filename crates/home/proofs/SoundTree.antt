@@ -4,8 +4,7 @@ use mathlib.Core.Bool.{Bool, true, _&&_, _||_, not}
 use mathlib.Core.List.{List, [], _∷_, _++_, map}
 use Prim.Native.Nat.{ℕ, suc}
 use lib.ListN.{getD}
-use lib.Dec.{eqb}
-use Rattle.text.specs.Bytes.{Bytes, ascii, empty, distinct, keep}
+use Rattle.text.specs.Bytes.{Bytes, ascii, empty, among, distinct, keep}
 use Rattle.text.proofs.Cases.{and-right, not-both}
 use Rattle.json.specs.Tree.{jtrue, jnum, jstr, Member, member, nameOf, object}
 use Rattle.convert.specs.Table.{Map, contextCodes, featureCodes}
@@ -55,9 +54,9 @@ module _ (m : Map) (e : Entry) where
       (sub-where (flagged contextCodes) (flagsMember (ascii "contexts") contextCodes)))
       (sub-where (flagged featureCodes) (flagsMember (ascii "features") featureCodes))) (sub-where (filled (e .pref)) prefMember)
 
-  pref-is : (p : Bytes) → filled p ≡ true → empty p || (not (eqb (m .types) 0) && isPref p) ≡ true → isPref p ≡ true
+  pref-is : (p : Bytes) → filled p ≡ true → empty p || (among (ascii "pref") (m .parameters) && isPref p) ≡ true → isPref p ≡ true
   pref-is [] b h = not-both b refl
-  pref-is (c ∷ p) b h = and-right (not (eqb (m .types) 0)) _ h
+  pref-is (c ∷ p) b h = and-right (among (ascii "pref") (m .parameters)) _ h
 
   module _ (d : ℕ) (r : Row m) (g : ProperEntry m e) where
     abbrev S : Member → Type 0

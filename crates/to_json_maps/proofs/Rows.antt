@@ -18,9 +18,9 @@ use Rattle.line.specs.Params.{valuesNamed, onlyNamed, besidesValue, valueType}
 use Rattle.convert.specs.Table.{Map, maps, Slot, slotOf, slotFrom, position}
 use Rattle.convert.specs.Model.{Entry}
 use Rattle.convert.specs.Value.{isKeyText, takesType, readAs, filled}
-use Rattle.convert.specs.Classify.{Seen, Class, as-entry, Classed, isId, allowed, keyFrom, prefFrom, typesFrom, entryOf, classify}
+use Rattle.convert.specs.Classify.{Seen, Class, as-entry, Classed, isId, keyFrom, prefFrom, typesFrom, entryOf, classify}
 use Rattle.convert_marks.specs.Row.{valuesKind, Row}
-use Rattle.convert_entry.specs.Rows.{formNumber, Is, codeOf}
+use Rattle.convert_entry.specs.Rows.{namesIn, formNumber, Is, codeOf}
 use Rattle.convert_entry.proofs.Named.{prop-ids}
 use Rattle.convert_entry.proofs.Tests.{first-id}
 use Rattle.class_names.specs.Names.{typesOf, formOf}
@@ -57,6 +57,10 @@ types-row : (i : ℕ) → i < 7 → mapAt i .types ≡ typesOf i
 unfolding mapAt typesOf
 types-row i l = inRange (λ i. mapAt i .types) typesOf i 0 7 refl (omega arith) l
 
+names-row : (i : ℕ) → i < 7 → mapAt i .parameters ≡ namesIn (not (eqb (typesOf i) 0))
+unfolding mapAt typesOf
+names-row i l = inRange (λ i. mapAt i .parameters) (λ i. namesIn (not (eqb (typesOf i) 0))) i 0 7 refl (omega arith) l
+
 form-row : (i : ℕ) → i < 7 → formNumber (mapAt i .form) ≡ formOf i
 unfolding mapAt formOf
 form-row i l = inRange (λ i. formNumber (mapAt i .form)) formOf i 0 7 refl (omega arith) l
@@ -77,6 +81,7 @@ module _ (n : Bytes) (w : Slot) (e : slotOf n ≡ some w) where
     slot-is = record {
       index = q;
       types = ap (λ (m : Map). m .types) slot-map ∙ types-row i slot-low;
+      parameters = ap (λ (m : Map). m .parameters) slot-map ∙ names-row i slot-low;
       form = ap (λ (m : Map). formNumber (m .form)) slot-map ∙ form-row i slot-low;
     }
 
@@ -111,7 +116,7 @@ unfolding entryOf
 entry-key s w l e h =
     let ps : List Param = besidesValue (l .params) in
     let type : Bytes = valueType (l .params) in
-    key-inv (empty (l .group) && onlyNamed (allowed (w .map .types)) ps && takesType (w .map .form) type) (keyFrom s (w .index) (valuesNamed (ascii "prop-id") ps))
+    key-inv (empty (l .group) && onlyNamed (w .map .parameters) ps && takesType (w .map .form) type) (keyFrom s (w .index) (valuesNamed (ascii "prop-id") ps))
     (prefFrom (valuesNamed (ascii "pref") ps)) (typesFrom (w .map .types) (valuesNamed (ascii "type") ps)) (readAs (w .map .form) type (l .value))
     (λ k p ts vs. record { key = k; which = w .which; texts = vs; types = ts; pref = p }) e (λ a b c d. refl) h
 

@@ -23,7 +23,7 @@ use Rattle.convert.specs.Classify.{Classed}
 use Rattle.convert.specs.Keys.{numbered, fresh, keyOr}
 use Rattle.convert.specs.FromCard.{keyedEntries}
 use Rattle.convert.specs.ToJson.{entryJson}
-use Rattle.convert_entry.specs.Rows.{Is}
+use Rattle.convert_entry.specs.Rows.{namesIn, Is}
 use Rattle.convert_put.specs.Pieces.{memberBytes, after, closing}
 use Rattle.line_table.specs.Table.{lineIn}
 use Rattle.line_unfold.specs.Table.{lineAt}
@@ -51,7 +51,7 @@ module _ {s : Bytes} {t : List ℕ} {i : ℕ} {e : Entry} (x : Converts s t i e)
   pub row-is : Is (x .slot) i types form
   row-is =
       let y = slot-is (lowered (lineIn s t .name)) (x .slot) (x .named) i (x .index) in
-      record { index = y .index; types = y .types ∙ sym a; form = y .form ∙ sym b }
+      record { index = y .index; types = y .types ∙ sym a; parameters = y .parameters ∙ ap (λ k. namesIn (not (eqb k 0))) (sym a); form = y .form ∙ sym b }
 
   pub entry-puts : (kind : ℕ) (room key : Bytes) (r : Wrote) (out : Bytes) → KindOfLine s t kind → PutsEntry room s t i types form kind key r out
       → Puts room (memberBytes (entryJson (mapAt i) (keyed key e))) r out

@@ -32,7 +32,7 @@ use Rattle.to_json_maps.specs.declared.Turn.the-variants.{Put, Full as F
 -- ---- the table's rows by their places
 
 abbrev pub noMap : Map
-noMap = record { member = []; prefix = []; properties = []; kinds = []; content = []; form = text; types = 0 }
+noMap = record { member = []; prefix = []; properties = []; kinds = []; content = []; form = text; parameters = []; types = 0 }
 
 unfoldable pub mapAt : ℕ → Map
 mapAt i = getD maps i noMap
