@@ -1,15 +1,15 @@
 -- Whether a line converts as an entry, test by test.
 use mathlib.Core.Path.{_≡_, refl, sym, ap, _∙_}
-use mathlib.Core.Bool.{Bool, true, false, _&&_, not}
+use mathlib.Core.Bool.{Bool, true, false, _&&_}
 use mathlib.Core.List.{List, [], _∷_, map}
 use mathlib.Core.Option.{Option, none, some, Option·map}
-use Prim.Native.Nat.{ℕ, zero, suc, _-_, _≤_, _<_}
+use Prim.Native.Nat.{ℕ, zero, suc, _-_}
 use native.Mathlib.Omega.{arith}
 use lib.Dec.{eqb}
 use lib.ListN.{length, take, drop, set, getD, length-drop}
 use lib.Seq.{take-all}
 use Rattle.text.specs.Choice.{both, chain, provided, is-some}
-use Rattle.text.specs.Bytes.{Bytes, ascii, empty, all, each, flat, parts}
+use Rattle.text.specs.Bytes.{Bytes, ascii, empty, all, each}
 use Rattle.text.proofs.Lists.{all-head, all-tail}
 use borrow.Author.Tests.{eqb-true}
 use Rattle.line.specs.Grammar.{Param, Line}
@@ -19,8 +19,7 @@ use Rattle.convert.specs.Model.{Entry}
 use Rattle.convert.specs.Value.{takesType, readAs}
 use Rattle.convert.specs.Classify.{Seen, keyFrom, prefFrom, typesFrom, entryOf}
 use Rattle.convert_types.specs.Marks.{typeAt, marks, told, split}
-use Rattle.convert_marks.specs.Row.{Wide, Clear}
-use Rattle.convert_entry.specs.Rows.{Is, fitting, lineAt}
+use Rattle.convert_marks.specs.Row.{Clear}
 use Rattle.convert_entry.proofs.Named.{types}
 
 -- ---- TYPE
@@ -85,28 +84,6 @@ entry-some s w l =
     chained {E = Entry} (empty (l .group) && onlyNamed (w .map .parameters) ps && takesType (w .map .form) type) (keyFrom s (w .index) (valuesNamed (ascii "prop-id") ps))
     (prefFrom (valuesNamed (ascii "pref") ps)) (typesFrom (w .map .types) (valuesNamed (ascii "type") ps)) (readAs (w .map .form) type (l .value)) (λ k p ts vs. record { key = k; which = w .which; texts = vs; types = ts; pref = p })
 
-taken : (g : ℕ) (s : Bytes) → (g ≡ 0 → ⊥) → 0 < length s → empty (take g s) ≡ false
-taken zero s n l = absurd (n refl)
-taken (suc g) [] n l = absurd (omega arith)
-taken (suc g) (c ∷ s) n l = refl
-
-untaken : (g : ℕ) (s : Bytes) → g ≡ 0 → empty (take g s) ≡ true
-untaken g s e = rw e
-
-module _ (seen : Seen) (w : Slot) (s : Bytes) (group value : ℕ) (name : Bytes) (ps : List Param) where
-  abbrev line : Line
-  line = lineAt s group value name ps
-
-  -- a group
-  pub entry-grouped : (group ≡ 0 → ⊥) → 0 < length s → is-some (entryOf seen w line) ≡ false
-  entry-grouped n l = entry-some seen w line ∙ rw (taken group s n l)
-
-  -- no group: the parameters, TYPE, and the value
-  pub entry-is : group ≡ 0 → is-some (entryOf seen w line)
-      ≡ fitting seen w ps && is-some (typesFrom (w .map .types) (valuesNamed (ascii "type") (besidesValue ps))) && is-some (readAs (w .map .form) (valueType ps) (drop value s))
-  unfolding fitting
-  entry-is e = entry-some seen w line ∙ rw (untaken group s e)
-
 -- ---- rows that are all zero
 
 zero-at : (l : List ℕ) → all (λ x. eqb x 0) l ≡ true → (m : ℕ) → getD l m 0 ≡ 0
@@ -124,33 +101,6 @@ clear-eight = record {
   zero = zero-at eight refl;
 }
 
--- ---- the last three steps
-
 -- `&s[a..]`
 pub rest-part : (s : Bytes) (a : ℕ) → take (length s - a) (drop a s) ≡ drop a s
 rest-part s a = take-all (length s - a) (drop a s) (omega (arith, length-drop a s))
-
-module _ (seen : Seen) (w : Slot) {i n f : ℕ} (is : Is w i n f) (s : Bytes) (group value : ℕ) (name : Bytes) (ps : List Param) (z : group ≡ 0) where
-  abbrev whole : Bool
-  whole = is-some (entryOf seen w (lineAt s group value name ps))
-
-  pub entry-unfit : (b : Bool) → b ≡ fitting seen w ps → b ≡ false → false ≡ whole
-  entry-unfit b e h =
-      sym (entry-is seen w s group value name ps z
-      ∙ ap (λ x. x && is-some (typesFrom (w .map .types) (valuesNamed (ascii "type") (besidesValue ps))) && is-some (readAs (w .map .form) (valueType ps) (drop value s))) (sym e ∙ h))
-
-  fit-so-far : (b t : Bool) → b ≡ fitting seen w ps → b ≡ true → (row after : List ℕ) → told t after ≡ marks n (split (valuesNamed (ascii "type") ps)) row
-      → whole ≡ t && is-some (readAs (w .map .form) (valueType ps) (drop value s))
-  fit-so-far b t e h row after m =
-      entry-is seen w s group value name ps z
-      ∙ ap (λ x. x && is-some (typesFrom (w .map .types) (valuesNamed (ascii "type") (besidesValue ps))) && is-some (readAs (w .map .form) (valueType ps) (drop value s))) (sym e ∙ h)
-      ∙ ap (λ k. is-some (typesFrom k (valuesNamed (ascii "type") (besidesValue ps))) && is-some (readAs (w .map .form) (valueType ps) (drop value s))) (is .types)
-      ∙ ap (λ x. x && is-some (readAs (w .map .form) (valueType ps) (drop value s))) (types-told n ps t row after m)
-
-  pub entry-untyped : (b t : Bool) → b ≡ fitting seen w ps → b ≡ true → (row after : List ℕ) → told t after ≡ marks n (split (valuesNamed (ascii "type") ps)) row
-      → t ≡ false → false ≡ whole
-  entry-untyped b t e h row after m g = sym (fit-so-far b t e h row after m ∙ ap (λ x. x && is-some (readAs (w .map .form) (valueType ps) (drop value s))) g)
-
-  pub entry-read : (b t : Bool) → b ≡ fitting seen w ps → b ≡ true → (row after : List ℕ) → told t after ≡ marks n (split (valuesNamed (ascii "type") ps)) row
-      → t ≡ true → (v : Bool) → v ≡ is-some (readAs (w .map .form) (valueType ps) (drop value s)) → v ≡ whole
-  entry-read b t e h row after m g v k = k ∙ sym (fit-so-far b t e h row after m ∙ ap (λ x. x && is-some (readAs (w .map .form) (valueType ps) (drop value s))) g)

@@ -1,16 +1,10 @@
 // The values of TYPE: each in any letter case, split at commas, marked in a row of nine.
 ghost use mathlib.Core.Path.{_≡_};
-ghost use mathlib.Core.List.{_∷_, []};
 ghost use Prim.Native.Nat.{_≤_, _<_};
 ghost use lib.ListN.{length};
-ghost use Rattle.text.specs.Bytes.{ascii, parts};
-ghost use Rattle.line.specs.Params.{valuesNamed};
-ghost use Rattle.convert_types.specs.Marks.{typeAt, placed, marks, told, split, PartEnds, OfValues, OfParams, ParamMarked};
+ghost use Rattle.text.specs.Bytes.{parts};
+ghost use Rattle.convert_types.specs.Marks.{typeAt, placed, marks, told, split, PartEnds};
 use line_name::is_named;
-use line_params::NextParam;
-use line_params::NextValue;
-use line_params::next_param;
-use line_params::next_value;
 
 // The place of a value in the table of TYPE; 9 where it has none.
 fn place_of(v: &[u8]) -> usize
@@ -88,58 +82,5 @@ pub fn mark_value(row: &mut [u8], v: &[u8], n: usize) -> bool
             return true;
         }
         i = e + 1;
-    }
-}
-
-// Marks the values of one parameter.
-fn mark_values(row: &mut [u8], s: &[u8], at: usize, n: usize) -> bool
-    requires { ⌜ (9 ≤ length (now row)) × (at ≤ length (now s)) ⌝ }
-    ensures { λ r. ⌜ OfValues (now (s .entry)) at (λ vs. told r (now (row .exit)) ≡ marks n (split vs) (now (row .entry))) ⌝ }
-{
-    let mut i = at;
-    loop {
-        match next_value(s, i) {
-            NextValue::More(a, b, next) => {
-                if !mark_value(row, &s[a..b], n) {
-                    return false;
-                }
-                i = next;
-            }
-            NextValue::Last(a, b, _) => {
-                return mark_value(row, &s[a..b], n);
-            }
-            NextValue::Bad => {
-                return false;
-            }
-        }
-    }
-}
-
-// Marks the values of a parameter that is TYPE; its name stands from a to e.
-fn mark_param(row: &mut [u8], s: &[u8], a: usize, e: usize, n: usize) -> bool
-    requires { ⌜ (9 ≤ length (now row)) × (a ≤ e) × (e < length (now s)) ⌝ }
-    ensures { λ r. ⌜ ParamMarked (now (s .entry)) a e n r (now (row .entry)) (now (row .exit)) ⌝ }
-{
-    if !is_named(&s[a..e], b"type") {
-        return true;
-    }
-    mark_values(row, s, e + 1, n)
-}
-
-// Marks the values of every TYPE of the line whose parameters begin at `at`; false where one is not among the first n of the table.
-pub fn mark_types(row: &mut [u8], s: &[u8], at: usize, n: usize) -> bool
-    requires { ⌜ (9 ≤ length (now row)) × (at ≤ length (now s)) ⌝ }
-    ensures { λ r. ⌜ OfParams (now (s .entry)) at (λ ps. told r (now (row .exit)) ≡ marks n (split (valuesNamed (ascii "type") ps)) (now (row .entry))) ⌝ }
-{
-    let mut i = at;
-    loop {
-        let NextParam::Param(e, next, _) = next_param(s, i) else {
-            return true;
-        };
-        let a = i + 1;
-        if !mark_param(row, s, a, e, n) {
-            return false;
-        }
-        i = next;
     }
 }
