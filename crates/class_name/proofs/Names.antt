@@ -57,7 +57,7 @@ some-provided : {A : Type 0} (b : Bool) (o : Option A) → is-some (provided b o
 some-provided true o = refl
 some-provided false o = refl
 
-pub name-reads : (v : Bytes) → is-some (readName v) ≡ leb (length (splitText 59 v)) 7 && (any (otherThan 59 44) v && is-some (readText v))
+name-reads : (v : Bytes) → is-some (readName v) ≡ leb (length (splitText 59 v)) 7 && (any (otherThan 59 44) v && is-some (readText v))
 unfolding readName
 name-reads v =
     some-provided (leb (length (splitText 59 v)) 7) (chain (each partValues (splitText 59 v)) (λ ps. provided (any (λ vs. not (empty vs)) ps) (some (ownParts ps))))
@@ -65,3 +65,14 @@ name-reads v =
     (some-filled (each partValues (splitText 59 v)) (any (otherThan 59 44) v)
     (λ ps e. any-each partValues (λ x. any filled (splitText 44 x)) (λ vs. not (empty vs)) part-filled (splitText 59 v) ps e ∙ filled-values v)
     ∙ ap (λ b. any (otherThan 59 44) v && b) (parts-read v))
+
+-- the three tests of it, one after the other
+
+pub too-many-parts : (v : Bytes) → leb (length (splitText 59 v)) 7 ≡ false → is-some (readName v) ≡ false
+too-many-parts v many = name-reads v ∙ rw many
+
+pub all-empty : (v : Bytes) → leb (length (splitText 59 v)) 7 ≡ true → any (otherThan 59 44) v ≡ false → is-some (readName v) ≡ false
+all-empty v few none-other = name-reads v ∙ rw (few, none-other)
+
+pub escapes-alone : (v : Bytes) → leb (length (splitText 59 v)) 7 ≡ true → any (otherThan 59 44) v ≡ true → is-some (readName v) ≡ is-some (readText v)
+escapes-alone v few other = name-reads v ∙ rw (few, other)

@@ -9,5 +9,8 @@ use Rattle.line.specs.Write.{writeValue, writeValues, writeParams, write
 use Rattle.text.proofs.Opened.{text-opened}
 
 unfoldable pub line-opened : Unit {0}
-unfolding isName isLowerName isQuotable isBare isControl isBlank isKey isStem word paramValue valueTurn parameter paramTurn afterName lineReader valueCount fits isFrameName accepted readLine named valuesNamed lacking onlyNamed valueType besidesValue merged byLf withoutCr physical lacksLf sizeOf isBegin isEnd upToEnd framed escaped textFrom readText splitFrom splitText escape writeText rest unfold′ writeValue writeValues writeParams writeGroup writeLine width breaks foldFrom fold writeLines writeCard text-opened
+unfolding isName isLowerName isQuotable isBare isControl isBlank isKey isStem word paramValue valueTurn parameter paramTurn afterName lineReader
+    valueCount fits isFrameName accepted readLine named valuesNamed lacking onlyNamed valueType besidesValue merged byLf withoutCr physical lacksLf sizeOf
+    isBegin isEnd upToEnd framed escaped textFrom readText splitFrom splitText escape writeText rest unfold′ writeValue writeValues writeParams writeGroup
+    writeLine width breaks foldFrom fold writeLines writeCard text-opened
 line-opened = tt

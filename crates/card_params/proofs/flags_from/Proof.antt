@@ -73,7 +73,9 @@ returns-2 c =
     let kind-code = c .before .before .before .kind-code in
     let which-name = c .before .which-name in (
       loop .inv .1,
-      flags-other (now (args .s)) (args .at) (args .base) (now (args .names)) (now (args .row)) (loop .i) (loop .row) (loop .inv .2) (member-at .result) (member-at .ensures .1 .1) (kind-at .result) (kind-at .ensures) (kind-code .result) (kind-code .ensures) (c .before .before .if1 .left) (which-name .result) (which-name .ensures) (args .count) (pre .1 .0) (c .if2 .taken) _,
+      flags-other (now (args .s)) (args .at) (args .base) (now (args .names)) (now (args .row)) (loop .i) (loop .row) (loop .inv .2) (member-at .result)
+          (member-at .ensures .1 .1) (kind-at .result) (kind-at .ensures) (kind-code .result) (kind-code .ensures) (c .before .before .if1 .left)
+          (which-name .result) (which-name .ensures) (args .count) (pre .1 .0) (c .if2 .taken) _,
     )
 
 -- src/lib.rt:74:17
@@ -117,7 +119,9 @@ loop-again c =
     let h = turn-as (separator .ensures) (c .before .j .given .1) in (
       h .within .1,
       length-set (loop .row) (args .base + (which-name .result)) 1 ∙ (loop .inv .1),
-      flags-on (now (args .s)) (args .at) (args .base) (now (args .names)) (now (args .row)) (loop .i) (loop .row) (loop .inv .2) (member-at .result) (member-at .ensures .1 .1) (kind-at .result) (kind-at .ensures) (kind-code .result) (kind-code .ensures) (if1 .left) (which-name .result) (which-name .ensures) (args .count) (pre .1 .0) (if2 .left) _ h,
+      flags-on (now (args .s)) (args .at) (args .base) (now (args .names)) (now (args .row)) (loop .i) (loop .row) (loop .inv .2) (member-at .result)
+          (member-at .ensures .1 .1) (kind-at .result) (kind-at .ensures) (kind-code .result) (kind-code .ensures) (if1 .left) (which-name .result)
+          (which-name .ensures) (args .count) (pre .1 .0) (if2 .left) _ h,
     )
 
 -- src/lib.rt:80:24
@@ -146,7 +150,9 @@ returns-3 c =
     let if2 = c .before .before .before .before .if2 in
     let separator = c .before .before .before .separator in (
       length-set (loop .row) (args .base + (which-name .result)) 1 ∙ (loop .inv .1),
-      flags-all (now (args .s)) (args .at) (args .base) (now (args .names)) (now (args .row)) (loop .i) (loop .row) (loop .inv .2) (member-at .result) (member-at .ensures .1 .1) (kind-at .result) (kind-at .ensures) (kind-code .result) (kind-code .ensures) (if1 .left) (which-name .result) (which-name .ensures) (args .count) (pre .1 .0) (if2 .left) _ (turn-as (separator .ensures) (c .before .r .given .1)),
+      flags-all (now (args .s)) (args .at) (args .base) (now (args .names)) (now (args .row)) (loop .i) (loop .row) (loop .inv .2) (member-at .result)
+          (member-at .ensures .1 .1) (kind-at .result) (kind-at .ensures) (kind-code .result) (kind-code .ensures) (if1 .left) (which-name .result)
+          (which-name .ensures) (args .count) (pre .1 .0) (if2 .left) _ (turn-as (separator .ensures) (c .before .r .given .1)),
     )
 
 pub flags-from-spec : {M : Type 1} → statement M

@@ -76,7 +76,12 @@ returns-2 c =
     let n = c .before .before .before .before .before .before .before .n in
     let put-units = c .before .before .before .before .put-units in (
       tt,
-      (part-length (n .given .0 .0) (put-name .last .0) (put-units .last .0) (omega (arith, ink-in (put-name .ensures .0) (n .given .1), put-name .ensures .1 .0)) (put-units .ensures .1 .0) ∙ (put-name .ensures .1 .0), org-no-units (now (args .s)) (args .name) (args .units) _ (args .column) _ (put-name .result) (put-name .ensures .1 .1) _ _ _ _ (n .given .1) _ (put-units .result) (put-units .ensures .1 .1) _ (c .enum-told2 .given .1)),
+      (
+        part-length (n .given .0 .0) (put-name .last .0) (put-units .last .0)
+            (omega (arith, ink-in (put-name .ensures .0) (n .given .1), put-name .ensures .1 .0)) (put-units .ensures .1 .0) ∙ (put-name .ensures .1 .0),
+        org-no-units (now (args .s)) (args .name) (args .units) _ (args .column) _ (put-name .result) (put-name .ensures .1 .1) _ _ _ _ (n .given .1) _
+            (put-units .result) (put-units .ensures .1 .1) _ (c .enum-told2 .given .1),
+      ),
     )
 
 -- src/lib.rt:346:9
@@ -96,7 +101,12 @@ returns-3 c =
     let n = c .before .before .before .before .before .before .before .before .before .n in
     let put-units = c .before .before .before .before .before .before .put-units in (
       tt,
-      (part-length (n .given .0 .0) (put-name .last .0) (put-units .last .0) (omega (arith, ink-in (put-name .ensures .0) (n .given .1), put-name .ensures .1 .0)) (put-units .ensures .1 .0) ∙ (put-name .ensures .1 .0), org-nothing (now (args .s)) (args .name) (args .units) _ (args .column) _ (put-name .result) (put-name .ensures .1 .1) _ _ _ _ (n .given .1) _ (put-units .result) (put-units .ensures .1 .1) _ _ _ _ (c .before .before .m .given .1) _ (c .if1 .taken)),
+      (
+        part-length (n .given .0 .0) (put-name .last .0) (put-units .last .0)
+            (omega (arith, ink-in (put-name .ensures .0) (n .given .1), put-name .ensures .1 .0)) (put-units .ensures .1 .0) ∙ (put-name .ensures .1 .0),
+        org-nothing (now (args .s)) (args .name) (args .units) _ (args .column) _ (put-name .result) (put-name .ensures .1 .1) _ _ _ _ (n .given .1) _
+            (put-units .result) (put-units .ensures .1 .1) _ _ _ _ (c .before .before .m .given .1) _ (c .if1 .taken),
+      ),
     )
 
 -- src/lib.rt:348:13
@@ -133,7 +143,12 @@ returns-4 c =
     let put-units = c .before .before .before .before .before .before .put-units in
     let m = c .before .before .m in (
       omega (arith, part-in (n .given .0 .0) (put-name .last .0) (omega (arith, ink-in (put-name .ensures .0) (n .given .1), put-name .ensures .1 .0)) (ink-in (put-units .ensures .0) (m .given .1)), put-name .ensures .1 .0),
-      (part-length (n .given .0 .0) (put-name .last .0) (put-units .last .0) (omega (arith, ink-in (put-name .ensures .0) (n .given .1), put-name .ensures .1 .0)) (put-units .ensures .1 .0) ∙ (put-name .ensures .1 .0), org-line (now (args .s)) (args .name) (args .units) _ (args .column) _ (put-name .result) (put-name .ensures .1 .1) _ _ _ _ (n .given .1) _ (put-units .result) (put-units .ensures .1 .1) _ _ _ _ (m .given .1) (c .if1 .left)),
+      (
+        part-length (n .given .0 .0) (put-name .last .0) (put-units .last .0)
+            (omega (arith, ink-in (put-name .ensures .0) (n .given .1), put-name .ensures .1 .0)) (put-units .ensures .1 .0) ∙ (put-name .ensures .1 .0),
+        org-line (now (args .s)) (args .name) (args .units) _ (args .column) _ (put-name .result) (put-name .ensures .1 .1) _ _ _ _ (n .given .1) _
+            (put-units .result) (put-units .ensures .1 .1) _ _ _ _ (m .given .1) (c .if1 .left),
+      ),
     )
 
 pub put-organization-spec : {M : Type 1} → statement M

@@ -124,7 +124,12 @@ returns-2 c =
     let pen-unit = c .before .before .before .before .before .before .before .before .before .pen-unit in
     let separator = c .before .before .before .separator in (
       pens-in (pens-then (loop .inv .1 .pens) (pen-unit .ensures .pens)),
-      (pens-length (pens-then (loop .inv .1 .pens) (pen-unit .ensures .pens)), units-all (now (args .s)) (args .at) (now (args .out)) (args .column) (loop .i) (loop .n) (loop .k) (loop .ok) (loop .filled) (loop .out) (loop .inv .1) (element-at .result) (element-at .ensures .1) (unit-in .result) (unit-in .ensures) (if1 .left) (pen-unit .result) _ (pen-unit .ensures) _ (turn-as (separator .ensures) (c .before .r .given .1))),
+      (
+        pens-length (pens-then (loop .inv .1 .pens) (pen-unit .ensures .pens)),
+        units-all (now (args .s)) (args .at) (now (args .out)) (args .column) (loop .i) (loop .n) (loop .k) (loop .ok) (loop .filled) (loop .out)
+            (loop .inv .1) (element-at .result) (element-at .ensures .1) (unit-in .result) (unit-in .ensures) (if1 .left) (pen-unit .result) _
+            (pen-unit .ensures) _ (turn-as (separator .ensures) (c .before .r .given .1)),
+      ),
     )
 
 pub put-units-from-spec : {M : Type 1} → statement M

@@ -1,7 +1,6 @@
 use mathlib.Core.Path.{sym, _∙_}
-use denote.Ref.{now}
 use Rattle.text.proofs.Cases.{not-true, not-false}
-use Rattle.class_name.proofs.Names.{name-reads}
+use Rattle.class_name.proofs.Names.{too-many-parts, all-empty, escapes-alone}
 use borrow.Author.Needs.{needs}
 use Rattle.class_name.proofs.is_name.Statement.{statement}
 use Rattle.class_name.proofs.is_name.Tie as tie
@@ -15,26 +14,25 @@ few-parts-requires : tie.Need-few-parts-requires
 few-parts-requires c κs = search needs
 
 returns : tie.Need-returns
-returns c = sym (name-reads (now (c .before .before .before .args .v)) ∙ rw (sym (c .before .few-parts .ensures) ∙ not-true _ (c .if1 .taken)))
+returns c = sym (too-many-parts _ (sym (c .before .few-parts .ensures) ∙ not-true _ (c .if1 .taken)))
 
 has-other-requires : tie.Need-has-other-requires
 has-other-requires c κs = search needs
 
 returns-2 : tie.Need-returns-2
 returns-2 c =
-    sym (name-reads (now (c .before .before .before .before .before .args .v)) ∙ rw
-    (sym (c .before .before .before .few-parts .ensures) ∙ not-false _ (c .before .before .if1 .left), sym (c .before .has-other .ensures) ∙ not-true _ (c .if2 .taken)))
+    sym
+    (all-empty _ (sym (c .before .before .before .few-parts .ensures) ∙ not-false _ (c .before .before .if1 .left))
+    (sym (c .before .has-other .ensures) ∙ not-true _ (c .if2 .taken)))
 
 is-text-requires : tie.Need-is-text-requires
 is-text-requires c κs = search needs
 
 returns-3 : tie.Need-returns-3
 returns-3 c =
-    sym (name-reads (now (c .before .before .before .before .before .before .args .v)) ∙ rw (
-      sym (c .before .before .before .before .few-parts .ensures) ∙ not-false _
-          (c .before .before .before .if1 .left),
-      sym (c .before .before .has-other .ensures) ∙ not-false _ (c .before .if2 .left),
-    ) (sym (c .is-text .ensures)))
+    c .is-text .ensures ∙ sym
+    (escapes-alone _ (sym (c .before .before .before .before .few-parts .ensures) ∙ not-false _ (c .before .before .before .if1 .left))
+    (sym (c .before .before .has-other .ensures) ∙ not-false _ (c .before .if2 .left)))
 
 pub is-name-spec : {M : Type 1} → statement M
 is-name-spec =

@@ -103,7 +103,12 @@ enum-told-2 c = search needs
 
 -- what stood after the first byte of a character of several
 wide : (c : tie.After-wide-end) {r : Read} → c .wide-end .result ≡ r → Read-as (c .before .before .before .before .before .before .before .before .before .before .before .before) (turnOf r)
-wide c q = char-wide _ _ (c .before .before .before .before .before .before .before .before .before .before .look .result) (c .before .before .before .before .before .before .before .before .before .before .look .ensures .0) (c .before .before .before .before .before .before .before .before .before .if1 .left) (c .before .before .before .before .before .before .before .before .if2 .left) (sym (c .before .before .before .before .before .before .before .in-range .ensures) ∙ (c .before .before .before .before .before .before .if3 .left)) (sym (ap dueOf (c .before .before .low .given .1)) ∙ (c .before .before .before .before .due-after .ensures)) _ (gives-as (c .wide-end .ensures) q)
+wide c q =
+    let look = c .before .before .before .before .before .before .before .before .before .before .look in
+    let several = sym (c .before .before .before .before .before .before .before .in-range .ensures) ∙ c .before .before .before .before .before .before .if3 .left in
+    let due = sym (ap dueOf (c .before .before .low .given .1)) ∙ c .before .before .before .before .due-after .ensures in
+    char-wide _ _ (look .result) (look .ensures .0) (c .before .before .before .before .before .before .before .before .before .if1 .left) (c .before .before .before .before .before .before .before .before .if2 .left)
+    several due _ (gives-as (c .wide-end .ensures) q)
 
 returns-6 : tie.Need-returns-6
 returns-6 c = wide (c .before .before .before) (c .before .e2 .given .1)

@@ -94,14 +94,28 @@ unfolding item pair
     (λ c. begin (item (value (c .before .before .before .before .args .depth))) (now (c .before .before .before .before .args .s)) (c .before .before .skip-space .result) (c .before .before .skip-space .ensures .to))
     (λ c κs. omega (arith, c .loop .inv .to, c .before .before .before .before .before .pre .0))
     (λ c. search needs)
-    (λ c. elements-from (value (c .before .before .before .before .before .before .before .before .before .args .depth)) (c .before .before .before .before .before .before .before .skip-space .ensures) (c .before .before .before .before .before .before .look .result) (c .before .before .before .before .before .before .look .ensures .0) (c .before .before .before .before .before .if1 .left) (ended (c .before .before .before .before .loop .inv) (turn-bad _ (gives-as (c .before .before .before .value-end .ensures) (c .before .b .given .1)))))
+    (λ c.
+    let l = c .before .before .before .before in
+    let valued = gives-as (c .before .before .before .value-end .ensures) (c .before .b .given .1) in
+    elements-from (value (l .before .before .before .before .before .args .depth)) (l .before .before .before .skip-space .ensures) (l .before .before .look .result) (l .before .before .look .ensures .0) (l .before .if1 .left)
+    (ended (l .loop .inv) (turn-bad _ valued)))
     (λ c. search needs)
     (λ c κs. (gives-as (c .before .before .before .value-end .ensures) (c .before .e .given .1) .within .1, omega arith))
     (λ c. search needs)
     (λ c. let g = gives-as (c .before .before .before .before .before .before .before .value-end .ensures) (c .before .before .before .before .before .e .given .1) in let h = turn-as (c .before .before .before .separator .ensures) (c .before .j .given .1) in omega (arith, g .within .0, h .within .0, h .within .1))
-    (λ c. onward (c .before .before .before .before .before .before .before .before .loop .inv) (item-sep (value (c .before .before .before .before .before .before .before .before .before .before .before .before .before .args .depth)) (gives-as (c .before .before .before .before .before .before .before .value-end .ensures) (c .before .before .before .before .before .e .given .1)) (turn-as (c .before .before .before .separator .ensures) (c .before .j .given .1))))
+    (λ c.
+    let l = c .before .before .before .before .before .before .before .before in
+    let valued = gives-as (c .before .before .before .before .before .before .before .value-end .ensures) (c .before .before .before .before .before .e .given .1) in
+    let turned = turn-as (c .before .before .before .separator .ensures) (c .before .j .given .1) in
+    onward (l .loop .inv)
+    (item-sep (value (l .before .before .before .before .before .args .depth)) valued turned))
     (λ c. search needs)
-    (λ c. elements-from (value (c .before .before .before .before .before .before .before .before .before .before .before .before .before .args .depth)) (c .before .before .before .before .before .before .before .before .before .before .before .skip-space .ensures) (c .before .before .before .before .before .before .before .before .before .before .look .result) (c .before .before .before .before .before .before .before .before .before .before .look .ensures .0) (c .before .before .before .before .before .before .before .before .before .if1 .left) (ended (c .before .before .before .before .before .before .before .before .loop .inv) (item-sep (value (c .before .before .before .before .before .before .before .before .before .before .before .before .before .args .depth)) (gives-as (c .before .before .before .before .before .before .before .value-end .ensures) (c .before .before .before .before .before .e .given .1)) (turn-as (c .before .before .before .separator .ensures) (c .before .r .given .1))))))
+    (λ c.
+    let l = c .before .before .before .before .before .before .before .before in
+    let valued = gives-as (c .before .before .before .before .before .before .before .value-end .ensures) (c .before .before .before .before .before .e .given .1) in
+    let turned = turn-as (c .before .before .before .separator .ensures) (c .before .r .given .1) in
+    elements-from (value (l .before .before .before .before .before .args .depth)) (l .before .before .before .skip-space .ensures) (l .before .before .look .result) (l .before .before .look .ensures .0) (l .before .if1 .left)
+    (ended (l .loop .inv) (item-sep (value (l .before .before .before .before .before .args .depth)) valued turned))))
     (λ t. object-end-lts.spec (
       skip-space-reads.Asked,
       skip-space-reads.Learnt,
@@ -125,18 +139,43 @@ unfolding item pair
     (λ c. begin (pair (value (c .before .before .before .before .args .depth))) (now (c .before .before .before .before .args .s)) (c .before .before .skip-space .result) (c .before .before .skip-space .ensures .to))
     (λ c κs. c .loop .inv .to)
     (λ c. search needs)
-    (λ c. pairs-from (value (c .before .before .before .before .before .before .before .before .before .args .depth)) (c .before .before .before .before .before .before .before .skip-space .ensures) (c .before .before .before .before .before .before .look .result) (c .before .before .before .before .before .before .look .ensures .0) (c .before .before .before .before .before .if1 .left) (ended (c .before .before .before .before .loop .inv) (turn-bad _ (gives-as (c .before .before .before .name-end .ensures) (c .before .b .given .1)))))
+    (λ c.
+    let l = c .before .before .before .before in
+    let named = gives-as (c .before .before .before .name-end .ensures) (c .before .b .given .1) in
+    pairs-from (value (l .before .before .before .before .before .args .depth)) (l .before .before .before .skip-space .ensures) (l .before .before .look .result) (l .before .before .look .ensures .0) (l .before .if1 .left)
+    (ended (l .loop .inv) (turn-bad _ named)))
     (λ c. search needs)
     (λ c κs. omega (arith, gives-as (c .before .before .before .name-end .ensures) (c .before .v .given .1) .within .1, c .before .before .before .before .before .before .before .before .before .pre .0))
     (λ c. search needs)
-    (λ c. pairs-from (value (c .before .before .before .before .before .before .before .before .before .before .before .before .before .args .depth)) (c .before .before .before .before .before .before .before .before .before .before .before .skip-space .ensures) (c .before .before .before .before .before .before .before .before .before .before .look .result) (c .before .before .before .before .before .before .before .before .before .before .look .ensures .0) (c .before .before .before .before .before .before .before .before .before .if1 .left) (ended (c .before .before .before .before .before .before .before .before .loop .inv) (turn-next _ (gives-as (c .before .before .before .before .before .before .before .name-end .ensures) (c .before .before .before .before .before .v .given .1)) λ k. turn-bad _ (gives-as (c .before .before .before .value-end .ensures) (c .before .b2 .given .1)))))
+    (λ c.
+    let l = c .before .before .before .before .before .before .before .before in
+    let named = gives-as (c .before .before .before .before .before .before .before .name-end .ensures) (c .before .before .before .before .before .v .given .1) in
+    let valued = gives-as (c .before .before .before .value-end .ensures) (c .before .b2 .given .1) in
+    pairs-from (value (l .before .before .before .before .before .args .depth)) (l .before .before .before .skip-space .ensures) (l .before .before .look .result) (l .before .before .look .ensures .0) (l .before .if1 .left)
+    (ended (l .loop .inv) (turn-next _ named λ k. turn-bad _ valued)))
     (λ c. search needs)
     (λ c κs. (gives-as (c .before .before .before .value-end .ensures) (c .before .e .given .1) .within .1, omega arith))
     (λ c. search needs)
-    (λ c. let f = gives-as (c .before .before .before .before .before .before .before .before .before .before .before .name-end .ensures) (c .before .before .before .before .before .before .before .before .before .v .given .1) in let g = gives-as (c .before .before .before .before .before .before .before .value-end .ensures) (c .before .before .before .before .before .e .given .1) in let h = turn-as (c .before .before .before .separator .ensures) (c .before .j .given .1) in omega (arith, f .within .0, g .within .0, h .within .0, h .within .1))
-    (λ c. onward (c .before .before .before .before .before .before .before .before .before .before .before .before .loop .inv) (pair-sep (value (c .before .before .before .before .before .before .before .before .before .before .before .before .before .before .before .before .before .args .depth)) (gives-as (c .before .before .before .before .before .before .before .before .before .before .before .name-end .ensures) (c .before .before .before .before .before .before .before .before .before .v .given .1)) (gives-as (c .before .before .before .before .before .before .before .value-end .ensures) (c .before .before .before .before .before .e .given .1)) (turn-as (c .before .before .before .separator .ensures) (c .before .j .given .1))))
+    (λ c.
+    let f = gives-as (c .before .before .before .before .before .before .before .before .before .before .before .name-end .ensures) (c .before .before .before .before .before .before .before .before .before .v .given .1) in
+    let g = gives-as (c .before .before .before .before .before .before .before .value-end .ensures) (c .before .before .before .before .before .e .given .1) in
+    let h = turn-as (c .before .before .before .separator .ensures) (c .before .j .given .1) in
+    omega (arith, f .within .0, g .within .0, h .within .0, h .within .1))
+    (λ c.
+    let l = c .before .before .before .before .before .before .before .before .before .before .before .before in
+    let named = gives-as (c .before .before .before .before .before .before .before .before .before .before .before .name-end .ensures) (c .before .before .before .before .before .before .before .before .before .v .given .1) in
+    let valued = gives-as (c .before .before .before .before .before .before .before .value-end .ensures) (c .before .before .before .before .before .e .given .1) in
+    let turned = turn-as (c .before .before .before .separator .ensures) (c .before .j .given .1) in
+    onward (l .loop .inv)
+    (pair-sep (value (l .before .before .before .before .before .args .depth)) named valued turned))
     (λ c. search needs)
-    (λ c. pairs-from (value (c .before .before .before .before .before .before .before .before .before .before .before .before .before .before .before .before .before .args .depth)) (c .before .before .before .before .before .before .before .before .before .before .before .before .before .before .before .skip-space .ensures) (c .before .before .before .before .before .before .before .before .before .before .before .before .before .before .look .result) (c .before .before .before .before .before .before .before .before .before .before .before .before .before .before .look .ensures .0) (c .before .before .before .before .before .before .before .before .before .before .before .before .before .if1 .left) (ended (c .before .before .before .before .before .before .before .before .before .before .before .before .loop .inv) (pair-sep (value (c .before .before .before .before .before .before .before .before .before .before .before .before .before .before .before .before .before .args .depth)) (gives-as (c .before .before .before .before .before .before .before .before .before .before .before .name-end .ensures) (c .before .before .before .before .before .before .before .before .before .v .given .1)) (gives-as (c .before .before .before .before .before .before .before .value-end .ensures) (c .before .before .before .before .before .e .given .1)) (turn-as (c .before .before .before .separator .ensures) (c .before .r .given .1))))))
+    (λ c.
+    let l = c .before .before .before .before .before .before .before .before .before .before .before .before in
+    let named = gives-as (c .before .before .before .before .before .before .before .before .before .before .before .name-end .ensures) (c .before .before .before .before .before .before .before .before .before .v .given .1) in
+    let valued = gives-as (c .before .before .before .before .before .before .before .value-end .ensures) (c .before .before .before .before .before .e .given .1) in
+    let turned = turn-as (c .before .before .before .separator .ensures) (c .before .r .given .1) in
+    pairs-from (value (l .before .before .before .before .before .args .depth)) (l .before .before .before .skip-space .ensures) (l .before .before .look .result) (l .before .before .look .ensures .0) (l .before .if1 .left)
+    (ended (l .loop .inv) (pair-sep (value (l .before .before .before .before .before .args .depth)) named valued turned))))
     λ t. value-end-lts.spec (
       skip-space-reads.Asked,
       skip-space-reads.Learnt,

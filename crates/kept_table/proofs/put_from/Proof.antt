@@ -141,7 +141,12 @@ returns-2 c =
     let separator = c .before .before .before .separator in
     let k = step-in (put-member .ensures .1 .0) (g .given .1) in (
       record { long = put-member .ensures .0 .long ∙ (loop .inv .2); wide = put-member .ensures .0 .wide ∙ (loop .inv .3) },
-      ((omega (arith, k .0, loop .inv .4), omega (arith, k .1, loop .inv .2), k .2, omega (arith, k .3, loop .inv .6, loop .inv .0)), from-all (now (args .b)) (args .n) (now (args .s)) (args .at) (loop .i) (loop .f) (loop .b) (loop .t) (loop .inv .7) (member-at .result) (member-at .ensures .1 .1) (put-member .result) _ _ (put-member .ensures .1 .1) _ (g .given .1) _ (turn-as (separator .ensures) (c .before .r .given .1))),
+      (
+        (omega (arith, k .0, loop .inv .4), omega (arith, k .1, loop .inv .2), k .2, omega (arith, k .3, loop .inv .6, loop .inv .0)),
+        from-all (now (args .b)) (args .n) (now (args .s)) (args .at) (loop .i) (loop .f) (loop .b) (loop .t) (loop .inv .7) (member-at .result)
+            (member-at .ensures .1 .1) (put-member .result) _ _ (put-member .ensures .1 .1) _ (g .given .1) _
+            (turn-as (separator .ensures) (c .before .r .given .1)),
+      ),
     )
 
 pub put-from-spec : {M : Type 1} → statement M

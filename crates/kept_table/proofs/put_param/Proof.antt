@@ -148,7 +148,12 @@ returns-4 c =
     let g = name-in (now (args .b)) (args .n) (now (args .t)) (args .m) (now (args .s)) (args .q) (args .at) (pre .0) (put-decoded .result) _
     (put-decoded .ensures) _ (k .given .1) in (
       record { long = put-values .ensures .0 .long ∙ g .long; wide = put-values .ensures .0 .wide },
-      (rows-lower (args .n) _ _ (length (now (args .b))) (put-values .result) (omega (arith, g .to)) (g .long) (put-values .ensures .1 .0), param-all (now (args .b)) (args .n) (now (args .t)) (args .m) (now (args .s)) (args .q) (args .at) (pre .0) (put-decoded .result) _ (put-decoded .ensures) _ (k .given .1) (sym (is-word .ensures) ∙ not-false _ (if1 .left)) (sym (equals .ensures) ∙ (if2 .left)) (put-values .result) _ _ (put-values .ensures .1 .1)),
+      (
+        rows-lower (args .n) _ _ (length (now (args .b))) (put-values .result) (omega (arith, g .to)) (g .long) (put-values .ensures .1 .0),
+        param-all (now (args .b)) (args .n) (now (args .t)) (args .m) (now (args .s)) (args .q) (args .at) (pre .0) (put-decoded .result) _
+            (put-decoded .ensures) _ (k .given .1) (sym (is-word .ensures) ∙ not-false _ (if1 .left)) (sym (equals .ensures) ∙ (if2 .left)) (put-values .result)
+            _ _ (put-values .ensures .1 .1),
+      ),
     )
 
 pub put-param-spec : {M : Type 1} → statement M

@@ -73,7 +73,12 @@ returns-4 c =
     let put-start = c .before .before .put-start in
     let w = put-start .ensures in (
       fills-in (w .fills),
-      (fills-length (w .fills), head-plain (now (args .s)) (args .card) (args .version) (args .uid) (args .kind) (now (args .out)) (holds .result) (holds .ensures) (not-false _ (if1 .left)) (holds2 .result) (holds2 .ensures) (not-false _ (if2 .left)) (filled-in .result) (filled-in .ensures) (if3 .left) (put-start .result) _ w (if4 .taken)),
+      (
+        fills-length (w .fills),
+        head-plain (now (args .s)) (args .card) (args .version) (args .uid) (args .kind) (now (args .out)) (holds .result) (holds .ensures)
+            (not-false _ (if1 .left)) (holds2 .result) (holds2 .ensures) (not-false _ (if2 .left)) (filled-in .result) (filled-in .ensures) (if3 .left)
+            (put-start .result) _ w (if4 .taken),
+      ),
     )
 
 word-in-requires : tie.Need-word-in-requires
@@ -133,7 +138,12 @@ returns-6 c =
     (not-false _ (if2 .left)) (filled-in .result) (filled-in .ensures) (if3 .left) (put-start2 .result) _ w (if4 .left) (word-in .result)
     (word-in .ensures) (if5 .left) (put-string-line .result) _ l in (
       fills-in f,
-      (fills-length f, head-kind (now (args .s)) (args .card) (args .version) (args .uid) (args .kind) (now (args .out)) (holds .result) (holds .ensures) (not-false _ (if1 .left)) (holds2 .result) (holds2 .ensures) (not-false _ (if2 .left)) (filled-in .result) (filled-in .ensures) (if3 .left) (put-start2 .result) _ w (if4 .left) (word-in .result) (word-in .ensures) (if5 .left) (put-string-line .result) _ l),
+      (
+        fills-length f,
+        head-kind (now (args .s)) (args .card) (args .version) (args .uid) (args .kind) (now (args .out)) (holds .result) (holds .ensures)
+            (not-false _ (if1 .left)) (holds2 .result) (holds2 .ensures) (not-false _ (if2 .left)) (filled-in .result) (filled-in .ensures) (if3 .left)
+            (put-start2 .result) _ w (if4 .left) (word-in .result) (word-in .ensures) (if5 .left) (put-string-line .result) _ l,
+      ),
     )
 
 pub put-head-spec : {M : Type 1} → statement M

@@ -68,7 +68,11 @@ returns c =
     let member-at = c .before .before .before .before .before .before .before .before .before .member-at in
     let put-other = c .before .before .before .before .before .before .put-other in (
       tt,
-      (part-length (loop .n) (loop .out) (put-other .last .0) (loop .inv .1) (put-other .ensures .1 .0) ∙ (loop .inv .2), puts-wrong (now (args .s)) (args .at) (now (args .out)) (loop .i) (loop .n) (loop .lines) (loop .ok) (loop .out) (loop .inv .5) (member-at .result) (member-at .ensures .1 .0) (member-at .ensures .1 .1) (put-other .result) _ (put-other .ensures .1 .1 .1) _ (c .enum-told .given .1)),
+      (
+        part-length (loop .n) (loop .out) (put-other .last .0) (loop .inv .1) (put-other .ensures .1 .0) ∙ (loop .inv .2),
+        puts-wrong (now (args .s)) (args .at) (now (args .out)) (loop .i) (loop .n) (loop .lines) (loop .ok) (loop .out) (loop .inv .5) (member-at .result)
+            (member-at .ensures .1 .0) (member-at .ensures .1 .1) (put-other .result) _ (put-other .ensures .1 .1 .1) _ (c .enum-told .given .1),
+      ),
     )
 
 add-n : tie.Need-add-n Inv-loop μ-loop
@@ -144,7 +148,12 @@ returns-2 c =
     let k = c .before .before .before .before .before .k in
     let separator = c .before .before .before .separator in (
       omega (arith, part-in (loop .n) (loop .out) (loop .inv .1) (one-in (put-other .ensures .0) (k .given .1) .0), loop .inv .2),
-      (part-length (loop .n) (loop .out) (put-other .last .0) (loop .inv .1) (put-other .ensures .1 .0) ∙ (loop .inv .2), puts-all (now (args .s)) (args .at) (now (args .out)) (loop .i) (loop .n) (loop .lines) (loop .ok) (loop .out) (loop .inv .5) (member-at .result) (member-at .ensures .1 .0) (member-at .ensures .1 .1) (put-other .result) _ (put-other .ensures .1 .1 .1) _ _ _ (k .given .1) _ (turn-as (separator .ensures) (c .before .r .given .1))),
+      (
+        part-length (loop .n) (loop .out) (put-other .last .0) (loop .inv .1) (put-other .ensures .1 .0) ∙ (loop .inv .2),
+        puts-all (now (args .s)) (args .at) (now (args .out)) (loop .i) (loop .n) (loop .lines) (loop .ok) (loop .out) (loop .inv .5) (member-at .result)
+            (member-at .ensures .1 .0) (member-at .ensures .1 .1) (put-other .result) _ (put-other .ensures .1 .1 .1) _ _ _ (k .given .1) _
+            (turn-as (separator .ensures) (c .before .r .given .1)),
+      ),
     )
 
 pub put-from-spec : {M : Type 1} → statement M

@@ -81,8 +81,16 @@ put-member-line-requires c κs =
     let pre = c .before .before .before .before .before .before .before .before .before .before .before .before .before .before .before .before .before .before .before .before .before .before .before .before .before .before .before .before .before .before .pre in
     let fill = c .before .before .before .before .before .before .before .before .before .before .before .before .before .before .before .before .before .before .before .before .before .before .before .before .fill in
     let if1 = c .before .before .before .before .before .before .before .before .before .before .before .before .before .before .before .before .before .before .before .before .before .if1 in
-    let scan-rows = c .before .before .before .before .before .before .before .before .before .before .before .before .before .before .before .before .scan-rows in (
-      record { rowed = record { wide = record { counts = search needs; froms = search needs; tos = search needs }; row = scan-rows .ensures; sound = (filled-holds (fill .result) (fill .ensures) (not-false _ (if1 .left))) .sound }; seen = (pre .2 .1) .seen; name = (pre .2 .1) .name; value = (pre .2 .1) .value; is = held-member (filled-holds (fill .result) (fill .ensures) (not-false _ (if1 .left))) (pre .2 .1) },
+    let scan-rows = c .before .before .before .before .before .before .before .before .before .before .before .before .before .before .before .before .scan-rows in
+    let holds = filled-holds (fill .result) (fill .ensures) (not-false _ (if1 .left)) in
+    let member = pre .2 .1 in (
+      record {
+        rowed = record { wide = record { counts = search needs; froms = search needs; tos = search needs }; row = scan-rows .ensures; sound = holds .sound };
+        seen = member .seen;
+        name = member .name;
+        value = member .value;
+        is = held-member holds member;
+      },
       pre .1,
     )
 

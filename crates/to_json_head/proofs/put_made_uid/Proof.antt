@@ -183,4 +183,10 @@ returns-6 c =
     .before .before in puts-as (made-bytes (now (c1 .args .stem)) (c1 .args .number)) (all (s₅ c .left))
 
 pub put-made-uid-spec : {M : Type 1} → statement M
-put-made-uid-spec = tie.close (tie.spec put-byte-requires enum-known-a enum-told same-length returns sub-put-spelled part-put-spelled-start part-put-spelled-end put-spelled-requires enum-known-b enum-told-2 same-length-2 returns-2 add-ab sub-put-byte part-put-byte-start part-put-byte-end put-byte-requires-2 enum-known-c enum-told-3 same-length-3 returns-3 add-ac sub-put-number part-put-number-start part-put-number-end put-number-requires enum-known-d enum-told-4 same-length-4 returns-4 add-ad sub-put-byte-2 part-put-byte-start-2 part-put-byte-end-2 put-byte-requires-3 enum-known-e enum-told-5 same-length-5 returns-5 add-ae same-length-6 returns-6)
+put-made-uid-spec =
+    tie.close
+    (tie.spec put-byte-requires enum-known-a enum-told same-length returns sub-put-spelled part-put-spelled-start part-put-spelled-end
+    put-spelled-requires enum-known-b enum-told-2 same-length-2 returns-2 add-ab sub-put-byte part-put-byte-start part-put-byte-end
+    put-byte-requires-2 enum-known-c enum-told-3 same-length-3 returns-3 add-ac sub-put-number part-put-number-start part-put-number-end
+    put-number-requires enum-known-d enum-told-4 same-length-4 returns-4 add-ad sub-put-byte-2 part-put-byte-start-2 part-put-byte-end-2
+    put-byte-requires-3 enum-known-e enum-told-5 same-length-5 returns-5 add-ae same-length-6 returns-6)

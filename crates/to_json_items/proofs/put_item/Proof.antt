@@ -133,4 +133,9 @@ returns-5 : tie.Need-returns-5
 returns-5 c = all (s₄ c .left)
 
 pub put-item-spec : {M : Type 1} → statement M
-put-item-spec = tie.close (tie.spec put-item-head-requires enum-known-a enum-told same-length returns sub-put-lead part-put-lead-start part-put-lead-end put-lead-requires enum-known-b enum-told-2 same-length-2 returns-2 add-ab sub-put-plain part-put-plain-start part-put-plain-end put-plain-requires enum-known-c enum-told-3 same-length-3 returns-3 add-ac sub-put-byte part-put-byte-start part-put-byte-end put-byte-requires enum-known-d enum-told-4 same-length-4 returns-4 add-ad same-length-5 returns-5)
+put-item-spec =
+    tie.close
+    (tie.spec put-item-head-requires enum-known-a enum-told same-length returns sub-put-lead part-put-lead-start part-put-lead-end put-lead-requires
+    enum-known-b enum-told-2 same-length-2 returns-2 add-ab sub-put-plain part-put-plain-start part-put-plain-end put-plain-requires enum-known-c
+    enum-told-3 same-length-3 returns-3 add-ac sub-put-byte part-put-byte-start part-put-byte-end put-byte-requires enum-known-d enum-told-4
+    same-length-4 returns-4 add-ad same-length-5 returns-5)

@@ -125,4 +125,7 @@ returns-8 c =
 pub put-lead-spec : {M : Type 1} → statement M
 put-lead-spec =
     tie.close
-    (tie.spec slice-aggregate-put-text put-text-requires same-length returns slice-aggregate-put-text-2 put-text-requires-2 same-length-2 returns-2 slice-aggregate-put-text-3 put-text-requires-3 same-length-3 returns-3 slice-aggregate-put-text-4 put-text-requires-4 same-length-4 returns-4 slice-aggregate-put-text-5 put-text-requires-5 same-length-5 returns-5 slice-aggregate-put-text-6 put-text-requires-6 same-length-6 returns-6 slice-aggregate-put-text-7 put-text-requires-7 same-length-7 returns-7 slice-aggregate-put-text-8 put-text-requires-8 same-length-8 returns-8)
+    (tie.spec slice-aggregate-put-text put-text-requires same-length returns slice-aggregate-put-text-2 put-text-requires-2 same-length-2 returns-2
+    slice-aggregate-put-text-3 put-text-requires-3 same-length-3 returns-3 slice-aggregate-put-text-4 put-text-requires-4 same-length-4 returns-4
+    slice-aggregate-put-text-5 put-text-requires-5 same-length-5 returns-5 slice-aggregate-put-text-6 put-text-requires-6 same-length-6 returns-6
+    slice-aggregate-put-text-7 put-text-requires-7 same-length-7 returns-7 slice-aggregate-put-text-8 put-text-requires-8 same-length-8 returns-8)

@@ -137,4 +137,9 @@ returns-5 : tie.Need-returns-5
 returns-5 c = all (s₄ c .left)
 
 pub put-head-spec : {M : Type 1} → statement M
-put-head-spec = tie.close (tie.spec put-byte-requires enum-known-a enum-told same-length returns sub-put-lower part-put-lower-start part-put-lower-end put-lower-requires enum-known-b enum-told-2 same-length-2 returns-2 add-ab sub-put-text part-put-text-start part-put-text-end slice-aggregate-put-text put-text-requires enum-known-c enum-told-3 same-length-3 returns-3 add-ac sub-put-group part-put-group-start part-put-group-end put-group-requires enum-known-d enum-told-4 same-length-4 returns-4 add-ad same-length-5 returns-5)
+put-head-spec =
+    tie.close
+    (tie.spec put-byte-requires enum-known-a enum-told same-length returns sub-put-lower part-put-lower-start part-put-lower-end put-lower-requires
+    enum-known-b enum-told-2 same-length-2 returns-2 add-ab sub-put-text part-put-text-start part-put-text-end slice-aggregate-put-text
+    put-text-requires enum-known-c enum-told-3 same-length-3 returns-3 add-ac sub-put-group part-put-group-start part-put-group-end put-group-requires
+    enum-known-d enum-told-4 same-length-4 returns-4 add-ad same-length-5 returns-5)

@@ -170,4 +170,10 @@ returns-4 c =
     puts-as (kept-bytes (now (c1 .args .s)) (now (c1 .args .t)) (c1 .pre .group)) (all (s₃ c .left))
 
 pub put-kept-spec : {M : Type 1} → statement M
-put-kept-spec = tie.close (tie.spec shared-slice-read-a shared-slice-read-b shared-slice-read-c shared-slice-read-d sub-put-head part-put-head-start part-put-head-end sub-put-head-2 part-put-head-start-2 part-put-head-end-2 put-head-requires enum-known-x enum-told same-length returns sub-put-params part-put-params-start part-put-params-end put-params-requires enum-known-y enum-told-2 same-length-2 returns-2 add-xy shared-slice-read-e shared-slice-read-f sub-put-tail part-put-tail-start part-put-tail-end sub-put-tail-2 part-put-tail-start-2 part-put-tail-end-2 put-tail-requires enum-known-z enum-told-3 same-length-3 returns-3 add-xyz same-length-4 returns-4)
+put-kept-spec =
+    tie.close
+    (tie.spec shared-slice-read-a shared-slice-read-b shared-slice-read-c shared-slice-read-d sub-put-head part-put-head-start part-put-head-end
+    sub-put-head-2 part-put-head-start-2 part-put-head-end-2 put-head-requires enum-known-x enum-told same-length returns sub-put-params
+    part-put-params-start part-put-params-end put-params-requires enum-known-y enum-told-2 same-length-2 returns-2 add-xy shared-slice-read-e
+    shared-slice-read-f sub-put-tail part-put-tail-start part-put-tail-end sub-put-tail-2 part-put-tail-start-2 part-put-tail-end-2 put-tail-requires
+    enum-known-z enum-told-3 same-length-3 returns-3 add-xyz same-length-4 returns-4)

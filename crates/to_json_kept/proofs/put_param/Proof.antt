@@ -150,4 +150,9 @@ returns-5 : tie.Need-returns-5
 returns-5 c = all (s₄ c .left)
 
 pub put-param-spec : {M : Type 1} → statement M
-put-param-spec = tie.close (tie.spec put-comma-requires enum-known-c enum-told same-length returns sub-put-lower part-put-lower-start part-put-lower-end sub-put-lower-2 part-put-lower-start-2 part-put-lower-end-2 put-lower-requires enum-known-d enum-told-2 same-length-2 returns-2 add-cd sub-put-byte part-put-byte-start part-put-byte-end put-byte-requires enum-known-e enum-told-3 same-length-3 returns-3 add-ce sub-put-values part-put-values-start part-put-values-end put-values-requires enum-known-f enum-told-4 same-length-4 returns-4 add-cf same-length-5 returns-5)
+put-param-spec =
+    tie.close
+    (tie.spec put-comma-requires enum-known-c enum-told same-length returns sub-put-lower part-put-lower-start part-put-lower-end sub-put-lower-2
+    part-put-lower-start-2 part-put-lower-end-2 put-lower-requires enum-known-d enum-told-2 same-length-2 returns-2 add-cd sub-put-byte
+    part-put-byte-start part-put-byte-end put-byte-requires enum-known-e enum-told-3 same-length-3 returns-3 add-ce sub-put-values
+    part-put-values-start part-put-values-end put-values-requires enum-known-f enum-told-4 same-length-4 returns-4 add-cf same-length-5 returns-5)

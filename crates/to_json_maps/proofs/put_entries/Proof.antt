@@ -78,7 +78,10 @@ put-turn-requires c κs =
     let is-of = c .before .before .before .before .is-of in
     let if1 = c .before .before .before .if1 in (
       omega (arith, loop .inv .1, pre .0),
-      has-turn (pre .1 .lines .1) (now (args .out)) (now (args .prefix)) (args .i) (loop .k) (loop-test .taken) (is-of .result) (is-of .ensures) (loop .inv .2 (pre .1 .lines .0) (pre .1 .lines .1)) (not-false _ (if1 .left)) (omega (arith, pre .1 .small)) (now (args .row)) (args .taken) (pre .1 .ids (pre .1 .lines .0) (pre .1 .lines .1)) (c .before .before .line-at .ensures) (prefix-short (args .i) (now (args .prefix)) (pre .1 .small) (pre .1 .is)),
+      has-turn (pre .1 .lines .1) (now (args .out)) (now (args .prefix)) (args .i) (loop .k) (loop-test .taken) (is-of .result) (is-of .ensures)
+          (loop .inv .2 (pre .1 .lines .0) (pre .1 .lines .1)) (not-false _ (if1 .left)) (omega (arith, pre .1 .small)) (now (args .row)) (args .taken)
+          (pre .1 .ids (pre .1 .lines .0) (pre .1 .lines .1)) (c .before .before .line-at .ensures)
+          (prefix-short (args .i) (now (args .prefix)) (pre .1 .small) (pre .1 .is)),
     )
 
 enum-known-bytes : tie.Need-enum-known-bytes Inv-loop μ-loop
@@ -156,7 +159,9 @@ loop-again-2 c =
     let put-turn = c .before .before .before .before .before .before .before .put-turn in (
       omega arith,
       search needs,
-      λ cs h. mapping-next h (now (args .out)) (now (args .prefix)) (args .i) (loop .k) (loop-test .taken) (is-of .result) (is-of .ensures) (loop .inv .2 cs h) (not-false _ (if1 .left)) (omega (arith, pre .1 .small)) (now (args .row)) (args .taken) (pre .1 .ids cs h) (line-at .ensures) (pre .1 .is ∙ prefixes (args .i)) (put-turn .result) (put-turn .last .0) (put-turn .ensures) _ _ (c .before .bytes .given .1),
+      λ cs h. mapping-next h (now (args .out)) (now (args .prefix)) (args .i) (loop .k) (loop-test .taken) (is-of .result) (is-of .ensures)
+          (loop .inv .2 cs h) (not-false _ (if1 .left)) (omega (arith, pre .1 .small)) (now (args .row)) (args .taken) (pre .1 .ids cs h) (line-at .ensures)
+          (pre .1 .is ∙ prefixes (args .i)) (put-turn .result) (put-turn .last .0) (put-turn .ensures) _ _ (c .before .bytes .given .1),
     )
 
 same-length-3 : tie.Need-same-length-3 Inv-loop μ-loop

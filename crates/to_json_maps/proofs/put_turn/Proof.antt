@@ -99,8 +99,12 @@ returns-2 c =
     let if2 = c .before .before .before .before .before .before .before .before .before .before .before .if2 in
     let next-number = c .before .before .before .before .before .before .before .before .before .before .next-number in
     let put-made = c .before .before .before .before .put-made in
-    λ ids used e x. (
-      piece-as (mapAt (args .i)) (args .begun) e (key-made x (next-number .ensures (now (args .prefix)) ids (x .blocked) (x .going .from)) (no-key (x .enters .seen) (x .enters .slot) (now (args .s)) (fill .last .0) (held-entry (filled-holds (fill .result) (fill .ensures) (not-false _ (if1 .left))) (x .enters)) (scan-rows .ensures) (if2 .taken))) (said-as (c .enum-told .given .1) (put-made .ensures e (held-converts (filled-holds (fill .result) (fill .ensures) (not-false _ (if1 .left))) (x .enters)))),
+    let holds = filled-holds (fill .result) (fill .ensures) (not-false _ (if1 .left)) in
+    λ ids used e x.
+    let made = next-number .ensures (now (args .prefix)) ids (x .blocked) (x .going .from) in
+    let keyless = no-key (x .enters .seen) (x .enters .slot) (now (args .s)) (fill .last .0) (held-entry holds (x .enters)) (scan-rows .ensures) (if2 .taken) in (
+      piece-as (mapAt (args .i)) (args .begun) e (key-made x made keyless)
+          (said-as (c .enum-told .given .1) (put-made .ensures e (held-converts holds (x .enters)))),
       tt,
     )
 
@@ -119,9 +123,13 @@ returns-3 c =
     let if2 = c .before .before .before .before .before .before .before .before .before .before .before .before .if2 in
     let next-number = c .before .before .before .before .before .before .before .before .before .before .before .next-number in
     let put-made = c .before .before .before .before .before .put-made in
-    λ ids used e x. (
-      piece-as (mapAt (args .i)) (args .begun) e (key-made x (next-number .ensures (now (args .prefix)) ids (x .blocked) (x .going .from)) (no-key (x .enters .seen) (x .enters .slot) (now (args .s)) (fill .last .0) (held-entry (filled-holds (fill .result) (fill .ensures) (not-false _ (if1 .left))) (x .enters)) (scan-rows .ensures) (if2 .taken))) (said-as (c .before .bytes .given .1) (put-made .ensures e (held-converts (filled-holds (fill .result) (fill .ensures) (not-false _ (if1 .left))) (x .enters)))),
-      goes-made x (next-number .ensures (now (args .prefix)) ids (x .blocked) (x .going .from)) (no-key (x .enters .seen) (x .enters .slot) (now (args .s)) (fill .last .0) (held-entry (filled-holds (fill .result) (fill .ensures) (not-false _ (if1 .left))) (x .enters)) (scan-rows .ensures) (if2 .taken)),
+    let holds = filled-holds (fill .result) (fill .ensures) (not-false _ (if1 .left)) in
+    λ ids used e x.
+    let made = next-number .ensures (now (args .prefix)) ids (x .blocked) (x .going .from) in
+    let keyless = no-key (x .enters .seen) (x .enters .slot) (now (args .s)) (fill .last .0) (held-entry holds (x .enters)) (scan-rows .ensures) (if2 .taken) in (
+      piece-as (mapAt (args .i)) (args .begun) e (key-made x made keyless)
+          (said-as (c .before .bytes .given .1) (put-made .ensures e (held-converts holds (x .enters)))),
+      goes-made x made keyless,
     )
 
 array-read-a : tie.Need-array-read-a

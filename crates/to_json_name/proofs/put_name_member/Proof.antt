@@ -138,4 +138,9 @@ returns-5 : tie.Need-returns-5
 returns-5 c = all (s₄ c .left)
 
 pub put-name-member-spec : {M : Type 1} → statement M
-put-name-member-spec = tie.close (tie.spec slice-aggregate-put-text put-text-requires enum-known-a enum-told same-length returns sub-put-full-if part-put-full-if-start part-put-full-if-end put-full-if-requires enum-known-b enum-told-2 same-length-2 returns-2 add-ab sub-put-parts-if part-put-parts-if-start part-put-parts-if-end put-parts-if-requires enum-known-c enum-told-3 same-length-3 returns-3 add-ac sub-put-byte part-put-byte-start part-put-byte-end put-byte-requires enum-known-d enum-told-4 same-length-4 returns-4 add-ad same-length-5 returns-5)
+put-name-member-spec =
+    tie.close
+    (tie.spec slice-aggregate-put-text put-text-requires enum-known-a enum-told same-length returns sub-put-full-if part-put-full-if-start
+    part-put-full-if-end put-full-if-requires enum-known-b enum-told-2 same-length-2 returns-2 add-ab sub-put-parts-if part-put-parts-if-start
+    part-put-parts-if-end put-parts-if-requires enum-known-c enum-told-3 same-length-3 returns-3 add-ac sub-put-byte part-put-byte-start
+    part-put-byte-end put-byte-requires enum-known-d enum-told-4 same-length-4 returns-4 add-ad same-length-5 returns-5)
