@@ -50,7 +50,7 @@ fn each<'a, T, U>(
 }
 
 /// 4: UTF-8 without controls but tab.
-fn read_text(bytes: &[u8]) -> Option<&str> {
+pub fn read_text(bytes: &[u8]) -> Option<&str> {
     let text = std::str::from_utf8(bytes).ok()?;
     (!text.contains(is_control)).then_some(text)
 }

@@ -131,7 +131,7 @@ fn is_derived_fn(line: &Line) -> bool {
 
 /// The parameters of a line of one of the seven maps.
 #[derive(Default)]
-struct Given {
+pub struct Given {
     prop_id: Option<String>,
     pref: Option<u8>,
     types: BTreeSet<usize>,
@@ -140,7 +140,7 @@ struct Given {
 
 impl Given {
     /// None if there is another parameter, or another value of a listed one.
-    fn read(map: Map, line: &Line) -> Option<Given> {
+    pub fn read(map: Map, line: &Line) -> Option<Given> {
         let mut given = Given::default();
         for param in counting_params(line) {
             match (param.name.as_str(), &param.values[..]) {

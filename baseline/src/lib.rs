@@ -36,3 +36,15 @@ pub use normal_card::normal_card;
 pub use normal_json::normal_json;
 pub use refusal::Answer;
 pub use stream::{Reader, Told, What};
+
+/// The functions behind the services, for `tools/bench --pieces`, which measures
+/// them one by one.
+pub mod pieces {
+    pub use crate::check::read_text as read_line;
+    pub use crate::json::{read as read_json, string_at, write as write_json, write_string, Value};
+    pub use crate::judge::Given;
+    pub use crate::line::{fold, Line};
+    pub use crate::physical::{between_begin_and_end, unfold};
+    pub use crate::table::Map;
+    pub use crate::text::{read as read_text, write as write_text};
+}

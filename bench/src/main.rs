@@ -1,7 +1,9 @@
 //! The proved library beside the baseline, in one run. Run it by `tools/bench`:
-//! words choose what is done, `times`, `stack`, `plot FILE`.
+//! words choose what is done, `times`, `stack`, `plot FILE`, `pieces`.
 
 mod measure;
+#[cfg(feature = "pieces")]
+mod pieces;
 mod plot;
 mod stack;
 mod times;
@@ -15,6 +17,8 @@ fn main() -> ExitCode {
     match &words[..] {
         ["times"] => times::print(),
         ["stack"] => stack::print(),
+        #[cfg(feature = "pieces")]
+        ["pieces"] => pieces::print(),
         ["plot", file] => {
             if let Err(error) = plot::write(file) {
                 eprintln!("{file}: {error}");
@@ -22,7 +26,7 @@ fn main() -> ExitCode {
             }
         }
         _ => {
-            eprintln!("usage: thymebarrel-bench times | stack | plot FILE");
+            eprintln!("usage: thymebarrel-bench times | stack | plot FILE | pieces");
             return ExitCode::from(2);
         }
     }

@@ -4,7 +4,7 @@
 mod read;
 mod write;
 
-pub use read::read;
+pub use read::{read, string_at};
 pub use write::{write, write_string};
 
 /// A JSON value. Numbers keep their spelling; objects keep their order.

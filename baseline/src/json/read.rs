@@ -16,13 +16,7 @@ pub struct Document {
 /// Reads a whole text of at most `depth` nested objects and arrays. The error
 /// is 11's place.
 pub fn read(input: &[u8], depth: usize) -> Result<Document, usize> {
-    let mut reader = Reader {
-        input,
-        at: 0,
-        depth,
-        spans: Vec::new(),
-        blemished: false,
-    };
+    let mut reader = Reader::new(input, 0, depth);
     reader.skip_space();
     let value = reader.value(depth)?;
     reader.skip_space();
@@ -39,6 +33,11 @@ pub fn read(input: &[u8], depth: usize) -> Result<Document, usize> {
     })
 }
 
+/// The string whose first quote stands at a place.
+pub fn string_at(input: &[u8], at: usize) -> Result<String, usize> {
+    Reader::new(input, at, 0).string()
+}
+
 struct Reader<'a> {
     input: &'a [u8],
     at: usize,
@@ -49,6 +48,16 @@ struct Reader<'a> {
 }
 
 impl Reader<'_> {
+    fn new(input: &[u8], at: usize, depth: usize) -> Reader<'_> {
+        Reader {
+            input,
+            at,
+            depth,
+            spans: Vec::new(),
+            blemished: false,
+        }
+    }
+
     fn peek(&self) -> Option<u8> {
         self.input.get(self.at).copied()
     }

@@ -1,0 +1,90 @@
+//! The C functions of crates/pieces, each behind a safe function: every pointer
+//! comes from a slice that lives through the call, with that slice's length beside it,
+//! and what is written is borrowed mutably.
+
+use super::parts::Parts;
+
+extern "C" {
+    fn pieces_unfold(out: *mut u8, out_length: usize, starts: *mut usize, starts_length: usize, card: *const u8, card_length: usize) -> usize;
+    fn pieces_garbled(bytes: *const u8, bytes_length: usize, starts: *const usize, starts_length: usize, count: usize) -> usize;
+    fn pieces_parse(table: *mut usize, table_length: usize, bytes: *const u8, bytes_length: usize, starts: *const usize, starts_length: usize, count: usize) -> usize;
+    fn pieces_parse_and_mark(
+        table: *mut usize,
+        table_length: usize,
+        row: *mut u8,
+        row_length: usize,
+        bytes: *const u8,
+        bytes_length: usize,
+        starts: *const usize,
+        starts_length: usize,
+        count: usize,
+    ) -> usize;
+    fn pieces_put(out: *mut u8, out_length: usize, bytes: *const u8, bytes_length: usize, starts: *const usize, starts_length: usize, count: usize, writer: u8) -> usize;
+    fn pieces_read(json: *const u8, json_length: usize) -> usize;
+    fn pieces_walk(json: *const u8, json_length: usize) -> usize;
+}
+
+/// The writers of `pieces_put`, by their numbers.
+#[derive(Clone, Copy)]
+#[repr(u8)]
+pub enum Writer {
+    ReadText,
+    WriteText,
+    Line,
+    Pen,
+    JsonString,
+    Decode,
+    Requote,
+    Compact,
+}
+
+/// The unfolded lines between BEGIN and END: how many.
+pub fn unfold(out: &mut [u8], starts: &mut [usize], card: &[u8]) -> usize {
+    unsafe { pieces_unfold(out.as_mut_ptr(), out.len(), starts.as_mut_ptr(), starts.len(), card.as_ptr(), card.len()) }
+}
+
+/// The first line that is not UTF-8 or has a control; 0 where there is none.
+pub fn garbled(lines: &Parts) -> usize {
+    let (bytes, starts) = (&lines.bytes, &lines.starts);
+    unsafe { pieces_garbled(bytes.as_ptr(), bytes.len(), starts.as_ptr(), starts.len(), lines.count()) }
+}
+
+/// How many lines were taken apart.
+pub fn parse(table: &mut [usize], lines: &Parts) -> usize {
+    let (bytes, starts) = (&lines.bytes, &lines.starts);
+    unsafe { pieces_parse(table.as_mut_ptr(), table.len(), bytes.as_ptr(), bytes.len(), starts.as_ptr(), starts.len(), lines.count()) }
+}
+
+/// The same, and their parameters looked at: how many have none that is not listed.
+pub fn parse_and_mark(table: &mut [usize], row: &mut [u8], lines: &Parts) -> usize {
+    let (bytes, starts) = (&lines.bytes, &lines.starts);
+    unsafe {
+        pieces_parse_and_mark(
+            table.as_mut_ptr(),
+            table.len(),
+            row.as_mut_ptr(),
+            row.len(),
+            bytes.as_ptr(),
+            bytes.len(),
+            starts.as_ptr(),
+            starts.len(),
+            lines.count(),
+        )
+    }
+}
+
+/// Each part by that writer, one after the other: how many bytes were written.
+pub fn put(out: &mut [u8], parts: &Parts, writer: Writer) -> usize {
+    let (bytes, starts) = (&parts.bytes, &parts.starts);
+    unsafe { pieces_put(out.as_mut_ptr(), out.len(), bytes.as_ptr(), bytes.len(), starts.as_ptr(), starts.len(), parts.count(), writer as u8) }
+}
+
+/// The length of a JSON text; 0 where it is refused.
+pub fn read(json: &[u8]) -> usize {
+    unsafe { pieces_read(json.as_ptr(), json.len()) }
+}
+
+/// Where the value ends, its leaves visited.
+pub fn walk(json: &[u8]) -> usize {
+    unsafe { pieces_walk(json.as_ptr(), json.len()) }
+}
