@@ -15,8 +15,9 @@ use Rattle.text.proofs.Places.{byte-default}
 use Rattle.json.specs.Strings.{before}
 use Rattle.json_strings.specs.Spelled.{spelled, spells}
 use Rattle.json_strings.proofs.Laws.{quote-at, bare-at, nothing-at}
-use Rattle.json_index.specs.Index.{NameEnds, nameIn, RawByte, Together, Alike}
-use Rattle.json_index.proofs.Names.{front, ends-on}
+use Rattle.json_index.specs.declared.Tried.{Tried}
+use Rattle.json_index.specs.Index.{NameEnds, nameIn, RawByte, Together, Alike, Differs, Tries}
+use Rattle.json_index.proofs.Names.{front, ends-on, name-full}
 
 pub raw-low : (c : ℕ) {r : Bool} → 32 ≤ c → c ≤ 92 → (c ≡ 34 → ⊥) → r ≡ not (eqb c 92) → RawByte c r
 raw-low c l u n e = subst (RawByte c) (sym e) (go (eqb c 92) (eqb-false c 92))
@@ -39,11 +40,6 @@ spells-other : (b c : ℕ) (o : Option Bytes) (x : Bytes) → (c ≡ b → ⊥) 
 unfolding same
 spells-other b c none x n = refl
 spells-other b c (some y) x n = rw (ne-eqb c b n)
-
-spells-short : (b : ℕ) (o : Option Bytes) → spells (before (b ∷ []) o) [] ≡ false
-unfolding same
-spells-short b none = refl
-spells-short b (some y) = refl
 
 pub byte-same : (s : Bytes) (i : ℕ) → i < length s → getD s i 0 ≡ byteAt s i
 byte-same s i h = byte-default s i 0 256 h
@@ -70,34 +66,52 @@ module _ (s : Bytes) (at : ℕ) (names : Bytes) (a i k : ℕ) (t : Together s at
 none-in : (names : Bytes) (a e : ℕ) → e ≡ a → nameIn names a e ≡ []
 none-in names a e q = let z : e - a ≡ 0 = omega arith in ap (λ (n : ℕ). take n (drop a names)) z
 
-module _ (s : Bytes) (at : ℕ) (names : Bytes) (a e : ℕ) (from : a ≤ e) (within : e ≤ length names) where
-  pub part-past : length s ≤ at → false ≡ spells (spelled s at) (nameIn names a e)
+module _ (s : Bytes) (at : ℕ) (names : Bytes) (a e : ℕ) where
+  pub part-past : length s ≤ at → spells (spelled s at) (nameIn names a e) ≡ false
   part-past l =
       let z : 256 ≡ byteAt s at = sym (List·getD-eq-default s 256 l) in
-      sym (ap (λ (o : Option Bytes). spells o (nameIn names a e)) (nothing-at s at 256 z (λ z. omega arith) (λ z. omega arith) (beyond 32 255 256 (omega arith))))
+      ap (λ (o : Option Bytes). spells o (nameIn names a e)) (nothing-at s at 256 z (λ z. omega arith) (λ z. omega arith) (beyond 32 255 256 (omega arith)))
 
   module _ (b : ℕ) (is-b : b ≡ byteAt s at) where
-    pub part-quote : b ≡ 34 → eqb e a ≡ spells (spelled s at) (nameIn names a e)
+    part-first : (o : Option Bytes) → spelled s at ≡ o → a < length names → a < e → spells (spelled s at) (nameIn names a e) ≡ spells o (getD names a 0 ∷ nameIn names (a + 1) e)
+    part-first o x inside full = ap (λ (y : Option Bytes). spells y (nameIn names a e)) x ∙ ap (spells o) (front names a e inside (omega arith))
+
+    part-none : b ≡ 34 → a < length names → a < e → spells (spelled s at) (nameIn names a e) ≡ false
     unfolding same
-    part-quote q =
-        ap (λ (x : Bool). x)
-        (byBool (eqb e a)
-        (λ z. z ∙ sym (ap (spells (some [])) (none-in names a e (eqb-true e a z))))
-        (λ z. let n : a + 1 ≤ e = (let m = eqb-false e a z in omega arith) in
-        z ∙ sym (ap (spells (some [])) (front names a e (omega arith) n))))
-        ∙ sym (ap (λ (o : Option Bytes). spells o (nameIn names a e)) (quote-at s at b is-b q))
+    part-none q inside full = part-first (some []) (quote-at s at b is-b q) inside full
 
-    module _ (n : b ≡ 34 → ⊥) (m : b ≡ 92 → ⊥) where
-      by-byte : ((x : Option Bytes) → spells (before (b ∷ []) x) (nameIn names a e) ≡ false) → false ≡ spells (spelled s at) (nameIn names a e)
-      by-byte f =
-          byBool (between 32 255 b)
-          (λ h. sym (ap (λ (o : Option Bytes). spells o (nameIn names a e)) (bare-at s at b is-b n m (between-true 32 255 b h .0) (omega (arith, between-true 32 255 b h .1))) ∙ f (spelled s (at + 1))))
-          (λ h. sym (ap (λ (o : Option Bytes). spells o (nameIn names a e)) (nothing-at s at b is-b n m h)))
+    pub part-quote : b ≡ 34 → a ≤ e → e ≤ length names → eqb e a ≡ spells (spelled s at) (nameIn names a e)
+    unfolding same
+    part-quote q from within =
+        byBool (eqb e a)
+        (λ z. z ∙ sym (ap (λ (o : Option Bytes). spells o (nameIn names a e)) (quote-at s at b is-b q) ∙ ap (spells (some [])) (none-in names a e (eqb-true e a z))))
+        (λ z. let m = eqb-false e a z in
+        z ∙ sym (part-none q (omega arith) (omega arith)))
 
-      pub part-short : e ≡ a → false ≡ spells (spelled s at) (nameIn names a e)
-      part-short q = by-byte (λ x. ap (spells (before (b ∷ []) x)) (none-in names a e q) ∙ spells-short b x)
+    part-other : (b ≡ 34 → ⊥) → (b ≡ 92 → ⊥) → (getD names a 0 ≡ b → ⊥) → a < length names → a < e → spells (spelled s at) (nameIn names a e) ≡ false
+    part-other n m q inside full =
+        byBool (between 32 255 b)
+        (λ h.
+        part-first _ (bare-at s at b is-b n m (between-true 32 255 b h .0) (omega (arith, between-true 32 255 b h .1))) inside full
+        ∙ spells-other b (getD names a 0) (spelled s (at + 1)) (nameIn names (a + 1) e) q)
+        (λ h. part-first none (nothing-at s at b is-b n m h) inside full)
 
-      pub part-other : (e ≡ a → ⊥) → (getD names a 0 ≡ b → ⊥) → false ≡ spells (spelled s at) (nameIn names a e)
-      part-other p q =
-          let l : a + 1 ≤ e = omega arith in
-          by-byte (λ x. ap (spells (before (b ∷ []) x)) (front names a e (omega arith) l) ∙ spells-other b (getD names a 0) x (nameIn names (a + 1) e) q)
+-- ---- by the first bytes of the string and of the name
+
+pub differs-as : (s : Bytes) (at : ℕ) (names : Bytes) (a : ℕ) {r q : Bool} → Differs s at names a r → r ≡ q → Differs s at names a q
+differs-as s at names a h e = subst (Differs s at names a) e h
+
+module _ (s : Bytes) (at : ℕ) (names : Bytes) (a : ℕ) (in-s : at < length s) (in-names : a < length names) (b : ℕ) (is-b : b ≡ byteAt s at) where
+  pub differs-first : (b ≡ getD names a 0 → ⊥) → (b ≡ 92 → ⊥) → {r : Bool} → r ≡ not (eqb (getD names a 0) 44) → Differs s at names a r
+  differs-first n m z = subst (Differs s at names a) (sym z) (by (eqb (getD names a 0) 44) (eqb-false (getD names a 0) 44))
+    where
+      by : (x : Bool) → (x ≡ false → getD names a 0 ≡ 44 → ⊥) → Differs s at names a (not x)
+      by true f = in-s
+      by false f = λ e h.
+          let l = name-full names a e in-names (f refl) h in
+          byBool (eqb b 34)
+          (λ q. part-none s at names a e b is-b (eqb-true b 34 q) in-names l)
+          (λ q. part-other s at names a e b is-b (eqb-false b 34 q) m (λ y. n (sym y)) in-names l)
+
+pub tried-as : (s : Bytes) (at : ℕ) (names : Bytes) (a : ℕ) {r q : Tried} → Tries s at names a r → r ≡ q → Tries s at names a q
+tried-as s at names a h e = subst (Tries s at names a) e h

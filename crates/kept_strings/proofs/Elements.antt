@@ -30,11 +30,11 @@ use Rattle.json_scan.proofs.First.{as-array}
 use Rattle.json_access.specs.declared.Part.{Part}
 use Rattle.json_access.specs.declared.Kind.{Kind}
 use Rattle.json_access.specs.declared.Kind.the-variants.{Null, True, False, Number, String, Array, Object}
-use Rattle.json_access.specs.Access.{TellsElement, Stands, kindOf}
+use Rattle.json_access.specs.Access.{placeOf, EndsAt, TellsElement, Stands, kindOf}
 use Rattle.json_access.proofs.First.{is-object, is-string, is-true, is-false, is-null, is-number}
 use Rattle.json_index.specs.Index.{jsonAt}
 use Rattle.json_index.proofs.Objects.{at-inv}
-use Rattle.json_index.proofs.Laws.{stands-at}
+use Rattle.json_index.proofs.Laws.{stands-at, last-end}
 
 item-takes : (d : ℕ) → Takes (item (value d))
 item-takes d s a w e = item-fine (value d) (value-fine d) .less s a w e
@@ -76,6 +76,10 @@ module _ (d : ℕ) (s : Bytes) (i : ℕ) (rest : Elems) (t : Bytes) (e : loop (i
       let l = loop-split (item (value d)) (item-takes d) (drop i s) rest t e in
       let n = sep-stop (econs (z .val) enil) (econs (z .val)) 93 w (l .0) (l .1) (sym (ap (sep 93 _ _) ends) ∙ sym (z .turn) ∙ l .2) in
       got-what (rw n at (l .3))
+
+  -- what is left after the last
+  pub elems-end : (r : Read) → GivesT s x (sep 93 zero suc (drop x s)) (Stop r) → t ≡ drop (placeOf r) s
+  elems-end r w = last-end (item (value d)) (item-takes d) s i x rest t e 93 (econs (z .val) enil) (econs (z .val)) (z .turn ∙ ap (sep 93 _ _) ends) r w
 
 -- ---- decoded
 
@@ -147,6 +151,10 @@ module _ (d : ℕ) (s : Bytes) (at i b : ℕ) (h : Passes isSpace s at i) (e : b
         let x = under-inv jarr (loop (item (value d)) (drop j s)) (sym (opened ∙ ap (under jarr) (some-in n)) ∙ u .2) in
         let m = decoded-array (x .0) (u .0) v (x .2) (u .3) in
         (x .0, m .0, u .1, x .1, m .1, sym (m .2))
+
+    -- what is left after them is what is left after the array
+    pub array-end : (c ≡ 93 → ⊥) → (r : ℕ) → ((us : Elems) (t : Bytes) → loop (item (value d)) (drop j s) ≡ got us t → t ≡ drop r s) → EndsAt (suc d) s at r
+    array-end n r g w u x = let y = under-inv jarr (loop (item (value d)) (drop j s)) (sym (opened ∙ ap (under jarr) (some-in n)) ∙ x) in g (y .0) u (y .1)
 
 -- ---- a value that is no array
 
