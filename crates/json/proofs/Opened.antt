@@ -9,5 +9,9 @@ use Rattle.json.specs.Tree.{membersOf, elemsOf, fromMembers, fromElems, 
 use Rattle.text.proofs.Opened.{text-opened}
 
 unfoldable pub json-opened : Unit {0}
-unfolding spelled spelledAll quoted written writtenElems elemsAfter writtenMembers membersAfter compact isSpace Ws Mark Digits Int Frac isE isSign Exp Number isHex isShort isPlain Wide Character String Scalar Array Named Object Value Text Completes spanOf spans found lookUp partOf sound reading decodeAfter decode decoded decodedElems decodedMembers names distinctNames distinctElems distinctMembers skip token hexVal hex hex4 short escape isLead tailBytes following character characters string opt digits int frac sign exp number four scalar sep name item elements pair pairs value text membersOf elemsOf fromMembers fromElems field text-opened
+unfolding spelled spelledAll quoted written writtenElems elemsAfter writtenMembers membersAfter compact isSpace Ws Mark Digits Int Frac isE isSign Exp
+    Number isHex isShort isPlain Wide Character String Scalar Array Named Object Value Text Completes spanOf spans found lookUp partOf sound reading
+    decodeAfter decode decoded decodedElems decodedMembers names distinctNames distinctElems distinctMembers skip token hexVal hex hex4 short escape
+    isLead tailBytes following character characters string opt digits int frac sign exp number four scalar sep name item elements pair pairs value text
+    membersOf elemsOf fromMembers fromElems field text-opened
 json-opened = tt

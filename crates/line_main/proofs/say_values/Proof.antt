@@ -47,7 +47,14 @@ slice-aggregate-say-3 c = search needs
 say-requires-4 : tie.Need-say-requires-4
 say-requires-4 c κs = search needs
 
-there : (c : tie.After-say4) → ValueNamed (now (c .before .before .before .before .before .before .before .before .before .before .before .before .before .before .before .before .before .before .args .line)) (c .before .before .before .before .before .before .before .before .before .before .before .before .before .before .before .before .before .before .args .at) (now (c .before .before .before .before .before .before .before .before .before .before .before .before .before .before .before .before .before .before .args .name)) (c .before .before .before .a .given .0 .0) (c .before .before .before .a .given .0 .1 .0)
+-- the value that was found, where it was told to stand
+abbrev There : tie.After-say4 → Type 0
+There c =
+    let args = c .before .before .before .before .before .before .before .before .before .before .before .before .before .before .before .before .before .before .args in
+    let a = c .before .before .before .a in
+    ValueNamed (now (args .line)) (args .at) (now (args .name)) (a .given .0 .0) (a .given .0 .1 .0)
+
+there : (c : tie.After-say4) → There c
 there c =
     let args = c .before .before .before .before .before .before .before .before .before .before .before .before .before .before .before .before .before .before .args in
     let first-value = c .before .before .before .before .before .first-value in

@@ -3,7 +3,7 @@ use native.Mathlib.Omega.{arith}
 use mathlib.Core.Path.{sym, ap, subst, _∙_}
 use borrow.Author.Needs.{needs}
 use borrow.Rule.Slice.PartMut.{putMid}
-use Prim.Native.Nat.{ℕ, _+_, _-_}
+use Prim.Native.Nat.{ℕ, _+_, _-_, _≤_}
 use lib.ListN.{length, getD}
 use Rattle.to_card_lines.proofs.Laws.{lines-in, part-length, part-in}
 use Rattle.to_card_lines.specs.declared.Lines.the-variants.{All}
@@ -85,9 +85,21 @@ returns-2 c =
     let args = c .before .before .before .before .before .before .before .before .before .before .before .before .before .before .before .before .before .before .before .before .before .before .before .before .before .before .before .before .before .before .before .before .before .args in
     let put-name = c .before .before .before .before .before .before .before .before .before .before .before .before .before .before .before .before .before .before .before .before .before .before .before .put-name in
     let n = c .before .before .before .before .before .before .before .before .before .before .before .before .before .before .before .before .before .before .before .n in
-    let put-rest = c .before .before .before .before .before .before .before .before .before .before .before .before .put-rest in (
+    let put-rest = c .before .before .before .before .before .before .before .before .before .before .before .before .put-rest in
+    let s = now (args .s) in
+    let slots = now (args .slots) in
+    let out = now (args .out) in
+    let k = n .given .0 in
+    let full = subst (SaysFull s (getD slots 4 0)) (n .given .1) (put-name .ensures .1 .1 .1) in
+    let inside : k .0 ≤ length (put-name .last .0) = omega (arith, lines-in (put-name .ensures .0) (ap asLines (n .given .1)), put-name .ensures .1 .0) in
+    let as-long = part-length (k .0) (put-name .last .0) (put-rest .last .0) inside (put-rest .ensures .1 .0) in (
       tt,
-      (part-length (n .given .0 .0) (put-name .last .0) (put-rest .last .0) (omega (arith, lines-in (put-name .ensures .0) (ap asLines (n .given .1)), put-name .ensures .1 .0)) (put-rest .ensures .1 .0) ∙ (put-name .ensures .1 .0), body-second (now (args .s)) (now (args .slots)) (now (args .out)) (asLines (put-name .result)) (put-name .last .0) (put-name .ensures .1 .1 .0) (n .given .0 .0) (n .given .0 .1 .0) (n .given .0 .1 .1 .0) (ap asLines (n .given .1)) (n .given .0 .1 .1 .1 .0) (subst (SaysFull (now (args .s)) (getD (now (args .slots)) 4 0)) (n .given .1) (put-name .ensures .1 .1 .1)) (put-rest .result) (put-rest .last .0) (put-rest .ensures .1 .1) (c .enum-told2 .given .1) _),
+      (
+        as-long ∙ put-name .ensures .1 .0,
+        body-second s slots out (asLines (put-name .result)) (put-name .last .0) (put-name .ensures .1 .1 .0)
+            (k .0) (k .1 .0) (k .1 .1 .0) (ap asLines (n .given .1)) (k .1 .1 .1 .0) full
+            (put-rest .result) (put-rest .last .0) (put-rest .ensures .1 .1) (c .enum-told2 .given .1) _,
+      ),
     )
 
 add-bytes : tie.Need-add-bytes
@@ -138,9 +150,24 @@ returns-3 c =
     let n = c .before .before .before .before .before .before .before .before .before .before .before .before .before .before .before .before .before .before .before .before .before .before .n in
     let put-rest = c .before .before .before .before .before .before .before .before .before .before .before .before .before .before .before .put-rest in
     let m = c .before .before .before .m in
-    let counted = c .up-to2 .ensures ∙ ap (λ (k : ℕ). few (k + (m .given .0 .1 .0))) (c .before .up-to .ensures) in (
-      (omega (arith, part-in (n .given .0 .0) (put-name .last .0) (omega (arith, lines-in (put-name .ensures .0) (ap asLines (n .given .1)), put-name .ensures .1 .0)) ((few-at (put-rest .ensures .0) (m .given .1)) .0), put-name .ensures .1 .0), omega (arith, c .up-to2 .ensures)),
-      (part-length (n .given .0 .0) (put-name .last .0) (put-rest .last .0) (omega (arith, lines-in (put-name .ensures .0) (ap asLines (n .given .1)), put-name .ensures .1 .0)) (put-rest .ensures .1 .0) ∙ (put-name .ensures .1 .0), subst (λ (k : ℕ). PutsBody (now (args .s)) (now (args .slots)) (now (args .out)) (All (n .given .0 .0 + (m .given .0 .0)) k (n .given .0 .1 .1 .0 && (m .given .0 .1 .1 .0))) (putMid (n .given .0 .0) (length (put-name .last .0) - (n .given .0 .0)) (put-name .last .0) (put-rest .last .0))) (sym counted) (body-all (now (args .s)) (now (args .slots)) (now (args .out)) (asLines (put-name .result)) (put-name .last .0) (put-name .ensures .1 .1 .0) (n .given .0 .0) (n .given .0 .1 .0) (n .given .0 .1 .1 .0) (ap asLines (n .given .1)) (n .given .0 .1 .1 .1 .0) (subst (SaysFull (now (args .s)) (getD (now (args .slots)) 4 0)) (n .given .1) (put-name .ensures .1 .1 .1)) (put-rest .result) (put-rest .last .0) (put-rest .ensures .1 .1) (m .given .0 .0) (m .given .0 .1 .0) (m .given .0 .1 .1 .0) (m .given .1))),
+    let counted = c .up-to2 .ensures ∙ ap (λ (k : ℕ). few (k + (m .given .0 .1 .0))) (c .before .up-to .ensures) in
+    let s = now (args .s) in
+    let slots = now (args .slots) in
+    let out = now (args .out) in
+    let k = n .given .0 in
+    let j = m .given .0 in
+    let full = subst (SaysFull s (getD slots 4 0)) (n .given .1) (put-name .ensures .1 .1 .1) in
+    let inside : k .0 ≤ length (put-name .last .0) = omega (arith, lines-in (put-name .ensures .0) (ap asLines (n .given .1)), put-name .ensures .1 .0) in
+    let as-long = part-length (k .0) (put-name .last .0) (put-rest .last .0) inside (put-rest .ensures .1 .0) in
+    let written = putMid (k .0) (length (put-name .last .0) - k .0) (put-name .last .0) (put-rest .last .0) in (
+      (omega (arith, part-in (k .0) (put-name .last .0) inside ((few-at (put-rest .ensures .0) (m .given .1)) .0), put-name .ensures .1 .0), omega (arith, c .up-to2 .ensures)),
+      (
+        as-long ∙ put-name .ensures .1 .0,
+        subst (λ (lines : ℕ). PutsBody s slots out (All (k .0 + j .0) lines (k .1 .1 .0 && j .1 .1 .0)) written) (sym counted)
+            (body-all s slots out (asLines (put-name .result)) (put-name .last .0) (put-name .ensures .1 .1 .0)
+            (k .0) (k .1 .0) (k .1 .1 .0) (ap asLines (n .given .1)) (k .1 .1 .1 .0) full
+            (put-rest .result) (put-rest .last .0) (put-rest .ensures .1 .1) (j .0) (j .1 .0) (j .1 .1 .0) (m .given .1)),
+      ),
     )
 
 pub put-body-spec : {M : Type 1} → statement M

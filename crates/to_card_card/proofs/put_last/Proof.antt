@@ -3,7 +3,7 @@ use native.Mathlib.Omega.{arith}
 use mathlib.Core.Path.{sym, ap, subst, _∙_}
 use borrow.Author.Needs.{needs}
 use borrow.Rule.Slice.PartMut.{putMid}
-use Prim.Native.Nat.{ℕ, _+_, _-_}
+use Prim.Native.Nat.{ℕ, _+_, _-_, _≤_}
 use lib.ListN.{length}
 use Rattle.to_card_lines.proofs.Laws.{lines-in, part-length, part-in}
 use Rattle.to_card_lines.specs.declared.Lines.the-variants.{All}
@@ -101,9 +101,20 @@ returns-2 c =
     let args = c .before .before .before .before .before .before .before .before .before .before .before .before .before .before .before .before .before .before .before .before .before .before .before .before .before .before .before .before .before .before .before .before .args in
     let put-others = c .before .before .before .before .before .before .before .before .before .before .before .before .before .before .before .before .before .before .before .before .before .before .put-others in
     let n = c .before .before .before .before .before .before .before .before .before .before .before .before .before .before .before .before .n in
-    let put-kept = c .before .before .before .before .before .before .before .before .before .before .put-kept in (
+    let put-kept = c .before .before .before .before .before .before .before .before .before .before .put-kept in
+    let s = now (args .s) in
+    let slots = now (args .slots) in
+    let out = now (args .out) in
+    let k = n .given .0 in
+    let inside : k .0 ≤ length (put-others .last .0) = omega (arith, lines-in (put-others .ensures .0) (n .given .1), put-others .ensures .1 .0) in
+    let as-long = part-length (k .0) (put-others .last .0) (put-kept .last .0) inside (put-kept .ensures .1 .0) in (
       tt,
-      (part-length (n .given .0 .0) (put-others .last .0) (put-kept .last .0) (omega (arith, lines-in (put-others .ensures .0) (n .given .1), put-others .ensures .1 .0)) (put-kept .ensures .1 .0) ∙ (put-others .ensures .1 .0), last-second (now (args .s)) (now (args .slots)) (args .full) (args .parts) (now (args .out)) (put-others .result) (put-others .last .0) (put-others .ensures .1 .1) (n .given .0 .0) (n .given .0 .1 .0) (n .given .0 .1 .1 .0) (n .given .1) (put-kept .result) (put-kept .last .0) (put-kept .ensures .1 .1) (c .enum-told2 .given .1) _),
+      (
+        as-long ∙ put-others .ensures .1 .0,
+        last-second s slots (args .full) (args .parts) out (put-others .result) (put-others .last .0) (put-others .ensures .1 .1)
+            (k .0) (k .1 .0) (k .1 .1 .0) (n .given .1)
+            (put-kept .result) (put-kept .last .0) (put-kept .ensures .1 .1) (c .enum-told2 .given .1) _,
+      ),
     )
 
 -- src/lib.rt:67:17
@@ -168,9 +179,23 @@ returns-3 c =
     let m = c .before .before .before .before .m in
     let up-to2 = c .before .up-to2 in
     let counted = c .up-to3 .ensures ∙ ap (λ (k : ℕ). few (k + (up-to2 .result))) (c .before .before .up-to .ensures) ∙ ap
-    (λ (k : ℕ). few (few (n .given .0 .1 .0) + k)) (up-to2 .ensures) in (
-      (omega (arith, part-in (n .given .0 .0) (put-others .last .0) (omega (arith, lines-in (put-others .ensures .0) (n .given .1), put-others .ensures .1 .0)) (lines-in (put-kept .ensures .0) (m .given .1)), put-others .ensures .1 .0), omega (arith, c .up-to3 .ensures)),
-      (part-length (n .given .0 .0) (put-others .last .0) (put-kept .last .0) (omega (arith, lines-in (put-others .ensures .0) (n .given .1), put-others .ensures .1 .0)) (put-kept .ensures .1 .0) ∙ (put-others .ensures .1 .0), subst (λ (k : ℕ). PutsLast (now (args .s)) (now (args .slots)) (args .full) (args .parts) (now (args .out)) (All (n .given .0 .0 + (m .given .0 .0)) k (n .given .0 .1 .1 .0 && (m .given .0 .1 .1 .0))) (putMid (n .given .0 .0) (length (put-others .last .0) - (n .given .0 .0)) (put-others .last .0) (put-kept .last .0))) (sym counted) (last-all (now (args .s)) (now (args .slots)) (args .full) (args .parts) (now (args .out)) (put-others .result) (put-others .last .0) (put-others .ensures .1 .1) (n .given .0 .0) (n .given .0 .1 .0) (n .given .0 .1 .1 .0) (n .given .1) (put-kept .result) (put-kept .last .0) (put-kept .ensures .1 .1) (m .given .0 .0) (m .given .0 .1 .0) (m .given .0 .1 .1 .0) (m .given .1))),
+    (λ (k : ℕ). few (few (n .given .0 .1 .0) + k)) (up-to2 .ensures) in
+    let s = now (args .s) in
+    let slots = now (args .slots) in
+    let out = now (args .out) in
+    let k = n .given .0 in
+    let j = m .given .0 in
+    let inside : k .0 ≤ length (put-others .last .0) = omega (arith, lines-in (put-others .ensures .0) (n .given .1), put-others .ensures .1 .0) in
+    let as-long = part-length (k .0) (put-others .last .0) (put-kept .last .0) inside (put-kept .ensures .1 .0) in
+    let written = putMid (k .0) (length (put-others .last .0) - k .0) (put-others .last .0) (put-kept .last .0) in (
+      (omega (arith, part-in (k .0) (put-others .last .0) inside (lines-in (put-kept .ensures .0) (m .given .1)), put-others .ensures .1 .0), omega (arith, c .up-to3 .ensures)),
+      (
+        as-long ∙ put-others .ensures .1 .0,
+        subst (λ (lines : ℕ). PutsLast s slots (args .full) (args .parts) out (All (k .0 + j .0) lines (k .1 .1 .0 && j .1 .1 .0)) written) (sym counted)
+            (last-all s slots (args .full) (args .parts) out (put-others .result) (put-others .last .0) (put-others .ensures .1 .1)
+            (k .0) (k .1 .0) (k .1 .1 .0) (n .given .1)
+            (put-kept .result) (put-kept .last .0) (put-kept .ensures .1 .1) (j .0) (j .1 .0) (j .1 .1 .0) (m .given .1)),
+      ),
     )
 
 pub put-last-spec : {M : Type 1} → statement M

@@ -31,7 +31,15 @@ same-length-2 c = search needs
 
 -- src/lib.rt:45:1
 returns-2 : tie.Need-returns-2
-returns-2 c = (c .before .before .before .before .put-members .ensures .0, (c .before .before .before .before .put-members .ensures .1 .0, others-some (now (c .before .before .before .before .before .before .before .before .before .before .before .before .before .args .s)) (now (c .before .before .before .before .before .before .before .before .before .before .before .before .before .args .slots)) (now (c .before .before .before .before .before .before .before .before .before .before .before .before .before .args .out)) (c .before .before .before .before .put-members .result) _ (c .before .before .before .before .put-members .ensures .1 .1)))
+returns-2 c =
+    let args = c .before .before .before .before .before .before .before .before .before .before .before .before .before .args in
+    let put-members = c .before .before .before .before .put-members in (
+      put-members .ensures .0,
+      (
+        put-members .ensures .1 .0,
+        others-some (now (args .s)) (now (args .slots)) (now (args .out)) (put-members .result) _ (put-members .ensures .1 .1),
+      ),
+    )
 
 pub put-others-spec : {M : Type 1} → statement M
 put-others-spec =

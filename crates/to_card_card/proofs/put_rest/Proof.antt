@@ -3,7 +3,7 @@ use native.Mathlib.Omega.{arith}
 use mathlib.Core.Path.{sym, ap, subst, _∙_}
 use borrow.Author.Needs.{needs}
 use borrow.Rule.Slice.PartMut.{putMid}
-use Prim.Native.Nat.{ℕ, _+_, _-_}
+use Prim.Native.Nat.{ℕ, _+_, _-_, _≤_}
 use lib.ListN.{length}
 use Rattle.to_card_lines.proofs.Laws.{part-length, part-in}
 use Rattle.to_card_lines.specs.declared.Lines.the-variants.{All}
@@ -98,9 +98,20 @@ returns-2 c =
     let args = c .before .before .before .before .before .before .before .before .before .before .before .before .before .before .before .before .before .before .before .before .before .before .before .before .before .before .before .before .before .before .before .before .args in
     let put-maps = c .before .before .before .before .before .before .before .before .before .before .before .before .before .before .before .before .before .before .before .before .before .before .before .put-maps in
     let n = c .before .before .before .before .before .before .before .before .before .before .before .before .before .before .before .before .before .before .before .n in
-    let put-last = c .before .before .before .before .before .before .before .before .before .before .before .before .put-last in (
+    let put-last = c .before .before .before .before .before .before .before .before .before .before .before .before .put-last in
+    let s = now (args .s) in
+    let slots = now (args .slots) in
+    let out = now (args .out) in
+    let k = n .given .0 in
+    let inside : k .0 ≤ length (put-maps .last .0) = omega (arith, (maps-at 458758 (put-maps .ensures .0) (n .given .1)) .0, put-maps .ensures .1 .0) in
+    let as-long = part-length (k .0) (put-maps .last .0) (put-last .last .0) inside (put-last .ensures .1 .0) in (
       tt,
-      (part-length (n .given .0 .0) (put-maps .last .0) (put-last .last .0) (omega (arith, (maps-at 458758 (put-maps .ensures .0) (n .given .1)) .0, put-maps .ensures .1 .0)) (put-last .ensures .1 .0) ∙ (put-maps .ensures .1 .0), rest-second (now (args .s)) (now (args .slots)) (args .full) (args .parts) (now (args .out)) (put-maps .result) (put-maps .last .0) (put-maps .ensures .1 .1) (n .given .0 .0) (n .given .0 .1 .0) (n .given .0 .1 .1 .0) (n .given .1) (put-last .result) (put-last .last .0) (put-last .ensures .1 .1) (c .enum-told2 .given .1) _),
+      (
+        as-long ∙ put-maps .ensures .1 .0,
+        rest-second s slots (args .full) (args .parts) out (put-maps .result) (put-maps .last .0) (put-maps .ensures .1 .1)
+            (k .0) (k .1 .0) (k .1 .1 .0) (n .given .1)
+            (put-last .result) (put-last .last .0) (put-last .ensures .1 .1) (c .enum-told2 .given .1) _,
+      ),
     )
 
 -- src/lib.rt:98:17
@@ -161,9 +172,23 @@ returns-3 c =
     let n = c .before .before .before .before .before .before .before .before .before .before .before .before .before .before .before .before .before .before .before .before .before .before .n in
     let put-last = c .before .before .before .before .before .before .before .before .before .before .before .before .before .before .before .put-last in
     let m = c .before .before .before .m in
-    let counted = c .up-to2 .ensures ∙ ap (λ (k : ℕ). few (k + (m .given .0 .1 .0))) (c .before .up-to .ensures) in (
-      (omega (arith, part-in (n .given .0 .0) (put-maps .last .0) (omega (arith, (maps-at 458758 (put-maps .ensures .0) (n .given .1)) .0, put-maps .ensures .1 .0)) ((few-at (put-last .ensures .0) (m .given .1)) .0), put-maps .ensures .1 .0), omega (arith, c .up-to2 .ensures)),
-      (part-length (n .given .0 .0) (put-maps .last .0) (put-last .last .0) (omega (arith, (maps-at 458758 (put-maps .ensures .0) (n .given .1)) .0, put-maps .ensures .1 .0)) (put-last .ensures .1 .0) ∙ (put-maps .ensures .1 .0), subst (λ (k : ℕ). PutsRest (now (args .s)) (now (args .slots)) (args .full) (args .parts) (now (args .out)) (All (n .given .0 .0 + (m .given .0 .0)) k (n .given .0 .1 .1 .0 && (m .given .0 .1 .1 .0))) (putMid (n .given .0 .0) (length (put-maps .last .0) - (n .given .0 .0)) (put-maps .last .0) (put-last .last .0))) (sym counted) (rest-all (now (args .s)) (now (args .slots)) (args .full) (args .parts) (now (args .out)) (put-maps .result) (put-maps .last .0) (put-maps .ensures .1 .1) (n .given .0 .0) (n .given .0 .1 .0) (n .given .0 .1 .1 .0) (n .given .1) (put-last .result) (put-last .last .0) (put-last .ensures .1 .1) (m .given .0 .0) (m .given .0 .1 .0) (m .given .0 .1 .1 .0) (m .given .1))),
+    let counted = c .up-to2 .ensures ∙ ap (λ (k : ℕ). few (k + (m .given .0 .1 .0))) (c .before .up-to .ensures) in
+    let s = now (args .s) in
+    let slots = now (args .slots) in
+    let out = now (args .out) in
+    let k = n .given .0 in
+    let j = m .given .0 in
+    let inside : k .0 ≤ length (put-maps .last .0) = omega (arith, (maps-at 458758 (put-maps .ensures .0) (n .given .1)) .0, put-maps .ensures .1 .0) in
+    let as-long = part-length (k .0) (put-maps .last .0) (put-last .last .0) inside (put-last .ensures .1 .0) in
+    let written = putMid (k .0) (length (put-maps .last .0) - k .0) (put-maps .last .0) (put-last .last .0) in (
+      (omega (arith, part-in (k .0) (put-maps .last .0) inside ((few-at (put-last .ensures .0) (m .given .1)) .0), put-maps .ensures .1 .0), omega (arith, c .up-to2 .ensures)),
+      (
+        as-long ∙ put-maps .ensures .1 .0,
+        subst (λ (lines : ℕ). PutsRest s slots (args .full) (args .parts) out (All (k .0 + j .0) lines (k .1 .1 .0 && j .1 .1 .0)) written) (sym counted)
+            (rest-all s slots (args .full) (args .parts) out (put-maps .result) (put-maps .last .0) (put-maps .ensures .1 .1)
+            (k .0) (k .1 .0) (k .1 .1 .0) (n .given .1)
+            (put-last .result) (put-last .last .0) (put-last .ensures .1 .1) (j .0) (j .1 .0) (j .1 .1 .0) (m .given .1)),
+      ),
     )
 
 pub put-rest-spec : {M : Type 1} → statement M

@@ -4,7 +4,7 @@ use mathlib.Core.Path.{sym, ap, subst, _∙_}
 use mathlib.Core.Bool.{_&&_}
 use borrow.Author.Needs.{needs}
 use borrow.Rule.Slice.PartMut.{putMid}
-use Prim.Native.Nat.{ℕ, _+_, _-_}
+use Prim.Native.Nat.{ℕ, _+_, _-_, _≤_}
 use lib.ListN.{length}
 use Rattle.to_card_lines.proofs.Laws.{lines-in, part-length, part-in, fills-in, fills-length}
 use Rattle.to_card_lines.specs.declared.Lines.the-variants.{All}
@@ -115,9 +115,19 @@ returns-2 c =
     let args = c .before .before .before .before .before .before .before .before .before .before .before .before .before .before .before .before .before .before .before .before .before .before .before .before .before .before .before .before .before .before .before .before .before .before .before .before .args in
     let put-head = c .before .before .before .before .before .before .before .before .before .before .before .before .before .before .before .before .before .before .before .before .before .before .before .put-head in
     let n = c .before .before .before .before .before .before .before .before .before .before .before .before .before .before .before .before .before .before .before .n in
-    let put-body = c .before .before .before .before .before .before .before .before .before .before .before .before .put-body in (
+    let put-body = c .before .before .before .before .before .before .before .before .before .before .before .before .put-body in
+    let s = now (args .s) in
+    let slots = now (args .slots) in
+    let out = now (args .out) in
+    let k = n .given .0 in
+    let inside : k .0 ≤ length (put-head .last .0) = omega (arith, lines-in (put-head .ensures .0) (n .given .1), put-head .ensures .1 .0) in
+    let as-long = part-length (k .0) (put-head .last .0) (put-body .last .0) inside (put-body .ensures .1 .0) in (
       tt,
-      (part-length (n .given .0 .0) (put-head .last .0) (put-body .last .0) (omega (arith, lines-in (put-head .ensures .0) (n .given .1), put-head .ensures .1 .0)) (put-body .ensures .1 .0) ∙ (put-head .ensures .1 .0), whole-second (now (args .s)) (now (args .slots)) (now (args .out)) (put-head .result) (put-head .last .0) (put-head .ensures .1 .1) (n .given .0 .0) (n .given .0 .1 .0) (n .given .0 .1 .1 .0) (n .given .1) (put-body .result) (put-body .last .0) (put-body .ensures .1 .1) (c .enum-told2 .given .1) _),
+      (
+        as-long ∙ put-head .ensures .1 .0,
+        whole-second s slots out (put-head .result) (put-head .last .0) (put-head .ensures .1 .1) (k .0) (k .1 .0) (k .1 .1 .0) (n .given .1)
+            (put-body .result) (put-body .last .0) (put-body .ensures .1 .1) (c .enum-told2 .given .1) _,
+      ),
     )
 
 -- src/lib.rt:162:13
@@ -127,14 +137,10 @@ add-e c =
     let put-head = c .before .before .before .before .before .before .before .before .before .before .before .before .before .before .before .before .before .before .before .before .before .before .before .before .put-head in
     let n = c .before .before .before .before .before .before .before .before .before .before .before .before .before .before .before .before .before .before .before .before .n in
     let put-body = c .before .before .before .before .before .before .before .before .before .before .before .before .before .put-body in
-    record {
-      fits = omega (
-        arith,
-        part-in (n .given .0 .0) (put-head .last .0) (omega (arith, lines-in (put-head .ensures .0) (n .given .1), put-head .ensures .1 .0)) ((few-at (put-body .ensures .0) (c .before .m .given .1)) .0),
-        put-head .ensures .1 .0,
-        good .0 .0,
-      );
-    }
+    let k = n .given .0 in
+    let inside : k .0 ≤ length (put-head .last .0) = omega (arith, lines-in (put-head .ensures .0) (n .given .1), put-head .ensures .1 .0) in
+    let both-in = part-in (k .0) (put-head .last .0) inside ((few-at (put-body .ensures .0) (c .before .m .given .1)) .0) in
+    record { fits = omega (arith, both-in, put-head .ensures .1 .0, good .0 .0) }
 
 -- src/lib.rt:163:18
 sub-fill : tie.Need-sub-fill
@@ -142,11 +148,11 @@ sub-fill c =
     let put-head = c .before .before .before .before .before .before .before .before .before .before .before .before .before .before .before .before .before .before .before .before .before .before .before .before .put-head in
     let n = c .before .before .before .before .before .before .before .before .before .before .before .before .before .before .before .before .before .before .before .before .n in
     let put-body = c .before .before .before .before .before .before .before .before .before .before .before .before .before .put-body in
-    omega (
-      arith,
-      part-in (n .given .0 .0) (put-head .last .0) (omega (arith, lines-in (put-head .ensures .0) (n .given .1), put-head .ensures .1 .0)) ((few-at (put-body .ensures .0) (c .before .m .given .1)) .0),
-      part-length (n .given .0 .0) (put-head .last .0) (put-body .last .0) (omega (arith, lines-in (put-head .ensures .0) (n .given .1), put-head .ensures .1 .0)) (put-body .ensures .1 .0),
-    )
+    let k = n .given .0 in
+    let inside : k .0 ≤ length (put-head .last .0) = omega (arith, lines-in (put-head .ensures .0) (n .given .1), put-head .ensures .1 .0) in
+    let as-long = part-length (k .0) (put-head .last .0) (put-body .last .0) inside (put-body .ensures .1 .0) in
+    let both-in = part-in (k .0) (put-head .last .0) inside ((few-at (put-body .ensures .0) (c .before .m .given .1)) .0) in
+    omega (arith, both-in, as-long)
 
 -- src/lib.rt:163:18
 part-fill-start : tie.Need-part-fill-start
@@ -154,11 +160,11 @@ part-fill-start c =
     let put-head = c .before .before .before .before .before .before .before .before .before .before .before .before .before .before .before .before .before .before .before .before .before .before .before .before .put-head in
     let n = c .before .before .before .before .before .before .before .before .before .before .before .before .before .before .before .before .before .before .before .before .n in
     let put-body = c .before .before .before .before .before .before .before .before .before .before .before .before .before .put-body in
-    omega (
-      arith,
-      part-in (n .given .0 .0) (put-head .last .0) (omega (arith, lines-in (put-head .ensures .0) (n .given .1), put-head .ensures .1 .0)) ((few-at (put-body .ensures .0) (c .before .m .given .1)) .0),
-      part-length (n .given .0 .0) (put-head .last .0) (put-body .last .0) (omega (arith, lines-in (put-head .ensures .0) (n .given .1), put-head .ensures .1 .0)) (put-body .ensures .1 .0),
-    )
+    let k = n .given .0 in
+    let inside : k .0 ≤ length (put-head .last .0) = omega (arith, lines-in (put-head .ensures .0) (n .given .1), put-head .ensures .1 .0) in
+    let as-long = part-length (k .0) (put-head .last .0) (put-body .last .0) inside (put-body .ensures .1 .0) in
+    let both-in = part-in (k .0) (put-head .last .0) inside ((few-at (put-body .ensures .0) (c .before .m .given .1)) .0) in
+    omega (arith, both-in, as-long)
 
 -- src/lib.rt:163:18
 part-fill-end : tie.Need-part-fill-end
@@ -180,15 +186,14 @@ add-bytes c =
     let n = c .before .before .before .before .before .before .before .before .before .before .before .before .before .before .before .before .before .before .before .before .before .before .before .before .before .n in
     let put-body = c .before .before .before .before .before .before .before .before .before .before .before .before .before .before .before .before .before .before .put-body in
     let m = c .before .before .before .before .before .before .m in
-    record {
-      fits = omega (
-        arith,
-        part-in (n .given .0 .0 + (m .given .0 .0)) (putMid (n .given .0 .0) (length (put-head .last .0) - (n .given .0 .0)) (put-head .last .0) (put-body .last .0)) (omega (arith, part-in (n .given .0 .0) (put-head .last .0) (omega (arith, lines-in (put-head .ensures .0) (n .given .1), put-head .ensures .1 .0)) ((few-at (put-body .ensures .0) (m .given .1)) .0), part-length (n .given .0 .0) (put-head .last .0) (put-body .last .0) (omega (arith, lines-in (put-head .ensures .0) (n .given .1), put-head .ensures .1 .0)) (put-body .ensures .1 .0))) (fills-in (c .before .before .fill .ensures)),
-        part-length (n .given .0 .0) (put-head .last .0) (put-body .last .0) (omega (arith, lines-in (put-head .ensures .0) (n .given .1), put-head .ensures .1 .0)) (put-body .ensures .1 .0),
-        put-head .ensures .1 .0,
-        good .0 .0,
-      );
-    }
+    let k = n .given .0 in
+    let inside : k .0 ≤ length (put-head .last .0) = omega (arith, lines-in (put-head .ensures .0) (n .given .1), put-head .ensures .1 .0) in
+    let as-long = part-length (k .0) (put-head .last .0) (put-body .last .0) inside (put-body .ensures .1 .0) in
+    let both-in = part-in (k .0) (put-head .last .0) inside ((few-at (put-body .ensures .0) (m .given .1)) .0) in
+    let j = m .given .0 in
+    let written = putMid (k .0) (length (put-head .last .0) - k .0) (put-head .last .0) (put-body .last .0) in
+    let room : k .0 + j .0 ≤ length written = omega (arith, both-in, as-long) in
+    record { fits = omega (arith, part-in (k .0 + j .0) written room (fills-in (c .before .before .fill .ensures)), as-long, put-head .ensures .1 .0, good .0 .0) }
 
 -- src/lib.rt:165:23
 up-to-requires : tie.Need-up-to-requires
@@ -234,9 +239,26 @@ returns-3 c =
     let put-body = c .before .before .before .before .before .before .before .before .before .before .before .before .before .before .before .before .before .before .before .before .put-body in
     let m = c .before .before .before .before .before .before .before .before .m in
     let fill = c .before .before .before .before .fill in
-    let counted = c .up-to2 .ensures ∙ ap (λ (k : ℕ). few (k + (m .given .0 .1 .0))) (c .before .up-to .ensures) in (
-      (omega (arith, part-in (n .given .0 .0 + (m .given .0 .0)) (putMid (n .given .0 .0) (length (put-head .last .0) - (n .given .0 .0)) (put-head .last .0) (put-body .last .0)) (omega (arith, part-in (n .given .0 .0) (put-head .last .0) (omega (arith, lines-in (put-head .ensures .0) (n .given .1), put-head .ensures .1 .0)) ((few-at (put-body .ensures .0) (m .given .1)) .0), part-length (n .given .0 .0) (put-head .last .0) (put-body .last .0) (omega (arith, lines-in (put-head .ensures .0) (n .given .1), put-head .ensures .1 .0)) (put-body .ensures .1 .0))) (fills-in (fill .ensures)), part-length (n .given .0 .0) (put-head .last .0) (put-body .last .0) (omega (arith, lines-in (put-head .ensures .0) (n .given .1), put-head .ensures .1 .0)) (put-body .ensures .1 .0), put-head .ensures .1 .0), omega (arith, c .up-to2 .ensures)),
-      (part-length (n .given .0 .0 + (m .given .0 .0)) (putMid (n .given .0 .0) (length (put-head .last .0) - (n .given .0 .0)) (put-head .last .0) (put-body .last .0)) (fill .last .0) (omega (arith, part-in (n .given .0 .0) (put-head .last .0) (omega (arith, lines-in (put-head .ensures .0) (n .given .1), put-head .ensures .1 .0)) ((few-at (put-body .ensures .0) (m .given .1)) .0), part-length (n .given .0 .0) (put-head .last .0) (put-body .last .0) (omega (arith, lines-in (put-head .ensures .0) (n .given .1), put-head .ensures .1 .0)) (put-body .ensures .1 .0))) (fills-length (fill .ensures)) ∙ (part-length (n .given .0 .0) (put-head .last .0) (put-body .last .0) (omega (arith, lines-in (put-head .ensures .0) (n .given .1), put-head .ensures .1 .0)) (put-body .ensures .1 .0) ∙ (put-head .ensures .1 .0)), subst (λ (k : ℕ). PutsWhole (now (args .s)) (now (args .slots)) (now (args .out)) (All (n .given .0 .0 + (m .given .0 .0) + (fill .result)) k (n .given .0 .1 .1 .0 && (m .given .0 .1 .1 .0))) (putMid (n .given .0 .0 + (m .given .0 .0)) (length (putMid (n .given .0 .0) (length (put-head .last .0) - (n .given .0 .0)) (put-head .last .0) (put-body .last .0)) - (n .given .0 .0 + (m .given .0 .0))) (putMid (n .given .0 .0) (length (put-head .last .0) - (n .given .0 .0)) (put-head .last .0) (put-body .last .0)) (fill .last .0))) (sym counted) (whole-all (now (args .s)) (now (args .slots)) (now (args .out)) (put-head .result) (put-head .last .0) (put-head .ensures .1 .1) (n .given .0 .0) (n .given .0 .1 .0) (n .given .0 .1 .1 .0) (n .given .1) (put-body .result) (put-body .last .0) (put-body .ensures .1 .1) (m .given .0 .0) (m .given .0 .1 .0) (m .given .0 .1 .1 .0) (m .given .1) (fill .result) (fill .last .0) (fill .ensures))),
+    let counted = c .up-to2 .ensures ∙ ap (λ (k : ℕ). few (k + (m .given .0 .1 .0))) (c .before .up-to .ensures) in
+    let s = now (args .s) in
+    let slots = now (args .slots) in
+    let out = now (args .out) in
+    let k = n .given .0 in
+    let inside : k .0 ≤ length (put-head .last .0) = omega (arith, lines-in (put-head .ensures .0) (n .given .1), put-head .ensures .1 .0) in
+    let as-long = part-length (k .0) (put-head .last .0) (put-body .last .0) inside (put-body .ensures .1 .0) in
+    let both-in = part-in (k .0) (put-head .last .0) inside ((few-at (put-body .ensures .0) (m .given .1)) .0) in
+    let j = m .given .0 in
+    let written = putMid (k .0) (length (put-head .last .0) - k .0) (put-head .last .0) (put-body .last .0) in
+    let room : k .0 + j .0 ≤ length written = omega (arith, both-in, as-long) in
+    let ended = putMid (k .0 + j .0) (length written - (k .0 + j .0)) written (fill .last .0) in (
+      (omega (arith, part-in (k .0 + j .0) written room (fills-in (fill .ensures)), as-long, put-head .ensures .1 .0), omega (arith, c .up-to2 .ensures)),
+      (
+        part-length (k .0 + j .0) written (fill .last .0) room (fills-length (fill .ensures)) ∙ (as-long ∙ put-head .ensures .1 .0),
+        subst (λ (lines : ℕ). PutsWhole s slots out (All (k .0 + j .0 + fill .result) lines (k .1 .1 .0 && j .1 .1 .0)) ended) (sym counted)
+            (whole-all s slots out (put-head .result) (put-head .last .0) (put-head .ensures .1 .1) (k .0) (k .1 .0) (k .1 .1 .0) (n .given .1)
+            (put-body .result) (put-body .last .0) (put-body .ensures .1 .1) (j .0) (j .1 .0) (j .1 .1 .0) (m .given .1)
+            (fill .result) (fill .last .0) (fill .ensures)),
+      ),
     )
 
 pub put-whole-spec : {M : Type 1} → statement M
