@@ -30,7 +30,6 @@ extern "C" {
 pub enum Writer {
     ReadText,
     WriteText,
-    Line,
     Pen,
     JsonString,
     Decode,

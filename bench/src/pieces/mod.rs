@@ -30,15 +30,14 @@ struct Measured {
 
 type Piece = fn(&Card) -> Measured;
 
-const PIECES: [(&str, Piece); 16] = [
+const PIECES: [(&str, Piece); 15] = [
     ("frame and unfolding (`frame_of`, `unfold`)", unfold),
     ("UTF-8 and controls (`first_garbled`)", garbled),
     ("lines taken apart (`line_table::fill`)", parse),
     ("parameters, one pass (`scan_rows`, `mark_rows`)", parameters),
     ("TEXT read (`read_text`)", read_text),
     ("TEXT written (`write_text`)", write_text),
-    ("line folded (`put_line`)", |card| appended(&card.lines, Writer::Line, baseline::fold)),
-    ("line folded by pens (`pen_bytes`)", |card| appended(&card.lines, Writer::Pen, baseline::fold)),
+    ("line folded (`pen_bytes`)", |card| appended(&card.lines, Writer::Pen, baseline::fold)),
     ("JSON string written (`put_string`)", |card| appended(&card.strings, Writer::JsonString, baseline::write_string)),
     ("JSON string decoded (`decode_into`)", decode),
     ("JSON string spelled anew (`put_requoted`)", |card| appended(&card.spelled, Writer::Requote, requote)),

@@ -26,7 +26,6 @@ use line_text::write_text;
 use line_unfold::Unfolded;
 use line_unfold::line_at;
 use line_unfold::unfold;
-use line_write::put_line;
 use output::Wrote;
 use table_marks::mark_rows;
 use table_marks::scan_rows;
@@ -161,16 +160,15 @@ fn put_penned(out: &mut [u8], line: &[u8]) -> Wrote {
     Wrote::Bytes(n + m)
 }
 
-// One part, by the writer of that number. The parts of 5 and 6 are JSON strings with their quotes, that of 7 is a JSON text.
+// One part, by the writer of that number. The parts of 4 and 5 are JSON strings with their quotes, that of 6 is a JSON text.
 fn put_part(out: &mut [u8], part: &[u8], writer: u8) -> Wrote {
     match writer {
         0 => read_text(out, part),
         1 => write_text(out, part, false),
-        2 => put_line(out, part),
-        3 => put_penned(out, part),
-        4 => put_string(out, part),
-        5 => decode_into(out, part, 1),
-        6 => put_requoted(out, part, 1),
+        2 => put_penned(out, part),
+        3 => put_string(out, part),
+        4 => decode_into(out, part, 1),
+        5 => put_requoted(out, part, 1),
         _ => put_compact(out, part),
     }
 }
