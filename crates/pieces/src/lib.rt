@@ -1,9 +1,9 @@
 // For measuring alone (`tools/bench --pieces`), and not delivered: the pieces that the services are made of, under C names. Each function does one piece's work
 // over a whole input, so that a call is long enough to be timed. A part of the bytes is what stands from one of the starts to the next.
-ghost use mathlib.Core.Path.{_≡_};
-ghost use Prim.Native.Nat.{_≤_, _<_};
+ghost use Prim.Native.Nat.{_≤_};
 ghost use lib.ListN.{length};
 ghost use Rattle.line_table.specs.Table.{Sound};
+ghost use Rattle.card_garbled.specs.Garbled.{FirstGarbled};
 use card_garbled::first_garbled;
 use json_access::head_at;
 use json_access::place;
@@ -63,7 +63,9 @@ pub extern "C" fn pieces_unfold(out: &mut [u8], starts: &mut [usize], card: &[u8
 
 // The first line that is not UTF-8 or has a control; 0 where there is none.
 #[no_mangle]
-pub extern "C" fn pieces_garbled(bytes: &[u8], starts: &[usize], n: usize) -> usize {
+pub extern "C" fn pieces_garbled(bytes: &[u8], starts: &[usize], n: usize) -> usize
+    ensures { λ r. ⌜ FirstGarbled (now (bytes .entry)) (now (starts .entry)) n r ⌝ }
+{
     first_garbled(bytes, starts, n)
 }
 
@@ -181,7 +183,9 @@ pub extern "C" fn pieces_put(
     starts: &[usize],
     n: usize,
     writer: u8,
-) -> usize {
+) -> usize
+    ensures { λ r. ⌜ r ≤ length (now (out .entry)) ⌝ }
+{
     let mut at = 0;
     let mut k = 0;
     while k < n {
@@ -261,6 +265,8 @@ fn walk(s: &[u8], at: usize, depth: usize) -> usize
 
 // A text that reads, down to its leaves: where its value ends.
 #[no_mangle]
-pub extern "C" fn pieces_walk(json: &[u8]) -> usize {
+pub extern "C" fn pieces_walk(json: &[u8]) -> usize
+    ensures { λ r. ⌜ r ≤ length (now (json .entry)) ⌝ }
+{
     walk(json, 0, 16)
 }
