@@ -69,27 +69,6 @@ pub extern "C" fn pieces_garbled(bytes: &[u8], starts: &[usize], n: usize) -> us
     first_garbled(bytes, starts, n)
 }
 
-// Each line taken apart into the table: how many lines were read.
-#[no_mangle]
-pub extern "C" fn pieces_parse(
-    table: &mut [usize],
-    bytes: &[u8],
-    starts: &[usize],
-    n: usize,
-) -> usize {
-    if table.len() < 264 {
-        return 0;
-    }
-    let mut k = 0;
-    while k < n {
-        if !fill(table, line_at(bytes, starts, k)) {
-            return k;
-        }
-        k += 1;
-    }
-    k
-}
-
 // The parameters of a line that the table holds: how many values each kind has and where the first stands, and the marks of TYPE.
 fn mark_line(row: &mut [u8], line: &[u8], table: &[usize]) -> bool
     requires { ⌜ (9 ≤ length (now row)) × Sound (now line) (now table) ⌝ }
@@ -105,14 +84,25 @@ fn mark_line(row: &mut [u8], line: &[u8], table: &[usize]) -> bool
     mark_rows(row, line, table, 9)
 }
 
-// Each line taken apart as in `pieces_parse`, and its parameters looked at.
+// Nothing is asked of the line where `marks` is 0.
+fn is_good(row: &mut [u8], line: &[u8], table: &[usize], marks: u8) -> bool
+    requires { ⌜ (9 ≤ length (now row)) × Sound (now line) (now table) ⌝ }
+{
+    if marks == 0 {
+        return true;
+    }
+    mark_line(row, line, table)
+}
+
+// Each line taken apart into the table, and its parameters looked at where `marks` is not 0: how many lines were good.
 #[no_mangle]
-pub extern "C" fn pieces_parse_and_mark(
+pub extern "C" fn pieces_parse(
     table: &mut [usize],
     row: &mut [u8],
     bytes: &[u8],
     starts: &[usize],
     n: usize,
+    marks: u8,
 ) -> usize {
     if table.len() < 264 {
         return 0;
@@ -128,7 +118,7 @@ pub extern "C" fn pieces_parse_and_mark(
             return good;
         }
         k += 1;
-        if mark_line(row, line, table) {
+        if is_good(row, line, table, marks) {
             good += 1;
         }
     }
