@@ -7,8 +7,7 @@ use super::parts::Parts;
 extern "C" {
     fn pieces_unfold(out: *mut u8, out_length: usize, starts: *mut usize, starts_length: usize, card: *const u8, card_length: usize) -> usize;
     fn pieces_garbled(bytes: *const u8, bytes_length: usize, starts: *const usize, starts_length: usize, count: usize) -> usize;
-    fn pieces_parse(table: *mut usize, table_length: usize, bytes: *const u8, bytes_length: usize, starts: *const usize, starts_length: usize, count: usize) -> usize;
-    fn pieces_parse_and_mark(
+    fn pieces_parse(
         table: *mut usize,
         table_length: usize,
         row: *mut u8,
@@ -18,6 +17,7 @@ extern "C" {
         starts: *const usize,
         starts_length: usize,
         count: usize,
+        marks: u8,
     ) -> usize;
     fn pieces_put(out: *mut u8, out_length: usize, bytes: *const u8, bytes_length: usize, starts: *const usize, starts_length: usize, count: usize, writer: u8) -> usize;
     fn pieces_read(json: *const u8, json_length: usize) -> usize;
@@ -48,17 +48,24 @@ pub fn garbled(lines: &Parts) -> usize {
     unsafe { pieces_garbled(bytes.as_ptr(), bytes.len(), starts.as_ptr(), starts.len(), lines.count()) }
 }
 
-/// How many lines were taken apart.
-pub fn parse(table: &mut [usize], lines: &Parts) -> usize {
-    let (bytes, starts) = (&lines.bytes, &lines.starts);
-    unsafe { pieces_parse(table.as_mut_ptr(), table.len(), bytes.as_ptr(), bytes.len(), starts.as_ptr(), starts.len(), lines.count()) }
+/// The places of a line's table in crates/line_table, and the marks of TYPE.
+pub struct Scratch {
+    table: [usize; 264],
+    row: [u8; 9],
 }
 
-/// The same, and their parameters looked at: how many have none that is not listed.
-pub fn parse_and_mark(table: &mut [usize], row: &mut [u8], lines: &Parts) -> usize {
+impl Scratch {
+    pub fn new() -> Scratch {
+        Scratch { table: [0; 264], row: [0; 9] }
+    }
+}
+
+/// How many lines were taken apart, and with marks: whose parameters are all listed.
+pub fn parse(scratch: &mut Scratch, lines: &Parts, marks: bool) -> usize {
+    let (table, row) = (&mut scratch.table, &mut scratch.row);
     let (bytes, starts) = (&lines.bytes, &lines.starts);
     unsafe {
-        pieces_parse_and_mark(
+        pieces_parse(
             table.as_mut_ptr(),
             table.len(),
             row.as_mut_ptr(),
@@ -68,6 +75,7 @@ pub fn parse_and_mark(table: &mut [usize], row: &mut [u8], lines: &Parts) -> usi
             starts.as_ptr(),
             starts.len(),
             lines.count(),
+            u8::from(marks),
         )
     }
 }

@@ -7,16 +7,12 @@ mod parts;
 use crate::measure::{alternating, Work};
 use crate::times::json_of;
 use crate::workloads;
-use ffi::Writer;
+use ffi::{Scratch, Writer};
 use parts::{leaves, Card, Parts};
 use std::hint::black_box;
 use thymebarrel::{CARD_BYTES, JSON_BYTES};
 use thymebarrel_baseline::limits::{CARD_LINES, JSON_DEPTH};
 use thymebarrel_baseline::pieces as baseline;
-
-/// The places of a line's table in crates/line_table, and the marks of TYPE.
-const TABLE: usize = 264;
-const MARKS: usize = 9;
 
 /// Seconds for each piece on each card.
 const SECONDS: f64 = 1.0;
@@ -138,16 +134,16 @@ fn garbled(card: &Card) -> Measured {
 }
 
 fn parse(card: &Card) -> Measured {
-    let mut table = [0; TABLE];
+    let mut scratch = Scratch::new();
     let lines = card.lines.texts();
-    assert_eq!(ffi::parse(&mut table, &card.lines), lines.len());
+    assert_eq!(ffi::parse(&mut scratch, &card.lines, false), lines.len());
     let theirs = || {
         for line in black_box(&lines) {
             black_box(baseline::Line::read(line));
         }
     };
     let ours = move || {
-        black_box(ffi::parse(&mut table, black_box(&card.lines)));
+        black_box(ffi::parse(&mut scratch, black_box(&card.lines), false));
     };
     measured(card.lines.bytes.len(), theirs, ours)
 }
@@ -161,18 +157,18 @@ fn map_and_line(text: &str) -> Option<(baseline::Map, baseline::Line)> {
 /// table is at hand, so what it takes to fill it is measured too, and taken off.
 fn parameters(card: &Card) -> Measured {
     let lines: Vec<(baseline::Map, baseline::Line)> = card.map_lines.texts().into_iter().filter_map(map_and_line).collect();
-    let (mut table, mut other, mut marks) = ([0; TABLE], [0; TABLE], [0; MARKS]);
-    assert_eq!(ffi::parse_and_mark(&mut table, &mut marks, &card.map_lines), lines.len());
+    let (mut scratch, mut other) = (Scratch::new(), Scratch::new());
+    assert_eq!(ffi::parse(&mut scratch, &card.map_lines, true), lines.len());
     let theirs = || {
         for (map, line) in black_box(&lines) {
             black_box(baseline::Given::read(*map, line));
         }
     };
     let filled = move || {
-        black_box(ffi::parse(&mut other, black_box(&card.map_lines)));
+        black_box(ffi::parse(&mut other, black_box(&card.map_lines), false));
     };
     let marked = move || {
-        black_box(ffi::parse_and_mark(&mut table, &mut marks, black_box(&card.map_lines)));
+        black_box(ffi::parse(&mut scratch, black_box(&card.map_lines), true));
     };
     let mut sides: [Work; 3] = [Box::new(theirs), Box::new(filled), Box::new(marked)];
     let times = alternating(&mut sides, SECONDS);

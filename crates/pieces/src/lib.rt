@@ -1,9 +1,9 @@
 // For measuring alone (`tools/bench --pieces`), and not delivered: the pieces that the services are made of, under C names. Each function does one piece's work
 // over a whole input, so that a call is long enough to be timed. A part of the bytes is what stands from one of the starts to the next.
-ghost use mathlib.Core.Path.{_≡_};
-ghost use Prim.Native.Nat.{_≤_, _<_};
+ghost use Prim.Native.Nat.{_≤_};
 ghost use lib.ListN.{length};
 ghost use Rattle.line_table.specs.Table.{Sound};
+ghost use Rattle.card_garbled.specs.Garbled.{FirstGarbled};
 use card_garbled::first_garbled;
 use json_access::head_at;
 use json_access::place;
@@ -63,29 +63,10 @@ pub extern "C" fn pieces_unfold(out: &mut [u8], starts: &mut [usize], card: &[u8
 
 // The first line that is not UTF-8 or has a control; 0 where there is none.
 #[no_mangle]
-pub extern "C" fn pieces_garbled(bytes: &[u8], starts: &[usize], n: usize) -> usize {
+pub extern "C" fn pieces_garbled(bytes: &[u8], starts: &[usize], n: usize) -> usize
+    ensures { λ r. ⌜ FirstGarbled (now (bytes .entry)) (now (starts .entry)) n r ⌝ }
+{
     first_garbled(bytes, starts, n)
-}
-
-// Each line taken apart into the table: how many lines were read.
-#[no_mangle]
-pub extern "C" fn pieces_parse(
-    table: &mut [usize],
-    bytes: &[u8],
-    starts: &[usize],
-    n: usize,
-) -> usize {
-    if table.len() < 264 {
-        return 0;
-    }
-    let mut k = 0;
-    while k < n {
-        if !fill(table, line_at(bytes, starts, k)) {
-            return k;
-        }
-        k += 1;
-    }
-    k
 }
 
 // The parameters of a line that the table holds: how many values each kind has and where the first stands, and the marks of TYPE.
@@ -103,14 +84,25 @@ fn mark_line(row: &mut [u8], line: &[u8], table: &[usize]) -> bool
     mark_rows(row, line, table, 9)
 }
 
-// Each line taken apart as in `pieces_parse`, and its parameters looked at.
+// Nothing is asked of the line where `marks` is 0.
+fn is_good(row: &mut [u8], line: &[u8], table: &[usize], marks: u8) -> bool
+    requires { ⌜ (9 ≤ length (now row)) × Sound (now line) (now table) ⌝ }
+{
+    if marks == 0 {
+        return true;
+    }
+    mark_line(row, line, table)
+}
+
+// Each line taken apart into the table, and its parameters looked at where `marks` is not 0: how many lines were good.
 #[no_mangle]
-pub extern "C" fn pieces_parse_and_mark(
+pub extern "C" fn pieces_parse(
     table: &mut [usize],
     row: &mut [u8],
     bytes: &[u8],
     starts: &[usize],
     n: usize,
+    marks: u8,
 ) -> usize {
     if table.len() < 264 {
         return 0;
@@ -126,7 +118,7 @@ pub extern "C" fn pieces_parse_and_mark(
             return good;
         }
         k += 1;
-        if mark_line(row, line, table) {
+        if is_good(row, line, table, marks) {
             good += 1;
         }
     }
@@ -181,7 +173,9 @@ pub extern "C" fn pieces_put(
     starts: &[usize],
     n: usize,
     writer: u8,
-) -> usize {
+) -> usize
+    ensures { λ r. ⌜ r ≤ length (now (out .entry)) ⌝ }
+{
     let mut at = 0;
     let mut k = 0;
     while k < n {
@@ -261,6 +255,8 @@ fn walk(s: &[u8], at: usize, depth: usize) -> usize
 
 // A text that reads, down to its leaves: where its value ends.
 #[no_mangle]
-pub extern "C" fn pieces_walk(json: &[u8]) -> usize {
+pub extern "C" fn pieces_walk(json: &[u8]) -> usize
+    ensures { λ r. ⌜ r ≤ length (now (json .entry)) ⌝ }
+{
     walk(json, 0, 16)
 }

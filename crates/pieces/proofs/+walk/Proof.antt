@@ -60,11 +60,13 @@ pub +walk-spec : {M : Type 1} → statement M
     (λ c κs. search needs)
     (λ c. search needs)
     (λ c κs. search needs)
-    (λ c. let h = c .skip-value .ensures .0 in (omega (arith, h .0 (c .before .before .before .skip-space .ensures .to), c .before .before .before .skip-space .ensures .from), h .1))
+    (λ c. let space = c .before .before .before .skip-space .ensures in
+    let value = c .skip-value .ensures .0 in (omega (arith, value .0 (space .to), space .from), value .1))
     (λ c κs. search needs)
     (λ c κs. search needs)
     (λ c κs. search needs)
-    (λ c. let h = c .skip-value2 .ensures .0 in (omega (arith, h .0 (c .before .before .before .before .before .before .skip-space .ensures .to), c .before .before .before .before .before .before .skip-space .ensures .from), h .1))
+    (λ c. let space = c .before .before .before .before .before .before .skip-space .ensures in
+    let value = c .skip-value2 .ensures .0 in (omega (arith, value .0 (space .to), space .from), value .1))
     (λ c. search needs)
     (λ c κs. search needs)
     (λ c. search needs)
@@ -77,8 +79,11 @@ pub +walk-spec : {M : Type 1} → statement M
     (λ c κs. search needs)
     (λ c κs. search needs)
     (λ c. search needs)
-    (λ c. let h = turn-as (c .before .before .before .separator .ensures) (c .before .j .given .1) in omega (arith, h .within .0, h .within .1, c .before .before .before .before .walk .ensures .0, c .before .before .before .before .before .value-start .ensures .0))
-    (λ c. let h = turn-as (c .before .before .before .separator .ensures) (c .before .j .given .1) in (omega (arith, h .within .0, c .before .before .before .before .walk .ensures .0, c .before .before .before .before .before .value-start .ensures .0, c .before .before .before .before .before .before .loop .inv .0), h .within .1))
+    (λ c. let turn = turn-as (c .before .before .before .separator .ensures) (c .before .j .given .1) .within in
+    omega (arith, turn .0, turn .1, c .before .before .before .before .walk .ensures .0, c .before .before .before .before .before .value-start .ensures .0))
+    (λ c. let turn = turn-as (c .before .before .before .separator .ensures) (c .before .j .given .1) .within in
+    (omega (arith, turn .0, c .before .before .before .before .walk .ensures .0, c .before .before .before .before .before .value-start .ensures .0, c .before .before .before .before .before .before .loop .inv .0), turn .1))
     (λ c. search needs)
     (λ c κs. search needs)
-    (λ c. stopped _ (c .before .before .before .before .separator .ensures) (c .before .before .r .given .1) (c .place .ensures) (omega (arith, c .before .before .before .before .before .before .before .loop .inv .0, c .before .before .before .before .before .before .value-start .ensures .0, c .before .before .before .before .before .walk .ensures .0)))
+    (λ c. stopped _ (c .before .before .before .before .separator .ensures) (c .before .before .r .given .1) (c .place .ensures)
+    (omega (arith, c .before .before .before .before .before .before .before .loop .inv .0, c .before .before .before .before .before .before .value-start .ensures .0, c .before .before .before .before .before .walk .ensures .0)))

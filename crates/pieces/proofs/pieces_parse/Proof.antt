@@ -1,48 +1,25 @@
 use borrow.Author.Needs.{needs}
-use Prim.Native.Nat.{_-_, _≤_}
+use denote.Ref.{now}
 use mathlib.Core.Path.{_≡_}
+use Prim.Native.Nat.{_-_, _≤_}
 use lib.ListN.{length}
+use Rattle.text.proofs.Cases.{not-false}
+use Rattle.pieces.proofs.Tables.{filled-sound}
 use Rattle.pieces.proofs.pieces_parse.Statement.{statement}
 use Rattle.pieces.proofs.pieces_parse.Tie as tie
 
 abbrev Inv-loop : tie.InvT-loop
-Inv-loop table₀ bytes starts n k₀ table k = (264 ≤ length table) × (length table ≡ length table₀)
+Inv-loop table₀ row₀ bytes starts n marks k₀ good₀ table row k good =
+    (264 ≤ length table) × (9 ≤ length row) × (good ≤ k) × (length table ≡ length table₀) × (length row ≡ length row₀)
 
 abbrev μ-loop : tie.MeasureT-loop
-μ-loop table₀ bytes starts n k₀ table k = n - k
+μ-loop table₀ row₀ bytes starts n marks k₀ good₀ table row k good = n - k
 
-returns : tie.Need-returns Inv-loop μ-loop
-returns c = search needs
-
-loop-holds : tie.Need-loop-holds Inv-loop μ-loop
-loop-holds c = search needs
-
-line-at-requires : tie.Need-line-at-requires Inv-loop μ-loop
-line-at-requires c κs = search needs
-
-fill-requires : tie.Need-fill-requires Inv-loop μ-loop
-fill-requires c κs = search needs
-
-same-length : tie.Need-same-length Inv-loop μ-loop
-same-length c = search needs
-
-returns-2 : tie.Need-returns-2 Inv-loop μ-loop
-returns-2 c = search needs
-
-add-k : tie.Need-add-k Inv-loop μ-loop
-add-k c = search needs
-
-loop-less : tie.Need-loop-less Inv-loop μ-loop
-loop-less c = search needs
-
-loop-again : tie.Need-loop-again Inv-loop μ-loop
-loop-again c = search needs
-
-same-length-2 : tie.Need-same-length-2 Inv-loop μ-loop
-same-length-2 c = search needs
-
-returns-3 : tie.Need-returns-3 Inv-loop μ-loop
-returns-3 c = search needs
+-- the table was just filled
+is-good-requires : tie.Need-is-good-requires Inv-loop μ-loop
+is-good-requires c κs =
+    let filled = c .before .before .before .before .before .fill in
+    (search needs, filled-sound (now (c .before .before .before .before .before .before .before .line-at .result)) (filled .last .0) (filled .result) (not-false (filled .result) (c .before .before .if3 .left)) (filled .ensures))
 
 pub pieces-parse-spec : {M : Type 1} → statement M
 pieces-parse-spec =
@@ -50,14 +27,21 @@ pieces-parse-spec =
     (tie.spec
     Inv-loop
     μ-loop
-    returns
-    loop-holds
-    line-at-requires
-    fill-requires
-    same-length
-    returns-2
-    add-k
-    loop-less
-    loop-again
-    same-length-2
-    returns-3)
+    (λ c. search needs)
+    (λ c. search needs)
+    (λ c. search needs)
+    (λ c κs. search needs)
+    (λ c κs. search needs)
+    (λ c. search needs)
+    (λ c. search needs)
+    (λ c. search needs)
+    (λ c. search needs)
+    is-good-requires
+    (λ c. search needs)
+    (λ c. search needs)
+    (λ c. search needs)
+    (λ c. search needs)
+    (λ c. search needs)
+    (λ c. search needs)
+    (λ c. search needs)
+    (λ c. search needs))
