@@ -10,7 +10,7 @@ use Rattle.text.specs.Choice.{pick, with-some, chain, provided}
 use Rattle.text.specs.Bytes.{Bytes, ascii, among, same}
 use Rattle.json.specs.Tree.{Json, asString, asArray, asObject}
 use Rattle.json_strings.specs.Spelled.{spelled}
-use Rattle.json_index.specs.Index.{jsonAt}
+use Rattle.json_index.specs.Index.{jsonAt, ValueEnds}
 use Rattle.line.specs.Grammar.{Param, param, valueCount}
 use Rattle.line_table.specs.Spread.{spreadLine, valued}
 use Rattle.line_table.specs.Table.{lineIn, Sound}
@@ -39,16 +39,18 @@ PutsName b n s at r after = (d : ℕ) (v : Json) → jsonAt d s at ≡ some v �
 
 -- ---- four elements
 
-abbrev pub FourIn : ℕ → Four → Type 0
-FourIn n (At name params kind value) = (name ≤ n) × (params ≤ n) × (kind ≤ n) × (value ≤ n)
-FourIn n Bad = Unit {0}
+-- they are in the text, and the array at a place ends at the last of the places
+abbrev pub FourIn : Bytes → ℕ → Four → Type 0
+FourIn s at (At name params kind value end) = (name ≤ length s) × (params ≤ length s) × (kind ≤ length s) × (value ≤ length s) × ValueEnds 13 s at end
+FourIn s at Bad = Unit {0}
 
 pub record FourHere (s : Bytes) (r : Four) (a b c d : Json) : Type 0 where
   pub name : ℕ
   pub params : ℕ
   pub kind : ℕ
   pub value : ℕ
-  pub said : r ≡ At name params kind value
+  pub end : ℕ
+  pub said : r ≡ At name params kind value end
   pub is-name : jsonAt 13 s name ≡ some a
   pub is-params : jsonAt 13 s params ≡ some b
   pub is-kind : jsonAt 13 s kind ≡ some c

@@ -1,6 +1,7 @@
 // An entry of vCardProps, [name, {parameters}, type, value], as the table of the line that it is.
 use card_value::string_in;
 use json_access::element_at;
+use json_access::place;
 use json_equal::equals;
 use json_index::which_name;
 use json_marks::separator;
@@ -22,13 +23,14 @@ ghost use lib.ListN.{length};
 ghost use Rattle.kept_strings.specs.Strings.{Within, Bounds, RowsIn};
 ghost use Rattle.kept_entry.specs.Entry.{PutsWord, PutsName, FourIn, TellsFour, PutsTyped, PutsType, headedAt};
 
-// The places of the four elements.
+// The places of the four elements, and the place after the array.
 pub enum Four {
     At {
         name: usize,
         params: usize,
         kind: usize,
         value: usize,
+        end: usize,
     },
     Bad,
 }
@@ -69,7 +71,7 @@ pub fn put_name<'a, 'b>(b: &'a mut [u8], n: usize, s: &'b [u8], at: usize) -> To
 // Four elements, no more and no less.
 pub fn four_at(s: &[u8], at: usize) -> Four
     requires { ⌜ at ≤ length (now s) ⌝ }
-    ensures { λ r. ⌜ FourIn (length (now (s .entry))) r ⌝ }
+    ensures { λ r. ⌜ FourIn (now (s .entry)) at r ⌝ }
     ensures { λ r. ⌜ TellsFour (now (s .entry)) at r ⌝ }
 {
     let i = skip_space(s, at);
@@ -81,34 +83,28 @@ pub fn four_at(s: &[u8], at: usize) -> Four
         return Four::Bad;
     }
     let p = element_at(s, j, 13);
-    let name = p.start;
-    let x = p.end;
-    let Turn::Go(j2) = separator(s, x, RIGHT_BRACKET) else {
+    let Turn::Go(j2) = separator(s, p.end, RIGHT_BRACKET) else {
         return Four::Bad;
     };
     let p2 = element_at(s, j2, 13);
-    let params = p2.start;
-    let x2 = p2.end;
-    let Turn::Go(j3) = separator(s, x2, RIGHT_BRACKET) else {
+    let Turn::Go(j3) = separator(s, p2.end, RIGHT_BRACKET) else {
         return Four::Bad;
     };
     let p3 = element_at(s, j3, 13);
-    let kind = p3.start;
-    let x3 = p3.end;
-    let Turn::Go(j4) = separator(s, x3, RIGHT_BRACKET) else {
+    let Turn::Go(j4) = separator(s, p3.end, RIGHT_BRACKET) else {
         return Four::Bad;
     };
     let p4 = element_at(s, j4, 13);
-    let value = p4.start;
-    let x4 = p4.end;
-    let Turn::Stop(r) = separator(s, x4, RIGHT_BRACKET) else {
+    let Turn::Stop(r) = separator(s, p4.end, RIGHT_BRACKET) else {
         return Four::Bad;
     };
+    let end = place(r);
     Four::At {
-        name: name,
-        params: params,
-        kind: kind,
-        value: value,
+        name: p.start,
+        params: p2.start,
+        kind: p3.start,
+        value: p4.start,
+        end: end,
     }
 }
 

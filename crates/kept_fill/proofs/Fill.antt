@@ -10,7 +10,7 @@ use Rattle.text.specs.Choice.{chain}
 use Rattle.text.specs.Bytes.{Bytes, among}
 use Rattle.text.proofs.Choices.{none-some, some-same, chain-inv, provided-inv}
 use Rattle.json.specs.Tree.{Json, jnull, jtrue, jfalse, jnum, jstr, jarr, jobj, Elems, enil, econs, elemsOf, asString, asArray, asObject}
-use Rattle.json_index.specs.Index.{jsonAt}
+use Rattle.json_index.specs.Index.{jsonAt, ValueEnds}
 use Rattle.convert.specs.FromJson.{isLowerWord, neverKept}
 use Rattle.kept_strings.specs.declared.To.{To}
 use Rattle.kept_strings.specs.declared.To.the-variants.{End, Bad as ToBad}
@@ -25,12 +25,15 @@ use Rattle.kept_table.specs.Kept.{Sofar, noneYet, stepsOf, Has, StepAs, PutsObj
 use Rattle.kept_entry.specs.declared.Four.{Four}
 use Rattle.kept_entry.specs.declared.Four.the-variants.{At, Bad}
 use Rattle.kept_entry.specs.Entry.{lineName, PutsName, FourIn, FourList, FourIs, TellsFour, HoldsAs, composedRest, composedFour, composed, FillsRest, FillsKept}
+use Rattle.kept_fill.specs.declared.Held.{Held}
+use Rattle.kept_fill.specs.declared.Held.the-variants.{Entry}
+use Rattle.kept_fill.specs.Held.{HeldIn}
 
-not-at : {a b c d : ℕ} → Bad ≡ At a b c d → ⊥
+not-at : {a b c d e : ℕ} → Bad ≡ At a b c d e → ⊥
 not-at e = let z : _≡_ {A = ℕ} 0 1 = cc in omega arith
 
-at-name : {a b c d a′ b′ c′ d′ : ℕ} → At a b c d ≡ At a′ b′ c′ d′ → (a ≡ a′) × (b ≡ b′) × (c ≡ c′) × (d ≡ d′)
-at-name e = (cc, cc, cc, cc)
+at-name : {a b c d e a′ b′ c′ d′ e′ : ℕ} → At a b c d e ≡ At a′ b′ c′ d′ e′ → (a ≡ a′) × (b ≡ b′) × (c ≡ c′) × (d ≡ d′)
+at-name q = (cc, cc, cc, cc)
 
 not-on : {f : Filled} → StepBad ≡ On f → ⊥
 not-on e = let z : _≡_ {A = ℕ} 0 1 = cc in omega arith
@@ -38,8 +41,14 @@ not-on e = let z : _≡_ {A = ℕ} 0 1 = cc in omega arith
 on-is : {f g : Filled} → On f ≡ On g → f ≡ g
 on-is e = cc
 
-pub four-in : {n a b c d : ℕ} {r : Four} → FourIn n r → r ≡ At a b c d → FourIn n (At a b c d)
-four-in {n} {a} {b} {c} {d} {r} h e = subst (FourIn n) e h
+pub four-in : (s : Bytes) (at : ℕ) {a b c d e : ℕ} {r : Four} → FourIn s at r → r ≡ At a b c d e → FourIn s at (At a b c d e)
+four-in s at h q = subst (FourIn s at) q h
+
+pub held-in : (s : Bytes) (at : ℕ) {e : ℕ} {r : Held} → HeldIn s at r → r ≡ Entry e → ValueEnds 13 s at e
+held-in s at h q = subst (HeldIn s at) q h
+
+pub fills-as : (b s : Bytes) (at : ℕ) (after : Bytes) (u : List ℕ) {r q : Bool} → FillsKept b s at r after u → r ≡ q → FillsKept b s at q after u
+fills-as b s at after u h e = subst (λ (x : Bool). FillsKept b s at x after u) e h
 
 -- ---- how many bytes four elements have
 
@@ -88,7 +97,7 @@ fill-other b s at r told q t j w l = by (asArray j) (told j w)
 
 -- ---- four elements
 
-record Entry (s : Bytes) (name params kind value : ℕ) (j : Json) : Type 0 where
+record Elements (s : Bytes) (name params kind value : ℕ) (j : Json) : Type 0 where
   n : Json
   p : Json
   t : Json
@@ -100,11 +109,11 @@ record Entry (s : Bytes) (name params kind value : ℕ) (j : Json) : Type 0 wher
   is-value : jsonAt 13 s value ≡ some v
   sized : size j ≡ size n + (size p + (size t + size v))
 
-module _ (s : Bytes) (at : ℕ) (r : Four) (told : TellsFour s at r) (name params kind value : ℕ) (q : r ≡ At name params kind value) where
-  entry-at : (j : Json) → jsonAt 14 s at ≡ some j → Entry s name params kind value j
+module _ (s : Bytes) (at : ℕ) (r : Four) (told : TellsFour s at r) (name params kind value end : ℕ) (q : r ≡ At name params kind value end) where
+  entry-at : (j : Json) → jsonAt 14 s at ≡ some j → Elements s name params kind value j
   entry-at j w = by (asArray j) refl (told j w)
     where
-      four : (js : List Json) → asArray j ≡ some js → FourList s r js → Entry s name params kind value j
+      four : (js : List Json) → asArray j ≡ some js → FourList s r js → Elements s name params kind value j
       four [] e h = absurd (not-at (sym h ∙ q))
       four (a ∷ []) e h = absurd (not-at (sym h ∙ q))
       four (a ∷ (b ∷ [])) e h = absurd (not-at (sym h ∙ q))
@@ -125,14 +134,14 @@ module _ (s : Bytes) (at : ℕ) (r : Four) (told : TellsFour s at r) (name param
           }
       four (a ∷ (b ∷ (c ∷ (d ∷ (x ∷ xs))))) e h = absurd (not-at (sym h ∙ q))
 
-      by : (o : Option (List Json)) → asArray j ≡ o → FourIs s r o → Entry s name params kind value j
+      by : (o : Option (List Json)) → asArray j ≡ o → FourIs s r o → Elements s name params kind value j
       by none e h = absurd (not-at (sym h ∙ q))
       by (some js) e h = four js e h
 
   -- by name, parameters and the rest
   module _ (b : Bytes) where
     by-parts : (res : Bool) (after : Bytes) (u : List ℕ)
-        → ((j : Json) (x : Entry s name params kind value j) → size j + 5 ≤ length b
+        → ((j : Json) (x : Elements s name params kind value j) → size j + 5 ≤ length b
         → HoldsAs after u res (chain (chain (asString (x .n)) lineName) λ y. chain (chain (asObject (x .p)) (stepsOf noneYet)) λ z. composedRest y z (x .t) (x .v)))
         → FillsKept b s at res after u
     unfolding composed
@@ -151,13 +160,13 @@ module _ (s : Bytes) (at : ℕ) (r : Four) (told : TellsFour s at r) (name param
 
       module _ (e : ℕ) (y : rn ≡ End e) where
         -- the name, where it is put
-        record Name (j : Json) (x : Entry s name params kind value j) (n : Bytes) : Type 0 where
+        record Name (j : Json) (x : Elements s name params kind value j) (n : Bytes) : Type 0 where
           is : chain (asString (x .n)) lineName ≡ some n
           here : take e c ≡ n
           to : e ≤ size (x .n)
           long : length c ≡ length b
 
-        by-name : (res : Bool) (after : Bytes) (u : List ℕ) (j : Json) (x : Entry s name params kind value j) → size j + 5 ≤ length b
+        by-name : (res : Bool) (after : Bytes) (u : List ℕ) (j : Json) (x : Elements s name params kind value j) → size j + 5 ≤ length b
             → ((n : Bytes) → Name j x n → HoldsAs after u res (chain (chain (asObject (x .p)) (stepsOf noneYet)) λ z. composedRest n z (x .t) (x .v)))
             → HoldsAs after u res (chain (chain (asString (x .n)) lineName) λ y. chain (chain (asObject (x .p)) (stepsOf noneYet)) λ z. composedRest y z (x .t) (x .v))
         by-name res after u j x l f = by (chain (asString (x .n)) lineName) refl (named 13 (x .n) (x .is-name) (omega (arith, x .sized)))
@@ -169,7 +178,7 @@ module _ (s : Bytes) (at : ℕ) (r : Four) (told : TellsFour s at r) (name param
                 f n (record { is = i; here = g .is; to = omega (arith, g .to, name-size (x .n) n i); long = g .long })
 
         module _ (st : Step) (d : Bytes) (t : List ℕ) (puts : PutsObject c e s params st d t) where
-          objects : (j : Json) (x : Entry s name params kind value j) → size j + 5 ≤ length b → (n : Bytes) → Name j x n → StepAs c e (e + size (x .p)) st d t (chain (asObject (x .p)) (stepsOf noneYet))
+          objects : (j : Json) (x : Elements s name params kind value j) → size j + 5 ≤ length b → (n : Bytes) → Name j x n → StepAs c e (e + size (x .p)) st d t (chain (asObject (x .p)) (stepsOf noneYet))
           objects j x l n h = puts (x .p) (x .is-params) (omega (arith, x .sized, h .to, h .long))
 
           pub fill-unparamed : st ≡ StepBad → FillsKept b s at false d t
@@ -182,7 +191,7 @@ module _ (s : Bytes) (at : ℕ) (r : Four) (told : TellsFour s at r) (name param
           pub fill-rest : (f : Filled) → st ≡ On f → (res : Bool) (after : Bytes) (u : List ℕ) → FillsRest d t f e s kind value res after u → FillsKept b s at res after u
           fill-rest f i res after u rest = by-parts res after u λ j x l. by-name res after u j x l λ n h. by j x l n h (chain (asObject (x .p)) (stepsOf noneYet)) (objects j x l n h)
             where
-              by : (j : Json) (x : Entry s name params kind value j) → size j + 5 ≤ length b → (n : Bytes) → Name j x n
+              by : (j : Json) (x : Elements s name params kind value j) → size j + 5 ≤ length b → (n : Bytes) → Name j x n
                   → (o : Option Sofar) → StepAs c e (e + size (x .p)) st d t o → HoldsAs after u res (chain o λ z. composedRest n z (x .t) (x .v))
               by j x l n h none p = absurd (not-on (sym p ∙ i))
               by j x l n h (some z) p =

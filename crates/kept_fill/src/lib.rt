@@ -14,6 +14,7 @@ ghost use Prim.Native.Nat.{_≤_};
 ghost use lib.ListN.{length};
 ghost use Rattle.kept_strings.specs.Strings.{Bounds};
 ghost use Rattle.kept_entry.specs.Entry.{FillsRest, FillsKept};
+ghost use Rattle.kept_fill.specs.Held.{isEntry, HeldIn};
 
 // Type and value, then the head.
 fn put_rest<'a, 'b, 'c>(
@@ -47,27 +48,38 @@ fn put_rest<'a, 'b, 'c>(
     true
 }
 
-// The whole entry: false where no kept line gives it in form.
-pub fn fill_kept<'a, 'b, 'c>(b: &'a mut [u8], t: &'b mut [usize], s: &'c [u8], at: usize) -> bool
+// An entry as a table: the place after the entry; bad where no kept line gives it in form.
+pub enum Held {
+    Entry(usize),
+    Bad,
+}
+
+// The whole entry.
+pub fn fill_kept<'a, 'b, 'c>(b: &'a mut [u8], t: &'b mut [usize], s: &'c [u8], at: usize) -> Held
     requires { ⌜ 264 ≤ length (now t) ⌝ }
     requires { ⌜ at ≤ length (now s) ⌝ }
     ensures { λ r. ⌜ Bounds (now (b .entry)) (now (b .exit)) (now (t .entry)) (now (t .exit)) ⌝ }
-    ensures { λ r. ⌜ FillsKept (now (b .entry)) (now (s .entry)) at r (now (b .exit)) (now (t .exit)) ⌝ }
+    ensures { λ r. ⌜ HeldIn (now (s .entry)) at r ⌝ }
+    ensures { λ r. ⌜ FillsKept (now (b .entry)) (now (s .entry)) at (isEntry r) (now (b .exit)) (now (t .exit)) ⌝ }
 {
     let Four::At {
         name,
         params,
         kind,
         value,
+        end,
     } = four_at(s, at)
     else {
-        return false;
+        return Held::Bad;
     };
     let To::End(e) = put_name(b, 0, s, name) else {
-        return false;
+        return Held::Bad;
     };
     let Step::On(f) = put_object(b, e, t, s, params) else {
-        return false;
+        return Held::Bad;
     };
-    put_rest(b, t, f, e, s, kind, value)
+    if !put_rest(b, t, f, e, s, kind, value) {
+        return Held::Bad;
+    }
+    Held::Entry(end)
 }

@@ -16,11 +16,11 @@ use Rattle.text.specs.Places.{GivesT}
 use Rattle.text.proofs.Lists.{all-head, all-tail}
 use Rattle.json.specs.Tree.{Json, membersOf, Elems, enil, econs, elemsOf}
 use Rattle.json.specs.Syntax.{sep, item, value}
-use Rattle.json.specs.Strings.{decodedElems, distinctNames}
-use Rattle.json_access.specs.declared.Part.{Part as Place}
-use Rattle.json_access.specs.Access.{TellsElement}
+use Rattle.json.specs.Strings.{decoded, decodedElems, distinctNames}
+use Rattle.json_access.specs.Access.{EndsAt}
+use Rattle.json_index.specs.Index.{meant, jsonAt}
 use Rattle.kept_strings.specs.Strings.{size, sizeElems}
-use Rattle.kept_strings.proofs.Elements.{item-here, elems-on, elems-none, next-elem, elem-stands, elems-nil, elems-cons, enil-decoded}
+use Rattle.kept_strings.proofs.Elements.{item-here, elems-on, elems-none, next-elem, elems-nil, elems-cons, enil-decoded}
 use Rattle.convert.specs.Classify.{Seen}
 use Rattle.to_card_lines.specs.declared.Lines.{Lines}
 use Rattle.to_card_lines.specs.declared.Lines.the-variants.{All, Wrong}
@@ -31,19 +31,19 @@ use Rattle.to_card_kept.specs.Puts.{ForKnown, EntryAt, PutsEntry, Entrie
 
 -- ---- the entry that is next
 
-abbrev Gives : Bytes → Place → ℕ → Type 0
-Gives s r j = GivesT s (r .end) (sep 93 zero suc (drop (r .end) s)) (Go j)
+abbrev Gives : Bytes → ℕ → ℕ → Type 0
+Gives s end j = GivesT s end (sep 93 zero suc (drop end s)) (Go j)
 
-abbrev Stops : Bytes → Place → Read → Type 0
-Stops s r v = GivesT s (r .end) (sep 93 zero suc (drop (r .end) s)) (Stop v)
+abbrev Stops : Bytes → ℕ → Read → Type 0
+Stops s end v = GivesT s end (sep 93 zero suc (drop end s)) (Stop v)
 
-record Next (s : Bytes) (r : Place) (es : Elems) : Type 0 where
+record Next (s : Bytes) (i : ℕ) (es : Elems) : Type 0 where
   val : Json
   others : Elems
-  entry : EntryAt s (r .start) val
+  entry : EntryAt s i val
   is : elemsOf es ≡ val ∷ elemsOf others
-  goes : (j : ℕ) → Gives s r j → EntriesAt s j others
-  ends : (v : Read) → Stops s r v → elemsOf others ≡ []
+  goes : (end : ℕ) → EndsAt 14 s i end → (j : ℕ) → Gives s end j → EntriesAt s j others
+  ends : (end : ℕ) → EndsAt 14 s i end → (v : Read) → Stops s end v → elemsOf others ≡ []
 
 same-others : {v : Json} {us ws ts : Elems} → econs v us ≡ ts → ts ≡ econs v ws → us ≡ ws
 same-others e f = cc
@@ -52,21 +52,25 @@ size-cons : (v : Json) (es : Elems) → sizeElems (econs v es) ≡ size v + size
 unfolding sizeElems
 size-cons v es = refl
 
-next-entry : (s : Bytes) (i : ℕ) (es : Elems) → EntriesAt s i es → (r : Place) → TellsElement 14 s i r → Next s r es
-next-entry s i es a r told =
+read-at : (d : ℕ) (s : Bytes) (i : ℕ) (j : Json) (u : Bytes) (v : Json) → value d (drop i s) ≡ got j u → decoded j ≡ some v → jsonAt d s i ≡ some v
+unfolding jsonAt
+read-at d s i j u v e q = ap meant e ∙ q
+
+next-entry : (s : Bytes) (i : ℕ) (es : Elems) → EntriesAt s i es → Next s i es
+next-entry s i es a =
     let z = item-here 14 s i (a .units) (a .rest) (a .is-units) in
-    let x = elem-stands 14 s i (a .units) z r told in
     let n = next-elem (z .val) (z .others) es (ap decodedElems (sym (z .is)) ∙ a .is) in
     let l : elemsOf es ≡ n .val ∷ elemsOf (n .others) = ap elemsOf (sym (n .is)) ∙ elems-cons (n .val) (n .others) in
     let d : all distinctNames (n .val ∷ elemsOf (n .others)) ≡ true = subst (λ (js : List Json). all distinctNames js ≡ true) l (a .distinct) in
     let m : sizeElems es ≡ size (n .val) + sizeElems (n .others) = ap sizeElems (sym (n .is)) ∙ size-cons (n .val) (n .others) in
+    let b = read-at 14 s i (z .val) (z .rest-val) (n .val) (z .is-value) (n .is-val) in
     record {
       val = n .val;
       others = n .others;
-      entry = record { stands = x .1 (n .val) (n .is-val); distinct = all-head distinctNames (n .val) (elemsOf (n .others)) d; room = omega (arith, m, a .room) };
+      entry = record { stands = b; distinct = all-head distinctNames (n .val) (elemsOf (n .others)) d; room = omega (arith, m, a .room) };
       is = l;
-      goes = λ j w.
-          let o = elems-on 14 s i (a .units) (a .rest) (a .is-units) z (r .end) (x .0) j w in
+      goes = λ end x j w.
+          let o = elems-on 14 s i (a .units) (a .rest) (a .is-units) z end (x (z .val) (z .rest-val) (z .is-value)) j w in
           record {
             units = z .others;
             rest = a .rest;
@@ -75,8 +79,8 @@ next-entry s i es a r told =
             distinct = all-tail distinctNames (n .val) (elemsOf (n .others)) d;
             room = omega (arith, m, a .room);
           };
-      ends = λ v w.
-          let o = elems-none 14 s i (a .units) (a .rest) (a .is-units) z (r .end) (x .0) v w in
+      ends = λ end x v w.
+          let o = elems-none 14 s i (a .units) (a .rest) (a .is-units) z end (x (z .val) (z .rest-val) (z .is-value)) v w in
           let e : enil ≡ n .others = enil-decoded (n .others) (ap decodedElems (same-others o (z .is)) ∙ n .is-others) in
           ap elemsOf (sym e) ∙ elems-nil;
     }
@@ -97,9 +101,9 @@ pub going-first : (s : Bytes) (slots : List ℕ) (at : ℕ) (full parts : Bool) 
 going-first s slots at full parts room es a mm ess known n f p = record { rest = es; entries = a; part = noLines; is-all = before-none _; done = done-none room }
 
 module _ (s : Bytes) (slots : List ℕ) (at : ℕ) (full parts : Bool) (room : Bytes) (i n lines : ℕ) (ok : Bool) (out : Bytes) (going : Going s slots at full parts room i n lines ok out)
-    (r : Place) (told : TellsElement 14 s i r) (p : Lines) (last : Bytes) (puts : PutsEntry s slots (r .start) full parts (midOf n (length out - n) out) p last) where
+    (p : Lines) (last : Bytes) (puts : PutsEntry s slots i full parts (midOf n (length out - n) out) p last) where
   -- the entry at i, before the others
-  split : (seen : Seen) (js : List Json) (g : Far s room seen js i n lines ok out) (x : Next s r (g .rest))
+  split : (seen : Seen) (js : List Json) (g : Far s room seen js i n lines ok out) (x : Next s i (g .rest))
       → partsOf (entryPart seen) js ≡ before (g .part) (both joinParts (entryPart seen (x .val)) (partsOf (entryPart seen) (elemsOf (x .others))))
   split seen js g x = g .is-all ∙ ap (before (g .part)) (ap (partsOf (entryPart seen)) (x .is) ∙ parts-one (entryPart seen) (x .val) (elemsOf (x .others)))
 
@@ -107,33 +111,33 @@ module _ (s : Bytes) (slots : List ℕ) (at : ℕ) (full parts : Bool) (room : B
   puts-wrong after e es a mm ess known m f h =
       let seen = seenOf m ess (membersOf mm) in
       let g = going es a mm ess known m f h in
-      let x = next-entry s i (g .rest) (g .entries) r told in
+      let x = next-entry s i (g .rest) (g .entries) in
       by (g .part) (entryPart seen (x .val)) (partsOf (entryPart seen) (elemsOf (x .others))) _ (split seen (elemsOf es) g x) (puts (x .val) (x .entry) mm ess known m f h)
     where
       by : (d : Part) (o os want : Option Part) → want ≡ before d (both joinParts o os) → PartAs (midOf n (length out - n) out) p last o → PartAs room Wrong after want
       by d none os want q w = none-wrong room after want q
       by d (some c) os want q w = absurd (not-all (sym e ∙ w .1))
 
-  module _ (k l : ℕ) (c : Bool) (e : p ≡ All k l c) where
+  module _ (k l : ℕ) (c : Bool) (e : p ≡ All k l c) (end : ℕ) (is-end : EndsAt 14 s i end) where
     -- one entry more is done
     further : (want : Option Part) (d : Part) (o os : Option Part) → want ≡ before d (both joinParts o os) → PartAs (midOf n (length out - n) out) p last o → Done room n lines ok out d
         → (x : Part) × (want ≡ before x os) × Done room (n + k) (lines + l) (ok && c) (putMid n (length out - n) out last) x
     further want d none os q w done = absurd (not-all (sym w ∙ e))
     further want d (some x) os q w done = (joinParts d x, q ∙ before-one d x os, done-on room n lines ok out d done p last x w e)
 
-    pub going-on : (j : ℕ) → Gives s r j → Going s slots at full parts room j (n + k) (lines + l) (ok && c) (putMid n (length out - n) out last)
+    pub going-on : (j : ℕ) → Gives s end j → Going s slots at full parts room j (n + k) (lines + l) (ok && c) (putMid n (length out - n) out last)
     going-on j w es a mm ess known m f h =
         let seen = seenOf m ess (membersOf mm) in
         let g = going es a mm ess known m f h in
-        let x = next-entry s i (g .rest) (g .entries) r told in
+        let x = next-entry s i (g .rest) (g .entries) in
         let y = further _ (g .part) (entryPart seen (x .val)) (partsOf (entryPart seen) (elemsOf (x .others))) (split seen (elemsOf es) g x) (puts (x .val) (x .entry) mm ess known m f h) (g .done) in
-        record { rest = x .others; entries = x .goes j w; part = y .0; is-all = y .1; done = y .2 }
+        record { rest = x .others; entries = x .goes end is-end j w; part = y .0; is-all = y .1; done = y .2 }
 
-    pub puts-all : (v : Read) → Stops s r v → PutsFrom s slots at full parts room (All (n + k) (lines + l) (ok && c)) (putMid n (length out - n) out last)
+    pub puts-all : (v : Read) → Stops s end v → PutsFrom s slots at full parts room (All (n + k) (lines + l) (ok && c)) (putMid n (length out - n) out last)
     puts-all v w es a mm ess known m f h =
         let seen = seenOf m ess (membersOf mm) in
         let g = going es a mm ess known m f h in
-        let x = next-entry s i (g .rest) (g .entries) r told in
+        let x = next-entry s i (g .rest) (g .entries) in
         let y = further _ (g .part) (entryPart seen (x .val)) (partsOf (entryPart seen) (elemsOf (x .others))) (split seen (elemsOf es) g x) (puts (x .val) (x .entry) mm ess known m f h) (g .done) in
-        let z : partsOf (entryPart seen) (elemsOf (x .others)) ≡ some noLines = ap (partsOf (entryPart seen)) (x .ends v w) ∙ parts-none (entryPart seen) in
+        let z : partsOf (entryPart seen) (elemsOf (x .others)) ≡ some noLines = ap (partsOf (entryPart seen)) (x .ends end is-end v w) ∙ parts-none (entryPart seen) in
         done-all room (n + k) (lines + l) (ok && c) _ (y .0) (y .2) (partsOf (entryPart seen) (elemsOf es)) (y .1 ∙ ap (before (y .0)) z ∙ before-last (y .0))

@@ -17,7 +17,10 @@ use Rattle.line_table.specs.Table.{lineIn}
 use Rattle.convert.specs.Model.{Entry, hasParts}
 use Rattle.convert.specs.Classify.{Seen, classify}
 use Rattle.convert.specs.FromJson.{Name, isKept}
+use Rattle.card_entry.specs.declared.Entered.{Entered}
+use Rattle.card_entry.specs.declared.Entered.the-variants.{Line, Refused}
 use Rattle.to_card_lines.specs.declared.Lines.{Lines}
+use Rattle.to_card_lines.specs.declared.Lines.the-variants.{All, Wrong}
 use Rattle.to_card_lines.specs.Lines.{PartAs, partsOf}
 use Rattle.to_card_kept.specs.Kept.{Known, seenOf, entryPart}
 
@@ -37,6 +40,11 @@ pub record EntryAt (s : Bytes) (at : ℕ) (j : Json) : Type 0 where
   pub stands : jsonAt 14 s at ≡ some j
   pub distinct : distinctNames j ≡ true
   pub room : size j + 5 ≤ length s
+
+-- its line, less the place after the entry
+abbrev pub asLines : Entered → Lines
+asLines (Line n c e) = All n 1 c
+asLines Refused = Wrong
 
 abbrev pub PutsEntry : Bytes → List ℕ → ℕ → Bool → Bool → Bytes → Lines → Bytes → Type 0
 PutsEntry s slots at full parts room r after = (j : Json) → EntryAt s at j → ForKnown s slots full parts λ seen. PartAs room r after (entryPart seen j)

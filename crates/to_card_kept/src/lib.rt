@@ -1,9 +1,10 @@
 // The entries of vCardProps of a JSON text as kept lines of a card. Each is decoded into a lent buffer and laid out as a line's table. The classifier of
 // card lines then judges it: an entry whose line would convert in its place is 12.
+use card_entry::Entered;
 use class_line::class_line;
-use json_access::element_at;
 use json_marks::separator;
 use json_marks::skip_space;
+use kept_fill::Held;
 use kept_fill::fill_kept;
 use kept_line::put_kept_line;
 use kept_used::is_kept_class;
@@ -19,10 +20,10 @@ ghost use Prim.Native.Nat.{_≤_};
 ghost use lib.ListN.{length};
 ghost use Rattle.line_table.specs.Table.{Sound};
 ghost use Rattle.class_member.specs.Member.{Room};
+ghost use Rattle.card_entry.specs.Rows.{EnteredIn};
 ghost use Rattle.to_card_lines.specs.Lines.{LinesIn};
-ghost use Rattle.to_card_members.specs.Members.{OneIn};
 ghost use Rattle.to_card_kept.specs.Kept.{Lent, PutsKept};
-ghost use Rattle.to_card_kept.specs.Puts.{TellsKept, PutsEntry, PutsFrom};
+ghost use Rattle.to_card_kept.specs.Puts.{TellsKept, asLines, PutsEntry, PutsFrom};
 
 // Whether the line that the table holds is kept after all converted lines.
 fn is_kept_line(
@@ -56,26 +57,26 @@ fn put_entry<'a, 'b, 'c, 'd, 'e, 'f>(
     at: usize,
     full: bool,
     parts: bool,
-) -> Lines
+) -> Entered
     requires { ⌜ Lent (now b) (now t) (now scratch) (now s) (now slots) ⌝ }
     requires { ⌜ at ≤ length (now s) ⌝ }
-    ensures { λ r. ⌜ OneIn (length (now (out .entry))) r ⌝ }
+    ensures { λ r. ⌜ EnteredIn (now (s .entry)) at (length (now (out .entry))) r ⌝ }
     ensures { λ r. ⌜ length (now (out .exit)) ≡ length (now (out .entry)) ⌝ }
-    ensures { λ r. ⌜ PutsEntry (now (s .entry)) (now (slots .entry)) at full parts (now (out .entry)) r (now (out .exit)) ⌝ }
+    ensures { λ r. ⌜ PutsEntry (now (s .entry)) (now (slots .entry)) at full parts (now (out .entry)) (asLines r) (now (out .exit)) ⌝ }
 {
-    if !fill_kept(b, t, s, at) {
-        return Lines::Wrong;
-    }
+    let Held::Entry(end) = fill_kept(b, t, s, at) else {
+        return Entered::Refused;
+    };
     if !is_sound(b, t) {
-        return Lines::Wrong;
+        return Entered::Refused;
     }
     if !is_kept_line(b, t, scratch, s, slots, full, parts) {
-        return Lines::Wrong;
+        return Entered::Refused;
     }
     let p = put_kept_line(out, b, t);
     let n = p.bytes;
     let ok = p.carried;
-    Lines::All(n, 1, ok)
+    Entered::Line(n, ok, end)
 }
 
 // The entries from a place on.
@@ -101,15 +102,21 @@ fn put_from<'a, 'b, 'c, 'd, 'e, 'f>(
     let mut lines = 0;
     let mut ok = true;
     loop {
-        let p = element_at(s, i, 14);
-        let a = p.start;
-        let e = p.end;
-        let Lines::All(k, l, c) = put_entry(&mut out[n..], b, t, scratch, s, slots, a, full, parts)
-        else {
+        let Entered::Line(k, c, e) = put_entry(
+            &mut out[n..],
+            b,
+            t,
+            scratch,
+            s,
+            slots,
+            i,
+            full,
+            parts,
+        ) else {
             return Lines::Wrong;
         };
         n += k;
-        lines += l;
+        lines += 1;
         ok = ok & c;
         match separator(s, e, RIGHT_BRACKET) {
             Turn::Go(j) => {

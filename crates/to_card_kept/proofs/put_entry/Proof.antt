@@ -1,7 +1,9 @@
 use denote.Ref.{now}
-use mathlib.Core.Path.{refl}
+use mathlib.Core.Path.{refl, ap}
 use native.Mathlib.Omega.{arith}
 use Rattle.text.proofs.Cases.{not-true, not-false}
+use Rattle.kept_fill.specs.Held.{isEntry}
+use Rattle.kept_fill.proofs.Fill.{held-in}
 use Rattle.to_card_kept.proofs.Entry.{sound-is, sound-not, lent-room, entry-unfilled, entry-unsound, entry-converts, entry-put}
 use borrow.Author.Needs.{needs}
 use Rattle.to_card_kept.proofs.put_entry.Statement.{statement}
@@ -12,6 +14,12 @@ fill-kept-requires c κs =
     let pre = c .before .before .before .before .before .before .before .before .pre in
     (pre .0 .all .table, pre .1)
 
+enum-known-end : tie.Need-enum-known-end
+enum-known-end c = search needs
+
+enum-told : tie.Need-enum-told
+enum-told c = search needs
+
 same-length : tie.Need-same-length
 same-length c = search needs
 
@@ -20,17 +28,17 @@ same-length-2 c = search needs
 
 returns : tie.Need-returns
 returns c =
-    let args = c .before .before .before .before .before .before .before .before .before .before .before .before .before .before .args in
-    let pre = c .before .before .before .before .before .before .before .before .before .before .before .before .before .before .pre in
-    let fill-kept = c .before .before .before .before .before .fill-kept in (
+    let args = c .before .before .before .before .before .before .before .before .before .before .before .before .before .before .before .args in
+    let pre = c .before .before .before .before .before .before .before .before .before .before .before .before .before .before .before .pre in
+    let fill-kept = c .before .before .before .before .before .before .fill-kept in (
       tt,
-      (refl, entry-unfilled (now (args .s)) (now (args .slots)) (args .at) (args .full) (args .parts) (now (args .out)) (now (args .b)) (pre .0 .all .buffer) (fill-kept .result) _ _ (fill-kept .ensures .1) (not-true _ (c .if1 .taken)) _),
+      (refl, entry-unfilled (now (args .s)) (now (args .slots)) (args .at) (args .full) (args .parts) (now (args .out)) (now (args .b)) (pre .0 .all .buffer) _ _ _ (fill-kept .ensures .1 .1) (ap isEntry (c .enum-told .given .1)) _),
     )
 
 is-sound-requires : tie.Need-is-sound-requires
 is-sound-requires c κs =
-    let pre = c .before .before .before .before .before .before .before .before .before .before .before .before .before .before .before .before .pre in
-    let fill-kept = c .before .before .before .before .before .before .before .fill-kept in
+    let pre = c .before .before .before .before .before .before .before .before .before .before .before .before .before .before .before .before .before .before .pre in
+    let fill-kept = c .before .before .before .before .before .before .before .before .before .fill-kept in
     omega (arith, pre .0 .all .table, fill-kept .ensures .0 .wide)
 
 same-length-3 : tie.Need-same-length-3
@@ -41,21 +49,21 @@ same-length-4 c = search needs
 
 returns-2 : tie.Need-returns-2
 returns-2 c =
-    let pre = c .before .before .before .before .before .before .before .before .before .before .before .before .before .before .before .before .before .before .pre in
-    let args = c .before .before .before .before .before .before .before .before .before .before .before .before .before .before .before .before .before .before .args in
-    let fill-kept = c .before .before .before .before .before .before .before .before .before .fill-kept in
+    let pre = c .before .before .before .before .before .before .before .before .before .before .before .before .before .before .before .before .before .before .before .before .pre in
+    let args = c .before .before .before .before .before .before .before .before .before .before .before .before .before .before .before .before .before .before .before .before .args in
+    let fill-kept = c .before .before .before .before .before .before .before .before .before .before .before .fill-kept in
     let is-sound = c .before .is-sound in (
       tt,
-      (refl, entry-unsound (now (args .s)) (now (args .slots)) (args .at) (args .full) (args .parts) (now (args .out)) (now (args .b)) (pre .0 .all .buffer) (fill-kept .result) _ _ (fill-kept .ensures .1) (sound-not (is-sound .result) (is-sound .ensures) (not-true _ (c .if2 .taken))) _),
+      (refl, entry-unsound (now (args .s)) (now (args .slots)) (args .at) (args .full) (args .parts) (now (args .out)) (now (args .b)) (pre .0 .all .buffer) _ _ _ (fill-kept .ensures .1 .1) (sound-not (is-sound .result) (is-sound .ensures) (not-true _ (c .if1 .taken))) _),
     )
 
 is-kept-line-requires : tie.Need-is-kept-line-requires
 is-kept-line-requires c κs =
-    let pre = c .before .before .before .before .before .before .before .before .before .before .before .before .before .before .before .before .before .before .before .before .before .pre in
-    let fill-kept = c .before .before .before .before .before .before .before .before .before .before .before .before .fill-kept in
+    let pre = c .before .before .before .before .before .before .before .before .before .before .before .before .before .before .before .before .before .before .before .before .before .before .before .pre in
+    let fill-kept = c .before .before .before .before .before .before .before .before .before .before .before .before .before .before .fill-kept in
     let is-sound = c .before .before .before .before .is-sound in
-    let if2 = c .before .before .before .if2 in
-    (sound-is (is-sound .result) (is-sound .ensures) (not-false _ (if2 .left)), lent-room (pre .0 .all) (fill-kept .ensures .0 .long), pre .0 .index)
+    let if1 = c .before .before .before .if1 in
+    (sound-is (is-sound .result) (is-sound .ensures) (not-false _ (if1 .left)), lent-room (pre .0 .all) (fill-kept .ensures .0 .long), pre .0 .index)
 
 same-length-5 : tie.Need-same-length-5
 same-length-5 c = search needs
@@ -68,19 +76,19 @@ same-length-7 c = search needs
 
 returns-3 : tie.Need-returns-3
 returns-3 c =
-    let args = c .before .before .before .before .before .before .before .before .before .before .before .before .before .before .before .before .before .before .before .before .before .before .before .before .before .args in
-    let pre = c .before .before .before .before .before .before .before .before .before .before .before .before .before .before .before .before .before .before .before .before .before .before .before .before .before .pre in
-    let fill-kept = c .before .before .before .before .before .before .before .before .before .before .before .before .before .before .before .before .fill-kept in
+    let args = c .before .before .before .before .before .before .before .before .before .before .before .before .before .before .before .before .before .before .before .before .before .before .before .before .before .before .before .args in
+    let pre = c .before .before .before .before .before .before .before .before .before .before .before .before .before .before .before .before .before .before .before .before .before .before .before .before .before .before .before .pre in
+    let fill-kept = c .before .before .before .before .before .before .before .before .before .before .before .before .before .before .before .before .before .before .fill-kept in
     let is-kept-line = c .before .before .before .is-kept-line in (
       tt,
-      (refl, entry-converts (now (args .s)) (now (args .slots)) (args .at) (args .full) (args .parts) (now (args .out)) (now (args .b)) (pre .0 .all .buffer) (fill-kept .result) _ _ (fill-kept .ensures .1) (is-kept-line .result) (is-kept-line .ensures) (not-true _ (c .if3 .taken)) _),
+      (refl, entry-converts (now (args .s)) (now (args .slots)) (args .at) (args .full) (args .parts) (now (args .out)) (now (args .b)) (pre .0 .all .buffer) _ _ _ (fill-kept .ensures .1 .1) (is-kept-line .result) (is-kept-line .ensures) (not-true _ (c .if2 .taken)) _),
     )
 
 put-kept-line-requires : tie.Need-put-kept-line-requires
 put-kept-line-requires c κs =
     let is-sound = c .before .before .before .before .before .before .before .before .before .before .before .is-sound in
-    let if2 = c .before .before .before .before .before .before .before .before .before .before .if2 in
-    sound-is (is-sound .result) (is-sound .ensures) (not-false _ (if2 .left))
+    let if1 = c .before .before .before .before .before .before .before .before .before .before .if1 in
+    sound-is (is-sound .result) (is-sound .ensures) (not-false _ (if1 .left))
 
 same-length-8 : tie.Need-same-length-8
 same-length-8 c = search needs
@@ -96,15 +104,15 @@ same-length-11 c = search needs
 
 returns-4 : tie.Need-returns-4
 returns-4 c =
-    let pre = c .before .before .before .before .before .before .before .before .before .before .before .before .before .before .before .before .before .before .before .before .before .before .before .before .before .before .before .before .before .before .before .pre in
-    let args = c .before .before .before .before .before .before .before .before .before .before .before .before .before .before .before .before .before .before .before .before .before .before .before .before .before .before .before .before .before .before .before .args in
-    let fill-kept = c .before .before .before .before .before .before .before .before .before .before .before .before .before .before .before .before .before .before .before .before .before .before .fill-kept in
-    let if1 = c .before .before .before .before .before .before .before .before .before .before .before .before .before .before .before .before .before .if1 in
+    let pre = c .before .before .before .before .before .before .before .before .before .before .before .before .before .before .before .before .before .before .before .before .before .before .before .before .before .before .before .before .before .before .before .before .before .pre in
+    let args = c .before .before .before .before .before .before .before .before .before .before .before .before .before .before .before .before .before .before .before .before .before .before .before .before .before .before .before .before .before .before .before .before .before .args in
+    let fill-kept = c .before .before .before .before .before .before .before .before .before .before .before .before .before .before .before .before .before .before .before .before .before .before .before .before .fill-kept in
+    let end = c .before .before .before .before .before .before .before .before .before .before .before .before .before .before .before .before .before .before .end in
     let is-kept-line = c .before .before .before .before .before .before .before .before .before .is-kept-line in
-    let if3 = c .before .before .before .before .before .before .if3 in
+    let if2 = c .before .before .before .before .before .before .if2 in
     let put-kept-line = c .before .before .put-kept-line in (
-      (put-kept-line .ensures .0, omega arith),
-      (put-kept-line .ensures .1 .0, entry-put (now (args .s)) (now (args .slots)) (args .at) (args .full) (args .parts) (now (args .out)) (now (args .b)) (pre .0 .all .buffer) (fill-kept .result) _ _ (fill-kept .ensures .1) (is-kept-line .result) (is-kept-line .ensures) (not-false _ (if1 .left)) (not-false _ (if3 .left)) (put-kept-line .result) _ (put-kept-line .ensures .1 .1)),
+      (put-kept-line .ensures .0, held-in (now (args .s)) (args .at) (fill-kept .ensures .1 .0) (end .given .1)),
+      (put-kept-line .ensures .1 .0, entry-put (now (args .s)) (now (args .slots)) (args .at) (args .full) (args .parts) (now (args .out)) (now (args .b)) (pre .0 .all .buffer) _ _ _ (fill-kept .ensures .1 .1) (is-kept-line .result) (is-kept-line .ensures) (ap isEntry (end .given .1)) (not-false _ (if2 .left)) (put-kept-line .result) _ (put-kept-line .ensures .1 .1)),
     )
 
 pub put-entry-spec : {M : Type 1} → statement M
@@ -112,6 +120,8 @@ put-entry-spec =
     tie.close
     (tie.spec
     fill-kept-requires
+    enum-known-end
+    enum-told
     same-length
     same-length-2
     returns

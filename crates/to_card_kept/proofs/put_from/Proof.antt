@@ -1,14 +1,15 @@
 use borrow.Author.Needs.{needs}
 use denote.Ref.{now}
-use mathlib.Core.Path.{_≡_, refl, _∙_}
+use mathlib.Core.Path.{_≡_, refl, ap, _∙_}
 use Prim.Native.Nat.{_-_, _≤_}
 use native.Mathlib.Omega.{arith}
 use native.Mathlib.Nat.{le-refl}
 use lib.ListN.{length}
 use Rattle.text.proofs.Places.{turn-as}
 use Rattle.to_card_lines.proofs.Laws.{part-length, part-in}
-use Rattle.to_card_members.proofs.Loop.{one-in}
+use Rattle.card_entry.proofs.Putting.{entered-in}
 use Rattle.to_card_kept.specs.Kept.{LentText}
+use Rattle.to_card_kept.specs.Puts.{asLines}
 use Rattle.to_card_kept.proofs.Entry.{lent-as}
 use Rattle.to_card_kept.proofs.Loop.{Going, going-first, puts-wrong, going-on, puts-all}
 use Rattle.to_card_kept.proofs.put_from.Statement.{statement}
@@ -37,24 +38,20 @@ loop-holds c =
       going-first (now (args .s)) (now (args .slots)) (args .at) (args .full) (args .parts) (now (args .out)),
     )
 
-element-at-requires : tie.Need-element-at-requires Inv-loop μ-loop
-element-at-requires c κs = tt
-
 sub-put-entry : tie.Need-sub-put-entry Inv-loop μ-loop
-sub-put-entry c = c .before .loop .inv .1
+sub-put-entry c = c .loop .inv .1
 
 part-put-entry-start : tie.Need-part-put-entry-start Inv-loop μ-loop
-part-put-entry-start c = c .before .loop .inv .1
+part-put-entry-start c = c .loop .inv .1
 
 part-put-entry-end : tie.Need-part-put-entry-end Inv-loop μ-loop
 part-put-entry-end c = le-refl _
 
 put-entry-requires : tie.Need-put-entry-requires Inv-loop μ-loop
 put-entry-requires c κs =
-    let pre = c .before .before .before .before .before .before .before .before .before .before .before .before .pre in
-    let loop = c .before .before .before .before .before .loop in
-    let element-at = c .before .before .before .before .element-at in
-    (record { all = loop .inv .4; index = pre .0 .index }, omega (arith, element-at .ensures .0 .ordered, element-at .ensures .0 .end-in))
+    let pre = c .before .before .before .before .before .before .before .before .before .before .before .pre in
+    let loop = c .before .before .before .before .loop in
+    (record { all = loop .inv .4; index = pre .0 .index }, omega (arith, loop .inv .0, pre .1))
 
 enum-known-k : tie.Need-enum-known-k Inv-loop μ-loop
 enum-known-k c = search needs
@@ -64,50 +61,51 @@ enum-told c = search needs
 
 same-length : tie.Need-same-length Inv-loop μ-loop
 same-length c =
-    let loop = c .before .before .before .before .before .before .before .before .before .before .before .before .before .before .before .before .loop in
+    let loop = c .before .before .before .before .before .before .before .before .before .before .before .before .before .before .before .loop in
     let put-entry = c .before .before .before .before .before .before .before .before .before .before .put-entry in
     part-length (loop .n) (loop .out) (put-entry .last .0) (loop .inv .1) (put-entry .ensures .1 .0) ∙ (loop .inv .2)
 
 same-length-2 : tie.Need-same-length-2 Inv-loop μ-loop
 same-length-2 c =
-    let loop = c .before .before .before .before .before .before .before .before .before .before .before .before .before .before .before .before .loop in
+    let loop = c .before .before .before .before .before .before .before .before .before .before .before .before .before .before .before .loop in
     let put-entry = c .before .before .before .before .before .before .before .before .before .before .put-entry in
     put-entry .kept .1 .0 ∙ (loop .inv .5)
 
 same-length-3 : tie.Need-same-length-3 Inv-loop μ-loop
 same-length-3 c =
-    let loop = c .before .before .before .before .before .before .before .before .before .before .before .before .before .before .before .before .loop in
+    let loop = c .before .before .before .before .before .before .before .before .before .before .before .before .before .before .before .loop in
     let put-entry = c .before .before .before .before .before .before .before .before .before .before .put-entry in
     put-entry .kept .1 .1 .0 ∙ (loop .inv .6)
 
 same-length-4 : tie.Need-same-length-4 Inv-loop μ-loop
 same-length-4 c =
-    let loop = c .before .before .before .before .before .before .before .before .before .before .before .before .before .before .before .before .loop in
+    let loop = c .before .before .before .before .before .before .before .before .before .before .before .before .before .before .before .loop in
     let put-entry = c .before .before .before .before .before .before .before .before .before .before .put-entry in
     put-entry .kept .1 .1 .1 .0 ∙ (loop .inv .7)
 
 returns : tie.Need-returns Inv-loop μ-loop
 returns c =
-    let args = c .before .before .before .before .before .before .before .before .before .before .before .before .before .before .before .before .before .before .before .before .before .before .before .args in
-    let loop = c .before .before .before .before .before .before .before .before .before .before .before .before .before .before .before .before .loop in
-    let element-at = c .before .before .before .before .before .before .before .before .before .before .before .before .before .before .before .element-at in
+    let args = c .before .before .before .before .before .before .before .before .before .before .before .before .before .before .before .before .before .before .before .before .before .before .args in
+    let loop = c .before .before .before .before .before .before .before .before .before .before .before .before .before .before .before .loop in
     let put-entry = c .before .before .before .before .before .before .before .before .before .before .put-entry in (
       tt,
       (
         part-length (loop .n) (loop .out) (put-entry .last .0) (loop .inv .1) (put-entry .ensures .1 .0) ∙ (loop .inv .2),
-        puts-wrong (now (args .s)) (now (args .slots)) (args .at) (args .full) (args .parts) (now (args .out)) (loop .i) (loop .n) (loop .lines) (loop .ok) (loop .out) (loop .inv .8) (element-at .result) (element-at .ensures .1) (put-entry .result) _ (put-entry .ensures .1 .1) _ (c .enum-told .given .1),
+        puts-wrong (now (args .s)) (now (args .slots)) (args .at) (args .full) (args .parts) (now (args .out)) (loop .i) (loop .n) (loop .lines) (loop .ok) (loop .out) (loop .inv .8) (asLines (put-entry .result)) _ (put-entry .ensures .1 .1) _ (ap asLines (c .enum-told .given .1)),
       ),
     )
 
 add-n : tie.Need-add-n Inv-loop μ-loop
 add-n c =
-    let good = c .before .before .before .before .before .before .before .before .before .before .before .before .before .before .before .before .before .before .before .before .before .before .before .before .good in
-    let loop = c .before .before .before .before .before .before .before .before .before .before .before .before .before .before .before .before .before .loop in
+    let args = c .before .before .before .before .before .before .before .before .before .before .before .before .before .before .before .before .before .before .before .before .before .before .before .args in
+    let good = c .before .before .before .before .before .before .before .before .before .before .before .before .before .before .before .before .before .before .before .before .before .before .before .good in
+    let loop = c .before .before .before .before .before .before .before .before .before .before .before .before .before .before .before .before .loop in
     let put-entry = c .before .before .before .before .before .before .before .before .before .before .before .put-entry in
+    let e = entered-in (now (args .s)) (loop .i) (put-entry .ensures .0) (c .before .k .given .1) in
     record {
       fits = omega (
         arith,
-        part-in (loop .n) (loop .out) (loop .inv .1) (one-in (put-entry .ensures .0) (c .before .k .given .1) .0),
+        part-in (loop .n) (loop .out) (loop .inv .1) (e .0),
         loop .inv .2,
         good .0 .0,
       );
@@ -115,45 +113,49 @@ add-n c =
 
 add-lines : tie.Need-add-lines Inv-loop μ-loop
 add-lines c =
-    let loop = c .before .before .before .before .before .before .before .before .before .before .before .before .before .before .before .before .before .loop in
-    let put-entry = c .before .before .before .before .before .before .before .before .before .before .before .put-entry in
-    omega (arith, loop .inv .3, loop .inv .0, one-in (put-entry .ensures .0) (c .before .k .given .1) .1)
+    let loop = c .before .before .before .before .before .before .before .before .before .before .before .before .before .before .before .before .loop in
+    omega (arith, loop .inv .3, loop .inv .0)
 
 separator-requires : tie.Need-separator-requires Inv-loop μ-loop
 separator-requires c κs =
-    let element-at = c .before .before .before .before .before .before .before .before .before .before .before .before .before .before .before .before .element-at in
-    (element-at .ensures .0 .end-in, omega arith)
+    let args = c .before .before .before .before .before .before .before .before .before .before .before .before .before .before .before .before .before .before .before .before .before .before .before .args in
+    let loop = c .before .before .before .before .before .before .before .before .before .before .before .before .before .before .before .before .loop in
+    let put-entry = c .before .before .before .before .before .before .before .before .before .before .before .put-entry in
+    let e = entered-in (now (args .s)) (loop .i) (put-entry .ensures .0) (c .before .k .given .1) in
+    (e .1 .within, omega arith)
 
 enum-known-j : tie.Need-enum-known-j Inv-loop μ-loop
 enum-known-j c = search needs
 
 loop-less : tie.Need-loop-less Inv-loop μ-loop
 loop-less c =
-    let loop = c .before .before .before .before .before .before .before .before .before .before .before .before .before .before .before .before .before .before .before .before .before .loop in
-    let element-at = c .before .before .before .before .before .before .before .before .before .before .before .before .before .before .before .before .before .before .before .before .element-at in
+    let args = c .before .before .before .before .before .before .before .before .before .before .before .before .before .before .before .before .before .before .before .before .before .before .before .before .before .before .before .args in
+    let loop = c .before .before .before .before .before .before .before .before .before .before .before .before .before .before .before .before .before .before .before .before .loop in
     let separator = c .before .before .before .separator in
-    let h = turn-as (separator .ensures) (c .before .j .given .1) in omega
-    (arith, h .within .0, h .within .1, element-at .ensures .0 .from (loop .inv .0), element-at .ensures .0 .ordered)
+    let put-entry = c .before .before .before .before .before .before .before .before .before .before .before .before .before .before .before .put-entry in
+    let h = turn-as (separator .ensures) (c .before .j .given .1) in
+    let e = entered-in (now (args .s)) (loop .i) (put-entry .ensures .0) (c .before .before .before .before .before .k .given .1) in
+    omega (arith, h .within .0, h .within .1, e .1 .from)
 
 loop-again : tie.Need-loop-again Inv-loop μ-loop
 loop-again c =
-    let args = c .before .before .before .before .before .before .before .before .before .before .before .before .before .before .before .before .before .before .before .before .before .before .before .before .before .before .before .before .args in
-    let loop = c .before .before .before .before .before .before .before .before .before .before .before .before .before .before .before .before .before .before .before .before .before .loop in
-    let element-at = c .before .before .before .before .before .before .before .before .before .before .before .before .before .before .before .before .before .before .before .before .element-at in
+    let args = c .before .before .before .before .before .before .before .before .before .before .before .before .before .before .before .before .before .before .before .before .before .before .before .before .before .before .before .args in
+    let loop = c .before .before .before .before .before .before .before .before .before .before .before .before .before .before .before .before .before .before .before .before .loop in
     let put-entry = c .before .before .before .before .before .before .before .before .before .before .before .before .before .before .before .put-entry in
     let k = c .before .before .before .before .before .k in
     let separator = c .before .before .before .separator in
-    let h = turn-as (separator .ensures) (c .before .j .given .1) in let l = part-length (loop .n) (loop .out) (put-entry .last .0) (loop .inv .1)
-    (put-entry .ensures .1 .0) in (
+    let h = turn-as (separator .ensures) (c .before .j .given .1) in
+    let e = entered-in (now (args .s)) (loop .i) (put-entry .ensures .0) (k .given .1) in
+    let l = part-length (loop .n) (loop .out) (put-entry .last .0) (loop .inv .1) (put-entry .ensures .1 .0) in (
       h .within .1,
-      omega (arith, l, part-in (loop .n) (loop .out) (loop .inv .1) (one-in (put-entry .ensures .0) (k .given .1) .0)),
+      omega (arith, l, part-in (loop .n) (loop .out) (loop .inv .1) (e .0)),
       l ∙ (loop .inv .2),
-      omega (arith, loop .inv .3, h .within .0, element-at .ensures .0 .from (loop .inv .0), element-at .ensures .0 .ordered, one-in (put-entry .ensures .0) (k .given .1) .1),
+      omega (arith, loop .inv .3, h .within .0, e .1 .from),
       lent-as (loop .inv .4) (put-entry .kept .1 .0) (put-entry .kept .1 .1 .0) (put-entry .kept .1 .1 .1 .0),
       put-entry .kept .1 .0 ∙ (loop .inv .5),
       put-entry .kept .1 .1 .0 ∙ (loop .inv .6),
       put-entry .kept .1 .1 .1 .0 ∙ (loop .inv .7),
-      going-on (now (args .s)) (now (args .slots)) (args .at) (args .full) (args .parts) (now (args .out)) (loop .i) (loop .n) (loop .lines) (loop .ok) (loop .out) (loop .inv .8) (element-at .result) (element-at .ensures .1) (put-entry .result) _ (put-entry .ensures .1 .1) _ _ _ (k .given .1) _ h,
+      going-on (now (args .s)) (now (args .slots)) (args .at) (args .full) (args .parts) (now (args .out)) (loop .i) (loop .n) (loop .lines) (loop .ok) (loop .out) (loop .inv .8) (asLines (put-entry .result)) _ (put-entry .ensures .1 .1) _ _ _ (ap asLines (k .given .1)) _ (e .1 .ends) _ h,
     )
 
 enum-known-r : tie.Need-enum-known-r Inv-loop μ-loop
@@ -161,40 +163,40 @@ enum-known-r c = search needs
 
 same-length-5 : tie.Need-same-length-5 Inv-loop μ-loop
 same-length-5 c =
-    let loop = c .before .before .before .before .before .before .before .before .before .before .before .before .before .before .before .before .before .before .before .before .before .loop in
+    let loop = c .before .before .before .before .before .before .before .before .before .before .before .before .before .before .before .before .before .before .before .before .loop in
     let put-entry = c .before .before .before .before .before .before .before .before .before .before .before .before .before .before .before .put-entry in
     part-length (loop .n) (loop .out) (put-entry .last .0) (loop .inv .1) (put-entry .ensures .1 .0) ∙ (loop .inv .2)
 
 same-length-6 : tie.Need-same-length-6 Inv-loop μ-loop
 same-length-6 c =
-    let loop = c .before .before .before .before .before .before .before .before .before .before .before .before .before .before .before .before .before .before .before .before .before .loop in
+    let loop = c .before .before .before .before .before .before .before .before .before .before .before .before .before .before .before .before .before .before .before .before .loop in
     let put-entry = c .before .before .before .before .before .before .before .before .before .before .before .before .before .before .before .put-entry in
     put-entry .kept .1 .0 ∙ (loop .inv .5)
 
 same-length-7 : tie.Need-same-length-7 Inv-loop μ-loop
 same-length-7 c =
-    let loop = c .before .before .before .before .before .before .before .before .before .before .before .before .before .before .before .before .before .before .before .before .before .loop in
+    let loop = c .before .before .before .before .before .before .before .before .before .before .before .before .before .before .before .before .before .before .before .before .loop in
     let put-entry = c .before .before .before .before .before .before .before .before .before .before .before .before .before .before .before .put-entry in
     put-entry .kept .1 .1 .0 ∙ (loop .inv .6)
 
 same-length-8 : tie.Need-same-length-8 Inv-loop μ-loop
 same-length-8 c =
-    let loop = c .before .before .before .before .before .before .before .before .before .before .before .before .before .before .before .before .before .before .before .before .before .loop in
+    let loop = c .before .before .before .before .before .before .before .before .before .before .before .before .before .before .before .before .before .before .before .before .loop in
     let put-entry = c .before .before .before .before .before .before .before .before .before .before .before .before .before .before .before .put-entry in
     put-entry .kept .1 .1 .1 .0 ∙ (loop .inv .7)
 
 returns-2 : tie.Need-returns-2 Inv-loop μ-loop
 returns-2 c =
-    let args = c .before .before .before .before .before .before .before .before .before .before .before .before .before .before .before .before .before .before .before .before .before .before .before .before .before .before .before .before .args in
-    let loop = c .before .before .before .before .before .before .before .before .before .before .before .before .before .before .before .before .before .before .before .before .before .loop in
-    let element-at = c .before .before .before .before .before .before .before .before .before .before .before .before .before .before .before .before .before .before .before .before .element-at in
+    let args = c .before .before .before .before .before .before .before .before .before .before .before .before .before .before .before .before .before .before .before .before .before .before .before .before .before .before .before .args in
+    let loop = c .before .before .before .before .before .before .before .before .before .before .before .before .before .before .before .before .before .before .before .before .loop in
     let put-entry = c .before .before .before .before .before .before .before .before .before .before .before .before .before .before .before .put-entry in
     let k = c .before .before .before .before .before .k in
-    let separator = c .before .before .before .separator in (
-      omega (arith, part-in (loop .n) (loop .out) (loop .inv .1) (one-in (put-entry .ensures .0) (k .given .1) .0), loop .inv .2),
+    let separator = c .before .before .before .separator in
+    let e = entered-in (now (args .s)) (loop .i) (put-entry .ensures .0) (k .given .1) in (
+      omega (arith, part-in (loop .n) (loop .out) (loop .inv .1) (e .0), loop .inv .2),
       (
         part-length (loop .n) (loop .out) (put-entry .last .0) (loop .inv .1) (put-entry .ensures .1 .0) ∙ (loop .inv .2),
-        puts-all (now (args .s)) (now (args .slots)) (args .at) (args .full) (args .parts) (now (args .out)) (loop .i) (loop .n) (loop .lines) (loop .ok) (loop .out) (loop .inv .8) (element-at .result) (element-at .ensures .1) (put-entry .result) _ (put-entry .ensures .1 .1) _ _ _ (k .given .1) _ (turn-as (separator .ensures) (c .before .r .given .1)),
+        puts-all (now (args .s)) (now (args .slots)) (args .at) (args .full) (args .parts) (now (args .out)) (loop .i) (loop .n) (loop .lines) (loop .ok) (loop .out) (loop .inv .8) (asLines (put-entry .result)) _ (put-entry .ensures .1 .1) _ _ _ (ap asLines (k .given .1)) _ (e .1 .ends) _ (turn-as (separator .ensures) (c .before .r .given .1)),
       ),
     )
 
@@ -205,7 +207,6 @@ put-from-spec =
     Inv-loop
     μ-loop
     loop-holds
-    element-at-requires
     sub-put-entry
     part-put-entry-start
     part-put-entry-end
