@@ -51,7 +51,7 @@ put-entry-requires : tie.Need-put-entry-requires Inv-loop μ-loop
 put-entry-requires c κs =
     let pre = c .before .before .before .before .before .before .before .before .before .before .before .pre in
     let loop = c .before .before .before .before .loop in
-    (record { all = loop .inv .4; index = pre .0 .index }, loop .inv .0)
+    (record { all = loop .inv .4; index = pre .0 .index }, omega (arith, loop .inv .0, pre .1))
 
 enum-known-k : tie.Need-enum-known-k Inv-loop μ-loop
 enum-known-k c = search needs
