@@ -19,7 +19,7 @@ ghost use mathlib.Core.Path.{_≡_};
 ghost use mathlib.Core.Bool.{false};
 ghost use Prim.Native.Nat.{_≤_, _+_};
 ghost use lib.ListN.{length};
-ghost use Rattle.text.specs.Bytes.{parts};
+ghost use Rattle.text.specs.Bytes.{code, parts};
 ghost use Rattle.line_pen.specs.Pen.{Pens};
 ghost use Rattle.card_params.specs.Params.{codeOf, FlagsFrom, TellsFlags, TellsPref, spanOf, prefPiece, typeLead, typePart, typesFrom};
 
@@ -54,7 +54,7 @@ fn flags_from<'a, 'b, 'c>(
     count: usize,
 ) -> bool
     requires { ⌜ at ≤ length (now s) ⌝ }
-    requires { ⌜ count ≡ length (parts 44 (now names)) ⌝ }
+    requires { ⌜ count ≡ length (parts (code ",") (now names)) ⌝ }
     requires { ⌜ base + count ≤ length (now row) ⌝ }
     ensures { λ r. ⌜ length (now (row .exit)) ≡ length (now (row .entry)) ⌝ }
     ensures { λ r. ⌜ FlagsFrom (now (s .entry)) at base (now (names .entry)) (now (row .entry)) r (now (row .exit)) ⌝ }
@@ -95,7 +95,7 @@ pub fn flags_in<'a, 'b, 'c>(
     names: &'c [u8],
     count: usize,
 ) -> bool
-    requires { ⌜ count ≡ length (parts 44 (now names)) ⌝ }
+    requires { ⌜ count ≡ length (parts (code ",") (now names)) ⌝ }
     requires { ⌜ base + count ≤ length (now row) ⌝ }
     ensures { λ r. ⌜ length (now (row .exit)) ≡ length (now (row .entry)) ⌝ }
     ensures { λ r. ⌜ TellsFlags (now (s .entry)) slot base (now (names .entry)) (now (row .entry)) r (now (row .exit)) ⌝ }
@@ -183,7 +183,7 @@ fn pen_type<'a, 'b>(
     on: bool,
     begun: bool,
 ) -> Pen
-    ensures { λ r. ⌜ Pens (now (out .entry)) column (typePart (parts 44 (now (names .entry))) c on begun) r (now (out .exit)) ⌝ }
+    ensures { λ r. ⌜ Pens (now (out .entry)) column (typePart (parts (code ",") (now (names .entry))) c on begun) r (now (out .exit)) ⌝ }
 {
     if !on {
         return Pen {
@@ -213,7 +213,7 @@ pub fn pen_types<'a, 'b, 'c>(
     row: &'c [u8],
 ) -> Pen
     requires { ⌜ 9 ≤ length (now row) ⌝ }
-    ensures { λ r. ⌜ Pens (now (out .entry)) column (typesFrom (parts 44 (now (names .entry))) (now (row .entry)) 9 0 false) r (now (out .exit)) ⌝ }
+    ensures { λ r. ⌜ Pens (now (out .entry)) column (typesFrom (parts (code ",") (now (names .entry))) (now (row .entry)) 9 0 false) r (now (out .exit)) ⌝ }
 {
     let mut at = 0;
     let mut k = column;

@@ -2,7 +2,7 @@
 ghost use mathlib.Core.Path.{_≡_};
 ghost use Prim.Native.Nat.{_≤_, _<_};
 ghost use lib.ListN.{length};
-ghost use Rattle.text.specs.Bytes.{parts};
+ghost use Rattle.text.specs.Bytes.{code, parts};
 ghost use Rattle.convert_types.specs.Marks.{typeAt, placed, marks, told, split, PartEnds};
 use line_name::is_named;
 
@@ -68,7 +68,7 @@ fn part_end(s: &[u8], at: usize) -> usize
 // Marks one value of TYPE, split at commas.
 pub fn mark_value(row: &mut [u8], v: &[u8], n: usize) -> bool
     requires { ⌜ 9 ≤ length (now row) ⌝ }
-    ensures { λ r. ⌜ told r (now (row .exit)) ≡ marks n (parts 44 (now (v .entry))) (now (row .entry)) ⌝ }
+    ensures { λ r. ⌜ told r (now (row .exit)) ≡ marks n (parts (code ",") (now (v .entry))) (now (row .entry)) ⌝ }
 {
     let mut i = 0;
     loop {

@@ -9,6 +9,7 @@ ghost use mathlib.Core.Path.{_≡_};
 ghost use mathlib.Core.List.{_∷_, []};
 ghost use Prim.Native.Nat.{_<_};
 ghost use lib.ListN.{drop};
+ghost use Rattle.text.specs.Bytes.{ascii, code};
 ghost use Rattle.text.specs.Reader.{taken};
 ghost use Rattle.output.specs.Put.{Puts};
 ghost use Rattle.text.specs.Decimal.{decimal};
@@ -143,7 +144,7 @@ pub fn put_string(out: &mut [u8], s: &[u8]) -> Wrote
 
 // The name of a member, with its colon.
 pub fn put_name(out: &mut [u8], s: &[u8]) -> Wrote
-    ensures { λ r. ⌜ Puts (now (out .entry)) (quoted (now (s .entry)) (58 ∷ [])) r (now (out .exit)) ⌝ }
+    ensures { λ r. ⌜ Puts (now (out .entry)) (quoted (now (s .entry)) (ascii ":")) r (now (out .exit)) ⌝ }
 {
     let Wrote::Bytes(a) = put_string(out, s) else {
         return Wrote::Full;
@@ -157,7 +158,7 @@ pub fn put_name(out: &mut [u8], s: &[u8]) -> Wrote
 
 // A member whose value is a string.
 pub fn put_member(out: &mut [u8], name: &[u8], text: &[u8]) -> Wrote
-    ensures { λ r. ⌜ Puts (now (out .entry)) (quoted (now (name .entry)) (58 ∷ quoted (now (text .entry)) [])) r (now (out .exit)) ⌝ }
+    ensures { λ r. ⌜ Puts (now (out .entry)) (quoted (now (name .entry)) (code ":" ∷ quoted (now (text .entry)) [])) r (now (out .exit)) ⌝ }
 {
     let Wrote::Bytes(a) = put_name(out, name) else {
         return Wrote::Full;

@@ -15,7 +15,7 @@ ghost use mathlib.Core.List.{[], _∷_, _++_};
 ghost use Prim.Native.Nat.{_≤_, _<_};
 ghost use lib.ListN.{length, getD};
 ghost use Rattle.text.specs.Choice.{pick};
-ghost use Rattle.text.specs.Bytes.{flat, uppered};
+ghost use Rattle.text.specs.Bytes.{ascii, code, flat, uppered};
 ghost use Rattle.line.specs.Write.{writeValue, writeGroup, foldFrom};
 ghost use Rattle.line_pen.specs.Pen.{Fills, Pens};
 ghost use Rattle.line_table.specs.Table.{base, nameAt, valueAt, Sound};
@@ -69,7 +69,7 @@ fn pen_told(out: &mut [u8], column: usize, style: u8, s: &[u8]) -> Told
 
 // A parameter's value in quotes.
 fn pen_quoted(out: &mut [u8], column: usize, v: &[u8]) -> Told
-    ensures { λ r. ⌜ Tells (now (out .entry)) column (flat ((34 ∷ []) ∷ now (v .entry) ∷ (34 ∷ []) ∷ [])) (carriedParam (now (v .entry))) r (now (out .exit)) ⌝ }
+    ensures { λ r. ⌜ Tells (now (out .entry)) column (flat (ascii "\"" ∷ now (v .entry) ∷ ascii "\"" ∷ [])) (carriedParam (now (v .entry))) r (now (out .exit)) ⌝ }
 {
     let p = pen_byte(out, column, b'"');
     let n1 = p.bytes;
@@ -226,7 +226,7 @@ fn pen_head(out: &mut [u8], group: &[u8], name: &[u8]) -> Pen
 
 // The colon, the value as it is, and the line's end.
 fn pen_end(out: &mut [u8], column: usize, v: &[u8]) -> Penned
-    ensures { λ r. ⌜ Fills (now (out .entry)) (foldFrom column (58 ∷ now (v .entry)) ++ (13 ∷ 10 ∷ [])) (r .bytes) (now (out .exit)) × (r .carried ≡ carriedRaw (now (v .entry))) ⌝ }
+    ensures { λ r. ⌜ Fills (now (out .entry)) (foldFrom column (code ":" ∷ now (v .entry)) ++ (13 ∷ 10 ∷ [])) (r .bytes) (now (out .exit)) × (r .carried ≡ carriedRaw (now (v .entry))) ⌝ }
 {
     let p = pen_byte(out, column, b':');
     let n1 = p.bytes;

@@ -2,7 +2,7 @@
 ghost use mathlib.Core.Path.{_≡_};
 ghost use Prim.Native.Nat.{_≤_, _^_};
 ghost use mathlib.Core.List.{_∷_, [], _++_};
-ghost use Rattle.text.specs.Bytes.{ascii, flat, same, uppered};
+ghost use Rattle.text.specs.Bytes.{ascii, code, flat, same, uppered};
 ghost use Rattle.output.specs.Put.{Puts};
 ghost use Rattle.line.specs.Write.{writeValue, width, breaks, fold};
 ghost use Rattle.line_write.specs.Fold.{piece, columnAfter};
@@ -16,7 +16,7 @@ use output::put_text;
 
 // A value in quotes.
 fn put_quoted(out: &mut [u8], v: &[u8]) -> Wrote
-    ensures { λ r. ⌜ Puts (now (out .entry)) (flat ((34 ∷ []) ∷ now (v .entry) ∷ (34 ∷ []) ∷ [])) r (now (out .exit)) ⌝ }
+    ensures { λ r. ⌜ Puts (now (out .entry)) (flat (ascii "\"" ∷ now (v .entry) ∷ ascii "\"" ∷ [])) r (now (out .exit)) ⌝ }
 {
     let Wrote::Bytes(a) = put_byte(out, b'"') else {
         return Wrote::Full;
@@ -62,7 +62,7 @@ pub fn put_upper(out: &mut [u8], name: &[u8]) -> Wrote
 
 // `;NAME=`
 pub fn put_param_name(out: &mut [u8], name: &[u8]) -> Wrote
-    ensures { λ r. ⌜ Puts (now (out .entry)) (flat ((59 ∷ []) ∷ uppered (now (name .entry)) ∷ (61 ∷ []) ∷ [])) r (now (out .exit)) ⌝ }
+    ensures { λ r. ⌜ Puts (now (out .entry)) (flat (ascii ";" ∷ uppered (now (name .entry)) ∷ ascii "=" ∷ [])) r (now (out .exit)) ⌝ }
 {
     let Wrote::Bytes(a) = put_byte(out, b';') else {
         return Wrote::Full;
@@ -88,7 +88,7 @@ fn put_value_of(out: &mut [u8], name: &[u8], v: &[u8]) -> Wrote
 
 // A parameter with one value: `;NAME=value`
 pub fn put_param(out: &mut [u8], name: &[u8], v: &[u8]) -> Wrote
-    ensures { λ r. ⌜ Puts (now (out .entry)) (59 ∷ (uppered (now (name .entry)) ++ 61 ∷ writeValue (same (uppered (now (name .entry))) (ascii "JSPTR")) (now (v .entry)) [])) r (now (out .exit)) ⌝ }
+    ensures { λ r. ⌜ Puts (now (out .entry)) (code ";" ∷ (uppered (now (name .entry)) ++ code "=" ∷ writeValue (same (uppered (now (name .entry))) (ascii "JSPTR")) (now (v .entry)) [])) r (now (out .exit)) ⌝ }
 {
     let Wrote::Bytes(a) = put_param_name(out, name) else {
         return Wrote::Full;

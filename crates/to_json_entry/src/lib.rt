@@ -5,7 +5,7 @@ ghost use mathlib.Core.List.{[]};
 ghost use Prim.Native.Nat.{_≤_};
 ghost use lib.ListN.{length};
 ghost use Rattle.text.specs.Choice.{is-some, pick};
-ghost use Rattle.text.specs.Bytes.{keep};
+ghost use Rattle.text.specs.Bytes.{code, keep};
 ghost use Rattle.line.specs.Text.{readText, splitText};
 ghost use Rattle.line_text.specs.Split.{PartEnds};
 ghost use Rattle.convert.specs.Value.{filled};
@@ -56,8 +56,8 @@ fn put_org_name(out: &mut [u8], i: usize, u: &[u8]) -> Wrote
 
 // The filled parts as units, where there are any.
 fn put_units(out: &mut [u8], v: &[u8], k: usize) -> Wrote
-    requires { ⌜ Readable 59 (now v) ⌝ }
-    ensures { λ r. ⌜ Puts (now (out .entry)) (unitsPiece k (keep filled (textsOf 59 (now (v .entry))))) r (now (out .exit)) ⌝ }
+    requires { ⌜ Readable (code ";") (now v) ⌝ }
+    ensures { λ r. ⌜ Puts (now (out .entry)) (unitsPiece k (keep filled (textsOf (code ";") (now (v .entry))))) r (now (out .exit)) ⌝ }
 {
     let Wrote::Bytes(n) = put_items(out, v, b';', &v[0..0], k, false) else {
         return Wrote::Full;
@@ -74,7 +74,7 @@ fn put_units(out: &mut [u8], v: &[u8], k: usize) -> Wrote
 
 // The same of the parts after the one that ends at e.
 fn put_units_after(out: &mut [u8], v: &[u8], e: usize, k: usize) -> Wrote
-    requires { ⌜ Readable 59 (now v) × PartEnds 59 (now v) 0 e ⌝ }
+    requires { ⌜ Readable (code ";") (now v) × PartEnds (code ";") (now v) 0 e ⌝ }
     ensures { λ r. ⌜ Puts (now (out .entry)) (unitsPiece k (unitsAfter (now (v .entry)) e)) r (now (out .exit)) ⌝ }
 {
     if e >= v.len() {
@@ -95,8 +95,8 @@ fn unit_kind(named: bool) -> usize
 
 // ORG's name and units, split at bare semicolons.
 fn put_org(out: &mut [u8], i: usize, v: &[u8]) -> Wrote
-    requires { ⌜ Readable 59 (now v) ⌝ }
-    ensures { λ r. ⌜ Puts (now (out .entry)) (orgPiece i (splitText 59 (now (v .entry)))) r (now (out .exit)) ⌝ }
+    requires { ⌜ Readable (code ";") (now v) ⌝ }
+    ensures { λ r. ⌜ Puts (now (out .entry)) (orgPiece i (splitText (code ";") (now (v .entry)))) r (now (out .exit)) ⌝ }
 {
     let e = part_end(v, 0, b';');
     let k = unit_kind(0 < e);

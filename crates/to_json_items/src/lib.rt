@@ -5,7 +5,7 @@ ghost use mathlib.Core.List.{_∷_, [], map};
 ghost use Prim.Native.Nat.{_<_};
 ghost use lib.ListN.{drop};
 ghost use Rattle.text.specs.Choice.{is-some, pick};
-ghost use Rattle.text.specs.Bytes.{same, among, keep};
+ghost use Rattle.text.specs.Bytes.{code, same, among, keep};
 ghost use Rattle.line.specs.Text.{readText};
 ghost use Rattle.output.specs.Put.{Puts};
 ghost use Rattle.line_text.specs.Read.{plainText};
@@ -68,8 +68,8 @@ fn same_text(a: &[u8], b: &[u8]) -> bool
 
 // Whether u is one of the values of o, split at bare commas.
 fn is_among(u: &[u8], o: &[u8]) -> bool
-    requires { ⌜ (is-some (readText (now u)) ≡ true) × Readable 44 (now o) ⌝ }
-    ensures { λ r. ⌜ r ≡ among (plainText (now (u .entry))) (textsOf 44 (now (o .entry))) ⌝ }
+    requires { ⌜ (is-some (readText (now u)) ≡ true) × Readable (code ",") (now o) ⌝ }
+    ensures { λ r. ⌜ r ≡ among (plainText (now (u .entry))) (textsOf (code ",") (now (o .entry))) ⌝ }
 {
     let mut i = 0;
     loop {
@@ -86,8 +86,8 @@ fn is_among(u: &[u8], o: &[u8]) -> bool
 
 // Whether a value is filled, and none of those of o.
 fn is_own(u: &[u8], o: &[u8]) -> bool
-    requires { ⌜ (is-some (readText (now u)) ≡ true) × Readable 44 (now o) ⌝ }
-    ensures { λ r. ⌜ r ≡ isOwn (textsOf 44 (now (o .entry))) (plainText (now (u .entry))) ⌝ }
+    requires { ⌜ (is-some (readText (now u)) ≡ true) × Readable (code ",") (now o) ⌝ }
+    ensures { λ r. ⌜ r ≡ isOwn (textsOf (code ",") (now (o .entry))) (plainText (now (u .entry))) ⌝ }
 {
     if u.len() == 0 {
         return false;
@@ -174,8 +174,8 @@ fn put_item_if(out: &mut [u8], on: bool, begun: bool, k: usize, u: &[u8]) -> Wro
 
 // The values of v, split at bare separators d, as items of kind k: those that are filled and not among the values of o.
 pub fn put_items(out: &mut [u8], v: &[u8], d: u8, o: &[u8], k: usize, begun: bool) -> Wrote
-    requires { ⌜ Readable d (now v) × Readable 44 (now o) ⌝ }
-    ensures { λ r. ⌜ Puts (now (out .entry)) (listed k begun (keep (isOwn (textsOf 44 (now (o .entry)))) (textsOf d (now (v .entry))))) r (now (out .exit)) ⌝ }
+    requires { ⌜ Readable d (now v) × Readable (code ",") (now o) ⌝ }
+    ensures { λ r. ⌜ Puts (now (out .entry)) (listed k begun (keep (isOwn (textsOf (code ",") (now (o .entry)))) (textsOf d (now (v .entry))))) r (now (out .exit)) ⌝ }
 {
     let mut at = 0;
     let mut i = 0;

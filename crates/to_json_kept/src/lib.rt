@@ -24,7 +24,7 @@ use table_kept::put_lower;
 use table_kept::put_values;
 
 fn put_comma(out: &mut [u8], begun: bool) -> Wrote
-    ensures { λ r. ⌜ Puts (now (out .entry)) (pick begun (44 ∷ []) []) r (now (out .exit)) ⌝ }
+    ensures { λ r. ⌜ Puts (now (out .entry)) (pick begun (ascii ",") []) r (now (out .exit)) ⌝ }
 {
     if begun {
         return put_byte(out, b',');

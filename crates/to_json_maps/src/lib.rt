@@ -5,7 +5,7 @@ ghost use mathlib.Core.List.{_∷_, []};
 ghost use Prim.Native.Nat.{_+_, _≤_, _<_};
 ghost use lib.Dec.{eqb};
 ghost use lib.ListN.{length};
-ghost use Rattle.text.specs.Bytes.{is, any};
+ghost use Rattle.text.specs.Bytes.{code, is, any};
 ghost use Rattle.output.specs.Put.{Puts};
 ghost use Rattle.convert.specs.Keys.{numbered};
 ghost use Rattle.to_json_maps.specs.Maps.{mapAt, prefixOf, headPiece, Entering, MarksLine, Unmarked, HasLines, MarksIds, HasEntry, PutsKeyed, HasTurn, PutsTurn, HasMap, PutsMap, PutsMaps};
@@ -84,7 +84,7 @@ fn put_prefix(out: &mut [u8], i: usize) -> Wrote
 
 // Whether a line has a dash, as PROP-ID has: most lines have none, and so no PROP-ID. No early way out: the loop is a vector loop.
 fn has_dash(line: &[u8]) -> bool
-    ensures { λ r. ⌜ (r ≡ false → any (is 45) (now (line .entry)) ≡ false) ⌝ }
+    ensures { λ r. ⌜ (r ≡ false → any (is (code "-")) (now (line .entry)) ≡ false) ⌝ }
 {
     let mut found = false;
     let mut i = 0;

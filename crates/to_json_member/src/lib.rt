@@ -3,7 +3,7 @@ ghost use mathlib.Core.Path.{_≡_};
 ghost use mathlib.Core.List.{_∷_, []};
 ghost use Prim.Native.Nat.{_≤_};
 ghost use lib.ListN.{length};
-ghost use Rattle.text.specs.Bytes.{flat};
+ghost use Rattle.text.specs.Bytes.{ascii, flat};
 ghost use Rattle.json.specs.Compact.{spelledAll};
 ghost use Rattle.output.specs.Put.{Puts};
 ghost use Rattle.json_compact.specs.Squeezed.{squeezed};
@@ -39,7 +39,7 @@ fn spell_pointer(out: &mut [u8], p: &[u8]) -> Wrote
 // The member: the name from its pointer, the value from its JSON text.
 fn put_pointed(out: &mut [u8], p: &[u8], text: &[u8]) -> Wrote
     requires { ⌜ Pointing (now p) ⌝ }
-    ensures { λ r. ⌜ Puts (now (out .entry)) (flat ((34 ∷ []) ∷ spelledAll (nameIn (now (p .entry))) ∷ (34 ∷ 58 ∷ []) ∷ squeezed (now (text .entry)) ∷ [])) r (now (out .exit)) ⌝ }
+    ensures { λ r. ⌜ Puts (now (out .entry)) (flat (ascii "\"" ∷ spelledAll (nameIn (now (p .entry))) ∷ ascii "\":" ∷ squeezed (now (text .entry)) ∷ [])) r (now (out .exit)) ⌝ }
 {
     let Wrote::Bytes(a) = put_byte(out, b'"') else {
         return Wrote::Full;

@@ -5,7 +5,7 @@ ghost use mathlib.Core.List.{_∷_, []};
 ghost use Prim.Native.Nat.{_+_, _≤_, _<_};
 ghost use lib.ListN.{length};
 ghost use Rattle.text.specs.Choice.{is-some, pick};
-ghost use Rattle.text.specs.Bytes.{ascii, flat};
+ghost use Rattle.text.specs.Bytes.{ascii, code, flat};
 ghost use Rattle.line.specs.Text.{readText};
 ghost use Rattle.json.specs.Compact.{quoted};
 ghost use Rattle.output.specs.Put.{Puts};
@@ -52,7 +52,7 @@ fn other_part(k: usize) -> usize
 
 // The components of part k, which stands from a to b.
 fn put_part(out: &mut [u8], v: &[u8], k: usize, a: usize, b: usize, begun: bool) -> Wrote
-    requires { ⌜ NameGood (now v) × PartFrom (now v) k a × PartEnds 59 (now v) a b ⌝ }
+    requires { ⌜ NameGood (now v) × PartFrom (now v) k a × PartEnds (code ";") (now v) a b ⌝ }
     ensures { λ r. ⌜ Puts (now (out .entry)) (listed k begun (valuesOf (now (v .entry)) k)) r (now (out .exit)) ⌝ }
 {
     let q = other_part(k);
@@ -99,7 +99,7 @@ fn put_parts(out: &mut [u8], v: &[u8]) -> Wrote
 // N's value as the array of components.
 pub fn put_components(out: &mut [u8], v: &[u8]) -> Wrote
     requires { ⌜ NameGood (now v) ⌝ }
-    ensures { λ r. ⌜ Puts (now (out .entry)) (flat ((91 ∷ []) ∷ componentsFrom 7 (now (v .entry)) 0 false ∷ (93 ∷ []) ∷ [])) r (now (out .exit)) ⌝ }
+    ensures { λ r. ⌜ Puts (now (out .entry)) (flat (ascii "[" ∷ componentsFrom 7 (now (v .entry)) 0 false ∷ ascii "]" ∷ [])) r (now (out .exit)) ⌝ }
 {
     let Wrote::Bytes(a) = put_byte(out, b'[') else {
         return Wrote::Full;
@@ -150,7 +150,7 @@ fn put_parts_head(out: &mut [u8], full: bool) -> Wrote
 
 fn put_parts_member(out: &mut [u8], full: bool, v: &[u8]) -> Wrote
     requires { ⌜ NameGood (now v) ⌝ }
-    ensures { λ r. ⌜ Puts (now (out .entry)) (flat (pick full (ascii ",\"components\":") (ascii "\"components\":") ∷ flat ((91 ∷ []) ∷ componentsFrom 7 (now (v .entry)) 0 false ∷ (93 ∷ []) ∷ []) ∷ [])) r (now (out .exit)) ⌝ }
+    ensures { λ r. ⌜ Puts (now (out .entry)) (flat (pick full (ascii ",\"components\":") (ascii "\"components\":") ∷ flat (ascii "[" ∷ componentsFrom 7 (now (v .entry)) 0 false ∷ ascii "]" ∷ []) ∷ [])) r (now (out .exit)) ⌝ }
 {
     let Wrote::Bytes(a) = put_parts_head(out, full) else {
         return Wrote::Full;
@@ -174,7 +174,7 @@ fn put_parts_if(out: &mut [u8], full: bool, parts: bool, v: &[u8]) -> Wrote
 
 fn put_name_member(out: &mut [u8], full: bool, fv: &[u8], parts: bool, nv: &[u8]) -> Wrote
     requires { ⌜ NamesGood full (now fv) parts (now nv) ⌝ }
-    ensures { λ r. ⌜ Puts (now (out .entry)) (flat (ascii ",\"name\":{" ∷ fullPiece full (now (fv .entry)) ∷ partsPiece full parts (now (nv .entry)) ∷ (125 ∷ []) ∷ [])) r (now (out .exit)) ⌝ }
+    ensures { λ r. ⌜ Puts (now (out .entry)) (flat (ascii ",\"name\":{" ∷ fullPiece full (now (fv .entry)) ∷ partsPiece full parts (now (nv .entry)) ∷ ascii "}" ∷ [])) r (now (out .exit)) ⌝ }
 {
     let Wrote::Bytes(a) = put_text(out, b",\"name\":{") else {
         return Wrote::Full;
