@@ -14,8 +14,8 @@ use Rattle.line.specs.Class.{isControl}
 use Rattle.line_unfold.specs.Table.{Laid, lineAt}
 use Rattle.line_unfold.proofs.Turns.{marks-length}
 use Rattle.line_unfold.proofs.Lookup.{line-is, lines-end}
-use Rattle.line_check.specs.Odd.{isOdd}
-use Rattle.line_check.proofs.Odd.{plain}
+use Rattle.line_class.specs.Odd.{isOdd}
+use Rattle.line_class.proofs.Odd.{plain}
 use Rattle.convert.specs.Answers.{garbled, firstFrom}
 use Rattle.card_garbled.specs.Garbled.{placeOf, OfLines, FirstGarbled}
 use Rattle.card_garbled.proofs.First.{first-on, first-here, first-end, first-none}

@@ -5,9 +5,9 @@ ghost use Rattle.text.specs.Bytes.{any, flat};
 ghost use Rattle.text.specs.Utf8.{utf8};
 ghost use Rattle.line.specs.Class.{isControl};
 ghost use Rattle.card_garbled.specs.Garbled.{OfLines, FirstGarbled};
-use line_check::has_control;
-use line_check::has_odd;
-use line_check::is_garbled;
+use line_class::has_control;
+use line_class::has_odd;
+use line_class::is_garbled;
 use line_unfold::line_at;
 use utf8::is_utf8;
 

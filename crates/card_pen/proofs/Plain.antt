@@ -18,8 +18,8 @@ use Rattle.text.specs.Places.{byteAt}
 use Rattle.text.proofs.Places.{on-yes, on-no}
 use Rattle.text.proofs.Cases.{byBool, split, in-between}
 use Rattle.json.specs.Strings.{before}
-use Rattle.json_units.specs.Units.{unit}
-use Rattle.json_units.specs.declared.Piece.the-variants.{Of}
+use Rattle.json_escapes.specs.Units.{unit}
+use Rattle.json_escapes.specs.declared.Piece.the-variants.{Of}
 use Rattle.json_strings.specs.declared.Byte.the-variants.{One}
 use Rattle.json_strings.specs.Spelled.{spelled, left, weight, byteOf}
 use Rattle.json_strings.proofs.Laws.{left-none, raw-is}

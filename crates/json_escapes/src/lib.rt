@@ -1,4 +1,4 @@
-// What an escape of a JSON string stands for, and where it ends.
+// The units of a JSON string: bytes, and what its escapes stand for (the numbers of \uXXXX), with where they end.
 use text::BACKSLASH;
 use text::QUOTE;
 use text::SLASH;
@@ -11,6 +11,8 @@ ghost use lib.ListN.{length, drop};
 ghost use Rattle.json.specs.Grammar.{isHex, isShort};
 ghost use Rattle.json.specs.Syntax.{hexVal, hex, hex4, short, escape};
 ghost use Rattle.json_escapes.specs.Values.{Tells};
+ghost use Rattle.text.specs.Bytes.{between};
+ghost use Rattle.json_escapes.specs.Units.{unit, unitOf, UnitIn};
 
 // Letters, as `look` gives them.
 const LETTER_B: u16 = b'b' as u16;
@@ -155,4 +157,38 @@ pub fn escape_at(s: &[u8], at: usize) -> Value
         return Value::Of(short_of(b), at + 1);
     }
     Value::Wrong(at)
+}
+
+// A unit of a string and where the next one starts: a byte, or 256 + v for \uXXXX; the end of the string; or neither.
+pub enum Piece {
+    Of(u32, usize),
+    End(usize),
+    Wrong(usize),
+}
+
+pub fn within(v: u32, lo: u32, hi: u32) -> bool
+    ensures { λ r. ⌜ r ≡ between lo hi v ⌝ }
+{
+    if lo <= v { v <= hi } else { false }
+}
+
+// The unit at a place of a string.
+pub fn unit_at(s: &[u8], at: usize) -> Piece
+    requires { ⌜ at ≤ length (now s) ⌝ }
+    ensures { λ r. ⌜ (unit (drop at (now (s .entry))) ≡ unitOf (now (s .entry)) r) × UnitIn at (length (now (s .entry))) r ⌝ }
+{
+    let b = look(s, at);
+    if b == QUOTE {
+        return Piece::End(at + 1);
+    }
+    if b == BACKSLASH {
+        return match escape_at(s, at + 1) {
+            Value::Wrong(x) => Piece::Wrong(x),
+            Value::Of(u, e) => Piece::Of(u, e),
+        };
+    }
+    if in_range(b, 32, 255) {
+        return Piece::Of(b as u32, at + 1);
+    }
+    Piece::Wrong(at)
 }

@@ -1,8 +1,8 @@
 // Whether an object has a member of a name.
 use json_access::member_at;
-use json_equal::equals;
 use json_marks::separator;
 use json_marks::skip_space;
+use json_strings::equals;
 use text::LEFT_BRACE;
 use text::RIGHT_BRACE;
 use text::Turn;

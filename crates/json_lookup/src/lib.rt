@@ -1,11 +1,11 @@
 // The look-up service: a top-level member's value as that very part of the caller's JSON.
 use json_access::Part;
 use json_access::member_at;
-use json_equal::equals;
 use json_marks::separator;
 use json_marks::skip_space;
 use json_read::Verdict;
 use json_read::read;
+use json_strings::equals;
 use text::LEFT_BRACE;
 use text::RIGHT_BRACE;
 use text::Turn;

@@ -18,10 +18,10 @@ use Rattle.text.proofs.Cases.{in-between}
 use Rattle.text.proofs.Fine.{loop-more, loop-last, loop-bad}
 use Rattle.json.specs.Syntax.{characters}
 use Rattle.json.specs.Strings.{isHigh, isLow, joinedPair, before, decodeAfter, decode}
-use Rattle.json_units.specs.Units.{push, unit, units, unitOf, UnitIn}
-use Rattle.json_units.specs.declared.Piece.{Piece}
-use Rattle.json_units.specs.declared.Piece.the-variants.{Of, End, Wrong}
-use Rattle.json_units.proofs.Same.{unit-fine, units-same}
+use Rattle.json_escapes.specs.Units.{push, unit, units, unitOf, UnitIn}
+use Rattle.json_escapes.specs.declared.Piece.{Piece}
+use Rattle.json_escapes.specs.declared.Piece.the-variants.{Of, End, Wrong}
+use Rattle.json_escapes.proofs.Characters.{unit-fine, units-same}
 use Rattle.json_strings.specs.declared.Letter.{Letter}
 use Rattle.json_strings.specs.declared.Letter.the-variants.{Raw, Code, End as LEnd, Alone as LAlone}
 use Rattle.json_strings.specs.Spelled.{told, spelled, LetterIn, heldIn, held, leadOf, restOf, left, weight}

@@ -10,7 +10,7 @@ use Rattle.text.specs.Bytes.{Bytes, same}
 use Rattle.text.specs.Utf8.{encode}
 use Rattle.text.specs.Reader.{Got, got, bad}
 use Rattle.json.specs.Strings.{before, decodeAfter}
-use Rattle.json_units.specs.Units.{units}
+use Rattle.json_escapes.specs.Units.{units}
 use Rattle.json_strings.specs.declared.Letter.{Letter}
 use Rattle.json_strings.specs.declared.Letter.the-variants.{Raw, Code, End as LEnd, Alone as LAlone}
 use Rattle.json_strings.specs.declared.Byte.{Byte}

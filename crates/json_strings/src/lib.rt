@@ -1,15 +1,23 @@
-// Strings of a JSON text by what they stand for: one decoded byte after the other.
-use json_units::Piece;
-use json_units::unit_at;
-use json_units::within;
+// Strings of a JSON text by what they stand for: one decoded byte after the other; compared with given bytes and with each other; put into a lent
+// part. A string is given by the place after its first quote; a place past the end stands for nothing.
+use json_escapes::Piece;
+use json_escapes::unit_at;
+use json_escapes::within;
+use output::Wrote;
+use text::BACKSLASH;
+use text::QUOTE;
+use text::look;
 ghost use mathlib.Core.Path.{_≡_};
 ghost use mathlib.Core.Bool.{true};
-ghost use mathlib.Core.Option.{Option};
+ghost use mathlib.Core.Option.{Option, some};
 ghost use Prim.Native.Nat.{_≤_, _<_};
-ghost use lib.ListN.{length};
+ghost use lib.ListN.{length, drop};
 ghost use Rattle.text.specs.Bytes.{between};
 ghost use Rattle.text.specs.Choice.{is-some};
-ghost use Rattle.json_strings.specs.Spelled.{spelled, pairOf, letterOf, LetterIn, leadOf, restOf, left, byteOf, ByteIn, spells, agree};
+ghost use Rattle.json_strings.specs.Spelled.{spelled, pairOf, letterOf, LetterIn, leadOf, restOf, left, byteOf, ByteIn, spells, agree, textAt};
+ghost use mathlib.Core.List.{[]};
+ghost use Rattle.output.specs.Put.{Puts};
+ghost use Rattle.json_strings.specs.Bare.{BareByte, Copied};
 
 // A character of a string: a byte as it stands there, or a code point; the end; or a surrogate alone (or no string).
 pub enum Letter {
@@ -119,5 +127,253 @@ pub fn next_byte(s: &[u8], at: usize, hold: u32) -> Byte
         Letter::Alone => Byte::Alone,
         Letter::Raw(b, e) => Byte::One(b, e, 0),
         Letter::Code(v, e) => Byte::One(lead_of(v), e, rest_of(v)),
+    }
+}
+
+// Past bytes that stand for themselves.
+fn bare_end(s: &[u8], at: usize) -> usize
+    requires { ⌜ at ≤ length (now s) ⌝ }
+    ensures { λ r. ⌜ (at ≤ r) × (r ≤ length (now (s .entry))) ⌝ }
+    ensures { λ r. ⌜ is-some (spelled (now (s .entry)) at) ≡ is-some (spelled (now (s .entry)) r) ⌝ }
+{
+    let mut i = at;
+    loop {
+        let b = look(s, i);
+        if b > BACKSLASH {
+            if b > 255 {
+                return i;
+            }
+            i += 1;
+            continue;
+        }
+        if b == QUOTE {
+            return i;
+        }
+        if b == BACKSLASH {
+            return i;
+        }
+        if b < 32 {
+            return i;
+        }
+        i += 1;
+    }
+}
+
+// No surrogate stands alone.
+pub fn is_paired(s: &[u8], at: usize) -> bool
+    ensures { λ r. ⌜ r ≡ is-some (spelled (now (s .entry)) at) ⌝ }
+{
+    if at > s.len() {
+        return false;
+    }
+    let mut i = at;
+    loop {
+        let from = bare_end(s, i);
+        match letter_at(s, from) {
+            Letter::Alone => {
+                return false;
+            }
+            Letter::End => {
+                return true;
+            }
+            Letter::Raw(b, j) => {
+                i = j;
+            }
+            Letter::Code(v, j) => {
+                i = j;
+            }
+        }
+    }
+}
+
+// The string stands for these bytes. Bytes that stand for themselves are compared as they are.
+pub fn equals<'a, 'b>(s: &'a [u8], at: usize, bytes: &'b [u8]) -> bool
+    ensures { λ r. ⌜ r ≡ spells (spelled (now (s .entry)) at) (now (bytes .entry)) ⌝ }
+{
+    if at > s.len() {
+        return false;
+    }
+    let mut i = at;
+    let mut k = 0;
+    loop {
+        let b = look(s, i);
+        if b == BACKSLASH {
+            return equals_from(s, i, bytes, k);
+        }
+        if k == bytes.len() {
+            return b == QUOTE;
+        }
+        if b != bytes[k] as u16 {
+            return false;
+        }
+        if b == QUOTE {
+            return false;
+        }
+        if b < 32 {
+            return false;
+        }
+        k += 1;
+        i += 1;
+    }
+}
+
+// The string stands for these bytes from a place on.
+fn equals_from<'a, 'b>(s: &'a [u8], at: usize, bytes: &'b [u8], from: usize) -> bool
+    requires { ⌜ at ≤ length (now s) ⌝ }
+    requires { ⌜ from ≤ length (now bytes) ⌝ }
+    ensures { λ r. ⌜ r ≡ spells (spelled (now (s .entry)) at) (drop from (now (bytes .entry))) ⌝ }
+{
+    let mut i = at;
+    let mut h = 0;
+    let mut k = from;
+    loop {
+        match next_byte(s, i, h) {
+            Byte::Alone => {
+                return false;
+            }
+            Byte::End => {
+                return k == bytes.len();
+            }
+            Byte::One(b, j, g) => {
+                if k == bytes.len() {
+                    return false;
+                }
+                if bytes[k] != b {
+                    return false;
+                }
+                k += 1;
+                i = j;
+                h = g;
+            }
+        }
+    }
+}
+
+// Nothing is left of a string.
+fn ends(s: &[u8], at: usize, hold: u32) -> bool
+    requires { ⌜ at ≤ length (now s) ⌝ }
+    ensures { λ r. ⌜ r ≡ agree (some []) (left (now (s .entry)) at hold) ⌝ }
+{
+    match next_byte(s, at, hold) {
+        Byte::Alone => false,
+        Byte::End => true,
+        Byte::One(b, j, g) => false,
+    }
+}
+
+// Two strings stand for the same bytes.
+pub fn same_text(s: &[u8], a: usize, b: usize) -> bool
+    ensures { λ r. ⌜ r ≡ agree (spelled (now (s .entry)) a) (spelled (now (s .entry)) b) ⌝ }
+{
+    if a > s.len() {
+        return false;
+    }
+    if b > s.len() {
+        return false;
+    }
+    let mut i = a;
+    let mut g = 0;
+    let mut j = b;
+    let mut h = 0;
+    loop {
+        match next_byte(s, i, g) {
+            Byte::Alone => {
+                return false;
+            }
+            Byte::End => {
+                return ends(s, j, h);
+            }
+            Byte::One(x, k, u) => match next_byte(s, j, h) {
+                Byte::Alone => {
+                    return false;
+                }
+                Byte::End => {
+                    return false;
+                }
+                Byte::One(y, l, v) => {
+                    if x != y {
+                        return false;
+                    }
+                    i = k;
+                    g = u;
+                    j = l;
+                    h = v;
+                }
+            },
+        }
+    }
+}
+
+// A byte that stands for itself in a string.
+fn is_bare(b: u16) -> bool
+    ensures { λ r. ⌜ BareByte b r ⌝ }
+{
+    // Most bytes are small letters.
+    if b > b'\\' as u16 {
+        return b < 256;
+    }
+    if b < 32 {
+        return false;
+    }
+    if b == b'"' as u16 {
+        return false;
+    }
+    b != b'\\' as u16
+}
+
+// The bytes from a place on that stand for themselves, copied while there is room: how many. None where bytes are held, which come first.
+fn copy_bare<'a, 'b>(out: &'a mut [u8], s: &'b [u8], at: usize, hold: u32) -> usize
+    requires { ⌜ at ≤ length (now s) ⌝ }
+    ensures { λ r. ⌜ Copied (now (s .entry)) at hold (now (out .entry)) r (now (out .exit)) ⌝ }
+{
+    if hold != 0 {
+        return 0;
+    }
+    let mut n = 0;
+    loop {
+        if n >= out.len() {
+            return n;
+        }
+        let b = look(s, at + n);
+        if !is_bare(b) {
+            return n;
+        }
+        out[n] = b as u8;
+        n += 1;
+    }
+}
+
+// The decoded bytes of the string whose first quote stands just before a place. Nothing is written where it stands for nothing: a surrogate
+// is alone in it, it is no string, or the place is past the end.
+pub fn decode_into<'a, 'b>(out: &'a mut [u8], s: &'b [u8], at: usize) -> Wrote
+    ensures { λ r. ⌜ Puts (now (out .entry)) (textAt (now (s .entry)) at) r (now (out .exit)) ⌝ }
+{
+    if !is_paired(s, at) {
+        return Wrote::Bytes(0);
+    }
+    let mut i = at;
+    let mut h = 0;
+    let mut k = 0;
+    loop {
+        let n = copy_bare(&mut out[k..], s, i, h);
+        k += n;
+        i += n;
+        match next_byte(s, i, h) {
+            Byte::Alone => {
+                return Wrote::Bytes(k);
+            }
+            Byte::End => {
+                return Wrote::Bytes(k);
+            }
+            Byte::One(b, j, g) => {
+                if k >= out.len() {
+                    return Wrote::Full;
+                }
+                out[k] = b;
+                k += 1;
+                i = j;
+                h = g;
+            }
+        }
     }
 }

@@ -1,6 +1,6 @@
 // Compact JSON: strings, numbers, names and members, each written to a lent part of the output. (`output::put_text` writes true, false and null.)
-use json_equal::is_paired;
 use json_strings::Byte;
+use json_strings::is_paired;
 use json_strings::next_byte;
 use output::Wrote;
 use output::put_byte;
@@ -188,7 +188,7 @@ pub fn put_number(out: &mut [u8], n: usize) -> Wrote
 }
 
 // The string from a place on (after its first quote), without its quotes and spelled anew. Nothing is written where it stands for nothing, as
-// in `json_decode`.
+// in `json_strings`.
 pub fn put_respelled(out: &mut [u8], s: &[u8], from: usize) -> Wrote
     ensures { λ r. ⌜ Puts (now (out .entry)) (spelledAll (textAt (now (s .entry)) from)) r (now (out .exit)) ⌝ }
 {

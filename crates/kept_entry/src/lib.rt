@@ -2,10 +2,10 @@
 use card_value::string_in;
 use json_access::element_at;
 use json_access::place;
-use json_equal::equals;
 use json_index::which_name;
 use json_marks::separator;
 use json_marks::skip_space;
+use json_strings::equals;
 use kept_strings::Rows;
 use kept_strings::To;
 use kept_strings::is_word;

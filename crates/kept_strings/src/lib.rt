@@ -1,9 +1,9 @@
 // Strings of a JSON text one after the other in a lent buffer, and the values of a parameter of vCardProps as rows of a line's table.
 use card_value::string_in;
 use json_access::element_at;
-use json_decode::decode_into;
 use json_marks::separator;
 use json_marks::skip_space;
+use json_strings::decode_into;
 use line_class::Class;
 use line_class::all_of;
 use line_table::put_row;

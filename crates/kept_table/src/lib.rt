@@ -1,8 +1,8 @@
 // An entry of vCardProps, [name, {parameters}, type, value], as the table of the line that it is.
 use json_access::member_at;
-use json_equal::equals;
 use json_marks::separator;
 use json_marks::skip_space;
+use json_strings::equals;
 use kept_strings::Rows;
 use kept_strings::To;
 use kept_strings::is_word;

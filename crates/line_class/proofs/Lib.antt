@@ -1,3 +1,4 @@
 pub mod Table
 pub mod Runs
 pub mod Agree
+pub mod Odd

@@ -1,12 +1,16 @@
 // The classes of a byte: one table of 256 entries, whose agreement with the ranges is computed once over all of them.
 // Callers know only the ranges: the table may go without their noticing.
+// By them, whether a line is UTF-8 and has no controls (refusal 4).
 ghost use mathlib.Core.Path.{_≡_};
 ghost use Prim.Native.Nat.{_+_};
 ghost use lib.ListN.{length, drop, getD};
-ghost use Rattle.text.specs.Bytes.{all};
+ghost use Rattle.text.specs.Bytes.{all, any};
 ghost use Rattle.text.specs.Reader.{taken};
-ghost use Rattle.line.specs.Class.{isName, isBare, isQuotable};
+ghost use Rattle.line.specs.Class.{isName, isBare, isQuotable, isControl};
 ghost use Rattle.line_class.specs.Classes.{inClass, bitOf, hasBit, Agrees};
+ghost use mathlib.Core.Bool.{_||_, not};
+ghost use Rattle.line_class.specs.Odd.{isOdd};
+ghost use Rattle.text.specs.Utf8.{utf8};
 
 pub enum Class {
     Name,
@@ -377,3 +381,54 @@ const CLASSES: [u8; 256] = [
     12,
     12,
 ];
+
+fn is_control(b: u8) -> bool
+    ensures { λ r. ⌜ r ≡ isControl b ⌝ }
+{
+    ((b < 32) & (b != 9)) | (b == 127)
+}
+
+// A control, or no ASCII.
+fn is_odd(b: u8) -> bool
+    ensures { λ r. ⌜ r ≡ isOdd b ⌝ }
+{
+    is_control(b) | !(b < 128)
+}
+
+// No early way out: the loop is a vector loop.
+pub fn has_odd(line: &[u8]) -> bool
+    ensures { λ r. ⌜ r ≡ any isOdd (now (line .entry)) ⌝ }
+{
+    let mut found = false;
+    let mut i = 0;
+    while i < line.len() {
+        found = found | is_odd(line[i]);
+        i += 1;
+    }
+    found
+}
+
+// The same for controls alone.
+pub fn has_control(line: &[u8]) -> bool
+    ensures { λ r. ⌜ r ≡ any isControl (now (line .entry)) ⌝ }
+{
+    let mut found = false;
+    let mut i = 0;
+    while i < line.len() {
+        found = found | is_control(line[i]);
+        i += 1;
+    }
+    found
+}
+
+pub fn is_garbled(line: &[u8]) -> bool
+    ensures { λ r. ⌜ r ≡ (not (utf8 (now (line .entry))) || any isControl (now (line .entry))) ⌝ }
+{
+    if !has_odd(line) {
+        return false;
+    }
+    if !utf8::is_utf8(line) {
+        return true;
+    }
+    has_control(line)
+}

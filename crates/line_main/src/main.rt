@@ -91,7 +91,7 @@ fn say_text(line: &[u8], from: usize) {
 
 fn tell(line: &[u8], number: usize) {
     io::print_decimal(STDOUT_FILENO, number as u64);
-    if line_check::is_garbled(line) {
+    if line_class::is_garbled(line) {
         say(b" garbled\n");
         return;
     }

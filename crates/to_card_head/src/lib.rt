@@ -1,7 +1,7 @@
 // The first lines of a card from the members of the JSON: BEGIN, VERSION, UID and KIND. A slot is the place of a member's value, 0 where it is absent.
 use card_value::string_in;
-use json_equal::equals;
 use json_strings::Byte;
+use json_strings::equals;
 use json_strings::next_byte;
 use line_pen::fill;
 use to_card_lines::Lines;

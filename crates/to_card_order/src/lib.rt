@@ -1,8 +1,8 @@
 // The values of a name's components in an order of kinds that is given as data, and whether two kinds have no value in common.
 use card_pen::Told;
 use json_access::element_at;
-use json_equal::same_text;
 use json_marks::separator;
+use json_strings::same_text;
 use line_pen::pen_byte;
 use text::RIGHT_BRACKET;
 use text::Turn;

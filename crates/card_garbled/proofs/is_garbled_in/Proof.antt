@@ -1,6 +1,6 @@
 use borrow.Author.Needs.{needs}
 use mathlib.Core.Path.{sym}
-use Rattle.line_check.proofs.Odd.{or-none}
+use Rattle.line_class.proofs.Odd.{or-none}
 use Rattle.card_garbled.proofs.is_garbled_in.Statement.{statement}
 use Rattle.card_garbled.proofs.is_garbled_in.Tie as tie
 

@@ -18,7 +18,7 @@ use Rattle.kept_entry.proofs.put_type.Tie as tie
 use Rattle.kept_entry.proofs.put_type.Reads as reads
 use Rattle.kept_entry.proofs.put_type.Lts as lts
 use Rattle.card_value.proofs.string_in.Reads as string-in-reads
-use Rattle.json_equal.proofs.equals.Reads as equals-reads
+use Rattle.json_strings.proofs.equals.Reads as equals-reads
 use Rattle.kept_entry.proofs.put_typed.Reads as put-typed-reads
 
 -- src/lib.rt:160:9

@@ -7,7 +7,7 @@ use Rattle.kept_strings.proofs.put_decoded.Statement.{statement}
 use Rattle.kept_strings.proofs.put_decoded.Tie as tie
 use Rattle.kept_strings.proofs.put_decoded.Reads as reads
 use Rattle.kept_strings.proofs.put_decoded.Lts as lts
-use Rattle.json_decode.proofs.decode_into.Reads as decode-into-reads
+use Rattle.json_strings.proofs.decode_into.Reads as decode-into-reads
 
 -- src/lib.rt:47:39
 sub-decode-into : tie.Need-sub-decode-into

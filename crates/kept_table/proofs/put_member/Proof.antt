@@ -15,7 +15,7 @@ use Rattle.kept_table.proofs.put_member.Statement.{statement}
 use Rattle.kept_table.proofs.put_member.Tie as tie
 use Rattle.kept_table.proofs.put_member.Reads as reads
 use Rattle.kept_table.proofs.put_member.Lts as lts
-use Rattle.json_equal.proofs.equals.Reads as equals-reads
+use Rattle.json_strings.proofs.equals.Reads as equals-reads
 use Rattle.kept_strings.proofs.put_group.Reads as put-group-reads
 use Rattle.kept_table.proofs.put_param.Reads as put-param-reads
 

@@ -15,7 +15,7 @@ use Rattle.kept_table.proofs.put_param.Statement.{statement}
 use Rattle.kept_table.proofs.put_param.Tie as tie
 use Rattle.kept_table.proofs.put_param.Reads as reads
 use Rattle.kept_table.proofs.put_param.Lts as lts
-use Rattle.json_equal.proofs.equals.Reads as equals-reads
+use Rattle.json_strings.proofs.equals.Reads as equals-reads
 use Rattle.kept_strings.proofs.is_word.Reads as is-word-reads
 use Rattle.kept_strings.proofs.put_decoded.Reads as put-decoded-reads
 use Rattle.kept_strings.proofs.put_values.Reads as put-values-reads

@@ -6,7 +6,7 @@ use Rattle.to_card_head.proofs.holds.Tie as tie
 use Rattle.to_card_head.proofs.holds.Reads as reads
 use Rattle.to_card_head.proofs.holds.Lts as lts
 use Rattle.card_value.proofs.string_in.Reads as string-in-reads
-use Rattle.json_equal.proofs.equals.Reads as equals-reads
+use Rattle.json_strings.proofs.equals.Reads as equals-reads
 
 returns : tie.Need-returns
 returns c = same-absent (now (c .before .before .before .args .s)) (c .before .before .before .args .slot) (now (c .before .before .before .args .bytes)) (c .if1 .taken)
