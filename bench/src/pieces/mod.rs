@@ -213,7 +213,7 @@ fn requote(string: &str, out: &mut String) {
 }
 
 fn tree_of(json: &[u8]) -> baseline::Value {
-    baseline::read_json(json, JSON_DEPTH).ok().expect("JSON").value
+    baseline::read_json(json, JSON_DEPTH).expect("JSON").value
 }
 
 fn read(json: &[u8]) -> Measured {

@@ -61,7 +61,7 @@ impl Card {
         let values: Vec<&str> = read.iter().map(|line| line.value.as_str()).collect();
         let texts: Vec<String> = values.iter().map(|value| read_text(value).expect("TEXT")).collect();
         let (values, texts) = (Parts::of(&values), Parts::of(&texts));
-        let tree = read_json(&json, JSON_DEPTH).unwrap_or_else(|place| panic!("no JSON at {place}")).value;
+        let tree = read_json(&json, JSON_DEPTH).expect("JSON").value;
         let mut strings = Vec::new();
         collect_strings(&tree, &mut strings);
         let (spelled, strings) = (Parts::of(&spelled_strings(&json)), Parts::of(&strings));
