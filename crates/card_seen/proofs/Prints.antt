@@ -12,7 +12,7 @@ use borrow.Author.Tests.{eqb-true}
 use Rattle.text.specs.Bytes.{Bytes, any, same}
 use Rattle.text.proofs.Cases.{byBool, and-left, and-right}
 use Rattle.text.proofs.Same.{same-true}
-use Rattle.json_sound.specs.Kept.{stir, printed, Absent}
+use Rattle.json_sound.specs.Noted.{stir, printed, Absent}
 use Rattle.convert.specs.Classify.{id, isId}
 use Rattle.card_seen.specs.Ids.{keyAt, idsAt, IdTable}
 

@@ -3,7 +3,7 @@ ghost use mathlib.Core.Path.{_≡_};
 ghost use Prim.Native.Nat.{_+_, _≤_, _<_};
 ghost use lib.ListN.{length, set};
 ghost use Rattle.text.specs.Bytes.{any};
-ghost use Rattle.json_sound.specs.Kept.{printed};
+ghost use Rattle.json_sound.specs.Noted.{printed};
 ghost use Rattle.convert.specs.Classify.{isId};
 ghost use Rattle.line_table.specs.Table.{part, Span};
 ghost use Rattle.class_line.specs.Class.{ClassIn};

@@ -5,15 +5,15 @@ use native.Mathlib.Omega.{arith}
 use lib.ListN.{length, drop}
 use borrow.Author.Tests.{eq-eqb, ne-eqb}
 use Rattle.text.specs.declared.Read.{Read}
-use Rattle.text.specs.declared.Read.the-variants.{Next, Bad}
+use Rattle.text.specs.declared.Read.the-variants.{Next}
 use Rattle.text.specs.declared.Turn.{Turn}
 use Rattle.text.specs.Bytes.{Bytes, is}
-use Rattle.text.specs.Reader.{Got, got, bad, on, when, loop, one}
+use Rattle.text.specs.Reader.{Got, on, loop, one}
 use Rattle.text.specs.Places.{byteAt, Gives, GivesT, Passes}
-use Rattle.text.proofs.Places.{same-as, up, here, bad-here, by-under, by-on, not-on, by-when, not-when, then-next, turn-next, bind-under}
+use Rattle.text.proofs.Places.{same-as, up, here, by-under, by-on, not-on, turn-next, bind-under}
 use Rattle.json.specs.Grammar.{isSpace}
 use Rattle.json.specs.Tree.{Json, jnull, enil, econs, mnil, mcons}
-use Rattle.json.specs.Syntax.{four, scalar, sep, name, item, elements, pair, pairs, value, text}
+use Rattle.json.specs.Syntax.{four, scalar, sep, name, item, elements, pair, pairs, value}
 use Rattle.json_marks.proofs.Laws.{skip-to, sep-any}
 use Rattle.json_scan.proofs.First.{as-flat, as-scalar, as-array, as-object}
 
@@ -68,13 +68,3 @@ module _ {s : Bytes} {at i : ℕ} (h : Passes isSpace s at i) where
 
     pub value-scalar : (b ≡ 91 → ⊥) → (b ≡ 123 → ⊥) → {r : Read} → Gives s i (scalar (drop i s)) r → Gives s at (value d (drop at s)) r
     value-scalar m o x = same-as (as-scalar s i b e at h d m o) (up (h .from) x)
-
--- ---- a text: nothing but white space after its value
-module _ (d : ℕ) {s : Bytes} {e i : ℕ} (v : Gives s 0 (value d s) (Next e)) (h : Passes isSpace s e i) (b : ℕ) (q : b ≡ byteAt s i) where
-  pub text-whole : b ≡ 256 → Gives s 0 (text d s) (Next i)
-  unfolding text
-  text-whole z = then-next _ v (λ j. same-as (ap (when (is 256) (got j) bad) (skip-to h)) (up (h .from) (by-when (is 256) _ _ q (eq-eqb _ _ z) (here j i (h .to)))))
-
-  pub text-more : (b ≡ 256 → ⊥) → Gives s 0 (text d s) (Bad i)
-  unfolding text
-  text-more z = then-next _ v (λ j. same-as (ap (when (is 256) (got j) bad) (skip-to h)) (up (h .from) (not-when (is 256) _ _ q (ne-eqb _ _ z) (bad-here i (h .to)))))

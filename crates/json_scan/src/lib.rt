@@ -16,9 +16,11 @@ use text::Turn;
 use text::look;
 ghost use Prim.Native.Nat.{_≤_, _<_};
 ghost use lib.ListN.{length, drop};
+ghost use Rattle.text.specs.Reader.{loop};
 ghost use Rattle.text.specs.Places.{Gives};
 ghost use Rattle.json.specs.Tree.{jnull};
-ghost use Rattle.json.specs.Syntax.{four, scalar, name, elements, pairs, value, text};
+ghost use Rattle.json.specs.Syntax.{four, scalar, name, item, elements, pair, pairs, value};
+ghost use Rattle.json_scan.specs.After.{elementsAfter, membersAfter, GivesAfterName};
 
 // Letters, as `look` gives them.
 const LETTER_F: u16 = b'f' as u16;
@@ -80,16 +82,12 @@ pub fn name_end(s: &[u8], at: usize) -> Read
     }
 }
 
-// The elements of an array, from after the byte that opens it.
-fn array_end(s: &[u8], at: usize, depth: usize) -> Read
+// Elements of an array, one at least, and the byte that closes it.
+fn elements_from(s: &[u8], at: usize, depth: usize) -> Read
     requires { ⌜ at ≤ length (now s) ⌝ }
-    ensures { λ r. ⌜ Gives (now (s .entry)) at (elements (value depth) (drop at (now (s .entry)))) r ⌝ }
+    ensures { λ r. ⌜ Gives (now (s .entry)) at (loop (item (value depth)) (drop at (now (s .entry)))) r ⌝ }
 {
-    let from = skip_space(s, at);
-    if look(s, from) == RIGHT_BRACKET {
-        return Read::Next(from + 1);
-    }
-    let mut i = from;
+    let mut i = at;
     loop {
         match value_end(s, i, depth) {
             Read::Bad(b) => {
@@ -107,16 +105,24 @@ fn array_end(s: &[u8], at: usize, depth: usize) -> Read
     }
 }
 
-// The members of an object, from after the byte that opens it.
-fn object_end(s: &[u8], at: usize, depth: usize) -> Read
+// The elements of an array, from after the byte that opens it.
+fn array_end(s: &[u8], at: usize, depth: usize) -> Read
     requires { ⌜ at ≤ length (now s) ⌝ }
-    ensures { λ r. ⌜ Gives (now (s .entry)) at (pairs (value depth) (drop at (now (s .entry)))) r ⌝ }
+    ensures { λ r. ⌜ Gives (now (s .entry)) at (elements (value depth) (drop at (now (s .entry)))) r ⌝ }
 {
     let from = skip_space(s, at);
-    if look(s, from) == RIGHT_BRACE {
+    if look(s, from) == RIGHT_BRACKET {
         return Read::Next(from + 1);
     }
-    let mut i = from;
+    elements_from(s, from, depth)
+}
+
+// Members of an object, one at least, and the byte that closes it.
+fn members_from(s: &[u8], at: usize, depth: usize) -> Read
+    requires { ⌜ at ≤ length (now s) ⌝ }
+    ensures { λ r. ⌜ Gives (now (s .entry)) at (loop (pair (value depth)) (drop at (now (s .entry)))) r ⌝ }
+{
+    let mut i = at;
     loop {
         match name_end(s, i) {
             Read::Bad(b) => {
@@ -139,6 +145,18 @@ fn object_end(s: &[u8], at: usize, depth: usize) -> Read
     }
 }
 
+// The members of an object, from after the byte that opens it.
+fn object_end(s: &[u8], at: usize, depth: usize) -> Read
+    requires { ⌜ at ≤ length (now s) ⌝ }
+    ensures { λ r. ⌜ Gives (now (s .entry)) at (pairs (value depth) (drop at (now (s .entry)))) r ⌝ }
+{
+    let from = skip_space(s, at);
+    if look(s, from) == RIGHT_BRACE {
+        return Read::Next(from + 1);
+    }
+    members_from(s, from, depth)
+}
+
 // White space and a value, with `depth` arrays and objects at most around what is inside it.
 pub fn value_end(s: &[u8], at: usize, depth: usize) -> Read
     requires { ⌜ at ≤ length (now s) ⌝ }
@@ -158,18 +176,35 @@ pub fn value_end(s: &[u8], at: usize, depth: usize) -> Read
     scalar_end(s, i)
 }
 
-// A JSON text: a value, and nothing but white space around it.
-pub fn text_end(s: &[u8], depth: usize) -> Read
-    ensures { λ r. ⌜ Gives (now (s .entry)) 0 (text depth (now (s .entry))) r ⌝ }
+// The rest of an array, from just after an element.
+pub fn elements_after(s: &[u8], at: usize, depth: usize) -> Read
+    requires { ⌜ at ≤ length (now s) ⌝ }
+    ensures { λ r. ⌜ Gives (now (s .entry)) at (elementsAfter (value depth) (drop at (now (s .entry)))) r ⌝ }
 {
-    match value_end(s, 0, depth) {
+    match separator(s, at, RIGHT_BRACKET) {
+        Turn::Stop(r) => r,
+        Turn::Go(j) => elements_from(s, j, depth),
+    }
+}
+
+// The rest of an object, from just after a member.
+pub fn members_after(s: &[u8], at: usize, depth: usize) -> Read
+    requires { ⌜ at ≤ length (now s) ⌝ }
+    ensures { λ r. ⌜ Gives (now (s .entry)) at (membersAfter (value depth) (drop at (now (s .entry)))) r ⌝ }
+{
+    match separator(s, at, RIGHT_BRACE) {
+        Turn::Stop(r) => r,
+        Turn::Go(j) => members_from(s, j, depth),
+    }
+}
+
+// The rest of an object, from just after a member's name with its colon.
+pub fn members_after_name(s: &[u8], at: usize, depth: usize) -> Read
+    requires { ⌜ at ≤ length (now s) ⌝ }
+    ensures { λ r. ⌜ GivesAfterName (now (s .entry)) at depth r ⌝ }
+{
+    match value_end(s, at, depth) {
         Read::Bad(b) => Read::Bad(b),
-        Read::Next(e) => {
-            let i = skip_space(s, e);
-            if look(s, i) == 256 {
-                return Read::Next(i);
-            }
-            Read::Bad(i)
-        }
+        Read::Next(e) => members_after(s, e, depth),
     }
 }

@@ -4,7 +4,7 @@ use mathlib.Core.Path.{_≡_, refl, sym, ap, _∙_}
 use native.Mathlib.Omega.{arith}
 use denote.Ref.{now}
 use lib.ListN.{length, drop}
-use Rattle.json_sound.specs.Kept.{printed}
+use Rattle.json_sound.specs.Noted.{printed}
 use Rattle.card_seen.proofs.Prints.{printed-on, printed-end}
 use Rattle.card_seen.proofs.print_of.Statement.{statement}
 use Rattle.card_seen.proofs.print_of.Tie as tie
