@@ -3,8 +3,9 @@ use mathlib.Core.Path.{_≡_}
 use mathlib.Core.List.{[]}
 use mathlib.Core.Option.{Option, none, some}
 use Prim.Native.Nat.{ℕ, _≤_, _<_}
-use lib.ListN.{length, drop}
-use Rattle.text.specs.Choice.{is-some, with-some}
+use Prim.Native.Char.{code}
+use lib.ListN.{length, drop, getD}
+use Rattle.text.specs.Choice.{with-some}
 use Rattle.text.specs.Bytes.{Bytes}
 use Rattle.line.specs.Text.{push, readText}
 use Rattle.line_text.specs.declared.Char.{Char}
@@ -14,9 +15,9 @@ use Rattle.line_text.specs.declared.Char.the-variants.{Byte, Bad, End}
 unfoldable pub plainText : Bytes → Bytes
 plainText s = with-some (readText s) (λ t. t) []
 
--- from a on there is TEXT where there is from b on
-abbrev pub SameText : Bytes → ℕ → ℕ → Type 0
-SameText s a b = is-some (readText (drop a s)) ≡ is-some (readText (drop b s))
+-- no backslash stands from a up to b
+abbrev pub Plain : Bytes → ℕ → ℕ → Type 0
+Plain s a b = (k : ℕ) → a ≤ k → k < b → getD s k 0 ≡ code "\\" → ⊥
 
 -- one byte, and what is read from the next place on
 abbrev pub charOf : Bytes → Char → Option Bytes

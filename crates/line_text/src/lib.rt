@@ -1,12 +1,12 @@
 // TEXT values: reading with their escapes, splitting at bare separators, writing.
 ghost use Rattle.output.specs.Put.{Puts};
 ghost use mathlib.Core.Path.{_≡_};
-ghost use mathlib.Core.Bool.{true};
-ghost use Prim.Native.Nat.{_≤_, _<_};
+ghost use mathlib.Core.Bool.{true, false};
+ghost use Prim.Native.Nat.{_+_, _≤_, _<_};
 ghost use lib.ListN.{length, drop};
 ghost use Rattle.text.specs.Choice.{is-some};
 ghost use Rattle.line.specs.Text.{readText, textFrom, escape, writeText};
-ghost use Rattle.line_text.specs.Read.{OneChar, SameText, plainText};
+ghost use Rattle.line_text.specs.Read.{OneChar, Plain, plainText};
 ghost use Rattle.line_text.specs.Split.{PartEnds, charEnd};
 use output::Wrote;
 use output::put_byte;
@@ -60,10 +60,10 @@ pub fn next_char(s: &[u8], at: usize) -> Char
     Char::Byte(c, e)
 }
 
-// The first backslash from `at` on, or where the bytes end.
-fn plain_end(s: &[u8], at: usize) -> usize
+// Where the bytes from `at` on that are no backslash end, byte by byte.
+fn plain_from(s: &[u8], at: usize) -> usize
     requires { ⌜ at ≤ length (now s) ⌝ }
-    ensures { λ r. ⌜ (at ≤ r) × (r ≤ length (now (s .entry))) × SameText (now (s .entry)) at r ⌝ }
+    ensures { λ r. ⌜ (at ≤ r) × (r ≤ length (now (s .entry))) × Plain (now (s .entry)) at r ⌝ }
 {
     let mut i = at;
     while i < s.len() {
@@ -74,6 +74,45 @@ fn plain_end(s: &[u8], at: usize) -> usize
         i += 1;
     }
     i
+}
+
+// Whether one of sixteen bytes is a backslash. No early way out: one test of a vector.
+fn has_backslash(s: &[u8], at: usize) -> bool
+    requires { ⌜ at + 16 ≤ length (now s) ⌝ }
+    ensures { λ r. ⌜ (r ≡ false → Plain (now (s .entry)) at (at + 16)) ⌝ }
+{
+    let mut found = false;
+    let mut k = 0;
+    while k < 16 {
+        found = found | (s[at + k] == b'\\');
+        k += 1;
+    }
+    found
+}
+
+// Whether sixteen bytes stand there, none a backslash.
+fn skips(s: &[u8], at: usize) -> bool
+    ensures { λ r. ⌜ (r ≡ true → (at + 16 ≤ length (now (s .entry))) × Plain (now (s .entry)) at (at + 16)) ⌝ }
+{
+    if s.len() <= at {
+        return false;
+    }
+    if s.len() - at < 16 {
+        return false;
+    }
+    !has_backslash(s, at)
+}
+
+// The first backslash from `at` on, or where the bytes end.
+fn plain_end(s: &[u8], at: usize) -> usize
+    requires { ⌜ at ≤ length (now s) ⌝ }
+    ensures { λ r. ⌜ (at ≤ r) × (r ≤ length (now (s .entry))) × Plain (now (s .entry)) at r ⌝ }
+{
+    let mut i = at;
+    while skips(s, i) {
+        i += 16;
+    }
+    plain_from(s, i)
 }
 
 // Whether every escape is good.
@@ -97,7 +136,7 @@ pub fn is_text(s: &[u8]) -> bool
     }
 }
 
-// What the TEXT stands for; nothing where an escape is bad.
+// What the TEXT stands for; nothing where an escape is bad. What stands between escapes is copied as it is.
 pub fn read_text(out: &mut [u8], s: &[u8]) -> Wrote
     ensures { λ r. ⌜ Puts (now (out .entry)) (plainText (now (s .entry))) r (now (out .exit)) ⌝ }
 {
@@ -107,7 +146,12 @@ pub fn read_text(out: &mut [u8], s: &[u8]) -> Wrote
     let mut at = 0;
     let mut i = 0;
     loop {
-        match next_char(s, i) {
+        let j = plain_end(s, i);
+        let Wrote::Bytes(n) = put_text(&mut out[at..], &s[i..j]) else {
+            return Wrote::Full;
+        };
+        at += n;
+        match next_char(s, j) {
             Char::Byte(c, e) => {
                 if at >= out.len() {
                     return Wrote::Full;

@@ -2,9 +2,11 @@ use Prim.Native.Nat.{_-_, _≤_}
 use mathlib.Core.Path.{_≡_, refl, sym, _∙_}
 use native.Mathlib.Omega.{arith}
 use borrow.Author.Needs.{needs}
+use denote.Ref.{now}
 use lib.ListN.{length, drop}
 use Rattle.text.specs.Choice.{is-some}
 use Rattle.line.specs.Text.{readText}
+use Rattle.line_text.proofs.Plain.{plain-good}
 use Rattle.line_text.proofs.Reading.{onward, byte-good, bad-good, end-good}
 use Rattle.line_text.proofs.is_text.Statement.{statement}
 use Rattle.line_text.proofs.is_text.Tie as tie
@@ -17,6 +19,12 @@ abbrev μ-loop : tie.MeasureT-loop
 
 loop-holds : tie.Need-loop-holds Inv-loop μ-loop
 loop-holds c = (omega arith, refl)
+
+-- where the bytes before a backslash end
+good-on : (c : tie.After-plain-end Inv-loop μ-loop) → is-some (readText (drop (c .before .loop .i) (now (c .before .before .before .args .s)))) ≡ is-some (readText (drop (c .plain-end .result) (now (c .before .before .before .args .s))))
+good-on c =
+    let l = c .plain-end .ensures in
+    plain-good (now (c .before .before .before .args .s)) (c .before .loop .i) _ (l .0) (l .1) (l .2)
 
 plain-end-requires : tie.Need-plain-end-requires Inv-loop μ-loop
 plain-end-requires c κs = c .loop .inv .0
@@ -31,19 +39,19 @@ loop-less : tie.Need-loop-less Inv-loop μ-loop
 loop-less c = omega (arith, onward _ _ _ (c .before .before .before .next-char .ensures) _ _ (c .before .e .given .1), c .before .before .before .before .plain-end .ensures .0)
 
 loop-again : tie.Need-loop-again Inv-loop μ-loop
-loop-again c = (onward _ _ _ (c .before .before .before .next-char .ensures) _ _ (c .before .e .given .1) .1, sym (byte-good _ _ _ (c .before .before .before .next-char .ensures) _ _ (c .before .e .given .1)) ∙ sym (c .before .before .before .before .plain-end .ensures .2) ∙ (c .before .before .before .before .before .loop .inv .1))
+loop-again c = (onward _ _ _ (c .before .before .before .next-char .ensures) _ _ (c .before .e .given .1) .1, sym (byte-good _ _ _ (c .before .before .before .next-char .ensures) _ _ (c .before .e .given .1)) ∙ sym (good-on (c .before .before .before .before)) ∙ (c .before .before .before .before .before .loop .inv .1))
 
 enum-told : tie.Need-enum-told Inv-loop μ-loop
 enum-told c = search needs
 
 returns : tie.Need-returns Inv-loop μ-loop
-returns c = sym (bad-good _ _ _ (c .before .before .next-char .ensures) (c .enum-told .given .1)) ∙ sym (c .before .before .before .plain-end .ensures .2) ∙ (c .before .before .before .before .loop .inv .1)
+returns c = sym (bad-good _ _ _ (c .before .before .next-char .ensures) (c .enum-told .given .1)) ∙ sym (good-on (c .before .before .before)) ∙ (c .before .before .before .before .loop .inv .1)
 
 enum-told-2 : tie.Need-enum-told-2 Inv-loop μ-loop
 enum-told-2 c = search needs
 
 returns-2 : tie.Need-returns-2 Inv-loop μ-loop
-returns-2 c = sym (end-good _ _ _ (c .before .before .next-char .ensures) (c .enum-told2 .given .1)) ∙ sym (c .before .before .before .plain-end .ensures .2) ∙ (c .before .before .before .before .loop .inv .1)
+returns-2 c = sym (end-good _ _ _ (c .before .before .next-char .ensures) (c .enum-told2 .given .1)) ∙ sym (good-on (c .before .before .before)) ∙ (c .before .before .before .before .loop .inv .1)
 
 pub is-text-spec : {M : Type 1} → statement M
 is-text-spec =

@@ -1,5 +1,6 @@
 use Prim.Native.Nat.{ℕ, _-_, _≤_}
 use mathlib.Core.Path.{_≡_, sym, _∙_}
+use native.Mathlib.Nat.{le-refl}
 use native.Mathlib.Omega.{arith}
 use borrow.Author.Needs.{needs}
 use borrow.Author.Tests.{not-true, not-false}
@@ -10,7 +11,8 @@ use Rattle.text.specs.Choice.{is-some}
 use Rattle.line.specs.Text.{readText}
 use Rattle.line_text.specs.Read.{plainText}
 use Rattle.output.specs.Put.{Rest}
-use Rattle.output.proofs.Rests.{rest-all, rest-as, rest-byte, rest-no-byte, rest-done, rest-same}
+use Rattle.output.proofs.Rests.{Going, going, rest-all, rest-as, rest-next, rest-stop, rest-byte, rest-no-byte, rest-done, rest-in, rest-fit, rest-same}
+use Rattle.line_text.proofs.Plain.{plain-good, plain-run}
 use Rattle.line_text.proofs.Reading.{onward, byte-good, bad-good, byte-plain, end-plain, bad-plain}
 use Rattle.line_text.proofs.read_text.Statement.{statement}
 use Rattle.line_text.proofs.read_text.Tie as tie
@@ -21,6 +23,22 @@ Inv-loop out₀ s at₀ i₀ out at i = (i ≤ length s) × (is-some (readText (
 abbrev μ-loop : tie.MeasureT-loop
 μ-loop out₀ s at₀ i₀ out at i = length s - i
 
+-- after what stands before the next backslash
+abbrev run : tie.After-known-told Inv-loop μ-loop → Going
+run c =
+    let args = c .before .before .before .before .before .before .before .before .before .before .before .before .before .before .args in
+    let loop = c .before .before .before .before .before .before .before .before .before .loop in
+    let l = c .before .before .before .before .before .before .before .before .plain-end .ensures in
+    let todo = rest-as (plain-run (now (args .s)) (loop .i) _ (l .0) (l .1) (l .2) (loop .inv .1)) (loop .inv .2) in
+    going (rest-next _ todo (c .before .before .before .before .before .put-text .ensures) (c .before .n .given .1))
+
+good-on : (c : tie.After-known-told Inv-loop μ-loop) → is-some (readText (drop (c .before .before .before .before .before .before .before .before .plain-end .result) (now (c .before .before .before .before .before .before .before .before .before .before .before .before .before .before .args .s)))) ≡ true
+good-on c =
+    let args = c .before .before .before .before .before .before .before .before .before .before .before .before .before .before .args in
+    let loop = c .before .before .before .before .before .before .before .before .before .loop in
+    let l = c .before .before .before .before .before .before .before .before .plain-end .ensures in
+    sym (plain-good (now (args .s)) (loop .i) _ (l .0) (l .1) (l .2)) ∙ loop .inv .1
+
 is-text-requires : tie.Need-is-text-requires Inv-loop μ-loop
 is-text-requires c κs = search needs
 
@@ -30,51 +48,95 @@ returns c = rest-done (bad-plain (now (c .before .before .before .before .args .
 loop-holds : tie.Need-loop-holds Inv-loop μ-loop
 loop-holds c = (omega arith, sym (c .before .is-text .ensures) ∙ not-false _ (c .if1 .left), rest-all _ _)
 
+plain-end-requires : tie.Need-plain-end-requires Inv-loop μ-loop
+plain-end-requires c κs = c .loop .inv .0
+
+sub-put-text : tie.Need-sub-put-text Inv-loop μ-loop
+sub-put-text c = rest-in (c .before .loop .inv .2)
+
+part-put-text-start : tie.Need-part-put-text-start Inv-loop μ-loop
+part-put-text-start c = rest-in (c .before .loop .inv .2)
+
+part-put-text-end : tie.Need-part-put-text-end Inv-loop μ-loop
+part-put-text-end c = le-refl _
+
+sub-put-text-2 : tie.Need-sub-put-text-2 Inv-loop μ-loop
+sub-put-text-2 c = c .before .plain-end .ensures .0
+
+part-put-text-start-2 : tie.Need-part-put-text-start-2 Inv-loop μ-loop
+part-put-text-start-2 c = omega (arith, c .before .plain-end .ensures)
+
+part-put-text-end-2 : tie.Need-part-put-text-end-2 Inv-loop μ-loop
+part-put-text-end-2 c = omega (arith, c .before .plain-end .ensures)
+
+put-text-requires : tie.Need-put-text-requires Inv-loop μ-loop
+put-text-requires c κs = search needs
+
+enum-known-n : tie.Need-enum-known-n Inv-loop μ-loop
+enum-known-n c = c .match .keys1
+
+enum-told : tie.Need-enum-told Inv-loop μ-loop
+enum-told c = c .match .keys2
+
+same-length : tie.Need-same-length Inv-loop μ-loop
+same-length c = search needs
+
+returns-2 : tie.Need-returns-2 Inv-loop μ-loop
+returns-2 c =
+    let args = c .before .before .before .before .before .before .before .before .before .before .before .before .before .args in
+    let loop = c .before .before .before .before .before .before .before .before .loop in
+    let l = c .before .before .before .before .before .before .before .plain-end .ensures in
+    let todo = rest-as (plain-run (now (args .s)) (loop .i) _ (l .0) (l .1) (l .2) (loop .inv .1)) (loop .inv .2) in
+    rest-stop _ todo (c .before .before .before .before .put-text .ensures) (c .enum-told .given .1)
+
+add-at : tie.Need-add-at Inv-loop μ-loop
+add-at c = rest-fit (run c .left) (c .before .before .before .before .before .before .before .before .before .before .before .before .before .before .good .0 .0)
+
 next-char-requires : tie.Need-next-char-requires Inv-loop μ-loop
 next-char-requires c κs = search needs
 
 enum-known-c : tie.Need-enum-known-c Inv-loop μ-loop
 enum-known-c c = search needs
 
-same-length : tie.Need-same-length Inv-loop μ-loop
-same-length c = rest-same (c .before .before .before .before .before .loop .inv .2)
+same-length-2 : tie.Need-same-length-2 Inv-loop μ-loop
+same-length-2 c = rest-same (run (c .before .before .before .before .before) .left)
 
-returns-2 : tie.Need-returns-2 Inv-loop μ-loop
-returns-2 c = rest-no-byte (rest-as (byte-plain _ _ _ (c .before .before .before .before .next-char .ensures) _ _ (c .before .before .c .given .1) (c .before .before .before .before .before .loop .inv .1)) (c .before .before .before .before .before .loop .inv .2)) (c .if2 .taken)
+returns-3 : tie.Need-returns-3 Inv-loop μ-loop
+returns-3 c = rest-no-byte (rest-as (byte-plain _ _ _ (c .before .before .before .before .next-char .ensures) _ _ (c .before .before .c .given .1) (good-on (c .before .before .before .before .before))) (run (c .before .before .before .before .before) .left)) (c .if2 .taken)
 
 slice-write-out : tie.Need-slice-write-out Inv-loop μ-loop
 slice-write-out c = search needs
 
-add-at : tie.Need-add-at Inv-loop μ-loop
-add-at c = search needs
+add-at-2 : tie.Need-add-at-2 Inv-loop μ-loop
+add-at-2 c = search needs
 
 loop-less : tie.Need-loop-less Inv-loop μ-loop
-loop-less c = omega (arith, onward _ _ _ (c .before .before .before .before .next-char .ensures) _ _ (c .before .before .c .given .1))
+loop-less c = omega (arith, c .before .before .before .before .before .before .before .before .before .before .before .before .before .plain-end .ensures .0, onward _ _ _ (c .before .before .before .before .next-char .ensures) _ _ (c .before .before .c .given .1))
 
 loop-again : tie.Need-loop-again Inv-loop μ-loop
 loop-again c = (
   onward _ _ _ (c .before .before .before .before .next-char .ensures) _ _ (c .before .before .c .given .1) .1,
-  sym (byte-good _ _ _ (c .before .before .before .before .next-char .ensures) _ _ (c .before .before .c .given .1)) ∙ (c .before .before .before .before .before .loop .inv .1),
-  rest-byte (rest-as (byte-plain _ _ _ (c .before .before .before .before .next-char .ensures) _ _ (c .before .before .c .given .1) (c .before .before .before .before .before .loop .inv .1)) (c .before .before .before .before .before .loop .inv .2)) (c .if2 .left),
+  sym (byte-good _ _ _ (c .before .before .before .before .next-char .ensures) _ _ (c .before .before .c .given .1)) ∙ (good-on (c .before .before .before .before .before)),
+  rest-byte (rest-as (byte-plain _ _ _ (c .before .before .before .before .next-char .ensures) _ _ (c .before .before .c .given .1) (good-on (c .before .before .before .before .before))) (run (c .before .before .before .before .before) .left)) (c .if2 .left),
 )
-
-enum-told : tie.Need-enum-told Inv-loop μ-loop
-enum-told c = search needs
-
-same-length-2 : tie.Need-same-length-2 Inv-loop μ-loop
-same-length-2 c = rest-same (c .before .before .before .loop .inv .2)
-
-returns-3 : tie.Need-returns-3 Inv-loop μ-loop
-returns-3 c = absurd (let z : _≡_ false true = sym (bad-good _ _ _ (c .before .before .next-char .ensures) (c .enum-told .given .1)) ∙ (c .before .before .before .loop .inv .1) in let y : _≡_ {A = ℕ} 0 1 = cc in omega arith)
 
 enum-told-2 : tie.Need-enum-told-2 Inv-loop μ-loop
 enum-told-2 c = search needs
 
 same-length-3 : tie.Need-same-length-3 Inv-loop μ-loop
-same-length-3 c = rest-same (c .before .before .before .loop .inv .2)
+same-length-3 c = rest-same (run (c .before .before .before) .left)
 
 returns-4 : tie.Need-returns-4 Inv-loop μ-loop
-returns-4 c = rest-done (end-plain _ _ _ (c .before .before .next-char .ensures) (c .enum-told2 .given .1)) (c .before .before .before .loop .inv .2)
+returns-4 c = absurd (let z : _≡_ false true = sym (bad-good _ _ _ (c .before .before .next-char .ensures) (c .enum-told2 .given .1)) ∙ good-on (c .before .before .before) in let y : _≡_ {A = ℕ} 0 1 = cc in omega arith)
+
+enum-told-3 : tie.Need-enum-told-3 Inv-loop μ-loop
+enum-told-3 c = search needs
+
+same-length-4 : tie.Need-same-length-4 Inv-loop μ-loop
+same-length-4 c = rest-same (run (c .before .before .before) .left)
+
+returns-5 : tie.Need-returns-5 Inv-loop μ-loop
+returns-5 c = rest-done (end-plain _ _ _ (c .before .before .next-char .ensures) (c .enum-told3 .given .1)) (run (c .before .before .before) .left)
 
 pub read-text-spec : {M : Type 1} → statement M
 read-text-spec =
@@ -85,17 +147,30 @@ read-text-spec =
     is-text-requires
     returns
     loop-holds
-    next-char-requires
-    enum-known-c
+    plain-end-requires
+    sub-put-text
+    part-put-text-start
+    part-put-text-end
+    sub-put-text-2
+    part-put-text-start-2
+    part-put-text-end-2
+    put-text-requires
+    enum-known-n
+    enum-told
     same-length
     returns-2
-    slice-write-out
     add-at
-    loop-less
-    loop-again
-    enum-told
+    next-char-requires
+    enum-known-c
     same-length-2
     returns-3
+    slice-write-out
+    add-at-2
+    loop-less
+    loop-again
     enum-told-2
     same-length-3
-    returns-4)
+    returns-4
+    enum-told-3
+    same-length-4
+    returns-5)

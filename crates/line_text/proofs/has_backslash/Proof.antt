@@ -1,0 +1,52 @@
+use Prim.Native.Nat.{_+_, _-_, _≤_}
+use native.Mathlib.Omega.{arith}
+use native.Mathlib.Nat.{add-zero}
+use mathlib.Core.Path.{_≡_, subst}
+use mathlib.Core.Bool.{false}
+use borrow.Author.Needs.{needs}
+use denote.Ref.{now}
+use Rattle.line_text.specs.Read.{Plain}
+use Rattle.line_text.proofs.Plain.{plain-none, plain-more}
+use Rattle.line_text.proofs.has_backslash.Statement.{statement}
+use Rattle.line_text.proofs.has_backslash.Tie as tie
+
+abbrev Inv-loop : tie.InvT-loop
+Inv-loop s at found₀ k₀ found k = (k ≤ 16) × (found ≡ false → Plain s at (at + k))
+
+abbrev μ-loop : tie.MeasureT-loop
+μ-loop s at found₀ k₀ found k = 16 - k
+
+loop-holds : tie.Need-loop-holds Inv-loop μ-loop
+loop-holds c = (search needs, λ e. rw (add-zero (c .args .at)) (plain-none (now (c .args .s)) (c .args .at)))
+
+add-found : tie.Need-add-found Inv-loop μ-loop
+add-found c = search needs
+
+shared-slice-read-found : tie.Need-shared-slice-read-found Inv-loop μ-loop
+shared-slice-read-found c = search needs
+
+add-k : tie.Need-add-k Inv-loop μ-loop
+add-k c = search needs
+
+loop-less : tie.Need-loop-less Inv-loop μ-loop
+loop-less c = search needs
+
+loop-again : tie.Need-loop-again Inv-loop μ-loop
+loop-again c = (search needs, plain-more (now (c .before .before .before .args .s)) (c .before .before .before .args .at) (c .before .before .loop .k) (c .before .before .loop .found) (c .before .before .loop .inv .1))
+
+returns : tie.Need-returns Inv-loop μ-loop
+returns c = λ e. let n : (c .before .loop .k) ≡ 16 = omega arith in subst (λ m. Plain (now (c .before .before .args .s)) (c .before .before .args .at) (c .before .before .args .at + m)) n (c .before .loop .inv .1 e)
+
+pub has-backslash-spec : {M : Type 1} → statement M
+has-backslash-spec =
+    tie.close
+    (tie.spec
+    Inv-loop
+    μ-loop
+    loop-holds
+    add-found
+    shared-slice-read-found
+    add-k
+    loop-less
+    loop-again
+    returns)
