@@ -14,7 +14,7 @@ ghost use Rattle.text.specs.Reader.{taken};
 ghost use Rattle.output.specs.Put.{Puts};
 ghost use Rattle.text.specs.Decimal.{decimal};
 ghost use Rattle.json.specs.Compact.{hexDigit, spelled, spelledAll, quoted};
-ghost use Rattle.json_write.specs.Pieces.{coded, bare};
+ghost use Rattle.json_write.specs.Pieces.{coded, bare, runAt};
 ghost use Rattle.json_strings.specs.Spelled.{textAt};
 
 fn hex_digit(d: u8) -> u8
@@ -187,6 +187,16 @@ pub fn put_number(out: &mut [u8], n: usize) -> Wrote
     Wrote::Bytes(ab)
 }
 
+// The bytes from a place on that stand for themselves, both where they are read and where they are written. None where bytes are held, which come first.
+fn put_run(out: &mut [u8], s: &[u8], at: usize, hold: u32) -> Wrote
+    ensures { λ r. ⌜ Puts (now (out .entry)) (runAt (now (s .entry)) at hold) r (now (out .exit)) ⌝ }
+{
+    if hold != 0 {
+        return Wrote::Bytes(0);
+    }
+    put_bare(out, s, at)
+}
+
 // The string from a place on (after its first quote), without its quotes and spelled anew. Nothing is written where it stands for nothing, as
 // in `json_strings`.
 pub fn put_respelled(out: &mut [u8], s: &[u8], from: usize) -> Wrote
@@ -199,6 +209,11 @@ pub fn put_respelled(out: &mut [u8], s: &[u8], from: usize) -> Wrote
     let mut i = from;
     let mut h = 0;
     loop {
+        let Wrote::Bytes(m) = put_run(&mut out[at..], s, i, h) else {
+            return Wrote::Full;
+        };
+        at += m;
+        i += m;
         match next_byte(s, i, h) {
             Byte::Alone => {
                 return Wrote::Bytes(at);

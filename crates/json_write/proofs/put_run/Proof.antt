@@ -1,0 +1,27 @@
+use mathlib.Core.Path.{sym}
+use borrow.Author.Needs.{needs}
+use borrow.Author.Tests.{eq-eqb, ne-eqb}
+use denote.Ref.{now}
+use Rattle.output.proofs.Laws.{start, done, puts-as}
+use Rattle.json_write.proofs.Runs.{run-none, run-bare}
+use Rattle.json_write.proofs.put_run.Statement.{statement}
+use Rattle.json_write.proofs.put_run.Tie as tie
+
+returns : tie.Need-returns
+returns c =
+    let args = c .before .before .before .args in
+    puts-as (sym (run-none (now (args .s)) (args .at) (args .hold) (ne-eqb _ _ (c .if1 .taken)))) (done (start _))
+
+put-bare-requires : tie.Need-put-bare-requires
+put-bare-requires c κs = search needs
+
+same-length : tie.Need-same-length
+same-length c = search needs
+
+returns-2 : tie.Need-returns-2
+returns-2 c =
+    let args = c .before .before .before .before .before .before .before .args in
+    puts-as (sym (run-bare (now (args .s)) (args .at) (args .hold) (eq-eqb _ _ (c .before .before .before .before .if1 .left)))) (c .before .before .put-bare .ensures)
+
+pub put-run-spec : {M : Type 1} → statement M
+put-run-spec = tie.close (tie.spec returns put-bare-requires same-length returns-2)
