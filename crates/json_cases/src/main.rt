@@ -2,6 +2,7 @@
 use json_read::Verdict;
 use json_read::read;
 use libc::STDOUT_FILENO;
+use named_file::read_named;
 
 fn tell(v: Verdict) {
     match v {
@@ -22,22 +23,14 @@ fn tell(v: Verdict) {
 // One text: the file that the argument k names.
 fn case(k: usize) {
     let mut path = io::buffer();
-    let length = os::arg(k, &mut path);
-    if os::errno() != 0 {
-        os::fail(b"argument");
-        return;
-    }
-    let fd = os::open_read(&path[..length]);
-    if fd < 0 {
-        os::fail(&path[..length]);
-        return;
-    }
-    io::write_all(STDOUT_FILENO, &path[..length]);
-    io::write_all(STDOUT_FILENO, b": ");
     let mut buf = [0u8; 65537];
-    let n = io::read_full(fd, &mut buf);
-    libc::close(fd);
-    tell(read(&buf[..n], 16));
+    let file = read_named(k, &mut path, &mut buf);
+    if !file.found {
+        return;
+    }
+    io::write_all(STDOUT_FILENO, &path[..file.path]);
+    io::write_all(STDOUT_FILENO, b": ");
+    tell(read(&buf[..file.text], 16));
 }
 
 fn main() {

@@ -15,6 +15,7 @@ use json_write::put_member;
 use json_write::put_number;
 use json_write::put_string;
 use libc::STDOUT_FILENO;
+use named_file::read_named;
 use output::Wrote;
 use text::LEFT_BRACE;
 use text::LEFT_BRACKET;
@@ -242,22 +243,14 @@ fn tell(file: &[u8], s: &[u8]) {
 // One text: the file that the argument k names.
 fn case(k: usize) {
     let mut path = io::buffer();
-    let length = os::arg(k, &mut path);
-    if os::errno() != 0 {
-        os::fail(b"argument");
-        return;
-    }
-    let fd = os::open_read(&path[..length]);
-    if fd < 0 {
-        os::fail(&path[..length]);
-        return;
-    }
-    say(&path[..length]);
-    say(b"\n");
     let mut buf = [0u8; 65537];
-    let n = io::read_full(fd, &mut buf);
-    libc::close(fd);
-    tell(&path[..length], &buf[..n]);
+    let file = read_named(k, &mut path, &mut buf);
+    if !file.found {
+        return;
+    }
+    say(&path[..file.path]);
+    say(b"\n");
+    tell(&path[..file.path], &buf[..file.text]);
 }
 
 fn main() {

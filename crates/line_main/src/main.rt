@@ -5,6 +5,7 @@ use line_frame::Frame;
 use line_params::FirstValue;
 use line_scan::Parsed;
 use line_unfold::Unfolded;
+use named_file::read_named;
 use output::Wrote;
 
 fn say(text: &[u8]) {
@@ -160,22 +161,14 @@ fn card(s: &[u8]) {
 
 fn read(k: usize) {
     let mut path = io::buffer();
-    let length = os::arg(k, &mut path);
-    if os::errno() != 0 {
-        os::fail(b"argument");
-        return;
-    }
-    let fd = os::open_read(&path[..length]);
-    if fd < 0 {
-        os::fail(&path[..length]);
-        return;
-    }
-    say(&path[..length]);
-    say(b": ");
     let mut buf = [0u8; 32769];
-    let n = io::read_full(fd, &mut buf);
-    libc::close(fd);
-    card(&buf[..n]);
+    let file = read_named(k, &mut path, &mut buf);
+    if !file.found {
+        return;
+    }
+    say(&path[..file.path]);
+    say(b": ");
+    card(&buf[..file.text]);
 }
 
 // Into a room of 11 bytes.
