@@ -1,13 +1,13 @@
 -- Runs without a backslash: found, and read as they stand.
 use mathlib.Core.Path.{_≡_, refl, sym, ap, subst, _∙_}
 use mathlib.Core.Bool.{Bool, true, false, _||_}
-use mathlib.Core.List.{_∷_, _++_}
+use mathlib.Core.List.{_∷_, _++_, append-nil}
 use Prim.Native.Nat.{ℕ, zero, suc, _+_, _-_, _≤_, _<_}
 use native.Mathlib.Omega.{arith}
 use native.Mathlib.Numerals.{add-one}
 use native.Mathlib.Nat.{add-zero}
-use lib.ListN.{length, take, drop, getD}
-use lib.Seq.{drop-cons}
+use lib.ListN.{length, take, drop, getD, length-drop}
+use lib.Seq.{drop-cons, take-all}
 use lib.Dec.{eqb}
 use borrow.Author.Tests.{eqb-false}
 use Rattle.text.specs.Choice.{is-some}
@@ -15,8 +15,9 @@ use Rattle.text.specs.Bytes.{Bytes}
 use Rattle.text.proofs.Cases.{or-left, or-right}
 use Rattle.output.proofs.Laws.{split}
 use Rattle.line.specs.Text.{readText}
+use Rattle.line_text.specs.declared.Char.the-variants.{End}
 use Rattle.line_text.specs.Read.{Plain, plainText}
-use Rattle.line_text.proofs.Reading.{at-plain, byte-good, byte-plain}
+use Rattle.line_text.proofs.Reading.{at-end, at-plain, end-good, end-plain, byte-good, byte-plain}
 
 -- ---- found
 
@@ -94,3 +95,18 @@ module _ (s : Bytes) where
 
     pub plain-run : is-some (readText (drop a s)) ≡ true → plainText (drop a s) ≡ take (b - a) (drop a s) ++ plainText (drop b s)
     plain-run g = run-plain (b - a) a in-text all-plain g ∙ ap (λ (k : ℕ). take (b - a) (drop a s) ++ plainText (drop k s)) to-end
+
+  -- no backslash at all
+  pub plain-whole : (b : ℕ) → b ≤ length s → length s ≤ b → Plain s 0 b → s ≡ plainText s
+  plain-whole b h l p =
+      let z : 0 ≤ b = omega arith in
+      let g = plain-good 0 b z h p ∙ end-good s b End (at-end s b l) refl in
+      let e = plain-run 0 b z h p g ∙ ap (λ (t : Bytes). take (b - 0) s ++ t) (end-plain s b End (at-end s b l) refl) in
+      sym (e ∙ append-nil (take (b - 0) s) ∙ take-all (b - 0) s (omega arith))
+
+  -- whether it is TEXT is told by what follows
+  pub plain-tail : (b : ℕ) → b ≤ length s → Plain s 0 b → is-some (readText s) ≡ is-some (readText (take (length s - b) (drop b s)))
+  plain-tail b h p =
+      let z : 0 ≤ b = omega arith in
+      let e = take-all (length s - b) (drop b s) (omega (arith, length-drop b s)) in
+      plain-good 0 b z h p ∙ ap (λ (t : Bytes). is-some (readText t)) (sym e)

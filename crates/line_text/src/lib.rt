@@ -140,7 +140,12 @@ pub fn is_text(s: &[u8]) -> bool
 pub fn read_text(out: &mut [u8], s: &[u8]) -> Wrote
     ensures { λ r. ⌜ Puts (now (out .entry)) (plainText (now (s .entry))) r (now (out .exit)) ⌝ }
 {
-    if !is_text(s) {
+    // What stands before the first escape is looked through once; most values have none.
+    let plain = plain_end(s, 0);
+    if plain >= s.len() {
+        return put_text(out, s);
+    }
+    if !is_text(&s[plain..]) {
         return Wrote::Bytes(0);
     }
     let mut at = 0;
