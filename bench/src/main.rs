@@ -1,6 +1,7 @@
 //! The proved library beside the baseline, in one run. Run it by `tools/bench`:
-//! words choose what is done, `times`, `stack`, `plot FILE`, `pieces`.
+//! words choose what is done, `times`, `stack`, `growth`, `plot FILE`, `pieces`.
 
+mod growth;
 mod measure;
 #[cfg(feature = "pieces")]
 mod pieces;
@@ -17,6 +18,7 @@ fn main() -> ExitCode {
     match &words[..] {
         ["times"] => times::print(),
         ["stack"] => stack::print(),
+        ["growth"] => growth::print(),
         #[cfg(feature = "pieces")]
         ["pieces"] => pieces::print(),
         ["plot", file] => {
@@ -26,7 +28,7 @@ fn main() -> ExitCode {
             }
         }
         _ => {
-            eprintln!("usage: thymebarrel-bench times | stack | plot FILE | pieces");
+            eprintln!("usage: thymebarrel-bench times | stack | growth | plot FILE | pieces");
             return ExitCode::from(2);
         }
     }
