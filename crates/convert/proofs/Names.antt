@@ -11,7 +11,8 @@ use Rattle.text.proofs.Lists.{all-head, all-tail, all-both, any-not, keep-all, 
 use Rattle.line.specs.Text.{readText, splitText, splitFrom, textFrom, writeText}
 use Rattle.line.proofs.Texts.{AllSealed, read-written, split-written, split-joined, sealed-joined, all-sealed}
 use Rattle.convert.specs.Model.{hasParts, part}
-use Rattle.convert.specs.Value.{filled, partValues, without, ownParts, readName, writtenParts, writeName}
+use Rattle.convert.specs.Table.{nameRow}
+use Rattle.convert.specs.Value.{filled, partValues, without, ownParts, readName, readParts, writtenParts, writeName, writeParts}
 use Rattle.convert.specs.Carry.{apart}
 
 -- ---- one part
@@ -82,15 +83,15 @@ module _ (a b c d e f g : List Bytes) where
   abbrev seven : List (List Bytes)
   seven = a ∷ b ∷ c ∷ d ∷ e ∷ f ∷ g ∷ []
 
-  still-parts : hasParts seven ≡ true → any full (writtenParts seven) ≡ true
+  still-parts : hasParts seven ≡ true → any full (writtenParts nameRow seven) ≡ true
   unfolding hasParts writtenParts any
   still-parts h = rw (full-append a f, full-append e g) (more-parts (full a) (full b) (full c) (full d) (full e) (full f) (full g) h)
 
-  own-seven : apart a f ≡ true → apart e g ≡ true → ownParts (writtenParts seven) ≡ seven
+  own-seven : apart a f ≡ true → apart e g ≡ true → ownParts nameRow (writtenParts nameRow seven) ≡ seven
   unfolding ownParts writtenParts
   own-seven h k = rw (own a f h, own e g k)
 
-  written-filled : all (all filled) seven ≡ true → all (all filled) (writtenParts seven) ≡ true
+  written-filled : all (all filled) seven ≡ true → all (all filled) (writtenParts nameRow seven) ≡ true
   unfolding writtenParts all
   written-filled h =
       let b′ = and-right (all filled a) _ h in
@@ -105,15 +106,15 @@ module _ (a b c d e f g : List Bytes) where
       let fg : all filled g ≡ true = and-left _ _ g′ in
       rw (all-both filled a f fa ff, all-both filled e g fe fg, and-left (all filled b) _ b′, and-left (all filled c) _ c′, and-left (all filled d) _ d′, ff, fg)
 
-  split-seven : splitText 59 (writeName seven) ≡ map writePart (writtenParts seven)
-  unfolding writeName writtenParts
-  split-seven = split-joined 59 (writePart (a ++ f)) _ refl (sealed-parts (writtenParts seven))
+  split-seven : splitText 59 (writeName seven) ≡ map writePart (writtenParts nameRow seven)
+  unfolding writeParts writtenParts
+  split-seven = split-joined 59 (writePart (a ++ f)) _ refl (sealed-parts (writtenParts nameRow seven))
 
   -- what is written is read part by part
-  pub read-parts : all (all filled) seven ≡ true → each partValues (splitText 59 (writeName seven)) ≡ some (writtenParts seven)
-  read-parts h = rw split-seven (each-part (writtenParts seven) (written-filled h))
+  pub read-parts : all (all filled) seven ≡ true → each partValues (splitText 59 (writeName seven)) ≡ some (writtenParts nameRow seven)
+  read-parts h = rw split-seven (each-part (writtenParts nameRow seven) (written-filled h))
 
   -- no empty value, no value in both of two parts that are written together, and some value
   pub read-name : all (all filled) seven ≡ true → apart a f ≡ true → apart e g ≡ true → hasParts seven ≡ true → readName (writeName seven) ≡ some seven
-  unfolding readName writtenParts
-  read-name h p q n = rw (split-seven, each-part (writtenParts seven) (written-filled h), still-parts n, own-seven p q) refl
+  unfolding readParts writtenParts
+  read-name h p q n = rw (split-seven, each-part (writtenParts nameRow seven) (written-filled h), still-parts n, own-seven p q) refl
