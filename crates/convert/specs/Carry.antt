@@ -4,7 +4,7 @@ use mathlib.Core.List.{List, [], _∷_}
 use Prim.Native.Nat.{ℕ, suc}
 use Prim.Native.Char.{code}
 use Rattle.text.specs.Choice.{with-some}
-use Rattle.text.specs.Bytes.{Bytes, any, all, among, is}
+use Rattle.text.specs.Bytes.{Bytes, any, all, among, is, flat}
 use Rattle.json.specs.Tree.{nameOf}
 use Rattle.line.specs.Class.{isControl}
 use Rattle.line.specs.Grammar.{paramValues}
@@ -33,7 +33,7 @@ carriedAs organization vs = all carriedText vs
 unfoldable pub carriedMaps : List Map → List (List Entry) → Bool
 carriedMaps [] ess = true
 carriedMaps (m ∷ ms) [] = true
-carriedMaps (m ∷ ms) (es ∷ ess) = all (λ (e : Entry). carriedAs (m .form) (e .texts)) es && carriedMaps ms ess
+carriedMaps (m ∷ ms) (es ∷ ess) = all (λ (e : Entry). carriedAs (m .form) (flat (e .parts))) es && carriedMaps ms ess
 
 unfoldable pub carriedKept : Kept → Bool
 carriedKept k = all (λ p. all carriedParam (paramValues p)) (k .params) && carriedRaw (k .value)

@@ -11,7 +11,7 @@ use Rattle.json.specs.Tree.{Json, jnull, jtrue, jfalse, jnum, jstr, jarr, jobj,
 use Rattle.line.specs.Class.{isLowerName}
 use Rattle.line.specs.Grammar.{Param, param, paramName, Line, fits}
 use Rattle.convert.specs.Table.{Form, text, single, uri, phone, organization, Map, maps, TypeName, typeNames, jsonType, inOrder, Part, nameRow, kindsOf, position, reserved}
-use Rattle.convert.specs.Model.{Entry, Kept, Card, hasParts, noParts}
+use Rattle.convert.specs.Model.{Entry, Kept, Card, hasParts, noParts, singly}
 use Rattle.convert.specs.Value.{filled, isKeyText, isPref}
 use Rattle.convert.specs.Classify.{Class, as-version, as-uid, as-kind, as-dropped, as-full, as-parts, as-entry, as-member, as-kept, Id, id, Seen, classify}
 
@@ -152,7 +152,7 @@ entryFrom m (member k j) =
     chain (optional (ascii "contexts") [] (flagsFrom 0 (take 2 typeNames)) ms) λ xs.
     chain (optional (ascii "features") [] (flagsFrom 2 (drop 2 typeNames)) ms) λ fs.
     chain (optional (ascii "pref") [] (λ v. chain (asNumber v) λ p. provided (isPref p) (some p)) ms) λ p.
-    some (record { key = k; which = w; texts = vs; types = inOrder (xs ++ fs); pref = p }))
+    some (record { key = k; which = w; parts = singly vs; types = inOrder (xs ++ fs); pref = p }))
 
 unfoldable pub mapFrom : List Member → Map → Option (List Entry)
 mapFrom ms m = optional (m .member) [] (λ j. chain (asObject j) (each (entryFrom m))) ms

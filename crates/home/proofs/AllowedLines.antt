@@ -127,7 +127,7 @@ module _ (l : Line) (w : Slot) (e : Entry) (c : CleanLine l) (o : slotOf (lowere
   proper : (k : Bytes) → isKeyText k ≡ true → Proper (w .map) (rekeyed k e)
   proper k v =
       let d = entry-drawn nothing w l e c (slot-row (lowered (l .name)) w o .1) h .0 in
-      record { key = v; texts = d .texts .form; codes = d .codes; order = d .order; row = t; pref = d .pref }
+      record { key = v; texts = d .texts .form; one-each = d .one-each; codes = d .codes; order = d .order; row = t; pref = d .pref }
 
   entry-back : (k : Bytes) → isKeyText k ≡ true → entryOf nothing w (entryForm (w .map) k l) ≡ some (rekeyed k e)
   unfolding any
@@ -154,7 +154,7 @@ module _ (l : Line) (w : Slot) (e : Entry) (c : CleanLine l) (o : slotOf (lowere
         given = byBool (empty (e .key)) (λ t. inl (came .ids ∙ rw t)) (λ t. inr (came .ids ∙ rw t (ap (λ (x : Bytes). x ∷ []) (i ∙ sym (q (ap (λ (x : Bytes). empty x) (sym i) ∙ t))))));
         pref = home .prefs ∙ sym (came .prefs);
         types = λ t. home .types t ∙ sym (came .types t);
-        strings = e .texts;
+        strings = flat (e .parts);
         said = (came .said, home .said);
       })
 
