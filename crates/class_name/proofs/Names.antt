@@ -14,7 +14,8 @@ use Rattle.line.specs.Text.{readText, splitText}
 use Rattle.line_parts.specs.Parts.{otherThan}
 use Rattle.line_parts.proofs.Escapes.{each-some, split-reads, split-each}
 use Rattle.line_parts.proofs.Filled.{any-each, read-empty, filled-values}
-use Rattle.convert.specs.Value.{filled, partValues, ownParts, readName}
+use Rattle.convert.specs.Table.{nameRow}
+use Rattle.convert.specs.Value.{filled, partValues, ownParts, readName, readParts}
 
 map-some : {A B : Type 0} (f : A → B) (o : Option A) → is-some (Option·map f o) ≡ is-some o
 map-some f none = refl
@@ -47,7 +48,7 @@ part-filled x vs e =
     ap (λ l. not (empty l)) (sym b) ∙ keep-some filled us ∙ any-each readText filled filled (λ y u r. ap not (read-empty y u r)) (splitText 44 x) us a
 
 some-filled : (o : Option (List (List Bytes))) (b : Bool) → ((ps : List (List Bytes)) → o ≡ some ps → any (λ vs. not (empty vs)) ps ≡ b)
-    → is-some (chain o (λ ps. provided (any (λ vs. not (empty vs)) ps) (some (ownParts ps)))) ≡ b && is-some o
+    → is-some (chain o (λ ps. provided (any (λ vs. not (empty vs)) ps) (some (ownParts nameRow ps)))) ≡ b && is-some o
 some-filled none true h = refl
 some-filled none false h = refl
 some-filled (some ps) true h = rw (h ps refl)
@@ -58,9 +59,9 @@ some-provided true o = refl
 some-provided false o = refl
 
 name-reads : (v : Bytes) → is-some (readName v) ≡ leb (length (splitText 59 v)) 7 && (any (otherThan 59 44) v && is-some (readText v))
-unfolding readName
+unfolding readParts
 name-reads v =
-    some-provided (leb (length (splitText 59 v)) 7) (chain (each partValues (splitText 59 v)) (λ ps. provided (any (λ vs. not (empty vs)) ps) (some (ownParts ps))))
+    some-provided (leb (length (splitText 59 v)) 7) (chain (each partValues (splitText 59 v)) (λ ps. provided (any (λ vs. not (empty vs)) ps) (some (ownParts nameRow ps))))
     ∙ ap (λ b. leb (length (splitText 59 v)) 7 && b)
     (some-filled (each partValues (splitText 59 v)) (any (otherThan 59 44) v)
     (λ ps e. any-each partValues (λ x. any filled (splitText 44 x)) (λ vs. not (empty vs)) part-filled (splitText 59 v) ps e ∙ filled-values v)

@@ -9,13 +9,13 @@ use borrow.Author.Tests.{eqb-true, ltb-true}
 use native.Mathlib.Omega.{arith}
 use Rattle.text.proofs.Lists.{all-head}
 use Rattle.text.specs.Choice.{pick}
-use Rattle.text.specs.Bytes.{Bytes, ascii, any, all, empty, same, among, lower, lowered, between}
+use Rattle.text.specs.Bytes.{Bytes, ascii, any, all, empty, same, among, lower, lowered, between, flat}
 use Rattle.text.proofs.Cases.{byBool, and-left, and-right, not-both}
 use Rattle.line.specs.Grammar.{Param, param}
 use Rattle.line.specs.Params.{valuesNamed, lacking, onlyNamed, valueType, besidesValue}
 use Rattle.line.proofs.Named.{valuesNamed-append, lacking-append, onlyNamed-append, valuesNamed-one, valuesNamed-other, lacking-one, lacking-other, onlyNamed-one, valuesNamed-none, lacking-none, onlyNamed-none}
 use Rattle.convert.specs.Table.{Map, Slot, inOrder}
-use Rattle.convert.specs.Model.{Entry}
+use Rattle.convert.specs.Model.{Entry, singly}
 use Rattle.convert.specs.Value.{isKeyText, isPref, writeAs, writtenType}
 use Rattle.convert.specs.Classify.{isId, Seen, prefFrom, entryOf}
 use Rattle.convert.specs.Property.{paramOf}
@@ -39,7 +39,8 @@ takes-types m h = and-right (among (ascii "prop-id") (m .parameters)) _ (and-rig
 -- an entry that a map can have
 pub record Proper (m : Map) (e : Entry) : Type 0 where
   pub key : isKeyText (e .key) ≡ true
-  pub texts : formed (m .form) (e .texts) ≡ true
+  pub texts : formed (m .form) (flat (e .parts)) ≡ true
+  pub one-each : singly (flat (e .parts)) ≡ e .parts
   pub codes : all (below (m .types)) (e .types) ≡ true
   pub order : inOrder (e .types) ≡ e .types
   pub row : coherent m ≡ true
@@ -145,7 +146,7 @@ unfolding prefValues
 pref-param [] = refl
 pref-param (c ∷ p) = refl
 
-pub entry-params : (m : Map) (e : Entry) → entryLine m e .params ≡ four (e .key ∷ []) (prefValues (e .pref)) (map typeText (e .types)) (writtenType (m .form) (e .texts))
+pub entry-params : (m : Map) (e : Entry) → entryLine m e .params ≡ four (e .key ∷ []) (prefValues (e .pref)) (map typeText (e .types)) (writtenType (m .form) (flat (e .parts)))
 unfolding entryLine
 entry-params m e = rw (pref-param (e .pref))
 
@@ -167,12 +168,12 @@ types-listed n false [] q h = refl
 types-listed n false (t ∷ ts) q h =
     byBool (eqb n 0) (λ z. let l = ltb-true t n (all-head (below n) t ts h) in let e = eqb-true n 0 z in absurd (omega arith)) (λ z. not-both (rw z at q) refl)
 
-entry-type : (m : Map) (e : Entry) → valueType (entryLine m e .params) ≡ typeOf (m .form) (e .texts)
+entry-type : (m : Map) (e : Entry) → valueType (entryLine m e .params) ≡ typeOf (m .form) (flat (e .parts))
 unfolding valueType
 entry-type m e =
-    rw (entry-params m e, the-value (e .key ∷ []) (prefValues (e .pref)) (map typeText (e .types)) (writtenType (m .form) (e .texts))) (type-lowered (m .form) (e .texts))
+    rw (entry-params m e, the-value (e .key ∷ []) (prefValues (e .pref)) (map typeText (e .types)) (writtenType (m .form) (flat (e .parts)))) (type-lowered (m .form) (flat (e .parts)))
 
-entry-value : (m : Map) (e : Entry) → entryLine m e .value ≡ writeAs (m .form) (e .texts)
+entry-value : (m : Map) (e : Entry) → entryLine m e .value ≡ writeAs (m .form) (flat (e .parts))
 unfolding entryLine
 entry-value m e = refl
 
@@ -188,7 +189,7 @@ entry-read s w e g q n =
     let ks : List Bytes = e .key ∷ [] in
     let ps : List Bytes = prefValues (e .pref) in
     let ts : List Bytes = map typeText (e .types) in
-    let vs : List Bytes = writtenType (m .form) (e .texts) in
+    let vs : List Bytes = writtenType (m .form) (flat (e .parts)) in
     let b : besidesValue (entryLine m e .params) ≡ three ks ps ts vs = ap besidesValue (entry-params m e) ∙ besides ks ps ts vs in
     rw (
       entry-group m e,
@@ -196,7 +197,7 @@ entry-read s w e g q n =
       entry-type m e,
       only-three ks ps ts vs (m .parameters) (takes-key m (g .row)) (pref-listed (among (ascii "pref") (m .parameters)) (e .pref) (g .pref))
           (types-listed (m .types) (among (ascii "type") (m .parameters)) (e .types) (takes-types m (g .row)) (g .codes)),
-      takes-written (m .form) (e .texts),
+      takes-written (m .form) (flat (e .parts)),
       the-key ks ps ts vs,
       the-pref ks ps ts vs,
       the-types ks ps ts vs,
@@ -205,6 +206,7 @@ entry-read s w e g q n =
       read-pref (e .pref) (among (ascii "pref") (m .parameters)) (g .pref),
       types-read (m .types) (e .types) (few-types m (g .row)) (g .codes) (g .order),
       entry-value m e,
-      read-form (m .form) (e .texts) (g .texts),
+      read-form (m .form) (flat (e .parts)) (g .texts),
+      g .one-each,
       q,
     )

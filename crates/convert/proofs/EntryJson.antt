@@ -9,7 +9,7 @@ use borrow.Author.Tests.{eqb-true, leb-true, ltb-true, ne-eqb}
 use lib.ListN.{length, getD, take, drop}
 use lib.Dec.{eqb, ltb, leb}
 use Rattle.text.specs.Choice.{pick, provided, chain, with-some, is-some}
-use Rattle.text.specs.Bytes.{Bytes, ascii, any, all, empty, same, among, keep, each}
+use Rattle.text.specs.Bytes.{Bytes, ascii, any, all, empty, same, among, keep, each, flat}
 use Rattle.text.proofs.Cases.{byBool, and-left, and-right, not-both}
 use Rattle.text.proofs.Same.{same-true, same-self, same-swap}
 use Rattle.text.proofs.Lists.{all-none, keep-all, keep-none, each-map}
@@ -127,7 +127,7 @@ module _ (m : Map) (e : Entry) (r : Row m) (g : Proper m e) where
       (only-append ns (kindPart m e ++ contentPart m e ++ contextsPart m e) (featuresPart m e)
       (only-append ns (kindPart m e ++ contentPart m e) (contextsPart m e)
       (only-append ns (kindPart m e) (contentPart m e) (only-where ns (not (empty (m .kinds))) (ascii "kind") _ (known (empty (m .kinds)) _ (ascii "kind") ns (r .kind-known) (λ z. rw z)))
-      (content-only (m .form) (m .content) (e .texts) ns (r .content-known) (r .units-known)))
+      (content-only (m .form) (m .content) (flat (e .parts)) ns (r .content-known) (r .units-known)))
       (only-where ns _ (ascii "contexts") _ (known (eqb (m .types) 0) _ (ascii "contexts") ns (r .contexts-known) (λ z. no-codes isContext (m .types) (e .types) (g .codes) (no-code (m .types) z)))))
       (only-where ns _ (ascii "features") _ (known (leb (m .types) 2) _ (ascii "features") ns (r .features-known) (λ z. no-codes isFeature (m .types) (e .types) (g .codes) (small-code (m .types) z)))))
       (only-where ns (filled (e .pref)) (ascii "pref") _ (known (not (among (ascii "pref") (m .parameters))) _ (ascii "pref") ns (r .pref-known) (λ z. no-pref (among (ascii "pref") (m .parameters)) (e .pref) z (g .pref))))
@@ -157,11 +157,11 @@ module _ (m : Map) (e : Entry) (r : Row m) (g : Proper m e) where
       by [] b h = refl
       by (c ∷ p) b h = rw (and-right b _ h)
 
-  read-content : contentFrom (m .form) (m .content) (whole m e) ≡ some (e .texts)
+  read-content : contentFrom (m .form) (m .content) (whole m e) ≡ some (flat (e .parts))
   unfolding same
   read-content =
       let a = content-apart m e r in
-      content-back (m .form) (m .content) (e .texts) (whole m e) (g .texts) (r .name) (a .1)
+      content-back (m .form) (m .content) (flat (e .parts)) (whole m e) (g .texts) (r .name) (a .1)
       (look-content m e (m .content) (same-swap (ascii "kind") (m .content) ∙ a .0) (same-swap (ascii "contexts") (m .content) ∙ a .2) (same-swap (ascii "features") (m .content) ∙ a .3) (same-swap (ascii "pref") (m .content) ∙ a .4))
       (look-content m e (ascii "units") refl refl refl refl)
 
@@ -170,4 +170,4 @@ module _ (m : Map) (e : Entry) (r : Row m) (g : Proper m e) where
   unfolding entryFrom
   entry-json k =
       ap (entryFrom m) (whole-json m e)
-      ∙ rw (g .key, members-listed (whole m e), only-known, read-kind (e .which) k, read-content, read-contexts, read-features, read-pref, kinds-order (e .types), g .order)
+      ∙ rw (g .key, members-listed (whole m e), only-known, read-kind (e .which) k, read-content, g .one-each, read-contexts, read-features, read-pref, kinds-order (e .types), g .order)

@@ -6,7 +6,7 @@ use mathlib.Core.Option.{Option, none, some}
 use lib.ListN.{getD}
 use lib.Dec.{eqb, leb}
 use Rattle.text.specs.Choice.{pick}
-use Rattle.text.specs.Bytes.{Bytes, ascii, any, all, empty, same, among, keep, each}
+use Rattle.text.specs.Bytes.{Bytes, ascii, any, all, empty, same, among, keep, each, flat}
 use Rattle.text.proofs.Cases.{or-left, or-right}
 use Rattle.text.proofs.Same.{same-self}
 use Rattle.text.proofs.Lists.{all-append}
@@ -80,7 +80,7 @@ module _ (m : Map) (e : Entry) where
   kindPart = where′ (not (empty (m .kinds))) (member (ascii "kind") (jstr (getD (m .kinds) (e .which) [])))
 
   abbrev pub contentPart : List Member
-  contentPart = contentJson (m .form) (m .content) (e .texts)
+  contentPart = contentJson (m .form) (m .content) (flat (e .parts))
 
   abbrev pub contextsPart : List Member
   contextsPart = where′ (not (empty (keep isContext (e .types)))) (member (ascii "contexts") (object (map flagJson (keep isContext (e .types)))))
@@ -126,7 +126,7 @@ module _ (m : Map) (e : Entry) where
         look (ascii "kind")
         ∙ rw (
           where-same (ascii "kind") (not (empty (m .kinds))) (jstr (getD (m .kinds) (e .which) [])),
-          content-other (m .form) (m .content) (ascii "kind") (e .texts) (content-apart .0) refl,
+          content-other (m .form) (m .content) (ascii "kind") (flat (e .parts)) (content-apart .0) refl,
           where-other (ascii "kind") (ascii "contexts") (not (empty (keep isContext (e .types)))) (object (map flagJson (keep isContext (e .types)))) refl,
           where-other (ascii "kind") (ascii "features") (not (empty (keep isFeature (e .types)))) (object (map flagJson (keep isFeature (e .types)))) refl,
           where-other (ascii "kind") (ascii "pref") (filled (e .pref)) (jnum (e .pref)) refl,
@@ -138,7 +138,7 @@ module _ (m : Map) (e : Entry) where
         look (ascii "contexts")
         ∙ rw (
           where-other (ascii "contexts") (ascii "kind") (not (empty (m .kinds))) (jstr (getD (m .kinds) (e .which) [])) refl,
-          content-other (m .form) (m .content) (ascii "contexts") (e .texts) (content-apart .2) refl,
+          content-other (m .form) (m .content) (ascii "contexts") (flat (e .parts)) (content-apart .2) refl,
           where-same (ascii "contexts") (not (empty (keep isContext (e .types)))) (object (map flagJson (keep isContext (e .types)))),
           where-other (ascii "contexts") (ascii "features") (not (empty (keep isFeature (e .types)))) (object (map flagJson (keep isFeature (e .types)))) refl,
           where-other (ascii "contexts") (ascii "pref") (filled (e .pref)) (jnum (e .pref)) refl,
@@ -150,7 +150,7 @@ module _ (m : Map) (e : Entry) where
         look (ascii "features")
         ∙ rw (
           where-other (ascii "features") (ascii "kind") (not (empty (m .kinds))) (jstr (getD (m .kinds) (e .which) [])) refl,
-          content-other (m .form) (m .content) (ascii "features") (e .texts) (content-apart .3) refl,
+          content-other (m .form) (m .content) (ascii "features") (flat (e .parts)) (content-apart .3) refl,
           where-other (ascii "features") (ascii "contexts") (not (empty (keep isContext (e .types)))) (object (map flagJson (keep isContext (e .types)))) refl,
           where-same (ascii "features") (not (empty (keep isFeature (e .types)))) (object (map flagJson (keep isFeature (e .types)))),
           where-other (ascii "features") (ascii "pref") (filled (e .pref)) (jnum (e .pref)) refl,
@@ -162,7 +162,7 @@ module _ (m : Map) (e : Entry) where
         look (ascii "pref")
         ∙ rw (
           where-other (ascii "pref") (ascii "kind") (not (empty (m .kinds))) (jstr (getD (m .kinds) (e .which) [])) refl,
-          content-other (m .form) (m .content) (ascii "pref") (e .texts) (content-apart .4) refl,
+          content-other (m .form) (m .content) (ascii "pref") (flat (e .parts)) (content-apart .4) refl,
           where-other (ascii "pref") (ascii "contexts") (not (empty (keep isContext (e .types)))) (object (map flagJson (keep isContext (e .types)))) refl,
           where-other (ascii "pref") (ascii "features") (not (empty (keep isFeature (e .types)))) (object (map flagJson (keep isFeature (e .types)))) refl,
           where-same (ascii "pref") (filled (e .pref)) (jnum (e .pref)),

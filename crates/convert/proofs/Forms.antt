@@ -7,7 +7,7 @@ use native.Mathlib.Omega.{arith}
 use lib.ListN.{length}
 use lib.Dec.{eqb}
 use borrow.Author.Tests.{eqb-true}
-use Rattle.text.specs.Bytes.{Bytes, ascii, any, all, empty, same, among, begins, lowered, lower, between}
+use Rattle.text.specs.Bytes.{Bytes, ascii, any, all, empty, same, among, begins, lowered, lower, between, flat}
 use Rattle.text.proofs.Cases.{byBool, and-left, and-right, not-both}
 use Rattle.text.proofs.Lists.{keep-all}
 use Rattle.line.specs.Class.{isControl}
@@ -15,6 +15,7 @@ use Rattle.line.specs.Params.{firstOr}
 use Rattle.line.specs.Text.{writeText}
 use Rattle.line.proofs.Texts.{read-write, read-written, sealed-written, split-last, split-written}
 use Rattle.convert.specs.Table.{Form, text, single, uri, phone, organization}
+use Rattle.convert.specs.Model.{singly}
 use Rattle.convert.specs.Value.{filled, headOr, organized, readAs, takesType, isTelUri, writeAs, writtenType}
 
 -- ---- the strings that a form has: one, or a name and units of which no unit is empty and something is left
@@ -25,6 +26,12 @@ formed single vs = eqb (length vs) 1
 formed uri vs = eqb (length vs) 1
 formed phone vs = eqb (length vs) 1
 formed organization vs = any filled vs && all filled (tail vs)
+
+-- strings that are a part each are all that the parts have
+pub flat-singly : (vs : List Bytes) → flat (singly vs) ≡ vs
+unfolding flat
+flat-singly [] = refl
+flat-singly (v ∷ vs) = rw (flat-singly vs)
 
 -- VALUE as it is read of a written line
 abbrev pub typeOf : Form → List Bytes → Bytes

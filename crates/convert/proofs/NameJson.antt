@@ -16,7 +16,7 @@ use Rattle.json.proofs.Listed.{members-listed, elems-listed}
 use Rattle.convert.specs.Table.{componentKinds, position}
 use Rattle.convert.specs.Model.{hasParts, noParts}
 use Rattle.convert.specs.Value.{filled}
-use Rattle.convert.specs.FromJson.{onlyMembers, Component, component, componentOf, ofKind, byKind, nameFrom}
+use Rattle.convert.specs.FromJson.{onlyMembers, Component, component, componentOf, componentIn, ofKind, byKind, nameFrom}
 use Rattle.convert.specs.ToJson.{componentsOf, nameJson}
 
 -- ---- components
@@ -40,7 +40,7 @@ unfolding onlyMembers all among any same
 component-only k v = refl
 
 component-back : (i : ℕ) (v : Bytes) → ltb i 7 ≡ true → componentOf (componentJson (kindAt i) v) ≡ some (component i v)
-unfolding componentOf
+unfolding componentIn
 component-back i v h =
     rw (members-listed (member (ascii "kind") (jstr (kindAt i)) ∷ member (ascii "value") (jstr v) ∷ []), component-only (kindAt i) v, component-fields (kindAt i) v .0, component-fields (kindAt i) v .1, kind-found i h)
 

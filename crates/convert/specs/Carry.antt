@@ -1,13 +1,14 @@
 -- Refusal 13: a string that no vCard line can carry.
 use mathlib.Core.Bool.{Bool, true, _&&_, not}
 use mathlib.Core.List.{List, [], _∷_}
+use Prim.Native.Nat.{ℕ, suc}
 use Prim.Native.Char.{code}
 use Rattle.text.specs.Choice.{with-some}
-use Rattle.text.specs.Bytes.{Bytes, any, all, among, is}
+use Rattle.text.specs.Bytes.{Bytes, any, all, among, is, flat}
 use Rattle.json.specs.Tree.{nameOf}
 use Rattle.line.specs.Class.{isControl}
 use Rattle.line.specs.Grammar.{paramValues}
-use Rattle.convert.specs.Table.{Form, text, single, uri, phone, organization, Map, maps}
+use Rattle.convert.specs.Table.{Form, text, single, uri, phone, organization, Map, maps, Part, nameRow}
 use Rattle.convert.specs.Model.{Entry, Kept, Card, part}
 
 -- raw values: no control but tab
@@ -32,7 +33,7 @@ carriedAs organization vs = all carriedText vs
 unfoldable pub carriedMaps : List Map → List (List Entry) → Bool
 carriedMaps [] ess = true
 carriedMaps (m ∷ ms) [] = true
-carriedMaps (m ∷ ms) (es ∷ ess) = all (λ (e : Entry). carriedAs (m .form) (e .texts)) es && carriedMaps ms ess
+carriedMaps (m ∷ ms) (es ∷ ess) = all (λ (e : Entry). carriedAs (m .form) (flat (e .parts))) es && carriedMaps ms ess
 
 unfoldable pub carriedKept : Kept → Bool
 carriedKept k = all (λ p. all carriedParam (paramValues p)) (k .params) && carriedRaw (k .value)
@@ -41,8 +42,15 @@ carriedKept k = all (λ p. all carriedParam (paramValues p)) (k .params) && carr
 unfoldable pub apart : List Bytes → List Bytes → Bool
 apart vs ws = all (λ v. not (among v ws)) vs
 
+-- so for every part of a row, from the i-th on, and the part that it repeats
+abbrev pub apartFrom : ℕ → List Part → List (List Bytes) → Bool
+apartFrom i [] ps = true
+apartFrom i (p ∷ row) ps = with-some (p .repeats) (λ r. apart (part ps i) (part ps r)) true && apartFrom (suc i) row ps
+
+unfoldable pub apartParts : List Part → List (List Bytes) → Bool
+apartParts row ps = apartFrom 0 row ps
+
 unfoldable pub carried : Card → Bool
 carried c =
     carriedRaw (c .uid) && with-some (c .full) carriedText true && all (all carriedText) (c .parts)
-    && apart (part (c .parts) 0) (part (c .parts) 5) && apart (part (c .parts) 4) (part (c .parts) 6)
-    && carriedMaps maps (c .maps) && all (λ m. carriedParam (nameOf m)) (c .members) && all carriedKept (c .kept)
+    && apartParts nameRow (c .parts) && carriedMaps maps (c .maps) && all (λ m. carriedParam (nameOf m)) (c .members) && all carriedKept (c .kept)

@@ -15,7 +15,7 @@ use Rattle.line.specs.Grammar.{Param, param, Line}
 use Rattle.line.specs.Params.{valuesNamed, onlyNamed, valueType, besidesValue}
 use Rattle.line.specs.Text.{readText}
 use Rattle.convert.specs.Table.{Slot, slotOf, typeNames, vcardType, position, inOrder, reserved}
-use Rattle.convert.specs.Model.{Entry}
+use Rattle.convert.specs.Model.{Entry, singly}
 use Rattle.convert.specs.Value.{isKeyText, isPref, readAs, takesType, readName}
 use Rattle.convert.specs.Pointer.{pointed}
 
@@ -141,7 +141,7 @@ entryOf s w l =
     chain (prefFrom (valuesNamed (ascii "pref") ps)) λ p.
     chain (typesFrom (w .map .types) (valuesNamed (ascii "type") ps)) λ ts.
     chain (readAs (w .map .form) type (l .value)) λ vs.
-    some (record { key = k; which = w .which; texts = vs; types = ts; pref = p }))
+    some (record { key = k; which = w .which; parts = singly vs; types = ts; pref = p }))
 
 unfoldable pub entryClass : Seen → Slot → Line → Class
 entryClass s w l = with-some (entryOf s w l) (as-entry (w .index)) as-kept

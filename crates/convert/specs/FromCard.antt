@@ -76,7 +76,7 @@ inMap i (placed j e ∷ ps) = pick (eqb i j) (e ∷ inMap i ps) (inMap i ps)
 unfoldable pub withKeys : List Bytes → List Entry → List Entry
 withKeys [] es = []
 withKeys (k ∷ ks) [] = []
-withKeys (k ∷ ks) (e ∷ es) = record { key = k; which = e .which; texts = e .texts; types = e .types; pref = e .pref } ∷ withKeys ks es
+withKeys (k ∷ ks) (e ∷ es) = record { key = k; which = e .which; parts = e .parts; types = e .types; pref = e .pref } ∷ withKeys ks es
 
 abbrev pub keyedEntries : Map → List Entry → List Entry
 keyedEntries m es = withKeys (keys (m .prefix) (map (λ (e : Entry). e .key) es)) es

@@ -10,8 +10,8 @@ use Rattle.text.specs.Bytes.{Bytes, ascii, empty, any, all, same, among, flat, 
 use Rattle.json.specs.Tree.{Json, jnull, jtrue, jfalse, jnum, jstr, jarr, jobj, Member, member, nameOf, field, asString, asNumber, asArray, asObject, elemsOf}
 use Rattle.line.specs.Class.{isLowerName}
 use Rattle.line.specs.Grammar.{Param, param, paramName, Line, fits}
-use Rattle.convert.specs.Table.{Form, text, single, uri, phone, organization, Map, maps, TypeName, typeNames, jsonType, inOrder, componentKinds, position, reserved}
-use Rattle.convert.specs.Model.{Entry, Kept, Card, hasParts, noParts}
+use Rattle.convert.specs.Table.{Form, text, single, uri, phone, organization, Map, maps, TypeName, typeNames, jsonType, inOrder, Part, nameRow, kindsOf, position, reserved}
+use Rattle.convert.specs.Model.{Entry, Kept, Card, hasParts, noParts, singly}
 use Rattle.convert.specs.Value.{filled, isKeyText, isPref}
 use Rattle.convert.specs.Classify.{Class, as-version, as-uid, as-kind, as-dropped, as-full, as-parts, as-entry, as-member, as-kept, Id, id, Seen, classify}
 
@@ -41,18 +41,26 @@ isText s j = with-some (asString j) (same s) false
 pub data Component : Type 0 where
   component : ℕ → Bytes → Component
 
-unfoldable pub componentOf : Json → Option Component
-componentOf j =
+-- none where its kind is none of the row's
+unfoldable pub componentIn : List Part → Json → Option Component
+componentIn row j =
     chain (asObject j) λ ms.
     provided (onlyMembers (ascii "kind" ∷ ascii "value" ∷ []) ms)
-    (both component (required (ascii "kind") (λ k. chain (asString k) λ s. position (same s) componentKinds) ms) (required (ascii "value") asString ms))
+    (both component (required (ascii "kind") (λ k. chain (asString k) λ s. position (same s) (kindsOf row)) ms) (required (ascii "value") asString ms))
 
 abbrev pub ofKind : ℕ → Component → List Bytes
 ofKind i (component k v) = pick (eqb i k && filled v) (v ∷ []) []
 
--- the values of each kind in turn, empty ones gone
+abbrev pub componentOf : Json → Option Component
+componentOf j = componentIn nameRow j
+
+-- for each part of a row, from the i-th on, the values of its kind; empty ones gone
+abbrev pub valuesFrom : ℕ → List Part → List Component → List (List Bytes)
+valuesFrom i [] cs = []
+valuesFrom i (p ∷ row) cs = flat (map (ofKind i) cs) ∷ valuesFrom (suc i) row cs
+
 unfoldable pub byKind : List Component → List (List Bytes)
-byKind cs = map (λ i. flat (map (ofKind i) cs)) (0 ∷ 1 ∷ 2 ∷ 3 ∷ 4 ∷ 5 ∷ 6 ∷ [])
+byKind cs = valuesFrom 0 nameRow cs
 
 pub record Name : Type 0 where
   pub full : Option Bytes
@@ -144,7 +152,7 @@ entryFrom m (member k j) =
     chain (optional (ascii "contexts") [] (flagsFrom 0 (take 2 typeNames)) ms) λ xs.
     chain (optional (ascii "features") [] (flagsFrom 2 (drop 2 typeNames)) ms) λ fs.
     chain (optional (ascii "pref") [] (λ v. chain (asNumber v) λ p. provided (isPref p) (some p)) ms) λ p.
-    some (record { key = k; which = w; texts = vs; types = inOrder (xs ++ fs); pref = p }))
+    some (record { key = k; which = w; parts = singly vs; types = inOrder (xs ++ fs); pref = p }))
 
 unfoldable pub mapFrom : List Member → Map → Option (List Entry)
 mapFrom ms m = optional (m .member) [] (λ j. chain (asObject j) (each (entryFrom m))) ms

@@ -1,6 +1,6 @@
 -- The middle of both conversions: what a card says, in one form for all that is equal.
 use mathlib.Core.Bool.{Bool, not}
-use mathlib.Core.List.{List, [], map}
+use mathlib.Core.List.{List, [], _∷_, map}
 use mathlib.Core.Option.{Option, none}
 use Prim.Native.Nat.{ℕ}
 use lib.ListN.{getD}
@@ -13,7 +13,7 @@ use Rattle.convert.specs.Table.{Part, nameRow}
 pub record Entry : Type 0 where
   pub key : Bytes  -- empty until one is made
   pub which : ℕ  -- which of the map's properties: TITLE or ROLE
-  pub texts : List Bytes  -- the string; for ORG the name (perhaps empty) and the units
+  pub parts : List (List Bytes)  -- of its value, each with its values; a string is a part of one value, and so are ORG's name (perhaps empty) and each unit
   pub types : List ℕ  -- places in the table of TYPE, in its order
   pub pref : Bytes  -- as spelled; empty where there is none
 
@@ -33,6 +33,10 @@ pub record Card : Type 0 where
   pub maps : List (List Entry)  -- in the table's order
   pub members : List Member  -- of JSPROP lines
   pub kept : List Kept
+
+-- strings as parts: each is one of its own
+abbrev pub singly : List Bytes → List (List Bytes)
+singly vs = map (λ v. v ∷ []) vs
 
 -- no component of any kind
 abbrev pub noParts : List (List Bytes)

@@ -83,12 +83,16 @@ featureCodes = placesOf (λ t. not (isContext t)) 0 typeNames
 unfoldable pub inOrder : List ℕ → List ℕ
 inOrder cs = keep (λ c. any (eqb c) cs) (contextCodes ++ featureCodes)
 
--- ---- N
+-- ---- structured values
 
 -- A part of a structured value: the kind of its components, and the later part whose values it repeats.
 pub record Part : Type 0 where
   pub kind : Bytes
   pub repeats : Option ℕ
+
+-- the kinds of components, in the order of a row's parts
+abbrev pub kindsOf : List Part → List Bytes
+kindsOf row = map (λ (p : Part). p .kind) row
 
 -- N as one row: secondary surnames stand among the family names too, generations among the suffixes
 abbrev pub nameRow : List Part
@@ -98,9 +102,8 @@ nameRow =
     ∷ record { kind = ascii "credential"; repeats = some 6 } ∷ record { kind = ascii "surname2"; repeats = none }
     ∷ record { kind = ascii "generation"; repeats = none } ∷ []
 
--- the kinds of components, in the order of N's parts
 abbrev pub componentKinds : List Bytes
-componentKinds = map (λ (p : Part). p .kind) nameRow
+componentKinds = kindsOf nameRow
 
 -- ---- finding a place in a list
 

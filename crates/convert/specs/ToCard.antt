@@ -36,8 +36,8 @@ entryLine m e =
     property (getD (m .properties) (e .which) [])
     (param (ascii "prop-id") (e .key ∷ []) ∷ (pick (empty (e .pref)) [] (param (ascii "pref") (e .pref ∷ []) ∷ [])
     ++ paramOf (ascii "type") (map (λ t. vcardType (getD typeNames t (feature-type [] []))) (e .types))
-    ++ paramOf (ascii "value") (writtenType (m .form) (e .texts))))
-    (writeAs (m .form) (e .texts))
+    ++ paramOf (ascii "value") (writtenType (m .form) (flat (e .parts)))))
+    (writeAs (m .form) (flat (e .parts)))
 
 unfoldable pub mapsLines : List Map → List (List Entry) → List Line
 mapsLines [] ess = []

@@ -6,7 +6,7 @@ use Prim.Native.Nat.{ℕ}
 use lib.ListN.{getD}
 use lib.Dec.{eqb}
 use Rattle.text.specs.Choice.{is-some}
-use Rattle.text.specs.Bytes.{Bytes, ascii, empty, any, keep}
+use Rattle.text.specs.Bytes.{Bytes, ascii, empty, any, flat, keep}
 use Rattle.json.specs.Tree.{Json, jstr, jnum, jtrue, Member, member, object, array}
 use Rattle.json.specs.Compact.{compact}
 use Rattle.line.specs.Grammar.{Param, param}
@@ -57,7 +57,7 @@ flagsJson n kind codes =
 unfoldable pub entryJson : Map → Entry → Member
 entryJson m e =
     member (e .key) (object (where′ (not (empty (m .kinds))) (member (ascii "kind") (jstr (getD (m .kinds) (e .which) [])))
-    ++ contentJson (m .form) (m .content) (e .texts)
+    ++ contentJson (m .form) (m .content) (flat (e .parts))
     ++ flagsJson (ascii "contexts") contextCodes (e .types)
     ++ flagsJson (ascii "features") featureCodes (e .types)
     ++ where′ (filled (e .pref)) (member (ascii "pref") (jnum (e .pref)))))

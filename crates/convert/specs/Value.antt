@@ -77,7 +77,7 @@ writtenType uri vs = []
 writtenType phone vs = pick (isTelUri (headOr [] vs)) (ascii "uri" ∷ []) []
 writtenType organization vs = []
 
--- ---- N
+-- ---- structured values: parts by a row
 
 -- values of one part, split at bare commas; empty ones vanish
 unfoldable pub partValues : Bytes → Option (List Bytes)
@@ -92,19 +92,26 @@ abbrev pub rowFrom : (List Bytes → List Bytes → List Bytes) → ℕ → List
 rowFrom f i [] ps = []
 rowFrom f i (p ∷ row) ps = with-some (p .repeats) (λ r. f (part ps r) (part ps i)) (part ps i) ∷ rowFrom f (suc i) row ps
 
--- reading ignores a family value also among the secondary surnames, and a suffix also among the generations
-unfoldable pub ownParts : List (List Bytes) → List (List Bytes)
-ownParts ps = rowFrom without 0 nameRow ps
+-- reading ignores a value that is also in the part repeated: N's family values among the secondary surnames, suffixes among the generations
+unfoldable pub ownParts : List Part → List (List Bytes) → List (List Bytes)
+ownParts row ps = rowFrom without 0 row ps
 
--- none where an escape is bad, where there are over 7 parts, or where every value is empty
-unfoldable pub readName : Bytes → Option (List (List Bytes))
-readName v =
-    provided (leb (length (splitText (code ";") v)) (length nameRow))
-    (chain (each partValues (splitText (code ";") v)) λ ps. provided (any (λ vs. not (empty vs)) ps) (some (ownParts ps)))
+-- none where an escape is bad, where there are more parts than the row has, or where every value is empty
+unfoldable pub readParts : List Part → Bytes → Option (List (List Bytes))
+readParts row v =
+    provided (leb (length (splitText (code ";") v)) (length row))
+    (chain (each partValues (splitText (code ";") v)) λ ps. provided (any (λ vs. not (empty vs)) ps) (some (ownParts row ps)))
 
--- writing appends surname2 to family and generation to suffixes
-unfoldable pub writtenParts : List (List Bytes) → List (List Bytes)
-writtenParts ps = rowFrom (λ others vs. vs ++ others) 0 nameRow ps
+-- writing appends the values of the part repeated: N's surname2 to the family names, generation to the suffixes
+unfoldable pub writtenParts : List Part → List (List Bytes) → List (List Bytes)
+writtenParts row ps = rowFrom (λ others vs. vs ++ others) 0 row ps
 
-unfoldable pub writeName : List (List Bytes) → Bytes
-writeName ps = joined (ascii ";") (map (λ vs. joined (ascii ",") (map (writeText true) vs)) (writtenParts ps))
+unfoldable pub writeParts : List Part → List (List Bytes) → Bytes
+writeParts row ps = joined (ascii ";") (map (λ vs. joined (ascii ",") (map (writeText true) vs)) (writtenParts row ps))
+
+-- N: its values by its row
+abbrev pub readName : Bytes → Option (List (List Bytes))
+readName v = readParts nameRow v
+
+abbrev pub writeName : List (List Bytes) → Bytes
+writeName ps = writeParts nameRow ps

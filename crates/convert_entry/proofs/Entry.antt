@@ -15,7 +15,7 @@ use borrow.Author.Tests.{eqb-true}
 use Rattle.line.specs.Grammar.{Param, Line}
 use Rattle.line.specs.Params.{valuesNamed, onlyNamed, besidesValue, valueType}
 use Rattle.convert.specs.Table.{Slot, inOrder}
-use Rattle.convert.specs.Model.{Entry}
+use Rattle.convert.specs.Model.{Entry, singly}
 use Rattle.convert.specs.Value.{takesType, readAs}
 use Rattle.convert.specs.Classify.{Seen, keyFrom, prefFrom, typesFrom, entryOf}
 use Rattle.convert_types.specs.Marks.{typeAt, marks, told, split}
@@ -82,7 +82,7 @@ entry-some s w l =
     let ps : List Param = besidesValue (l .params) in
     let type : Bytes = valueType (l .params) in
     chained {E = Entry} (empty (l .group) && onlyNamed (w .map .parameters) ps && takesType (w .map .form) type) (keyFrom s (w .index) (valuesNamed (ascii "prop-id") ps))
-    (prefFrom (valuesNamed (ascii "pref") ps)) (typesFrom (w .map .types) (valuesNamed (ascii "type") ps)) (readAs (w .map .form) type (l .value)) (λ k p ts vs. record { key = k; which = w .which; texts = vs; types = ts; pref = p })
+    (prefFrom (valuesNamed (ascii "pref") ps)) (typesFrom (w .map .types) (valuesNamed (ascii "type") ps)) (readAs (w .map .form) type (l .value)) (λ k p ts vs. record { key = k; which = w .which; parts = singly vs; types = ts; pref = p })
 
 -- ---- rows that are all zero
 

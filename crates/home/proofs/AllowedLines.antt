@@ -22,9 +22,9 @@ use Rattle.line.specs.Grammar.{Param, param, Line}
 use Rattle.line.specs.Params.{named, valuesNamed, lacking, onlyNamed, valueType, besidesValue}
 use Rattle.line.specs.Text.{readText, splitText, writeText}
 use Rattle.line.proofs.Texts.{read-write}
-use Rattle.convert.specs.Table.{Slot, slotOf}
+use Rattle.convert.specs.Table.{Slot, slotOf, nameRow}
 use Rattle.convert.specs.Model.{Entry, Kept, part}
-use Rattle.convert.specs.Value.{filled, isKeyText, partValues, without, ownParts, readName, writeName, writtenParts}
+use Rattle.convert.specs.Value.{filled, isKeyText, partValues, without, ownParts, readName, readParts, writeName, writeParts, writtenParts}
 use Rattle.convert.specs.Classify.{nothing, bare, sole, treeOf, memberName, memberValue, entryOf}
 use Rattle.convert.specs.FromCard.{keptLine}
 use Rattle.convert.specs.FromJson.{keptAsLine}
@@ -94,21 +94,21 @@ unfolding same lowered lower between
 full-allowed l v n p e = full (n, refl) p (plain-line (ascii "fn") (renewed false (l .value))) v e (full-back (l .value) v e)
 
 written-name : (ps : List (List Bytes)) → nameText ps ≡ writeName ps
-unfolding writeName writtenParts nameText
+unfolding writeParts writtenParts nameText
 written-name ps = refl
 
 -- the strings of each part, as they came and as they are written
 parts-back : (l : Line) (ps : List (List Bytes)) → CleanLine l → readName (l .value) ≡ some ps → SameName (l .value) (nameText (nameValues (l .value)))
-unfolding readName nameStrings partStrings partValues ownParts writtenParts without
+unfolding readParts nameStrings partStrings partValues ownParts writtenParts without
 parts-back l ps c e =
     let w = name-well (l .value) ps (c .value) e in
     onProvided (leb (length (splitText 59 (l .value))) 7) _ e λ few a.
     onChain (each partValues (splitText 59 (l .value))) _ a λ came p b.
-    onProvided (any (λ vs. not (empty vs)) came) (some (ownParts came)) b λ t r.
-    let i : ownParts came ≡ ps = some-same r in
+    onProvided (any (λ vs. not (empty vs)) came) (some (ownParts nameRow came)) b λ t r.
+    let i : ownParts nameRow came ≡ ps = some-same r in
     let j : ps ≡ nameValues (l .value) = name-read (l .value) ps e .0 in
-    let written : nameText (nameValues (l .value)) ≡ writeName (ownParts came) = ap nameText (sym j ∙ sym i) ∙ written-name (ownParts came) in
-    let g : all (all filled) (ownParts came) ≡ true = rw (← i) at (all-filled ps (w .0 .whole)) in
+    let written : nameText (nameValues (l .value)) ≡ writeName (ownParts nameRow came) = ap nameText (sym j ∙ sym i) ∙ written-name (ownParts nameRow came) in
+    let g : all (all filled) (ownParts nameRow came) ≡ true = rw (← i) at (all-filled ps (w .0 .whole)) in
     record {
       came = came;
       came-is = p;
@@ -127,7 +127,7 @@ module _ (l : Line) (w : Slot) (e : Entry) (c : CleanLine l) (o : slotOf (lowere
   proper : (k : Bytes) → isKeyText k ≡ true → Proper (w .map) (rekeyed k e)
   proper k v =
       let d = entry-drawn nothing w l e c (slot-row (lowered (l .name)) w o .1) h .0 in
-      record { key = v; texts = d .texts .form; codes = d .codes; order = d .order; row = t; pref = d .pref }
+      record { key = v; texts = d .texts .form; one-each = d .one-each; codes = d .codes; order = d .order; row = t; pref = d .pref }
 
   entry-back : (k : Bytes) → isKeyText k ≡ true → entryOf nothing w (entryForm (w .map) k l) ≡ some (rekeyed k e)
   unfolding any
@@ -154,7 +154,7 @@ module _ (l : Line) (w : Slot) (e : Entry) (c : CleanLine l) (o : slotOf (lowere
         given = byBool (empty (e .key)) (λ t. inl (came .ids ∙ rw t)) (λ t. inr (came .ids ∙ rw t (ap (λ (x : Bytes). x ∷ []) (i ∙ sym (q (ap (λ (x : Bytes). empty x) (sym i) ∙ t))))));
         pref = home .prefs ∙ sym (came .prefs);
         types = λ t. home .types t ∙ sym (came .types t);
-        strings = e .texts;
+        strings = flat (e .parts);
         said = (came .said, home .said);
       })
 

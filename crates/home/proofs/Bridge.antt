@@ -7,20 +7,21 @@ use Prim.Native.Nat.{ℕ, zero, suc}
 use native.Mathlib.Omega.{arith}
 use lib.ListN.{length, getD}
 use lib.Dec.{ltb}
-use Rattle.text.specs.Choice.{pick, with-some}
+use Rattle.text.specs.Choice.{pick}
 use Rattle.text.specs.Bytes.{Bytes, ascii, all, empty, same, among}
 use Rattle.text.specs.Utf8.{utf8}
 use Rattle.text.proofs.Cases.{and-left, and-right, not-true, tests}
 use Rattle.text.proofs.Lists.{all-head, all-tail, all-imply}
-use Rattle.json.specs.Tree.{Member, member, nameOf}
+use Rattle.json.specs.Tree.{Member, member}
 use Rattle.convert.specs.Table.{Map, maps, position, reserved}
 use Rattle.convert.specs.Model.{Entry, Kept, Card, part}
 use Rattle.convert.specs.Value.{filled}
 use Rattle.convert.specs.Classify.{Seen}
 use Rattle.convert.specs.FromJson.{keptStands}
-use Rattle.convert.specs.Carry.{carriedRaw, carriedText, carriedMaps, carriedParam, carriedKept, apart, carried}
+use Rattle.convert.specs.Carry.{apart}
 use Rattle.convert.proofs.Proper as Readable
 use Rattle.home.proofs.Proper.{ProperEntries, ProperMaps, ProperMembers, AllKeptFine, ProperCard}
+use Rattle.home.proofs.Carried.{is-carried}
 use Rattle.home.proofs.Stands.{stands-inv}
 use Rattle.home.proofs.KeptFacts.{proper-kept}
 use Rattle.home.proofs.Alls.{All}
@@ -71,18 +72,6 @@ seven-parts (a ∷ (b ∷ (c ∷ (d ∷ (e ∷ (g ∷ (h ∷ (i ∷ ps)))))))) l
 pub all-filled : (ps : List (List Bytes)) → all (all (λ v. filled v && utf8 v)) ps ≡ true → all (all filled) ps ≡ true
 all-filled ps h = all-imply (all (λ v. filled v && utf8 v)) (all filled) (λ vs g. all-imply (λ v. filled v && utf8 v) filled (λ v e. and-left (filled v) (utf8 v) e) vs g) ps h
 
--- what `carried` says of components that N writes together
-apart-parts : (c : Card) → carried c ≡ true → (apart (part (c .parts) 0) (part (c .parts) 5) ≡ true) × (apart (part (c .parts) 4) (part (c .parts) 6) ≡ true)
-unfolding carried
-apart-parts c h =
-    let x : Bool = carriedRaw (c .uid) && with-some (c .full) carriedText true && all (all carriedText) (c .parts) in
-    let y : Bool = apart (part (c .parts) 0) (part (c .parts) 5) in
-    let z : Bool = apart (part (c .parts) 4) (part (c .parts) 6) in
-    let u : Bool = carriedMaps maps (c .maps) in
-    let v : Bool = all (λ m. carriedParam (nameOf m)) (c .members) in
-    let h₃ : x && y && z ≡ true = and-left (x && y && z) u (and-left (x && y && z && u) v (and-left (x && y && z && u && v) (all carriedKept (c .kept)) h)) in
-    (and-right x y (and-left (x && y) z h₃), and-right (x && y) z h₃)
-
 -- ---- members and kept lines
 
 members-good : (ms : List Member) → ProperMembers ms → Readable.GoodMembers ms
@@ -99,11 +88,11 @@ all-kept s (k ∷ ks) g h = (proper-kept s k (g .0) (stands-inv s k (all-head (k
 
 pub readable : (c : Card) → ProperCard c → Readable.ProperCard c
 readable c g =
-    let a = apart-parts c (g .carries) in
+    let a = is-carried c (g .carries) in
     record {
       uid = and-left (filled (c .uid)) _ (g .uid);
       kind = g .kind;
-      parts = seven-parts (c .parts) (g .seven) (all-filled (c .parts) (g .parts)) (a .0) (a .1);
+      parts = seven-parts (c .parts) (g .seven) (all-filled (c .parts) (g .parts)) (a .surnames) (a .suffixes);
       maps = maps-good maps table-kinded (c .maps) (g .entries);
       members = members-good (c .members) (g .members);
       names = g .names;

@@ -7,7 +7,7 @@ use Prim.Native.Nat.{ℕ, suc}
 use lib.ListN.{length}
 use lib.Dec.{ltb}
 use Rattle.text.specs.Choice.{with-some}
-use Rattle.text.specs.Bytes.{Bytes, ascii, any, all, empty, same, among, lowered, lower, between}
+use Rattle.text.specs.Bytes.{Bytes, ascii, any, all, empty, same, among, lowered, lower, between, flat}
 use Rattle.text.specs.Utf8.{utf8}
 use Rattle.text.proofs.Cases.{and-left, and-right, and-true}
 use Rattle.text.proofs.Lists.{all-head, all-tail, all-imply}
@@ -104,11 +104,11 @@ parts-textual (vs ∷ pss) h k =
 
 -- ---- the rest
 
-entries-fair : (i : ℕ) (m : Map) (es : List Entry) → ((w : ℕ) → ltb w (length (m .properties)) ≡ true → Row i m w) → ProperEntries m es → all (λ (e : Entry). carriedAs (m .form) (e .texts)) es ≡ true
+entries-fair : (i : ℕ) (m : Map) (es : List Entry) → ((w : ℕ) → ltb w (length (m .properties)) ≡ true → Row i m w) → ProperEntries m es → all (λ (e : Entry). carriedAs (m .form) (flat (e .parts))) es ≡ true
     → AllFair (map (entryLine m) es)
 entries-fair i m [] r g h = tt
 entries-fair i m (e ∷ es) r g h =
-    (entry-fair i m e (r (e .which) (g .0 .which)) (g .0) (all-head (λ (e : Entry). carriedAs (m .form) (e .texts)) e es h), entries-fair i m es r (g .1) (all-tail (λ (e : Entry). carriedAs (m .form) (e .texts)) e es h))
+    (entry-fair i m e (r (e .which) (g .0 .which)) (g .0) (all-head (λ (e : Entry). carriedAs (m .form) (flat (e .parts))) e es h), entries-fair i m es r (g .1) (all-tail (λ (e : Entry). carriedAs (m .form) (flat (e .parts))) e es h))
 
 maps-fair : (i : ℕ) (ms : List Map) (ess : List (List Entry)) → Rows i ms → ProperMaps ms ess → carriedMaps ms ess ≡ true → AllFair (mapsLines ms ess)
 unfolding mapsLines carriedMaps
@@ -116,7 +116,7 @@ maps-fair i [] [] r g h = tt
 maps-fair i [] (es ∷ ess) r g h = absurd g
 maps-fair i (m ∷ ms) [] r g h = absurd g
 maps-fair i (m ∷ ms) (es ∷ ess) r g h =
-    all-joined Fair (map (entryLine m) es) (mapsLines ms ess) (entries-fair i m es (r .0) (g .0) (and-left _ _ h)) (maps-fair (suc i) ms ess (r .1) (g .2) (and-right (all (λ (e : Entry). carriedAs (m .form) (e .texts)) es) _ h))
+    all-joined Fair (map (entryLine m) es) (mapsLines ms ess) (entries-fair i m es (r .0) (g .0) (and-left _ _ h)) (maps-fair (suc i) ms ess (r .1) (g .2) (and-right (all (λ (e : Entry). carriedAs (m .form) (flat (e .parts))) es) _ h))
 
 members-fair : (ms : List Member) → ProperMembers ms → all (λ m. carriedParam (nameOf m)) ms ≡ true → AllFair (map memberLine ms)
 members-fair [] g h = tt

@@ -22,7 +22,7 @@ use Rattle.line.specs.Grammar.{Line, accepted, readLine}
 use Rattle.convert.specs.Table.{maps}
 use Rattle.convert.specs.Model.{Kept, Card, hasParts, noParts}
 use Rattle.convert.specs.Value.{filled}
-use Rattle.convert.specs.Carry.{carriedRaw, carriedText, carriedParam, carriedMaps, carriedKept, apart, carried}
+use Rattle.convert.specs.Carry.{carriedRaw, carriedText, carriedParam, carriedMaps, carriedKept, apart, apartParts, carried}
 use Rattle.convert.specs.Classify.{Class, as-version, as-uid, as-kind, as-dropped, as-full, as-parts, as-entry, as-member, as-kept, Seen, nothing, Classed, classedAfter, classed, classify}
 use Rattle.convert.specs.FromCard.{placed, Gives, gathered, firstOf, orElse, mapsFrom, madeUid, cardOfClassed, cardOfLines}
 use Rattle.convert.specs.FromJson.{isLowerWord, keptStands, seenIn}
@@ -175,7 +175,7 @@ module _ (stem : Bytes) (n : ℕ) (ls : List Line) (st : isStemText stem ≡ tru
       (covered (seenIn made) nothing ls (covers-nothing (seenIn made)) (cover-all stem n cs well))))
 
   carries-all : carried made ≡ true
-  unfolding carried cardOfClassed
+  unfolding carried apartParts cardOfClassed
   carries-all =
       rw (
         uid-all .1,

@@ -1,13 +1,14 @@
 -- What a carried card says of each of its strings.
 use mathlib.Core.Path.{_≡_}
 use mathlib.Core.Bool.{Bool, true, _&&_}
+use mathlib.Core.List.{List}
 use Rattle.text.specs.Choice.{with-some}
-use Rattle.text.specs.Bytes.{all}
+use Rattle.text.specs.Bytes.{Bytes, all}
 use Rattle.text.proofs.Cases.{and-left, and-right}
 use Rattle.json.specs.Tree.{nameOf}
-use Rattle.convert.specs.Table.{maps}
+use Rattle.convert.specs.Table.{maps, nameRow}
 use Rattle.convert.specs.Model.{Card, part}
-use Rattle.convert.specs.Carry.{carriedRaw, carriedText, carriedParam, carriedMaps, carriedKept, apart, carried}
+use Rattle.convert.specs.Carry.{carriedRaw, carriedText, carriedParam, carriedMaps, carriedKept, apart, apartParts, carried}
 
 pub record Carried (c : Card) : Type 0 where
   pub uid : carriedRaw (c .uid) ≡ true
@@ -19,12 +20,11 @@ pub record Carried (c : Card) : Type 0 where
   pub members : all (λ m. carriedParam (nameOf m)) (c .members) ≡ true
   pub kept : all carriedKept (c .kept) ≡ true
 
--- eight conditions, one after the other
-eight : (a b c d e f g h : Bool) → a && b && c && d && e && f && g && h ≡ true
-    → (a ≡ true) × (b ≡ true) × (c ≡ true) × (d ≡ true) × (e ≡ true) × (f ≡ true) × (g ≡ true) × (h ≡ true)
-eight a b c d e f g h q =
-    let q₇ = and-left (a && b && c && d && e && f && g) h q in
-    let q₆ = and-left (a && b && c && d && e && f) g q₇ in
+-- seven conditions, one after the other
+seven : (a b c d e f g : Bool) → a && b && c && d && e && f && g ≡ true
+    → (a ≡ true) × (b ≡ true) × (c ≡ true) × (d ≡ true) × (e ≡ true) × (f ≡ true) × (g ≡ true)
+seven a b c d e f g q =
+    let q₆ = and-left (a && b && c && d && e && f) g q in
     let q₅ = and-left (a && b && c && d && e) f q₆ in
     let q₄ = and-left (a && b && c && d) e q₅ in
     let q₃ = and-left (a && b && c) d q₄ in
@@ -35,12 +35,17 @@ eight a b c d e f g h q =
       and-right (a && b && c) d q₄,
       and-right (a && b && c && d) e q₅,
       and-right (a && b && c && d && e) f q₆,
-      and-right (a && b && c && d && e && f) g q₇,
-      and-right (a && b && c && d && e && f && g) h q,
+      and-right (a && b && c && d && e && f) g q,
     )
+
+-- the two parts of N that repeat another
+apart-both : (ps : List (List Bytes)) → apartParts nameRow ps ≡ true → (apart (part ps 0) (part ps 5) ≡ true) × (apart (part ps 4) (part ps 6) ≡ true)
+unfolding apartParts
+apart-both ps h = (and-left _ _ h, and-left (apart (part ps 4) (part ps 6)) true (and-right (apart (part ps 0) (part ps 5)) _ h))
 
 pub is-carried : (c : Card) → carried c ≡ true → Carried c
 unfolding carried
 is-carried c h =
-    let q = eight _ _ _ _ _ _ _ _ h in
-    record { uid = q .0; full = q .1; parts = q .2; surnames = q .3; suffixes = q .4; maps = q .5; members = q .6; kept = q .7 }
+    let q = seven _ _ _ _ _ _ _ h in
+    let a = apart-both (c .parts) (q .3) in
+    record { uid = q .0; full = q .1; parts = q .2; surnames = a .0; suffixes = a .1; maps = q .4; members = q .5; kept = q .6 }

@@ -8,7 +8,7 @@ use lib.ListN.{length, length-append, length-map}
 use lib.Dec.{eqb, ltb, leb}
 use borrow.Author.Tests.{le-leb}
 use Rattle.text.specs.Choice.{pick}
-use Rattle.text.specs.Bytes.{Bytes, ascii, any, all, empty, same, among, between, lowered, isDigit}
+use Rattle.text.specs.Bytes.{Bytes, ascii, any, all, empty, same, among, between, lowered, isDigit, flat}
 use Rattle.text.proofs.Cases.{byBool, byBelow, tests, and-left, and-right, and-true, or-second}
 use Rattle.text.proofs.Lists.{all-head, all-tail, all-both, all-imply, any-tail, length-keep}
 use Rattle.line.specs.Class.{isName, isLowerName}
@@ -109,7 +109,7 @@ length-types ts o = omega (arith, length-keep (λ c. any (eqb c) ts) (contextCod
 -- ---- the line
 
 entryParams : Map → Entry → List Param
-entryParams m e = param (ascii "prop-id") (e .key ∷ []) ∷ (prefParam (e .pref) ++ paramOf (ascii "type") (map typeText (e .types)) ++ paramOf (ascii "value") (writtenType (m .form) (e .texts)))
+entryParams m e = param (ascii "prop-id") (e .key ∷ []) ∷ (prefParam (e .pref) ++ paramOf (ascii "type") (map typeText (e .types)) ++ paramOf (ascii "value") (writtenType (m .form) (flat (e .parts))))
 
 entry-words : (isLowerWord (ascii "prop-id") ≡ true) × (isLowerWord (ascii "type") ≡ true) × (isLowerWord (ascii "value") ≡ true)
 unfolding all isLowerName between
@@ -119,20 +119,20 @@ params-fair : (m : Map) (e : Entry) → Proper m e → all fairParam (entryParam
 unfolding entryParams all
 params-fair m e g =
     rw (entry-words .0, key-fair (e .key) (g .key))
-    (all-both fairParam (prefParam (e .pref) ++ paramOf (ascii "type") (map typeText (e .types))) (paramOf (ascii "value") (writtenType (m .form) (e .texts)))
+    (all-both fairParam (prefParam (e .pref) ++ paramOf (ascii "type") (map typeText (e .types))) (paramOf (ascii "value") (writtenType (m .form) (flat (e .parts))))
     (all-both fairParam (prefParam (e .pref)) (paramOf (ascii "type") (map typeText (e .types))) (pref-fair (e .pref) (among (ascii "pref") (m .parameters)) (g .pref)) (of-fair (ascii "type") (map typeText (e .types)) (entry-words .1) (types-fair (m .types) (e .types) (few-types m (g .row)) (g .codes))))
-    (of-fair (ascii "value") (writtenType (m .form) (e .texts)) (entry-words .2) (written-fair (m .form) (e .texts))))
+    (of-fair (ascii "value") (writtenType (m .form) (flat (e .parts))) (entry-words .2) (written-fair (m .form) (flat (e .parts)))))
 
 params-fit : (m : Map) (e : Entry) → Proper m e → fits (entryParams m e) ≡ true
 unfolding entryParams fits valueCount
 params-fit m e g =
     let ps : List Param = prefParam (e .pref) in
     let ts : List Param = paramOf (ascii "type") (map typeText (e .types)) in
-    let vs : List Param = paramOf (ascii "value") (writtenType (m .form) (e .texts)) in
+    let vs : List Param = paramOf (ascii "value") (writtenType (m .form) (flat (e .parts))) in
     let p = count-pref (e .pref) in
     let t = count-of (ascii "type") (map typeText (e .types)) in
-    let v = count-of (ascii "value") (writtenType (m .form) (e .texts)) in
-    let w = count-written (m .form) (e .texts) in
+    let v = count-of (ascii "value") (writtenType (m .form) (flat (e .parts))) in
+    let w = count-written (m .form) (flat (e .parts)) in
     let k = length-types (e .types) (g .order) in
     let l = length-map (e .types) typeText in
     and-true
@@ -146,7 +146,7 @@ no-frame n h =
     let p = same (lowered n) in
     any-tail p (ascii "jsprop") _ (any-tail p (ascii "n") _ (any-tail p (ascii "fn") _ (any-tail p (ascii "kind") _ (any-tail p (ascii "uid") _ (any-tail p (ascii "version") _ h)))))
 
-pub entry-fair : (i : ℕ) (m : Map) (e : Entry) → Row i m (e .which) → ProperEntry m e → carriedAs (m .form) (e .texts) ≡ true → Fair (entryLine m e)
+pub entry-fair : (i : ℕ) (m : Map) (e : Entry) → Row i m (e .which) → ProperEntry m e → carriedAs (m .form) (flat (e .parts)) ≡ true → Fair (entryLine m e)
 unfolding entryLine entryParams prefParam
 entry-fair i m e r g h =
     record {
@@ -155,5 +155,5 @@ entry-fair i m e r g h =
       frame = no-frame (entryLine m e .name) (r .own);
       params = params-fair m e (g .proper);
       fits = params-fit m e (g .proper);
-      value = form-clean (m .form) (e .texts) (g .texts-utf8) h;
+      value = form-clean (m .form) (flat (e .parts)) (g .texts-utf8) h;
     }

@@ -11,9 +11,9 @@ use Rattle.text.proofs.Lists.{all-head, all-tail, all-not, all-both, all-imply}
 use Rattle.line.specs.Class.{isName, isKey, isControl}
 use Rattle.line.specs.Text.{escape, writeText}
 use Rattle.line.proofs.Texts.{write-append}
-use Rattle.convert.specs.Table.{Form, text, single, uri, phone, organization}
+use Rattle.convert.specs.Table.{Form, text, single, uri, phone, organization, nameRow}
 use Rattle.convert.specs.Model.{part}
-use Rattle.convert.specs.Value.{headOr, isTelUri, writeAs, writtenParts, writeName}
+use Rattle.convert.specs.Value.{headOr, isTelUri, writeAs, writtenParts, writeName, writeParts}
 use Rattle.convert.specs.Carry.{carriedRaw, carriedText, carriedParam, carriedAs}
 use Rattle.convert.specs.Pointer.{pointer}
 use Rattle.home.proofs.Expanded.{pointer-utf8, pointer-all}
@@ -125,7 +125,7 @@ part-textual [] (suc i) h = refl
 part-textual (vs ∷ pss) zero h = all-head (all textual) vs pss h
 part-textual (vs ∷ pss) (suc i) h = part-textual pss i (all-tail (all textual) vs pss h)
 
-written-textual : (pss : List (List Bytes)) → all (all textual) pss ≡ true → all (all textual) (writtenParts pss) ≡ true
+written-textual : (pss : List (List Bytes)) → all (all textual) pss ≡ true → all (all textual) (writtenParts nameRow pss) ≡ true
 unfolding writtenParts all
 written-textual pss h =
     rw (
@@ -139,8 +139,8 @@ written-textual pss h =
     )
 
 pub name-clean : (pss : List (List Bytes)) → all (all textual) pss ≡ true → Clean (writeName pss)
-unfolding writeName writePart isControl all
-name-clean pss h = clean-joined (ascii ";") (map writePart (writtenParts pss)) refl (parts-clean (writtenParts pss) (written-textual pss h))
+unfolding writeParts writePart isControl all
+name-clean pss h = clean-joined (ascii ";") (map writePart (writtenParts nameRow pss)) refl (parts-clean (writtenParts nameRow pss) (written-textual pss h))
 
 -- ---- a made FN
 

@@ -16,9 +16,10 @@ use Rattle.text.proofs.Lists.{all-both, all-imply}
 use Rattle.json.specs.Tree.{Json, Member, member, nameOf, field, asString, asNumber, asObject}
 use Rattle.json.proofs.Sound.{Sound}
 use Rattle.convert.specs.Table.{Map, maps, TypeName, typeNames, jsonType, position}
-use Rattle.convert.specs.Model.{Entry}
+use Rattle.convert.specs.Model.{Entry, singly}
 use Rattle.convert.specs.Value.{isKeyText, isPref}
 use Rattle.convert.specs.FromJson.{onlyMembers, optional, isTrue, flagOf, flagsFrom, contentFrom, entryMembers, entryFrom, mapFrom}
+use Rattle.convert.proofs.Forms.{flat-singly}
 use Rattle.convert.proofs.Orders.{inOrder-again}
 use Rattle.convert.proofs.Types.{below}
 use Rattle.convert.proofs.Entries.{coherent}
@@ -156,14 +157,15 @@ entry-proper d m r (member k j) e h q =
     subst (ProperEntry m) (some-same (p .2)) (record {
       proper = record {
         key = b .0;
-        texts = t .0;
+        texts = rw (flat-singly (vs .0)) (t .0);
+        one-each = ap singly (flat-singly (vs .0));
         codes = inOrder-all (below (m .types)) (xs .0 ++ fs .0) u;
         order = inOrder-again (xs .0 ++ fs .0);
         row = r .row;
         pref = pref-fits m r ms (c .0) (p .0) (p .1);
       };
       which = kind-fits m r ms (c .0) (w .0) (w .1);
-      texts-utf8 = t .1;
+      texts-utf8 = rw (flat-singly (vs .0)) (t .1);
     })
 
 entry-key : (m : Map) (o : Member) (e : Entry) → entryFrom m o ≡ some e → e .key ≡ nameOf o

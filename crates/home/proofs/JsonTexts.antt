@@ -16,7 +16,7 @@ use Rattle.json.specs.Tree.{Json, Member, field, asString, asArray, asObject}
 use Rattle.json.proofs.Sound.{Sound}
 use Rattle.convert.specs.Table.{Form, text, single, uri, phone, organization, componentKinds, position}
 use Rattle.convert.specs.Value.{filled}
-use Rattle.convert.specs.FromJson.{onlyMembers, required, optional, Component, component, componentOf, ofKind, byKind, Name, nameless, isFalse, nameFrom, unitFrom, organizationFrom, contentFrom}
+use Rattle.convert.specs.FromJson.{onlyMembers, required, optional, Component, component, componentOf, componentIn, ofKind, byKind, Name, nameless, isFalse, nameFrom, unitFrom, organizationFrom, contentFrom}
 use Rattle.convert.proofs.Forms.{formed}
 use Rattle.home.proofs.Alls.{All, all-test, all-kept, all-flat, each-gives}
 use Rattle.home.proofs.SoundLists.{SoundMember, string-sound, array-sound, object-sound, field-sound, optional-holds}
@@ -33,7 +33,7 @@ abbrev Utf8Value : Component → Type 0
 Utf8Value (component k v) = utf8 v ≡ true
 
 component-utf8 : (d : ℕ) (j : Json) (c : Component) → Sound d j → componentOf j ≡ some c → Utf8Value c
-unfolding componentOf
+unfolding componentIn
 component-utf8 d j c h e =
     let i = chain-inv (asObject j) _ e in
     let o = object-sound d j (i .0) h (i .1) in

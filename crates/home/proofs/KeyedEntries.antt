@@ -10,7 +10,7 @@ use lib.ListN.{length}
 use lib.Dec.{eqb}
 use borrow.Author.Tests.{eqb-true, eq-eqb}
 use Rattle.text.specs.Choice.{pick}
-use Rattle.text.specs.Bytes.{Bytes, any, all, empty, same, among, distinct, between, keep}
+use Rattle.text.specs.Bytes.{Bytes, any, all, empty, same, among, distinct, between, keep, flat}
 use Rattle.text.proofs.Cases.{byBool, and-left, and-right, and-true, or-second}
 use Rattle.text.proofs.Same.{same-true, same-self, among-head, among-later}
 use Rattle.text.proofs.Choices.{none-some}
@@ -43,14 +43,14 @@ module _ (m : Map) (t : coherent m ≡ true) where
   with-proper (k ∷ ks) (e ∷ es) h d =
       let f = d .0 in (
         record {
-          proper = record { key = all-head isKeyText k ks h; texts = f .texts .form; codes = f .codes; order = f .order; row = t; pref = f .pref };
+          proper = record { key = all-head isKeyText k ks h; texts = f .texts .form; one-each = f .one-each; codes = f .codes; order = f .order; row = t; pref = f .pref };
           which = f .which;
           texts-utf8 = f .texts .in-utf8;
         },
         with-proper ks es (all-tail isKeyText k ks h) (d .1),
       )
 
-  with-carried : (ks : List Bytes) (es : List Entry) → All (Drawn m) es → all (λ (e : Entry). carriedAs (m .form) (e .texts)) (withKeys ks es) ≡ true
+  with-carried : (ks : List Bytes) (es : List Entry) → All (Drawn m) es → all (λ (e : Entry). carriedAs (m .form) (flat (e .parts))) (withKeys ks es) ≡ true
   unfolding withKeys all
   with-carried [] es d = refl
   with-carried (k ∷ ks) [] d = refl

@@ -15,9 +15,10 @@ use Rattle.text.proofs.Lists.{all-none, keep-none}
 use Rattle.line.specs.Grammar.{Param, paramName, Line}
 use Rattle.line.specs.Params.{named, valuesNamed, onlyNamed, valueType, besidesValue}
 use Rattle.convert.specs.Table.{Map, Slot, typeNames, vcardType, inOrder}
-use Rattle.convert.specs.Model.{Entry}
+use Rattle.convert.specs.Model.{Entry, singly}
 use Rattle.convert.specs.Value.{isKeyText, isPref, readAs, takesType}
 use Rattle.convert.specs.Classify.{Seen, isId, keyFrom, prefFrom, typesFrom, entryOf}
+use Rattle.convert.proofs.Forms.{flat-singly}
 use Rattle.convert.proofs.Orders.{inOrder-again}
 use Rattle.convert.proofs.Types.{below, codeOf}
 use Rattle.home.proofs.Alls.{All, all-test, each-gives}
@@ -27,7 +28,8 @@ use Rattle.home.proofs.ReadForms.{ReadWell, read-well}
 
 pub record Drawn (m : Map) (e : Entry) : Type 0 where
   pub key : empty (e .key) || isKeyText (e .key) ≡ true
-  pub texts : ReadWell (m .form) (e .texts)
+  pub texts : ReadWell (m .form) (flat (e .parts))
+  pub one-each : singly (flat (e .parts)) ≡ e .parts
   pub codes : all (below (m .types)) (e .types) ≡ true
   pub order : inOrder (e .types) ≡ e .types
   pub pref : empty (e .pref) || (among (ascii "pref") (m .parameters) && isPref (e .pref)) ≡ true
@@ -104,7 +106,8 @@ entry-drawn s w l e h o q =
     subst (λ (e : Entry). Drawn (w .map) e × (empty (e .key) || not (any (isId (w .index) (e .key)) (s .ids)) ≡ true)) (some-same (v .2)) (
       record {
         key = key .0;
-        texts = read-well (w .map .form) type (l .value) (v .0) (h .value) (v .1);
+        texts = rw (flat-singly (v .0)) (read-well (w .map .form) type (l .value) (v .0) (h .value) (v .1));
+        one-each = ap singly (flat-singly (v .0));
         codes = types .0;
         order = types .1;
         pref = pref-inv (w .map .parameters) ps (p .0) only (p .1);

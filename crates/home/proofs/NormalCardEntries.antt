@@ -6,7 +6,7 @@ use mathlib.Core.Option.{some}
 use Prim.Native.Nat.{ℕ, suc}
 use lib.ListN.{getD}
 use Rattle.text.specs.Choice.{pick}
-use Rattle.text.specs.Bytes.{Bytes, ascii, any, empty, same, lowered, joined}
+use Rattle.text.specs.Bytes.{Bytes, ascii, any, empty, same, lowered, joined, flat}
 use Rattle.text.proofs.Cases.{not-true}
 use Rattle.text.proofs.Choices.{none-some, some-same}
 use Rattle.line.specs.Grammar.{Param, param, Line}
@@ -18,6 +18,7 @@ use Rattle.convert.specs.Classify.{Seen, isId, keyFrom, prefFrom, typesFrom, en
 use Rattle.convert.specs.Property.{property, paramOf}
 use Rattle.convert.specs.ToCard.{entryLine}
 use Rattle.convert.specs.NormalCard.{typeForm, valueForm, entryValue, entryForm, propId}
+use Rattle.convert.proofs.Forms.{flat-singly}
 use Rattle.convert.proofs.Types.{typeText}
 use Rattle.home.proofs.Known.{onProvided, onChain, onSome}
 use Rattle.home.proofs.Positions.{position-name, pref-filled}
@@ -60,7 +61,7 @@ pref-given (v ∷ (w ∷ vs)) p e = none-some e
 
 -- with another key
 abbrev pub rekeyed : Bytes → Entry → Entry
-rekeyed k e = record { key = k; which = e .which; texts = e .texts; types = e .types; pref = e .pref }
+rekeyed k e = record { key = k; which = e .which; parts = e .parts; types = e .types; pref = e .pref }
 
 -- what makes the entry of a line
 module _ (s : Seen) (w : Slot) (l : Line) (e : Entry) where
@@ -69,7 +70,7 @@ module _ (s : Seen) (w : Slot) (l : Line) (e : Entry) where
 
   onEntry {ℓ} : {P : Type ℓ} → entryOf s w l ≡ some e
       → (keyFrom s (w .index) (valuesNamed (ascii "prop-id") ps) ≡ some (e .key) → prefFrom (valuesNamed (ascii "pref") ps) ≡ some (e .pref)
-      → typesFrom (w .map .types) (valuesNamed (ascii "type") ps) ≡ some (e .types) → readAs (w .map .form) (valueType (l .params)) (l .value) ≡ some (e .texts) → w .which ≡ e .which → P) → P
+      → typesFrom (w .map .types) (valuesNamed (ascii "type") ps) ≡ some (e .types) → readAs (w .map .form) (valueType (l .params)) (l .value) ≡ some (flat (e .parts)) → w .which ≡ e .which → P) → P
   unfolding entryOf
   onEntry h go =
       onProvided (empty (l .group) && onlyNamed (w .map .parameters) ps && takesType (w .map .form) (valueType (l .params))) _ h λ t a.
@@ -78,7 +79,7 @@ module _ (s : Seen) (w : Slot) (l : Line) (e : Entry) where
       onChain (typesFrom (w .map .types) (valuesNamed (ascii "type") ps)) _ a2 λ ts e3 a3.
       onChain (readAs (w .map .form) (valueType (l .params)) (l .value)) _ a3 λ vs e4 a4.
       let q = some-same a4 in
-      go (e1 ∙ ap (λ (x : Entry). some (x .key)) q) (e2 ∙ ap (λ (x : Entry). some (x .pref)) q) (e3 ∙ ap (λ (x : Entry). some (x .types)) q) (e4 ∙ ap (λ (x : Entry). some (x .texts)) q) (ap (λ (x : Entry). x .which) q)
+      go (e1 ∙ ap (λ (x : Entry). some (x .key)) q) (e2 ∙ ap (λ (x : Entry). some (x .pref)) q) (e3 ∙ ap (λ (x : Entry). some (x .types)) q) (e4 ∙ ap some (sym (flat-singly vs)) ∙ ap (λ (x : Entry). some (flat (x .parts))) q) (ap (λ (x : Entry). x .which) q)
 
   pub entry-which : entryOf s w l ≡ some e → w .which ≡ e .which
   entry-which h = onEntry h λ k p t v n. n
@@ -88,7 +89,7 @@ module _ (s : Seen) (w : Slot) (l : Line) (e : Entry) where
   entry-key h = onEntry h λ k p t v n. key-given s (w .index) _ (e .key) k ∙ ap (joined []) (values-besides (ascii "prop-id") (l .params) refl)
 
   params-form : entryOf s w l ≡ some e
-      → pick (empty (e .pref)) [] (param (ascii "pref") (e .pref ∷ []) ∷ []) ++ paramOf (ascii "type") (map typeText (e .types)) ++ paramOf (ascii "value") (writtenType (w .map .form) (e .texts))
+      → pick (empty (e .pref)) [] (param (ascii "pref") (e .pref ∷ []) ∷ []) ++ paramOf (ascii "type") (map typeText (e .types)) ++ paramOf (ascii "value") (writtenType (w .map .form) (flat (e .parts)))
       ≡ paramOf (ascii "pref") (valuesNamed (ascii "pref") (l .params)) ++ paramOf (ascii "type") (typeForm (valuesNamed (ascii "type") (l .params)))
       ++ paramOf (ascii "value") (valueForm (w .map .form) (valueType (l .params)) (l .value))
   unfolding same
@@ -97,16 +98,16 @@ module _ (s : Seen) (w : Slot) (l : Line) (e : Entry) where
       ap₂ _++_
       (ap₂ _++_ (pref-given (valuesNamed (ascii "pref") ps) (e .pref) p ∙ ap (paramOf (ascii "pref")) (values-besides (ascii "pref") (l .params) refl))
       (ap (paramOf (ascii "type")) (types-form (w .map .types) (valuesNamed (ascii "type") ps) (e .types) t ∙ ap typeForm (values-besides (ascii "type") (l .params) refl))))
-      (ap (paramOf (ascii "value")) (form-written (w .map .form) (valueType (l .params)) (l .value) (e .texts) v .1))
+      (ap (paramOf (ascii "value")) (form-written (w .map .form) (valueType (l .params)) (l .value) (flat (e .parts)) v .1))
 
   name-form : entryOf s w l ≡ some e → slotOf (lowered (l .name)) ≡ some w → getD (w .map .properties) (e .which) [] ≡ lowered (l .name)
   name-form h o = onEntry h λ k p t v n. ap (λ (x : ℕ). getD (w .map .properties) x []) (sym n) ∙ sym (slot-name (lowered (l .name)) w o)
 
-  value-form : entryOf s w l ≡ some e → writeAs (w .map .form) (e .texts) ≡ entryValue (w .map .form) (valueType (l .params)) (l .value)
-  value-form h = onEntry h λ k p t v n. form-written (w .map .form) (valueType (l .params)) (l .value) (e .texts) v .0
+  value-form : entryOf s w l ≡ some e → writeAs (w .map .form) (flat (e .parts)) ≡ entryValue (w .map .form) (valueType (l .params)) (l .value)
+  value-form h = onEntry h λ k p t v n. form-written (w .map .form) (valueType (l .params)) (l .value) (flat (e .parts)) v .0
 
   pub entry-line : entryOf s w l ≡ some e → slotOf (lowered (l .name)) ≡ some w → (k : Bytes) → entryLine (w .map) (rekeyed k e) ≡ entryForm (w .map) k l
   unfolding entryLine entryForm
   entry-line h o k =
-      ap₂ (λ (n : Bytes) (x : List Param). property n (param (ascii "prop-id") (k ∷ []) ∷ x) (writeAs (w .map .form) (e .texts))) (name-form h o) (params-form h)
+      ap₂ (λ (n : Bytes) (x : List Param). property n (param (ascii "prop-id") (k ∷ []) ∷ x) (writeAs (w .map .form) (flat (e .parts)))) (name-form h o) (params-form h)
       ∙ ap (property (lowered (l .name)) _) (value-form h)

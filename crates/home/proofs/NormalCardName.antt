@@ -9,7 +9,7 @@ use Rattle.text.proofs.Lists.{all-head}
 use Rattle.line.specs.Grammar.{Line}
 use Rattle.line.specs.Text.{writeText}
 use Rattle.convert.specs.Model.{hasParts, noParts}
-use Rattle.convert.specs.Value.{writtenParts, writeName}
+use Rattle.convert.specs.Value.{writtenParts, writeName, writeParts}
 use Rattle.convert.specs.Classify.{Class, as-version, as-uid, as-kind, as-dropped, as-full, as-parts, as-entry, as-member, as-kept, Seen, classedAfter}
 use Rattle.convert.specs.FromCard.{Gives, gives, gathered, firstOf, orElse}
 use Rattle.convert.specs.Property.{property}
@@ -109,7 +109,7 @@ parts-form s ls =
     sym (map-id (gathered (λ (g : Gives). g .parts) (classedAfter s ls))) ∙ gathered-section (λ (g : Gives). g .parts) names (λ ps. ps) (λ (l : Line). nameValues (l .value)) parts-agrees s ls
 
 written-name : (ps : List (List Bytes)) → writeName ps ≡ nameText ps
-unfolding writeName writtenParts nameText
+unfolding writeParts writtenParts nameText
 written-name ps = refl
 
 module _ (ns : List Line) where

@@ -11,7 +11,8 @@ use Rattle.text.proofs.Choices.{some-same}
 use Rattle.text.proofs.Lists.{each-length, all-anything}
 use Rattle.line.specs.Text.{readText, splitText}
 use Rattle.convert.specs.Model.{hasParts, part}
-use Rattle.convert.specs.Value.{filled, partValues, without, ownParts, readName}
+use Rattle.convert.specs.Table.{nameRow}
+use Rattle.convert.specs.Value.{filled, partValues, without, ownParts, readName, readParts}
 use Rattle.convert.specs.NormalCard.{textOf, partTexts, nameValues}
 use Rattle.convert.proofs.Names.{without-none, full}
 use Rattle.home.proofs.Known.{onProvided, onChain, onMap}
@@ -64,21 +65,21 @@ seven (a ∷ (b ∷ (c ∷ (d ∷ (e ∷ (f ∷ [])))))) l h = h
 seven (a ∷ (b ∷ (c ∷ (d ∷ (e ∷ (f ∷ (g ∷ []))))))) l h = h
 seven (a ∷ (b ∷ (c ∷ (d ∷ (e ∷ (f ∷ (g ∷ (x ∷ xs)))))))) l h = absurd (omega tests)
 
-own-some : (ps : List (List Bytes)) → leb (length ps) 7 ≡ true → any full ps ≡ true → hasParts (ownParts ps) ≡ true
+own-some : (ps : List (List Bytes)) → leb (length ps) 7 ≡ true → any full ps ≡ true → hasParts (ownParts nameRow ps) ≡ true
 unfolding hasParts ownParts any
 own-some ps l h =
     still-some (full (part ps 0)) (full (part ps 1)) (full (part ps 2)) (full (part ps 3)) (full (part ps 4)) (full (part ps 5)) (full (part ps 6)) (full (without (part ps 5) (part ps 0))) (full (without (part ps 6) (part ps 4)))
     (still-full (part ps 0) (part ps 5)) (still-full (part ps 4) (part ps 6)) (seven ps l h)
 
-own-values : (v : Bytes) → ownParts (map partTexts (splitText 59 v)) ≡ nameValues v
+own-values : (v : Bytes) → ownParts nameRow (map partTexts (splitText 59 v)) ≡ nameValues v
 unfolding ownParts nameValues without
 own-values v = refl
 
 pub name-read : (v : Bytes) (ps : List (List Bytes)) → readName v ≡ some ps → (ps ≡ nameValues v) × (hasParts ps ≡ true)
-unfolding readName
+unfolding readParts
 name-read v ps e =
     onProvided (leb (length (splitText 59 v)) 7) _ e λ l a.
     onChain (each partValues (splitText 59 v)) _ a λ qs p b.
-    onProvided (any (λ vs. not (empty vs)) qs) (some (ownParts qs)) b λ h c.
+    onProvided (any (λ vs. not (empty vs)) qs) (some (ownParts nameRow qs)) b λ h c.
     rw (← some-same c)
-    (ap ownParts (parts-values (splitText 59 v) qs p) ∙ own-values v, own-some qs (rw (each-length partValues (splitText 59 v) qs p) l) h)
+    (ap (ownParts nameRow) (parts-values (splitText 59 v) qs p) ∙ own-values v, own-some qs (rw (each-length partValues (splitText 59 v) qs p) l) h)

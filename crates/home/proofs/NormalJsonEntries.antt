@@ -18,6 +18,7 @@ use Rattle.convert.specs.Value.{filled, headOr, isKeyText, isPref}
 use Rattle.convert.specs.FromJson.{onlyMembers, flagsFrom, unitFrom, organizationFrom, contentFrom, entryMembers, entryFrom, mapFrom}
 use Rattle.convert.specs.ToJson.{where′, contentJson, entryJson, mapsJson}
 use Rattle.convert.specs.NormalJson.{fieldsOf, itemsOf, isEmptyText, as-is, unlessGone, isOrganization, isUnit, contentForm, entryTree, mapTree}
+use Rattle.convert.proofs.Forms.{flat-singly}
 use Rattle.convert.proofs.EntryJson.{unitJson}
 use Rattle.home.proofs.Known.{onProvided, onChain, onMap, onEach, onOptional}
 use Rattle.home.proofs.Images.{each-keep, each-same, empty-map}
@@ -208,7 +209,7 @@ module _ (m : Map) (r : Row m) where
       onChain (with-some (field (ascii "pref") ms) (λ v. chain (asNumber v) λ p. provided (isPref p) (some p)) (some [])) _ c4 λ p e5 c5.
       let n : all (λ m. distinctNames (valueOf m)) ms ≡ true = rw o at (fields-distinct j d) in
       let g : Given ms xs fs = (flags-read 0 (take 2 typeNames) (ascii "contexts") ms xs e3, flags-read 2 (drop 2 typeNames) (ascii "features") ms fs e4) in
-      rw (← some-same c5, o)
+      rw (← some-same c5, o, flat-singly vs)
       (ap (λ (l : List Member). member k (object l))
       (ap₂ _++_ (ap₂ _++_ (ap₂ _++_ (ap₂ _++_ (kind-part (m .kinds) ms w (r .kinds) e1) (content-part m r ms vs n e2)) (contexts-form ms xs fs g)) (features-form ms xs fs g)) (pref-part ms p e5)))
 

@@ -13,7 +13,7 @@ use Rattle.json.specs.Tree.{Json, jstr, Member, member, field, object, array, a
 use Rattle.convert.specs.Table.{componentKinds, position}
 use Rattle.convert.specs.Model.{hasParts}
 use Rattle.convert.specs.Value.{filled}
-use Rattle.convert.specs.FromJson.{onlyMembers, Component, component, componentOf, ofKind, byKind, Name, isFalse, nameFrom}
+use Rattle.convert.specs.FromJson.{onlyMembers, Component, component, componentOf, componentIn, ofKind, byKind, Name, isFalse, nameFrom}
 use Rattle.convert.specs.ToJson.{where′, whereSome, componentsOf, nameJson}
 use Rattle.convert.specs.NormalJson.{itemsOf, as-is, unlessGone, isComponent, componentTree, componentsForm, nameForm}
 use Rattle.convert.proofs.NameJson.{kindAt, componentJson}
@@ -43,7 +43,7 @@ shown j ms kj vj s v k o f g p h e =
     )
 
 onComponent {ℓ} : {P : Type ℓ} (j : Json) (c : Component) → componentOf j ≡ some c → ((k : ℕ) (v : Bytes) → component k v ≡ c → Shown j k v → P) → P
-unfolding componentOf
+unfolding componentIn
 onComponent j c e go =
     onChain (asObject j) _ e λ ms o r.
     onProvided (onlyMembers (ascii "kind" ∷ ascii "value" ∷ []) ms) _ r λ t b.

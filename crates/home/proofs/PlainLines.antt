@@ -102,11 +102,11 @@ entry-own i m e r = row-own _ (r .own)
 entry-plain : (i : ℕ) (m : Map) (e : Entry) → Row i m (e .which) → Plain (entryLine m e)
 entry-plain i m e r =
     let ts : List Bytes = map typeText (e .types) in
-    let vs : List Bytes = writtenType (m .form) (e .texts) in
+    let vs : List Bytes = writtenType (m .form) (flat (e .parts)) in
     record {
       own = entry-own i m e r;
       group = rw (entry-params m e) (four-group (e .key ∷ []) (prefValues (e .pref)) ts vs);
-      value = rw (entry-params m e, the-value (e .key ∷ []) (prefValues (e .pref)) ts vs) (written-fits (m .form) (e .texts));
+      value = rw (entry-params m e, the-value (e .key ∷ []) (prefValues (e .pref)) ts vs) (written-fits (m .form) (flat (e .parts)));
     }
 
 entries-plain : (i : ℕ) (m : Map) (es : List Entry) → ((w : ℕ) → ltb w (length (m .properties)) ≡ true → Row i m w) → ProperEntries m es → All Plain (map (entryLine m) es)

@@ -5,7 +5,7 @@ use mathlib.Core.List.{List, [], _∷_, map}
 use lib.ListN.{length}
 use lib.Dec.{ltb}
 use Rattle.text.specs.Choice.{with-some}
-use Rattle.text.specs.Bytes.{any, all, among, empty, distinct}
+use Rattle.text.specs.Bytes.{any, all, among, empty, distinct, flat}
 use Rattle.text.specs.Utf8.{utf8}
 use Rattle.json.specs.Tree.{Member, nameOf, valueOf}
 use Rattle.json.proofs.Sound.{Sound}
@@ -22,7 +22,7 @@ use Rattle.convert.proofs.Entries.{Proper}
 pub record ProperEntry (m : Map) (e : Entry) : Type 0 where
   pub proper : Proper m e
   pub which : ltb (e .which) (length (m .properties)) ≡ true
-  pub texts-utf8 : all utf8 (e .texts) ≡ true
+  pub texts-utf8 : all utf8 (flat (e .parts)) ≡ true
 
 abbrev pub ProperEntries : Map → List Entry → Type 0
 ProperEntries m [] = Unit {0}

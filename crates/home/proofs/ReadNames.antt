@@ -15,7 +15,8 @@ use Rattle.text.proofs.Choices.{some-same, provided-inv, chain-inv, map-inv}
 use Rattle.text.proofs.Lists.{keep-passes, each-length, not-full}
 use Rattle.line.specs.Text.{readText, splitText}
 use Rattle.convert.specs.Model.{hasParts, part}
-use Rattle.convert.specs.Value.{filled, partValues, without, ownParts, readName}
+use Rattle.convert.specs.Table.{nameRow}
+use Rattle.convert.specs.Value.{filled, partValues, without, ownParts, readName, readParts}
 use Rattle.convert.specs.Carry.{carriedText, apart}
 use Rattle.convert.proofs.Names.{without-none, full}
 use Rattle.home.proofs.Alls.{All, all-test, test-all, all-mono, all-two, all-kept, each-gives}
@@ -39,12 +40,12 @@ part-all P [] i h = tt
 part-all P (p ∷ ps) zero h = h .0
 part-all P (p ∷ ps) (suc i) h = part-all P ps i (h .1)
 
-own-all : (P : Bytes → Type 0) (ps : List (List Bytes)) → All (All P) ps → All (All P) (ownParts ps)
+own-all : (P : Bytes → Type 0) (ps : List (List Bytes)) → All (All P) ps → All (All P) (ownParts nameRow ps)
 unfolding ownParts without
 own-all P ps h =
     (all-kept P _ (part ps 0) (part-all P ps 0 h), (part-all P ps 1 h, (part-all P ps 2 h, (part-all P ps 3 h, (all-kept P _ (part ps 4) (part-all P ps 4 h), (part-all P ps 5 h, (part-all P ps 6 h, tt)))))))
 
-own-apart : (ps : List (List Bytes)) → (apart (part (ownParts ps) 0) (part (ownParts ps) 5) ≡ true) × (apart (part (ownParts ps) 4) (part (ownParts ps) 6) ≡ true)
+own-apart : (ps : List (List Bytes)) → (apart (part (ownParts nameRow ps) 0) (part (ownParts nameRow ps) 5) ≡ true) × (apart (part (ownParts nameRow ps) 4) (part (ownParts nameRow ps) 6) ≡ true)
 unfolding ownParts without apart
 own-apart ps = (keep-passes (λ v. not (among v (part ps 5))) (part ps 0), keep-passes (λ v. not (among v (part ps 6))) (part ps 4))
 
@@ -58,7 +59,7 @@ none-full (p ∷ ps) (suc n) l h =
     let z : p ≡ [] = h 0 (omega arith) in
     rw z (none-full ps n (omega arith) (λ i k. h (suc i) (omega arith)))
 
-still : (ps : List (List Bytes)) → hasParts (ownParts ps) ≡ false → (i : ℕ) → i < 7 → part ps i ≡ []
+still : (ps : List (List Bytes)) → hasParts (ownParts nameRow ps) ≡ false → (i : ℕ) → i < 7 → part ps i ≡ []
 unfolding hasParts ownParts any
 still ps e =
     let a : Bool = full (without (part ps 5) (part ps 0)) in
@@ -84,8 +85,8 @@ still ps e =
     seven a b c d e f g (suc (suc (suc (suc (suc (suc zero)))))) l = g
     seven a b c d e f g (suc (suc (suc (suc (suc (suc (suc i))))))) l = absurd (omega arith)
 
-own-parts : (ps : List (List Bytes)) → length ps ≤ 7 → any full ps ≡ true → hasParts (ownParts ps) ≡ true
-own-parts ps l h = byBool (hasParts (ownParts ps)) (λ e. e) (λ e. not-both h (none-full ps 7 l (still ps e)))
+own-parts : (ps : List (List Bytes)) → length ps ≤ 7 → any full ps ≡ true → hasParts (ownParts nameRow ps) ≡ true
+own-parts ps l h = byBool (hasParts (ownParts nameRow ps)) (λ e. e) (λ e. not-both h (none-full ps 7 l (still ps e)))
 
 -- ---- the name
 
@@ -99,23 +100,23 @@ pub record NameWell (ps : List (List Bytes)) : Type 0 where
 all-parts : (p : Bytes → Bool) → ((v : Bytes) → Value v → p v ≡ true) → (ps : List (List Bytes)) → All (All Value) ps → all (all p) ps ≡ true
 all-parts p g ps h = all-test (all p) ps (all-mono (All Value) (λ vs. all p vs ≡ true) (λ vs k. all-test p vs (all-mono Value (λ v. p v ≡ true) g vs k)) ps h)
 
-well : (rs : List (List Bytes)) → All (All Value) (ownParts rs) → NameWell (ownParts rs)
+well : (rs : List (List Bytes)) → All (All Value) (ownParts nameRow rs) → NameWell (ownParts nameRow rs)
 unfolding ownParts
 well rs k =
     record {
       seven = refl;
-      whole = all-parts (λ v. filled v && utf8 v) (λ v g. and-true (g .1) (g .0 .0)) (ownParts rs) k;
-      carry = all-parts carriedText (λ v g. g .0 .1) (ownParts rs) k;
+      whole = all-parts (λ v. filled v && utf8 v) (λ v g. and-true (g .1) (g .0 .0)) (ownParts nameRow rs) k;
+      carry = all-parts carriedText (λ v g. g .0 .1) (ownParts nameRow rs) k;
       apart-0 = own-apart rs .0;
       apart-4 = own-apart rs .1;
     }
 
 pub name-well : (v : Bytes) (ps : List (List Bytes)) → Clean v → readName v ≡ some ps → NameWell ps × (hasParts ps ≡ true)
-unfolding readName
+unfolding readParts
 name-well v ps h e =
     let p = provided-inv (leb (length (splitText 59 v)) 7) _ e in
-    let i = chain-inv (each partValues (splitText 59 v)) (λ ps. provided (any (λ vs. not (empty vs)) ps) (some (ownParts ps))) (p .1) in
-    let q = provided-inv (any full (i .0)) (some (ownParts (i .0))) (i .2) in
+    let i = chain-inv (each partValues (splitText 59 v)) (λ ps. provided (any (λ vs. not (empty vs)) ps) (some (ownParts nameRow ps))) (p .1) in
+    let q = provided-inv (any full (i .0)) (some (ownParts nameRow (i .0))) (i .2) in
     let k = own-all Value (i .0) (each-gives partValues Clean (All Value) part-values (splitText 59 v) (i .0) (split-clean 59 v refl h) (i .1)) in
     let l : length (i .0) ≤ 7 = omega (tests, p .0, each-length partValues (splitText 59 v) (i .0) (i .1)) in
     subst (λ (x : List (List Bytes)). NameWell x × (hasParts x ≡ true)) (some-same (q .1)) (well (i .0) k, own-parts (i .0) l (q .0))

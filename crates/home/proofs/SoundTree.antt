@@ -4,7 +4,7 @@ use mathlib.Core.Bool.{Bool, true, _&&_, _||_, not}
 use mathlib.Core.List.{List, [], _∷_, _++_, map}
 use Prim.Native.Nat.{ℕ, suc}
 use lib.ListN.{getD}
-use Rattle.text.specs.Bytes.{Bytes, ascii, empty, among, distinct, keep}
+use Rattle.text.specs.Bytes.{Bytes, ascii, empty, among, distinct, keep, flat}
 use Rattle.text.proofs.Cases.{and-right, not-both}
 use Rattle.json.specs.Tree.{jtrue, jnum, jstr, Member, member, nameOf, object}
 use Rattle.convert.specs.Table.{Map, contextCodes, featureCodes}
@@ -28,7 +28,7 @@ module _ (m : Map) (e : Entry) where
   kindPart = where′ (not (empty (m .kinds))) kindMember
 
   abbrev contentPart : List Member
-  contentPart = contentJson (m .form) (m .content) (e .texts)
+  contentPart = contentJson (m .form) (m .content) (flat (e .parts))
 
   abbrev flagsMember : Bytes → List ℕ → Member
   flagsMember n group = member n (object (map (λ c. member (typeJson c) jtrue) (keep (inGroup group) (e .types))))
@@ -50,7 +50,7 @@ module _ (m : Map) (e : Entry) where
       sub-names (kindPart ++ contentPart ++ flagsPart (ascii "contexts") contextCodes ++ flagsPart (ascii "features") featureCodes) prefPart
       (sub-names (kindPart ++ contentPart ++ flagsPart (ascii "contexts") contextCodes) (flagsPart (ascii "features") featureCodes)
       (sub-names (kindPart ++ contentPart) (flagsPart (ascii "contexts") contextCodes)
-      (sub-names kindPart contentPart (sub-where (not (empty (m .kinds))) kindMember) (content-sub (m .form) (m .content) (e .texts)))
+      (sub-names kindPart contentPart (sub-where (not (empty (m .kinds))) kindMember) (content-sub (m .form) (m .content) (flat (e .parts))))
       (sub-where (flagged contextCodes) (flagsMember (ascii "contexts") contextCodes)))
       (sub-where (flagged featureCodes) (flagsMember (ascii "features") featureCodes))) (sub-where (filled (e .pref)) prefMember)
 
@@ -87,7 +87,7 @@ module _ (m : Map) (e : Entry) where
           (all-joined S (kindPart ++ contentPart ++ flagsPart (ascii "contexts") contextCodes ++ flagsPart (ascii "features") featureCodes) prefPart
           (all-joined S (kindPart ++ contentPart ++ flagsPart (ascii "contexts") contextCodes) (flagsPart (ascii "features") featureCodes)
           (all-joined S (kindPart ++ contentPart) (flagsPart (ascii "contexts") contextCodes)
-          (all-joined S kindPart contentPart kind-sound (content-sound d (m .form) (m .content) (e .texts) (r .content) (g .texts-utf8))) contexts-sound) features-sound) pref-sound),
+          (all-joined S kindPart contentPart kind-sound (content-sound d (m .form) (m .content) (flat (e .parts)) (r .content) (g .texts-utf8))) contexts-sound) features-sound) pref-sound),
     )
 
 -- ---- the maps

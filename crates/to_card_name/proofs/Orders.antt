@@ -10,7 +10,7 @@ use Rattle.line.proofs.Texts.{write-append}
 use Rattle.card_pen.specs.Styles.{writtenIn, standsIn, allStandIn}
 use Rattle.card_pen.proofs.Styles.{written-text, written-parts, stands-text}
 use Rattle.convert.specs.Model.{part}
-use Rattle.convert.specs.Value.{writtenParts, writeName}
+use Rattle.convert.specs.Value.{writtenParts, writeName, writeParts}
 use Rattle.convert.specs.Carry.{carriedText}
 use Rattle.to_card_parts.specs.Parts.{listFrom}
 use Rattle.to_card_parts.proofs.Values.{list-append, empty-map}
@@ -69,7 +69,7 @@ module _ (p0 p1 p2 p3 p4 p5 p6 : List Bytes) where
   plain p = listFrom 44 false (map (writtenIn 2) p)
 
   pub name-order : orderFrom 2 44 parts false (ascii "05;1;2;3;46;5;6") ≡ writeName parts
-  unfolding orderFrom valuesAt writeName writtenParts joined
+  unfolding orderFrom valuesAt writeParts writtenParts joined
   name-order =
       let r6 : Bytes = plain p6 ++ [] in
       let r5 : Bytes = plain p5 ++ 59 ∷ r6 in

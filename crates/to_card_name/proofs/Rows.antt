@@ -18,10 +18,11 @@ use Rattle.line_pen.proofs.Filling.{then}
 use Rattle.card_pen.specs.Styles.{writtenIn, allStandIn}
 use Rattle.card_pen.proofs.Styles.{written-text, stands-text}
 use Rattle.json_strings.specs.Spelled.{spelled}
+use Rattle.convert.specs.Table.{nameRow}
 use Rattle.convert.specs.Model.{part, hasParts}
 use Rattle.convert.specs.Value.{writeName}
 use Rattle.convert.specs.FromJson.{Component, byKind}
-use Rattle.convert.specs.Carry.{carriedText, apart}
+use Rattle.convert.specs.Carry.{carriedText, apart, apartParts}
 use Rattle.convert.specs.Property.{property}
 use Rattle.convert.specs.ToCard.{lineWhere, derivedLine}
 use Rattle.card_value.specs.Values.{StringIs}
@@ -131,16 +132,20 @@ unfolding apart all
 apart-none ws = refl
 
 parts-none : (ps : List (List Bytes)) → hasParts ps ≡ false → partsCarried ps ≡ true
-unfolding hasParts partsCarried
+unfolding hasParts partsCarried apartParts
 parts-none ps e =
     let a : apart (part ps 0) (part ps 5) ≡ true = ap (λ (x : List Bytes). apart x (part ps 5)) (none-there ps e 0) ∙ apart-none (part ps 5) in
     let b : apart (part ps 4) (part ps 6) ≡ true = ap (λ (x : List Bytes). apart x (part ps 6)) (none-there ps e 4) ∙ apart-none (part ps 6) in
     rw (none-carried ps e, a, b)
 
+and-end : (b : Bool) → b ≡ (b && true)
+and-end true = refl
+and-end false = refl
+
 apart-kinds : (cs : List Component) (a b : Bool) → a ≡ apart (valuesOf 0 cs) (valuesOf 5 cs) → b ≡ apart (valuesOf 4 cs) (valuesOf 6 cs)
-    → (a && b) ≡ (apart (part (byKind cs) 0) (part (byKind cs) 5) && apart (part (byKind cs) 4) (part (byKind cs) 6))
-unfolding byKind valuesOf
-apart-kinds cs a b e f = ap (λ (x : Bool). x && b) e ∙ ap (λ (x : Bool). apart (valuesOf 0 cs) (valuesOf 5 cs) && x) f
+    → (a && b) ≡ apartParts nameRow (byKind cs)
+unfolding byKind valuesOf apartParts
+apart-kinds cs a b e f = ap (λ (x : Bool). x && b) e ∙ ap (λ (x : Bool). apart (valuesOf 0 cs) (valuesOf 5 cs) && x) (f ∙ and-end (apart (valuesOf 4 cs) (valuesOf 6 cs)))
 
 module _ (s : Bytes) (at : ℕ) (m : List ℕ) (room : Bytes) (b : Bool) (told : TellsParts m b) where
   pub n-none : b ≡ false → NLine s at m room (record { bytes = 0; lines = 0; carried = true }) room
@@ -188,10 +193,6 @@ module _ (s : Bytes) (full : ℕ) (room : Bytes) where
         ap (λ (x : List Line). All n (length (fnLine (record { full = f; parts = ps }) ∷ x)) ok) (sym l) ∙ ap (All n (length (fnLine (record { full = f; parts = ps }) ∷ lineWhere (hasParts ps) (nLine ps)))) k,
         fills-as (t ∙ sym (lines-one (fnLine (record { full = f; parts = ps }))) ∙ ap (λ (x : List Line). linesBytes (fnLine (record { full = f; parts = ps }) ∷ x)) (sym l)) w,
       )
-    where
-      and-end : (b : Bool) → b ≡ (b && true)
-      and-end true = refl
-      and-end false = refl
 
   no-parts : hasParts (byKind []) ≡ false
   unfolding hasParts any

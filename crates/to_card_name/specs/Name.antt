@@ -13,10 +13,11 @@ use Rattle.line.specs.Text.{writeText}
 use Rattle.line.specs.Write.{foldFrom}
 use Rattle.json_index.specs.Index.{Slot}
 use Rattle.line_pen.specs.Pen.{Fills}
-use Rattle.convert.specs.Model.{part, hasParts}
+use Rattle.convert.specs.Table.{nameRow}
+use Rattle.convert.specs.Model.{hasParts}
 use Rattle.convert.specs.Value.{writeName}
 use Rattle.convert.specs.FromJson.{Component, componentOf, byKind, Name, nameless, isFalse, nameFrom}
-use Rattle.convert.specs.Carry.{carriedText, apart}
+use Rattle.convert.specs.Carry.{carriedText, apart, apartParts}
 use Rattle.convert.specs.Property.{property}
 use Rattle.convert.specs.ToCard.{lineWhere, derivedLine}
 use Rattle.card_value.specs.Values.{StringIs}
@@ -58,7 +59,7 @@ abbrev pub nLine : List (List Bytes) → Line
 nLine ps = property (ascii "n") [] (writeName ps)
 
 unfoldable pub partsCarried : List (List Bytes) → Bool
-partsCarried ps = all (all carriedText) ps && (apart (part ps 0) (part ps 5) && apart (part ps 4) (part ps 6))
+partsCarried ps = all (all carriedText) ps && apartParts nameRow ps
 
 unfoldable pub nameLines : Name → Part
 nameLines n = record { lines = fnLine n ∷ lineWhere (hasParts (n .parts)) (nLine (n .parts)); carried = with-some (n .full) carriedText true && partsCarried (n .parts) }

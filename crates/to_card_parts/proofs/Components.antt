@@ -19,7 +19,7 @@ use Rattle.json_strings.specs.Spelled.{spelled}
 use Rattle.json_index.specs.Index.{jsonAt, placed, firstAt, Slot, Clear, Indexed, IndexOf, Indexes}
 use Rattle.json_index.proofs.Fields.{first-field, first-other}
 use Rattle.convert.specs.Table.{position, componentKinds}
-use Rattle.convert.specs.FromJson.{onlyMembers, Component, component, componentOf}
+use Rattle.convert.specs.FromJson.{onlyMembers, Component, component, componentIn}
 use Rattle.card_value.specs.Values.{StringIs, TellsString}
 use Rattle.to_card_head.proofs.Slots.{slot-none, slot-some}
 use Rattle.to_card_parts.specs.declared.Found.{Found}
@@ -139,7 +139,7 @@ differ = refl
 
 module _ (s : Bytes) (at : ℕ) (xs : List ℕ) (r : Bool) (index : Indexes 12 s at (ascii "kind,value") xs r) where
   pub object-not : r ≡ false → TellsComponent s at Wrong
-  unfolding componentOf
+  unfolding componentIn
   object-not e v w = by (asObject v) (index v w)
     where
       by : (o : Option (List Member)) → IndexOf 12 s (parts 44 (ascii "kind,value")) xs r o
@@ -154,7 +154,7 @@ module _ (s : Bytes) (at : ℕ) (xs : List ℕ) (r : Bool) (index : Indexes 12 s
     -- the object's members are the slots', and no others
     by-members : (f : Found) → ((ms : List Member) → Slot 12 s (getD xs 0 0) (field (ascii "kind") ms) → Slot 12 s (getD xs 1 0) (field (ascii "value") ms) → Slot 12 s (getD xs 2 0) (firstAt names 2 ms)
         → ComponentIs s f (provided (onlyMembers names ms) (both component (kindFrom (field (ascii "kind") ms)) (stringFrom (field (ascii "value") ms))))) → TellsComponent s at f
-    unfolding componentOf
+    unfolding componentIn
     by-members f g v w = by (asObject v) (index v w)
       where
         by : (o : Option (List Member)) → IndexOf 12 s (parts 44 (ascii "kind,value")) xs r o

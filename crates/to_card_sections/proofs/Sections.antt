@@ -7,12 +7,12 @@ use Rattle.text.specs.Choice.{with-some, both, chain, provided}
 use Rattle.text.specs.Bytes.{Bytes, ascii, all, each}
 use Rattle.json.specs.Tree.{Json, Member, nameOf, field, asArray}
 use Rattle.line.specs.Grammar.{Line}
-use Rattle.convert.specs.Table.{maps}
-use Rattle.convert.specs.Model.{Entry, Kept, Card, part}
+use Rattle.convert.specs.Table.{maps, nameRow}
+use Rattle.convert.specs.Model.{Entry, Kept, Card}
 use Rattle.convert.specs.Classify.{Seen}
 use Rattle.convert.specs.Value.{filled}
 use Rattle.convert.specs.FromJson.{Name, mapFrom, keptFrom, keptAsLine, keptStands, otherMembers, seenIn, standing, cardFromMembers}
-use Rattle.convert.specs.Carry.{carried, carriedRaw, carriedText, carriedParam, carriedKept, carriedMaps, apart}
+use Rattle.convert.specs.Carry.{carried, carriedRaw, carriedText, carriedParam, carriedKept, carriedMaps, apartParts}
 use Rattle.convert.specs.Property.{property}
 use Rattle.convert.specs.ToCard.{cardLines, mapsLines, memberLine, fullLine, whereFilled}
 use Rattle.to_card_lines.specs.Lines.{Part, joinParts, partsOf}
@@ -94,13 +94,12 @@ and-assoc : (a b c : Bool) → ((a && b) && c) ≡ (a && (b && c))
 and-assoc true b c = refl
 and-assoc false b c = refl
 
-eight : (a b c d e f g h : Bool) → (a && ((b && (c && (d && e))) && (f && (g && h)))) ≡ (((((((a && b) && c) && d) && e) && f) && g) && h)
-eight true true true true true f g h = sym (and-assoc f g h)
-eight true true true true false f g h = refl
-eight true true true false e f g h = refl
-eight true true false d e f g h = refl
-eight true false c d e f g h = refl
-eight false b c d e f g h = refl
+seven : (a b c d e f g : Bool) → (a && ((b && (c && d)) && (e && (f && g)))) ≡ ((((((a && b) && c) && d) && e) && f) && g)
+seven true true true true e f g = sym (and-assoc e f g)
+seven true true true false e f g = refl
+seven true true false d e f g = refl
+seven true false c d e f g = refl
+seven false b c d e f g = refl
 
 module _ (u k : Bytes) (n : Name) (ess : List (List Entry)) (ms : List Member) (ks : List Kept) where
   abbrev lastOf : Part
@@ -119,7 +118,7 @@ module _ (u k : Bytes) (n : Name) (ess : List (List Entry)) (ms : List Member) (
   carried-is : all-sections .carried ≡ carried (cardOf u k n ess ms ks)
   unfolding carried nameLines partsCarried
   carried-is =
-      eight (carriedRaw u) (with-some (n .full) carriedText true) (all (all carriedText) (n .parts)) (apart (part (n .parts) 0) (part (n .parts) 5)) (apart (part (n .parts) 4) (part (n .parts) 6))
+      seven (carriedRaw u) (with-some (n .full) carriedText true) (all (all carriedText) (n .parts)) (apartParts nameRow (n .parts))
       (carriedMaps maps ess) (all (λ m. carriedParam (nameOf m)) (otherMembers ms)) (all carriedKept ks)
 
   whole-is : all-sections ≡ wholeOf (cardOf u k n ess ms ks)

@@ -61,13 +61,13 @@ module _ (s : Bytes) (t : List ℕ) {i types form : ℕ} (seen : Seen) (w : Slot
   abbrev of-line : Fields w (lineIn s t) e
   of-line = fields seen w (lineIn s t) e x
 
-  pub strings-are : (kind : ℕ) → RowContent (w .map .content) i → kind ≡ typeNumber (valueType ps) → StringsOf (w .map .form) (w .map .content) i form kind v (e .texts)
+  pub strings-are : (kind : ℕ) → RowContent (w .map .content) i → kind ≡ typeNumber (valueType ps) → StringsOf (w .map .form) (w .map .content) i form kind v (flat (e .parts))
   unfolding lineIn
-  strings-are kind c k = rw (is .form) at (strings-of (w .map .form) (w .map .content) (valueType ps) v (e .texts) kind i c k (of-line .texts))
+  strings-are kind c k = rw (is .form) at (strings-of (w .map .form) (w .map .content) (valueType ps) v (flat (e .parts)) kind i c k (of-line .texts))
 
   pub strings-good : (kind : ℕ) → kind ≡ typeNumber (valueType ps) → StringsGood form (rawOf form kind) v
   unfolding lineIn
-  strings-good kind k = rw (is .form) at (good-of (w .map .form) (valueType ps) v (e .texts) kind k (of-line .texts))
+  strings-good kind k = rw (is .form) at (good-of (w .map .form) (valueType ps) v (flat (e .parts)) kind k (of-line .texts))
 
   module _ {C F T : List ℕ} (r : Row s C F T ps) where
     pub no-pref : getD C 1 0 ≡ 0 → e .pref ≡ []

@@ -29,7 +29,7 @@ use Rattle.to_json_items.specs.Items.{listed, Readable}
 
 -- an entry with its key
 abbrev pub keyed : Bytes → Entry → Entry
-keyed k e = record { key = k; which = e .which; texts = e .texts; types = e .types; pref = e .pref }
+keyed k e = record { key = k; which = e .which; parts = e .parts; types = e .types; pref = e .pref }
 
 -- the pieces of the row of the table: the content's name, and the kind where the map has kinds
 pub record RowPieces (w : Slot) (i kind : ℕ) : Type 0 where

@@ -16,7 +16,7 @@ use Rattle.text.proofs.Same.{same-true, same-eq}
 use Rattle.line.specs.Grammar.{Param, Line, readLine}
 use Rattle.line.specs.Params.{valuesNamed, onlyNamed, besidesValue, valueType}
 use Rattle.convert.specs.Table.{Map, maps, Slot, slotOf, slotFrom, position}
-use Rattle.convert.specs.Model.{Entry}
+use Rattle.convert.specs.Model.{Entry, singly}
 use Rattle.convert.specs.Value.{isKeyText, takesType, readAs, filled}
 use Rattle.convert.specs.Classify.{Seen, Class, as-entry, Classed, isId, keyFrom, prefFrom, typesFrom, entryOf, classify}
 use Rattle.convert_marks.specs.Row.{valuesKind, Row}
@@ -118,7 +118,7 @@ entry-key s w l e h =
     let type : Bytes = valueType (l .params) in
     key-inv (empty (l .group) && onlyNamed (w .map .parameters) ps && takesType (w .map .form) type) (keyFrom s (w .index) (valuesNamed (ascii "prop-id") ps))
     (prefFrom (valuesNamed (ascii "pref") ps)) (typesFrom (w .map .types) (valuesNamed (ascii "type") ps)) (readAs (w .map .form) type (l .value))
-    (λ k p ts vs. record { key = k; which = w .which; texts = vs; types = ts; pref = p }) e (λ a b c d. refl) h
+    (λ k p ts vs. record { key = k; which = w .which; parts = singly vs; types = ts; pref = p }) e (λ a b c d. refl) h
 
 no-length : (us : List Bytes) → 0 ≡ length us → us ≡ []
 no-length [] e = refl

@@ -17,7 +17,8 @@ use Rattle.line.specs.Text.{readText, textFrom, splitFrom, splitText}
 use Rattle.line_text.specs.Read.{plainText}
 use Rattle.line_text.specs.Split.{PartEnds}
 use Rattle.convert.specs.Model.{part}
-use Rattle.convert.specs.Value.{filled, headOr, partValues, without, ownParts, readName}
+use Rattle.convert.specs.Table.{nameRow}
+use Rattle.convert.specs.Value.{filled, headOr, partValues, without, ownParts, readName, readParts}
 use Rattle.to_json_items.specs.Items.{isOwn, textsOf, Readable}
 use Rattle.to_json_items.proofs.Texts.{own-none, each-plain, nothing-readable}
 use Rattle.to_json_name.specs.Name.{partOf, PartFrom, otherPart, othersOf, valuesOf, NameGood}
@@ -187,17 +188,17 @@ module _ (v : Bytes) (qs : List (List Bytes)) (r : each partValues (splitText 59
       ∙ own-values (textsOf 44 (partOf v q)) (textsOf 44 (partOf v k))
       ∙ values-besides v k q (sym e) (partOf v k) (partOf v q) refl refl n
 
-  own-seven : ownParts qs ≡ valuesOf v 0 ∷ valuesOf v 1 ∷ valuesOf v 2 ∷ valuesOf v 3 ∷ valuesOf v 4 ∷ valuesOf v 5 ∷ valuesOf v 6 ∷ []
+  own-seven : ownParts nameRow qs ≡ valuesOf v 0 ∷ valuesOf v 1 ∷ valuesOf v 2 ∷ valuesOf v 3 ∷ valuesOf v 4 ∷ valuesOf v 5 ∷ valuesOf v 6 ∷ []
   unfolding ownParts otherPart
   own-seven =
       rw (besides 0 5 refl (λ z. omega arith), alone 1 refl, alone 2 refl, alone 3 refl, besides 4 6 refl (λ z. omega arith), alone 5 refl, alone 6 refl)
 
 pub name-seven : (v : Bytes) (ps : List (List Bytes)) → readName v ≡ some ps → Seven v ps
-unfolding readName
+unfolding readParts
 name-seven v ps e =
     let a = provided-inv (leb (length (splitText 59 v)) 7) _ e in
-    let b = chain-inv (each partValues (splitText 59 v)) (λ qs. provided (any (λ vs. not (empty vs)) qs) (some (ownParts qs))) (a .1) in
-    let c = provided-inv (any (λ vs. not (empty vs)) (b .0)) (some (ownParts (b .0))) (b .2) in
+    let b = chain-inv (each partValues (splitText 59 v)) (λ qs. provided (any (λ vs. not (empty vs)) qs) (some (ownParts nameRow qs))) (a .1) in
+    let c = provided-inv (any (λ vs. not (empty vs)) (b .0)) (some (ownParts nameRow (b .0))) (b .2) in
     record {
       is = sym (some-same (c .1)) ∙ own-seven v (b .0) (b .1);
       good = record { readable = λ k. parts-read (splitText 59 v) (b .0) (b .1) k .1 };
