@@ -205,6 +205,10 @@ absent-next fs p from k h n = absent-as fs p from (k + 1) (absent-more fs p from
 pub absent-join : (fs : List ℕ) (p from k to : ℕ) → Absent fs p from k false → Absent fs p k to false → Absent fs p from to false
 absent-join fs p from k to h g i l m = byBool (ltb i k) (λ z. h i l (ltb-true i k z)) (λ z. g i (ltb-false i k z) m)
 
+-- the string at k does not agree, and up to j no print is equal
+pub clear-on : (s : Bytes) (o : Option Bytes) (ps fs : List ℕ) (p k j : ℕ) → p ≡ printOf 0 o → agree o (spelled s (getD ps k 0)) ≡ false → Absent fs p (k + 1) j false → Clear s o ps fs 0 k → Clear s o ps fs 0 j
+clear-on s o ps fs p k j is e a h = clear-join s o ps fs 0 (k + 1) j (clear-more s o ps fs 0 k h (λ t. e)) (clear-absent s o ps fs p (k + 1) j is a)
+
 -- ---- some bytes sought among the names noted
 pub agree-spells : (key : Bytes) (x : Option Bytes) → agree (some key) x ≡ spells x key
 agree-spells key none = refl
@@ -222,9 +226,3 @@ module _ (s key : Bytes) (ps fs : List ℕ) where
 
   pub key-no : length ps ≡ length fs → (k : ℕ) → length ps ≤ k → Clear s (some key) ps fs 0 k → SoughtKey s key ps fs false
   key-no l k h c = key-whole l (sought-no s (some key) ps fs (length ps) (omega arith) k h c)
-
-  -- the string at k does not stand for the key, and up to j no print is equal
-  pub key-next : (p k j : ℕ) → p ≡ printed 0 key → agree (some key) (spelled s (getD ps k 0)) ≡ false → Absent fs p (k + 1) j false → Clear s (some key) ps fs 0 k → Clear s (some key) ps fs 0 j
-  key-next p k j is e a h =
-      clear-join s (some key) ps fs 0 (k + 1) j (clear-more s (some key) ps fs 0 k h (λ t. e))
-      (clear-absent s (some key) ps fs p (k + 1) j is a)

@@ -47,6 +47,17 @@ pub fn print_from(s: &[u8], at: usize, from: u32) -> u32
     }
 }
 
+// The print of the string at a place; 65536 where it stands for nothing.
+pub fn print_at(s: &[u8], at: usize) -> u32
+    ensures { λ r. ⌜ r ≡ printOf 0 (spelled (now (s .entry)) at) ⌝ }
+    ensures { λ r. ⌜ r ≤ 65536 ⌝ }
+{
+    if at > s.len() {
+        return 65536;
+    }
+    print_from(s, at, 0)
+}
+
 // The print of some bytes, where the print so far is `from`.
 pub fn print_of(from: usize, key: &[u8]) -> u16
     requires { ⌜ from < 65536 ⌝ }
@@ -183,6 +194,30 @@ fn next_print(prints: &[u16], p: u16, from: usize, to: usize) -> usize
         k = e;
     }
     print_in(prints, p, k, to)
+}
+
+// The string at `at`, of print `p`, stands for the same as that at one of the first `count` places noted, which may be over 65535.
+pub fn is_noted_wide<'a, 'b>(
+    s: &'a [u8],
+    at: usize,
+    p: u16,
+    places: &'b [usize],
+    prints: &'b [u16],
+    count: usize,
+) -> bool
+    requires { ⌜ count ≤ length (now places) ⌝ }
+    requires { ⌜ count ≤ length (now prints) ⌝ }
+    requires { ⌜ p ≡ printOf 0 (spelled (now s) at) ⌝ }
+    ensures { λ r. ⌜ Sought (now (s .entry)) (spelled (now (s .entry)) at) (now (places .entry)) (now (prints .entry)) count r ⌝ }
+{
+    let mut k = next_print(prints, p, 0, count);
+    while k < count {
+        if same_text(s, at, places[k]) {
+            return true;
+        }
+        k = next_print(prints, p, k + 1, count);
+    }
+    false
 }
 
 // Whether some bytes are what one of the strings noted stands for.

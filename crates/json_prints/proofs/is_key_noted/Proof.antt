@@ -7,7 +7,7 @@ use Prim.Native.Nat.{ℕ, _≤_, _-_}
 use lib.ListN.{length, getD}
 use Rattle.json_strings.specs.Spelled.{spelled, spells, agree}
 use Rattle.json_prints.specs.Prints.{Clear}
-use Rattle.json_prints.proofs.Prints.{clear-absent, agree-spells, key-yes, key-no, key-next}
+use Rattle.json_prints.proofs.Prints.{clear-absent, agree-spells, clear-on, key-yes, key-no}
 use borrow.Author.Needs.{needs}
 use Rattle.json_prints.proofs.is_key_noted.Statement.{statement}
 use Rattle.json_prints.proofs.is_key_noted.Tie as tie
@@ -64,7 +64,7 @@ loop-again c =
     let ps = now (c .before .before .before .before .before .before .before .before .before .before .before .before .before .args .places) in
     let x = spelled s (getD ps (c .before .before .before .before .before .before .loop .k) 0) in
     let w : spells x key ≡ false = sym (ap (λ (i : ℕ). spells (spelled s i) key) (c .before .before .before .wide .ensures)) ∙ sym (c .before .before .equals .ensures) ∙ (c .before .if1 .left) in
-    (c .next-print2 .ensures .1, key-next s key ps (now (c .before .before .before .before .before .before .before .before .before .before .before .before .before .args .prints)) (c .before .before .before .before .before .before .before .before .print-of .result) (c .before .before .before .before .before .before .loop .k) (c .next-print2 .result) (c .before .before .before .before .before .before .before .before .print-of .ensures) (agree-spells key x ∙ w) (c .next-print2 .ensures .2) (c .before .before .before .before .before .before .loop .inv .1))
+    (c .next-print2 .ensures .1, clear-on s (some key) ps (now (c .before .before .before .before .before .before .before .before .before .before .before .before .before .args .prints)) (c .before .before .before .before .before .before .before .before .print-of .result) (c .before .before .before .before .before .before .loop .k) (c .next-print2 .result) (c .before .before .before .before .before .before .before .before .print-of .ensures) (agree-spells key x ∙ w) (c .next-print2 .ensures .2) (c .before .before .before .before .before .before .loop .inv .1))
 
 returns-2 : tie.Need-returns-2 Inv-loop μ-loop
 returns-2 c = key-no (now (c .before .before .before .before .before .before .before .before .args .s)) (now (c .before .before .before .before .before .before .before .before .args .key)) (now (c .before .before .before .before .before .before .before .before .args .places)) (now (c .before .before .before .before .before .before .before .before .args .prints)) (c .before .before .before .before .before .before .before .before .pre) (c .before .loop .k) (omega (arith, c .loop-test .left, c .before .before .before .before .before .before .before .before .pre)) (c .before .loop .inv .1)
