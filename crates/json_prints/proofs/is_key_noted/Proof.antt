@@ -4,8 +4,8 @@ use mathlib.Core.Path.{_≡_, sym, ap, _∙_}
 use mathlib.Core.Bool.{true, false}
 use mathlib.Core.Option.{some}
 use Prim.Native.Nat.{ℕ, _≤_, _-_}
-use lib.ListN.{length, getD}
-use Rattle.json_strings.specs.Spelled.{spelled, spells, agree}
+use lib.ListN.{getD}
+use Rattle.json_strings.specs.Spelled.{spelled, spells}
 use Rattle.json_prints.specs.Prints.{Clear}
 use Rattle.json_prints.proofs.Prints.{clear-absent, agree-spells, clear-on, key-yes, key-no}
 use borrow.Author.Needs.{needs}

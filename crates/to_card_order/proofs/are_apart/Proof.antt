@@ -4,10 +4,6 @@ use Prim.Native.Nat.{_-_}
 use Rattle.to_card_order.proofs.Apart.{PartingTo, parting-none, parting-row, parts-rows}
 use Rattle.to_card_order.proofs.are_apart.Statement.{statement}
 use Rattle.to_card_order.proofs.are_apart.Tie as tie
-use Rattle.to_card_order.proofs.are_apart.Reads as reads
-use Rattle.to_card_order.proofs.are_apart.Lts as lts
-use Rattle.to_card_order.proofs.clashes.Reads as clashes-reads
-use Rattle.to_card_order.proofs.walk_apart.Reads as walk-apart-reads
 
 abbrev Inv-loop : tie.InvT-loop
 Inv-loop s at kinds values rows one other i₀ ok₀ i ok = PartingTo s at one other i ok
@@ -16,7 +12,7 @@ abbrev μ-loop : tie.MeasureT-loop
 μ-loop s at kinds values rows one other i₀ ok₀ i ok = rows - i
 
 walk-apart-requires : tie.Need-walk-apart-requires Inv-loop μ-loop
-walk-apart-requires c κs = c .before .before .before .before .pre
+walk-apart-requires c κs = c .before .before .before .before .pre .0
 
 returns : tie.Need-returns Inv-loop μ-loop
 returns c = c .walk-apart .ensures
@@ -37,7 +33,9 @@ shared-slice-read-clashes-2 : tie.Need-shared-slice-read-clashes-2 Inv-loop μ-l
 shared-slice-read-clashes-2 c = omega (arith, c .before .before .loop-test .taken, c .before .before .before .before .if1 .left, c .before .before .before .before .before .before .before .before .pre .1 .0, c .before .before .before .before .before .before .before .before .pre .1 .1 .0)
 
 clashes-requires : tie.Need-clashes-requires Inv-loop μ-loop
-clashes-requires c κs = c .before .before .before .before .before .before .before .before .pre
+clashes-requires c κs =
+    let pre = c .before .before .before .before .before .before .before .before .pre in
+    (pre .0, (pre .1 .0, (pre .1 .1 .0, (omega (arith, c .before .before .before .before .if1 .left), pre .1 .1 .1))))
 
 add-i : tie.Need-add-i Inv-loop μ-loop
 add-i c = omega (arith, c .before .before .before .loop-test .taken, c .before .before .before .before .before .if1 .left)
