@@ -20,8 +20,12 @@ next-print-requires c κs = (omega arith, c .before .before .before .pre .1 .0)
 
 loop-holds : tie.Need-loop-holds Inv-loop μ-loop
 loop-holds c =
-    let s = now (c .before .before .before .before .args .s) in
-    (c .next-print .ensures .1, clear-absent s (spelled s (c .before .before .before .before .args .at)) (now (c .before .before .before .before .args .places)) (now (c .before .before .before .before .args .prints)) (c .before .before .before .before .args .p) 0 (c .next-print .result) (c .before .before .before .before .pre .1 .1) (c .next-print .ensures .2))
+    let args = c .before .before .before .before .args in
+    let s = now (args .s) in (
+      c .next-print .ensures .1,
+      clear-absent s (spelled s (args .at)) (now (args .places)) (now (args .prints)) (args .p) 0 (c .next-print .result)
+          (c .before .before .before .before .pre .1 .1) (c .next-print .ensures .2),
+    )
 
 mul-same-text : tie.Need-mul-same-text Inv-loop μ-loop
 mul-same-text c = search needs
@@ -34,9 +38,11 @@ same-text-requires c κs = search needs
 
 returns : tie.Need-returns Inv-loop μ-loop
 returns c =
-    let s = now (c .before .before .before .before .before .before .before .before .before .args .s) in
+    let args = c .before .before .before .before .before .before .before .before .before .args in
+    let pre = c .before .before .before .before .before .before .before .before .before .pre in
+    let s = now (args .s) in
     let k = c .before .before .before .before .loop .k in
-    sought-yes s (spelled s (c .before .before .before .before .before .before .before .before .before .args .at)) (now (c .before .before .before .before .before .before .before .before .before .args .places)) (now (c .before .before .before .before .before .before .before .before .before .args .prints)) (c .before .before .before .before .before .before .before .before .before .args .count) (c .before .before .before .before .before .before .before .before .before .pre .0) k (k + 1) (omega (arith, c .before .before .before .loop-test .taken))
+    sought-yes s (spelled s (args .at)) (now (args .places)) (now (args .prints)) (args .count) (pre .0) k (k + 1) (omega (arith, c .before .before .before .loop-test .taken))
     (k, omega arith, sym (c .before .same-text .ensures) ∙ (c .if1 .taken))
 
 add-next-print : tie.Need-add-next-print Inv-loop μ-loop
@@ -50,13 +56,21 @@ loop-less c = omega (arith, c .before .before .before .before .loop-test .taken,
 
 loop-again : tie.Need-loop-again Inv-loop μ-loop
 loop-again c =
-    let s = now (c .before .before .before .before .before .before .before .before .before .before .args .s) in
-    (c .next-print2 .ensures .1, clear-on s (spelled s (c .before .before .before .before .before .before .before .before .before .before .args .at)) (now (c .before .before .before .before .before .before .before .before .before .before .args .places)) (now (c .before .before .before .before .before .before .before .before .before .before .args .prints)) (c .before .before .before .before .before .before .before .before .before .before .args .p) (c .before .before .before .before .before .loop .k) (c .next-print2 .result) (c .before .before .before .before .before .before .before .before .before .before .pre .1 .1) (sym (c .before .before .same-text .ensures) ∙ (c .before .if1 .left)) (c .next-print2 .ensures .2) (c .before .before .before .before .before .loop .inv .1))
+    let args = c .before .before .before .before .before .before .before .before .before .before .args in
+    let pre = c .before .before .before .before .before .before .before .before .before .before .pre in
+    let loop = c .before .before .before .before .before .loop in
+    let s = now (args .s) in (
+      c .next-print2 .ensures .1,
+      clear-on s (spelled s (args .at)) (now (args .places)) (now (args .prints)) (args .p) (loop .k) (c .next-print2 .result) (pre .1 .1)
+          (sym (c .before .before .same-text .ensures) ∙ (c .before .if1 .left)) (c .next-print2 .ensures .2) (loop .inv .1),
+    )
 
 returns-2 : tie.Need-returns-2 Inv-loop μ-loop
 returns-2 c =
-    let s = now (c .before .before .before .before .before .before .args .s) in
-    sought-no s (spelled s (c .before .before .before .before .before .before .args .at)) (now (c .before .before .before .before .before .before .args .places)) (now (c .before .before .before .before .before .before .args .prints)) (c .before .before .before .before .before .before .args .count) (c .before .before .before .before .before .before .pre .0) (c .before .loop .k) (omega (arith, c .loop-test .left)) (c .before .loop .inv .1)
+    let args = c .before .before .before .before .before .before .args in
+    let s = now (args .s) in
+    sought-no s (spelled s (args .at)) (now (args .places)) (now (args .prints)) (args .count) (c .before .before .before .before .before .before .pre .0)
+    (c .before .loop .k) (omega (arith, c .loop-test .left)) (c .before .loop .inv .1)
 
 pub is-noted-wide-spec : {M : Type 1} → statement M
 is-noted-wide-spec =

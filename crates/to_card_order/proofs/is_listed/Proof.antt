@@ -18,13 +18,17 @@ mul-agrees : tie.Need-mul-agrees Inv-loop μ-loop
 mul-agrees c = omega (arith, c .loop-test .taken, c .before .before .before .before .before .pre .1 .1 .1 .0)
 
 shared-slice-read-agrees : tie.Need-shared-slice-read-agrees Inv-loop μ-loop
-shared-slice-read-agrees c = omega (arith, c .before .loop-test .taken, c .before .before .before .before .before .before .pre .1 .0, c .before .before .before .before .before .before .pre .1 .1 .1 .0)
+shared-slice-read-agrees c =
+    let pre = c .before .before .before .before .before .before .pre in
+    omega (arith, c .before .loop-test .taken, pre .1 .0, pre .1 .1 .1 .0)
 
 mul-agrees-2 : tie.Need-mul-agrees-2 Inv-loop μ-loop
 mul-agrees-2 c = omega (arith, c .before .loop-test .taken, c .before .before .before .before .before .before .pre .1 .1 .1 .0)
 
 shared-slice-read-agrees-2 : tie.Need-shared-slice-read-agrees-2 Inv-loop μ-loop
-shared-slice-read-agrees-2 c = omega (arith, c .before .before .loop-test .taken, c .before .before .before .before .before .before .before .pre .1 .1 .0, c .before .before .before .before .before .before .before .pre .1 .1 .1 .0)
+shared-slice-read-agrees-2 c =
+    let pre = c .before .before .before .before .before .before .before .pre in
+    omega (arith, c .before .before .loop-test .taken, pre .1 .1 .0, pre .1 .1 .1 .0)
 
 agrees-requires : tie.Need-agrees-requires Inv-loop μ-loop
 agrees-requires c κs = tt
@@ -37,12 +41,19 @@ loop-less c = omega (arith, c .before .before .before .loop-test .taken)
 
 loop-again : tie.Need-loop-again Inv-loop μ-loop
 loop-again c =
-    finding-row (now (c .before .before .before .before .before .before .before .before .args .s)) (c .before .before .before .before .before .before .before .before .args .at) (c .before .before .before .before .before .before .before .before .args .kind) (c .before .before .before .before .before .before .before .before .args .value) (now (c .before .before .before .before .before .before .before .before .args .kinds)) (now (c .before .before .before .before .before .before .before .before .args .values)) (c .before .before .before .before .before .before .before .before .args .rows) (c .before .before .before .before .before .before .before .before .pre .1 .1 .1 .0) (c .before .before .before .before .before .before .before .before .pre .1 .1 .1 .1) (c .before .before .before .before .loop .i) (c .before .before .before .before .loop .found) (c .before .before .before .before .loop .inv)
+    let args = c .before .before .before .before .before .before .before .before .args in
+    let pre = c .before .before .before .before .before .before .before .before .pre in
+    let loop = c .before .before .before .before .loop in
+    finding-row (now (args .s)) (args .at) (args .kind) (args .value) (now (args .kinds)) (now (args .values)) (args .rows) (pre .1 .1 .1 .0) (pre .1 .1 .1 .1) (loop .i)
+    (loop .found) (loop .inv)
     (c .before .before .before .loop-test .taken) (c .agrees .result) (c .agrees .ensures)
 
 returns : tie.Need-returns Inv-loop μ-loop
 returns c =
-    finds-rows (now (c .before .before .before .before .before .args .s)) (c .before .before .before .before .before .args .at) (c .before .before .before .before .before .args .kind) (c .before .before .before .before .before .args .value) (now (c .before .before .before .before .before .args .kinds)) (now (c .before .before .before .before .before .args .values)) (c .before .before .before .before .before .args .rows) (c .before .before .before .before .before .pre .1 .1 .1 .0) (c .before .before .before .before .before .pre .1 .1 .1 .1) (c .before .loop .i) (c .before .loop .found) (c .before .loop .inv)
+    let args = c .before .before .before .before .before .args in
+    let pre = c .before .before .before .before .before .pre in
+    finds-rows (now (args .s)) (args .at) (args .kind) (args .value) (now (args .kinds)) (now (args .values)) (args .rows) (pre .1 .1 .1 .0) (pre .1 .1 .1 .1)
+    (c .before .loop .i) (c .before .loop .found) (c .before .loop .inv)
     (c .loop-test .left)
 
 pub is-listed-spec : {M : Type 1} → statement M

@@ -9,7 +9,10 @@ value-print-requires : tie.Need-value-print-requires
 value-print-requires c κs = search needs
 
 returns : tie.Need-returns
-returns c = meets-none (now (c .before .before .before .before .before .args .s)) (c .before .before .before .before .before .args .wanted) (c .before .before .before .before .before .args .value) (c .before .value-print .result) (c .before .value-print .ensures) (now (c .before .before .before .before .before .args .places)) (now (c .before .before .before .before .before .args .prints)) (c .before .before .before .before .before .args .count) (c .if1 .taken)
+returns c =
+    let args = c .before .before .before .before .before .args in
+    meets-none (now (args .s)) (args .wanted) (args .value) (c .before .value-print .result) (c .before .value-print .ensures) (now (args .places)) (now (args .prints))
+    (args .count) (c .if1 .taken)
 
 cast-is-noted-wide : tie.Need-cast-is-noted-wide
 cast-is-noted-wide c = search needs
@@ -18,7 +21,11 @@ is-noted-wide-requires : tie.Need-is-noted-wide-requires
 is-noted-wide-requires c κs = (c .before .before .before .before .before .pre .0, (c .before .before .before .before .before .pre .1, c .before .value-print .ensures .print-is (c .if1 .left)))
 
 returns-2 : tie.Need-returns-2
-returns-2 c = meets-as (now (c .before .before .before .before .before .before .args .s)) (c .before .before .before .before .before .before .args .wanted) (c .before .before .before .before .before .before .args .value) (c .before .before .value-print .result) (c .before .before .value-print .ensures) (now (c .before .before .before .before .before .before .args .places)) (now (c .before .before .before .before .before .before .args .prints)) (c .before .before .before .before .before .before .args .count) (c .before .if1 .left) (c .is-noted-wide .result) (c .is-noted-wide .ensures)
+returns-2 c =
+    let args = c .before .before .before .before .before .before .args in
+    let value-print = c .before .before .value-print in
+    meets-as (now (args .s)) (args .wanted) (args .value) (value-print .result) (value-print .ensures) (now (args .places)) (now (args .prints)) (args .count)
+    (c .before .if1 .left) (c .is-noted-wide .result) (c .is-noted-wide .ensures)
 
 pub is-met-spec : {M : Type 1} → statement M
 is-met-spec =

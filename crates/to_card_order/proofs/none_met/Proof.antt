@@ -15,10 +15,14 @@ abbrev μ-loop : tie.MeasureT-loop
 μ-loop s at kind places prints count i₀ ok₀ i ok = length s - i
 
 returns : tie.Need-returns Inv-loop μ-loop
-returns c = apart-unnoted (now (c .before .before .before .before .args .s)) (c .before .before .before .before .args .at) (c .before .before .before .before .args .kind) (now (c .before .before .before .before .args .places)) (now (c .before .before .before .before .args .prints)) (c .before .before .before .before .args .count) (c .if1 .taken)
+returns c =
+    let args = c .before .before .before .before .args in
+    apart-unnoted (now (args .s)) (args .at) (args .kind) (now (args .places)) (now (args .prints)) (args .count) (c .if1 .taken)
 
 loop-holds : tie.Need-loop-holds Inv-loop μ-loop
-loop-holds c = (c .before .before .before .before .pre .0, parting-first (now (c .before .before .before .before .args .s)) (c .before .before .before .before .args .at) (c .before .before .before .before .args .kind) (now (c .before .before .before .before .args .places)) (now (c .before .before .before .before .args .prints)) (c .before .before .before .before .args .count))
+loop-holds c =
+    let args = c .before .before .before .before .args in
+    (c .before .before .before .before .pre .0, parting-first (now (args .s)) (args .at) (args .kind) (now (args .places)) (now (args .prints)) (args .count))
 
 element-at-requires : tie.Need-element-at-requires Inv-loop μ-loop
 element-at-requires c κs = tt
@@ -33,7 +37,13 @@ enum-told : tie.Need-enum-told Inv-loop μ-loop
 enum-told c = search needs
 
 returns-2 : tie.Need-returns-2 Inv-loop μ-loop
-returns-2 c = parts-wrong (now (c .before .before .before .before .before .before .before .before .before .args .s)) (c .before .before .before .before .before .before .before .before .before .args .at) (c .before .before .before .before .before .before .before .before .before .args .kind) (now (c .before .before .before .before .before .before .before .before .before .args .places)) (now (c .before .before .before .before .before .before .before .before .before .args .prints)) (c .before .before .before .before .before .before .before .before .before .args .count) (c .before .before .before .before .loop .i) (c .before .before .before .before .loop .ok) (c .before .before .before .before .loop .inv .1) (c .before .before .before .element-at .result) (c .before .before .before .element-at .ensures .1) (c .before .before .component-at .result) (c .before .before .component-at .ensures .1) (c .enum-told .given .1)
+returns-2 c =
+    let args = c .before .before .before .before .before .before .before .before .before .args in
+    let loop = c .before .before .before .before .loop in
+    let element-at = c .before .before .before .element-at in
+    let component-at = c .before .before .component-at in
+    parts-wrong (now (args .s)) (args .at) (args .kind) (now (args .places)) (now (args .prints)) (args .count) (loop .i) (loop .ok) (loop .inv .1) (element-at .result)
+    (element-at .ensures .1) (component-at .result) (component-at .ensures .1) (c .enum-told .given .1)
 
 is-met-requires : tie.Need-is-met-requires Inv-loop μ-loop
 is-met-requires c κs = c .before .before .before .before .before .before .before .before .before .before .pre .1
@@ -46,19 +56,38 @@ enum-known-j c = search needs
 
 loop-less : tie.Need-loop-less Inv-loop μ-loop
 loop-less c =
+    let loop = c .before .before .before .before .before .before .before .before .before .before .loop in
+    let element-at = c .before .before .before .before .before .before .before .before .before .element-at in
     let h = turn-as (c .before .before .before .separator .ensures) (c .before .j .given .1) in
-    omega (arith, h .within .0, h .within .1, c .before .before .before .before .before .before .before .before .before .element-at .ensures .0 .from (c .before .before .before .before .before .before .before .before .before .before .loop .inv .0), c .before .before .before .before .before .before .before .before .before .element-at .ensures .0 .ordered)
+    omega (arith, h .within .0, h .within .1, element-at .ensures .0 .from (loop .inv .0), element-at .ensures .0 .ordered)
 
 loop-again : tie.Need-loop-again Inv-loop μ-loop
 loop-again c =
-    let h = turn-as (c .before .before .before .separator .ensures) (c .before .j .given .1) in
-    (h .within .1, parting-on (now (c .before .before .before .before .before .before .before .before .before .before .before .before .before .before .before .args .s)) (c .before .before .before .before .before .before .before .before .before .before .before .before .before .before .before .args .at) (c .before .before .before .before .before .before .before .before .before .before .before .before .before .before .before .args .kind) (now (c .before .before .before .before .before .before .before .before .before .before .before .before .before .before .before .args .places)) (now (c .before .before .before .before .before .before .before .before .before .before .before .before .before .before .before .args .prints)) (c .before .before .before .before .before .before .before .before .before .before .before .before .before .before .before .args .count) (c .before .before .before .before .before .before .before .before .before .before .loop .i) (c .before .before .before .before .before .before .before .before .before .before .loop .ok) (c .before .before .before .before .before .before .before .before .before .before .loop .inv .1) (c .before .before .before .before .before .before .before .before .before .element-at .result) (c .before .before .before .before .before .before .before .before .before .element-at .ensures .1) (c .before .before .before .before .before .before .before .before .component-at .result) (c .before .before .before .before .before .before .before .before .component-at .ensures .1) _ _ (c .before .before .before .before .before .before .k .given .1) (c .before .before .before .before .is-met .result) (c .before .before .before .before .is-met .ensures) _ h)
+    let args = c .before .before .before .before .before .before .before .before .before .before .before .before .before .before .before .args in
+    let loop = c .before .before .before .before .before .before .before .before .before .before .loop in
+    let element-at = c .before .before .before .before .before .before .before .before .before .element-at in
+    let component-at = c .before .before .before .before .before .before .before .before .component-at in
+    let is-met = c .before .before .before .before .is-met in
+    let h = turn-as (c .before .before .before .separator .ensures) (c .before .j .given .1) in (
+      h .within .1,
+      parting-on (now (args .s)) (args .at) (args .kind) (now (args .places)) (now (args .prints)) (args .count) (loop .i) (loop .ok) (loop .inv .1)
+          (element-at .result) (element-at .ensures .1) (component-at .result) (component-at .ensures .1) _ _ (c .before .before .before .before .before .before .k .given .1)
+          (is-met .result) (is-met .ensures) _ h,
+    )
 
 enum-known-r : tie.Need-enum-known-r Inv-loop μ-loop
 enum-known-r c = search needs
 
 returns-3 : tie.Need-returns-3 Inv-loop μ-loop
-returns-3 c = parts-all (now (c .before .before .before .before .before .before .before .before .before .before .before .before .before .before .before .args .s)) (c .before .before .before .before .before .before .before .before .before .before .before .before .before .before .before .args .at) (c .before .before .before .before .before .before .before .before .before .before .before .before .before .before .before .args .kind) (now (c .before .before .before .before .before .before .before .before .before .before .before .before .before .before .before .args .places)) (now (c .before .before .before .before .before .before .before .before .before .before .before .before .before .before .before .args .prints)) (c .before .before .before .before .before .before .before .before .before .before .before .before .before .before .before .args .count) (c .before .before .before .before .before .before .before .before .before .before .loop .i) (c .before .before .before .before .before .before .before .before .before .before .loop .ok) (c .before .before .before .before .before .before .before .before .before .before .loop .inv .1) (c .before .before .before .before .before .before .before .before .before .element-at .result) (c .before .before .before .before .before .before .before .before .before .element-at .ensures .1) (c .before .before .before .before .before .before .before .before .component-at .result) (c .before .before .before .before .before .before .before .before .component-at .ensures .1) _ _ (c .before .before .before .before .before .before .k .given .1) (c .before .before .before .before .is-met .result) (c .before .before .before .before .is-met .ensures) _ (turn-as (c .before .before .before .separator .ensures) (c .before .r .given .1))
+returns-3 c =
+    let args = c .before .before .before .before .before .before .before .before .before .before .before .before .before .before .before .args in
+    let loop = c .before .before .before .before .before .before .before .before .before .before .loop in
+    let element-at = c .before .before .before .before .before .before .before .before .before .element-at in
+    let component-at = c .before .before .before .before .before .before .before .before .component-at in
+    let is-met = c .before .before .before .before .is-met in
+    parts-all (now (args .s)) (args .at) (args .kind) (now (args .places)) (now (args .prints)) (args .count) (loop .i) (loop .ok) (loop .inv .1) (element-at .result)
+    (element-at .ensures .1) (component-at .result) (component-at .ensures .1) _ _ (c .before .before .before .before .before .before .k .given .1) (is-met .result)
+    (is-met .ensures) _ (turn-as (c .before .before .before .separator .ensures) (c .before .r .given .1))
 
 pub none-met-spec : {M : Type 1} → statement M
 none-met-spec =

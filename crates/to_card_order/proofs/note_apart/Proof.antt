@@ -16,7 +16,9 @@ abbrev μ-loop : tie.MeasureT-loop
 μ-loop places₀ prints₀ s at one other i₀ n₀ ok₀ places prints i n ok = length s - i
 
 loop-holds : tie.Need-loop-holds Inv-loop μ-loop
-loop-holds c = (c .before .before .before .pre .0, omega arith, refl, refl, noting-first (now (c .before .before .before .args .s)) (c .before .before .before .args .at) (c .before .before .before .args .one) (c .before .before .before .args .other) (now (c .before .before .before .args .places)) (now (c .before .before .before .args .prints)))
+loop-holds c =
+    let args = c .before .before .before .args in
+    (c .before .before .before .pre .0, omega arith, refl, refl, noting-first (now (args .s)) (args .at) (args .one) (args .other) (now (args .places)) (now (args .prints)))
 
 element-at-requires : tie.Need-element-at-requires Inv-loop μ-loop
 element-at-requires c κs = tt
@@ -37,10 +39,19 @@ same-length-2 : tie.Need-same-length-2 Inv-loop μ-loop
 same-length-2 c = c .before .before .before .before .loop .inv .3
 
 returns : tie.Need-returns Inv-loop μ-loop
-returns c = notes-wrong (now (c .before .before .before .before .before .before .before .before .args .s)) (c .before .before .before .before .before .before .before .before .args .at) (c .before .before .before .before .before .before .before .before .args .one) (c .before .before .before .before .before .before .before .before .args .other) (c .before .before .before .before .loop .i) (c .before .before .before .before .loop .places) (c .before .before .before .before .loop .prints) (c .before .before .before .before .loop .n) (c .before .before .before .before .loop .ok) (c .before .before .before .before .loop .inv .4) (c .before .before .before .element-at .result) (c .before .before .before .element-at .ensures .1) (c .before .before .component-at .result) (c .before .before .component-at .ensures .1) (c .enum-told .given .1)
+returns c =
+    let args = c .before .before .before .before .before .before .before .before .args in
+    let loop = c .before .before .before .before .loop in
+    let element-at = c .before .before .before .element-at in
+    let component-at = c .before .before .component-at in
+    notes-wrong (now (args .s)) (args .at) (args .one) (args .other) (loop .i) (loop .places) (loop .prints) (loop .n) (loop .ok) (loop .inv .4) (element-at .result)
+    (element-at .ensures .1) (component-at .result) (component-at .ensures .1) (c .enum-told .given .1)
 
 note-value-requires : tie.Need-note-value-requires Inv-loop μ-loop
-note-value-requires c κs = (c .before .before .before .before .before .before .before .before .before .before .before .pre .0, (omega (arith, c .before .before .before .before .before .before .before .loop .inv .2, c .before .before .before .before .before .before .before .before .before .before .before .pre .1 .0), (omega (arith, c .before .before .before .before .before .before .before .loop .inv .3, c .before .before .before .before .before .before .before .before .before .before .before .pre .1 .1), c .before .before .before .before .before .before .before .loop .inv .1)))
+note-value-requires c κs =
+    let pre = c .before .before .before .before .before .before .before .before .before .before .before .pre in
+    let loop = c .before .before .before .before .before .before .before .loop in
+    (pre .0, (omega (arith, loop .inv .2, pre .1 .0), (omega (arith, loop .inv .3, pre .1 .1), loop .inv .1)))
 
 separator-requires : tie.Need-separator-requires Inv-loop μ-loop
 separator-requires c κs = (c .before .before .before .before .before .before .before .before .before .before .before .before .element-at .ensures .0 .end-in, omega arith)
@@ -50,18 +61,26 @@ enum-known-j c = search needs
 
 loop-less : tie.Need-loop-less Inv-loop μ-loop
 loop-less c =
+    let loop = c .before .before .before .before .before .before .before .before .before .before .before .before .before .before .before .before .before .loop in
+    let element-at = c .before .before .before .before .before .before .before .before .before .before .before .before .before .before .before .before .element-at in
     let h = turn-as (c .before .before .before .separator .ensures) (c .before .j .given .1) in
-    omega (arith, h .within .0, h .within .1, c .before .before .before .before .before .before .before .before .before .before .before .before .before .before .before .before .element-at .ensures .0 .from (c .before .before .before .before .before .before .before .before .before .before .before .before .before .before .before .before .before .loop .inv .0), c .before .before .before .before .before .before .before .before .before .before .before .before .before .before .before .before .element-at .ensures .0 .ordered)
+    omega (arith, h .within .0, h .within .1, element-at .ensures .0 .from (loop .inv .0), element-at .ensures .0 .ordered)
 
 loop-again : tie.Need-loop-again Inv-loop μ-loop
 loop-again c =
-    let h = turn-as (c .before .before .before .separator .ensures) (c .before .j .given .1) in
-    let note = c .before .before .before .before .before .before .before .before .before .note-value in (
+    let args = c .before .before .before .before .before .before .before .before .before .before .before .before .before .before .before .before .before .before .before .before .before .args in
+    let loop = c .before .before .before .before .before .before .before .before .before .before .before .before .before .before .before .before .before .loop in
+    let element-at = c .before .before .before .before .before .before .before .before .before .before .before .before .before .before .before .before .element-at in
+    let component-at = c .before .before .before .before .before .before .before .before .before .before .before .before .before .before .before .component-at in
+    let k = c .before .before .before .before .before .before .before .before .before .before .before .before .before .k in
+    let note-value = c .before .before .before .before .before .before .before .before .before .note-value in
+    let h = turn-as (c .before .before .before .separator .ensures) (c .before .j .given .1) in (
       h .within .1,
-      note .ensures .few,
-      note .ensures .long-places ∙ (c .before .before .before .before .before .before .before .before .before .before .before .before .before .before .before .before .before .loop .inv .2),
-      note .ensures .long-prints ∙ (c .before .before .before .before .before .before .before .before .before .before .before .before .before .before .before .before .before .loop .inv .3),
-      noting-on (now (c .before .before .before .before .before .before .before .before .before .before .before .before .before .before .before .before .before .before .before .before .before .args .s)) (c .before .before .before .before .before .before .before .before .before .before .before .before .before .before .before .before .before .before .before .before .before .args .at) (c .before .before .before .before .before .before .before .before .before .before .before .before .before .before .before .before .before .before .before .before .before .args .one) (c .before .before .before .before .before .before .before .before .before .before .before .before .before .before .before .before .before .before .before .before .before .args .other) (c .before .before .before .before .before .before .before .before .before .before .before .before .before .before .before .before .before .loop .i) (c .before .before .before .before .before .before .before .before .before .before .before .before .before .before .before .before .before .loop .places) (c .before .before .before .before .before .before .before .before .before .before .before .before .before .before .before .before .before .loop .prints) (c .before .before .before .before .before .before .before .before .before .before .before .before .before .before .before .before .before .loop .n) (c .before .before .before .before .before .before .before .before .before .before .before .before .before .before .before .before .before .loop .ok) (c .before .before .before .before .before .before .before .before .before .before .before .before .before .before .before .before .before .loop .inv .4) (c .before .before .before .before .before .before .before .before .before .before .before .before .before .before .before .before .element-at .result) (c .before .before .before .before .before .before .before .before .before .before .before .before .before .before .before .before .element-at .ensures .1) (c .before .before .before .before .before .before .before .before .before .before .before .before .before .before .before .component-at .result) (c .before .before .before .before .before .before .before .before .before .before .before .before .before .before .before .component-at .ensures .1) _ _ (c .before .before .before .before .before .before .before .before .before .before .before .before .before .k .given .1) _ _ (note .result) (note .ensures) _ h,
+      note-value .ensures .few,
+      note-value .ensures .long-places ∙ (loop .inv .2),
+      note-value .ensures .long-prints ∙ (loop .inv .3),
+      noting-on (now (args .s)) (args .at) (args .one) (args .other) (loop .i) (loop .places) (loop .prints) (loop .n) (loop .ok) (loop .inv .4) (element-at .result)
+          (element-at .ensures .1) (component-at .result) (component-at .ensures .1) _ _ (k .given .1) _ _ (note-value .result) (note-value .ensures) _ h,
     )
 
 enum-known-r : tie.Need-enum-known-r Inv-loop μ-loop
@@ -69,19 +88,36 @@ enum-known-r c = search needs
 
 none-met-requires : tie.Need-none-met-requires Inv-loop μ-loop
 none-met-requires c κs =
+    let pre = c .before .before .before .before .before .before .before .before .before .before .before .before .before .before .before .before .before .before .before .before .before .before .before .pre in
+    let loop = c .before .before .before .before .before .before .before .before .before .before .before .before .before .before .before .before .before .before .before .loop in
     let note = c .before .before .before .before .before .before .before .before .before .before .before .note-value .ensures in
-    (c .before .before .before .before .before .before .before .before .before .before .before .before .before .before .before .before .before .before .before .before .before .before .before .pre .0, (omega (arith, note .few, note .long-places, c .before .before .before .before .before .before .before .before .before .before .before .before .before .before .before .before .before .before .before .loop .inv .2, c .before .before .before .before .before .before .before .before .before .before .before .before .before .before .before .before .before .before .before .before .before .before .before .pre .1 .0), omega (arith, note .few, note .long-prints, c .before .before .before .before .before .before .before .before .before .before .before .before .before .before .before .before .before .before .before .loop .inv .3, c .before .before .before .before .before .before .before .before .before .before .before .before .before .before .before .before .before .before .before .before .before .before .before .pre .1 .1)))
+    (pre .0, (omega (arith, note .few, note .long-places, loop .inv .2, pre .1 .0), omega (arith, note .few, note .long-prints, loop .inv .3, pre .1 .1)))
 
 same-length-3 : tie.Need-same-length-3 Inv-loop μ-loop
-same-length-3 c = c .before .before .before .before .before .before .before .before .before .before .before .before .note-value .ensures .long-places ∙ (c .before .before .before .before .before .before .before .before .before .before .before .before .before .before .before .before .before .before .before .before .loop .inv .2)
+same-length-3 c =
+    let loop = c .before .before .before .before .before .before .before .before .before .before .before .before .before .before .before .before .before .before .before .before .loop in
+    let note-value = c .before .before .before .before .before .before .before .before .before .before .before .before .note-value in
+    note-value .ensures .long-places ∙ (loop .inv .2)
 
 same-length-4 : tie.Need-same-length-4 Inv-loop μ-loop
-same-length-4 c = c .before .before .before .before .before .before .before .before .before .before .before .before .note-value .ensures .long-prints ∙ (c .before .before .before .before .before .before .before .before .before .before .before .before .before .before .before .before .before .before .before .before .loop .inv .3)
+same-length-4 c =
+    let loop = c .before .before .before .before .before .before .before .before .before .before .before .before .before .before .before .before .before .before .before .before .loop in
+    let note-value = c .before .before .before .before .before .before .before .before .before .before .before .before .note-value in
+    note-value .ensures .long-prints ∙ (loop .inv .3)
 
 returns-2 : tie.Need-returns-2 Inv-loop μ-loop
 returns-2 c =
-    let h = turn-as (c .before .before .before .before .before .before .separator .ensures) (c .before .before .before .before .r .given .1) in
-    notes-all (now (c .before .before .before .before .before .before .before .before .before .before .before .before .before .before .before .before .before .before .before .before .before .before .before .before .args .s)) (c .before .before .before .before .before .before .before .before .before .before .before .before .before .before .before .before .before .before .before .before .before .before .before .before .args .at) (c .before .before .before .before .before .before .before .before .before .before .before .before .before .before .before .before .before .before .before .before .before .before .before .before .args .one) (c .before .before .before .before .before .before .before .before .before .before .before .before .before .before .before .before .before .before .before .before .before .before .before .before .args .other) (c .before .before .before .before .before .before .before .before .before .before .before .before .before .before .before .before .before .before .before .before .loop .i) (c .before .before .before .before .before .before .before .before .before .before .before .before .before .before .before .before .before .before .before .before .loop .places) (c .before .before .before .before .before .before .before .before .before .before .before .before .before .before .before .before .before .before .before .before .loop .prints) (c .before .before .before .before .before .before .before .before .before .before .before .before .before .before .before .before .before .before .before .before .loop .n) (c .before .before .before .before .before .before .before .before .before .before .before .before .before .before .before .before .before .before .before .before .loop .ok) (c .before .before .before .before .before .before .before .before .before .before .before .before .before .before .before .before .before .before .before .before .loop .inv .4) (c .before .before .before .before .before .before .before .before .before .before .before .before .before .before .before .before .before .before .before .element-at .result) (c .before .before .before .before .before .before .before .before .before .before .before .before .before .before .before .before .before .before .before .element-at .ensures .1) (c .before .before .before .before .before .before .before .before .before .before .before .before .before .before .before .before .before .before .component-at .result) (c .before .before .before .before .before .before .before .before .before .before .before .before .before .before .before .before .before .before .component-at .ensures .1) _ _ (c .before .before .before .before .before .before .before .before .before .before .before .before .before .before .before .before .k .given .1) _ _ (c .before .before .before .before .before .before .before .before .before .before .before .before .note-value .result) (c .before .before .before .before .before .before .before .before .before .before .before .before .note-value .ensures) _ h (c .none-met .result) (c .none-met .ensures)
+    let args = c .before .before .before .before .before .before .before .before .before .before .before .before .before .before .before .before .before .before .before .before .before .before .before .before .args in
+    let loop = c .before .before .before .before .before .before .before .before .before .before .before .before .before .before .before .before .before .before .before .before .loop in
+    let element-at = c .before .before .before .before .before .before .before .before .before .before .before .before .before .before .before .before .before .before .before .element-at in
+    let component-at = c .before .before .before .before .before .before .before .before .before .before .before .before .before .before .before .before .before .before .component-at in
+    let k = c .before .before .before .before .before .before .before .before .before .before .before .before .before .before .before .before .k in
+    let note-value = c .before .before .before .before .before .before .before .before .before .before .before .before .note-value in
+    let separator = c .before .before .before .before .before .before .separator in
+    let h = turn-as (separator .ensures) (c .before .before .before .before .r .given .1) in
+    notes-all (now (args .s)) (args .at) (args .one) (args .other) (loop .i) (loop .places) (loop .prints) (loop .n) (loop .ok) (loop .inv .4) (element-at .result)
+    (element-at .ensures .1) (component-at .result) (component-at .ensures .1) _ _ (k .given .1) _ _ (note-value .result) (note-value .ensures) _ h (c .none-met .result)
+    (c .none-met .ensures)
 
 pub note-apart-spec : {M : Type 1} → statement M
 note-apart-spec =

@@ -9,7 +9,10 @@ value-print-requires : tie.Need-value-print-requires
 value-print-requires c κs = search needs
 
 returns : tie.Need-returns
-returns c = notes-none (now (c .before .before .before .before .before .args .s)) (c .before .before .before .before .before .args .at) (c .before .before .before .before .before .args .one) (c .before .before .before .before .before .args .wanted) (c .before .before .before .before .before .args .value) (c .before .value-print .result) (c .before .value-print .ensures) (now (c .before .before .before .before .before .args .places)) (now (c .before .before .before .before .before .args .prints)) (c .before .before .before .before .before .args .count) (c .before .before .before .before .before .pre .1 .1 .1) (c .if1 .taken)
+returns c =
+    let args = c .before .before .before .before .before .args in
+    notes-none (now (args .s)) (args .at) (args .one) (args .wanted) (args .value) (c .before .value-print .result) (c .before .value-print .ensures) (now (args .places))
+    (now (args .prints)) (args .count) (c .before .before .before .before .before .pre .1 .1 .1) (c .if1 .taken)
 
 mul-places : tie.Need-mul-places
 mul-places c = search needs
@@ -36,7 +39,12 @@ same-length-2 : tie.Need-same-length-2
 same-length-2 c = search needs
 
 returns-2 : tie.Need-returns-2
-returns-2 c = notes-more (now (c .before .before .before .before .before .before .args .s)) (c .before .before .before .before .before .before .args .at) (c .before .before .before .before .before .before .args .one) (c .before .before .before .before .before .before .args .wanted) (c .before .before .before .before .before .before .args .value) (c .before .before .value-print .result) (c .before .before .value-print .ensures) (now (c .before .before .before .before .before .before .args .places)) (now (c .before .before .before .before .before .before .args .prints)) (c .before .before .before .before .before .before .args .count) (c .before .if1 .left) (c .if2 .taken) (c .before .before .before .before .before .before .pre .1 .0) (c .before .before .before .before .before .before .pre .1 .1 .0)
+returns-2 c =
+    let args = c .before .before .before .before .before .before .args in
+    let pre = c .before .before .before .before .before .before .pre in
+    let value-print = c .before .before .value-print in
+    notes-more (now (args .s)) (args .at) (args .one) (args .wanted) (args .value) (value-print .result) (value-print .ensures) (now (args .places)) (now (args .prints))
+    (args .count) (c .before .if1 .left) (c .if2 .taken) (pre .1 .0) (pre .1 .1 .0)
 
 none-met-requires : tie.Need-none-met-requires
 none-met-requires c κs = search needs
@@ -57,7 +65,12 @@ same-length-4 : tie.Need-same-length-4
 same-length-4 c = search needs
 
 returns-3 : tie.Need-returns-3
-returns-3 c = notes-anew (now (c .before .before .before .before .before .before .before .before .before .args .s)) (c .before .before .before .before .before .before .before .before .before .args .at) (c .before .before .before .before .before .before .before .before .before .args .one) (c .before .before .before .before .before .before .before .before .before .args .wanted) (c .before .before .before .before .before .before .before .before .before .args .value) (c .before .before .before .before .before .value-print .result) (c .before .before .before .before .before .value-print .ensures) (now (c .before .before .before .before .before .before .before .before .before .args .places)) (now (c .before .before .before .before .before .before .before .before .before .args .prints)) (c .before .before .before .before .before .before .before .before .before .args .count) (c .before .before .before .before .if1 .left) (c .before .before .before .before .before .before .before .before .before .pre .1 .0) (c .before .before .before .before .before .before .before .before .before .pre .1 .1 .0) (c .none-met .result) (c .none-met .ensures)
+returns-3 c =
+    let args = c .before .before .before .before .before .before .before .before .before .args in
+    let pre = c .before .before .before .before .before .before .before .before .before .pre in
+    let value-print = c .before .before .before .before .before .value-print in
+    notes-anew (now (args .s)) (args .at) (args .one) (args .wanted) (args .value) (value-print .result) (value-print .ensures) (now (args .places)) (now (args .prints))
+    (args .count) (c .before .before .before .before .if1 .left) (pre .1 .0) (pre .1 .1 .0) (c .none-met .result) (c .none-met .ensures)
 
 pub note-value-spec : {M : Type 1} → statement M
 note-value-spec =

@@ -12,13 +12,18 @@ is-filled-requires : tie.Need-is-filled-requires
 is-filled-requires c κs = search needs
 
 returns-2 : tie.Need-returns-2
-returns-2 c = prints-empty (now (c .before .before .before .before .args .s)) (c .before .before .before .before .args .wanted) (c .before .before .before .before .args .value) (c .before .is-filled .result) (c .before .is-filled .ensures) (not-true _ (c .if2 .taken))
+returns-2 c =
+    let args = c .before .before .before .before .args in
+    prints-empty (now (args .s)) (args .wanted) (args .value) (c .before .is-filled .result) (c .before .is-filled .ensures) (not-true _ (c .if2 .taken))
 
 print-at-requires : tie.Need-print-at-requires
 print-at-requires c κs = search needs
 
 returns-3 : tie.Need-returns-3
-returns-3 c = prints-one (now (c .before .before .before .before .before .args .s)) (c .before .before .before .before .before .args .wanted) (c .before .before .before .before .before .args .value) (c .before .before .is-filled .result) (c .before .before .is-filled .ensures) (not-false _ (c .before .before .before .if1 .left)) (not-false _ (c .before .if2 .left)) (c .print-at .result) (c .print-at .ensures .0) (c .print-at .ensures .1)
+returns-3 c =
+    let args = c .before .before .before .before .before .args in
+    prints-one (now (args .s)) (args .wanted) (args .value) (c .before .before .is-filled .result) (c .before .before .is-filled .ensures)
+    (not-false _ (c .before .before .before .if1 .left)) (not-false _ (c .before .if2 .left)) (c .print-at .result) (c .print-at .ensures .0) (c .print-at .ensures .1)
 
 pub value-print-spec : {M : Type 1} → statement M
 value-print-spec =
