@@ -1,7 +1,7 @@
 use native.Mathlib.Omega.{arith}
 use denote.Ref.{now}
 use mathlib.Core.Path.{sym, _∙_}
-use Prim.Native.Nat.{_≤_, _+_, _-_}
+use Prim.Native.Nat.{_≤_, _-_}
 use Rattle.json_strings.specs.Spelled.{spelled}
 use Rattle.json_prints.specs.Prints.{Clear}
 use Rattle.json_prints.proofs.Prints.{clear-absent, clear-on, sought-yes, sought-no}
@@ -42,8 +42,8 @@ returns c =
     let pre = c .before .before .before .before .before .before .before .before .before .pre in
     let s = now (args .s) in
     let k = c .before .before .before .before .loop .k in
-    sought-yes s (spelled s (args .at)) (now (args .places)) (now (args .prints)) (args .count) (pre .0) k (k + 1) (omega (arith, c .before .before .before .loop-test .taken))
-    (k, omega arith, sym (c .before .same-text .ensures) ∙ (c .if1 .taken))
+    sought-yes s (spelled s (args .at)) (now (args .places)) (now (args .prints)) (args .count) (pre .0) k (c .before .before .before .loop-test .taken)
+    (sym (c .before .same-text .ensures) ∙ (c .if1 .taken))
 
 add-next-print : tie.Need-add-next-print Inv-loop μ-loop
 add-next-print c = omega (arith, c .before .before .before .loop-test .taken)
