@@ -1,19 +1,19 @@
 use borrow.Author.Needs.{needs}
-use Prim.Native.Nat.{_+_, _-_, _≤_, _<_}
+use Prim.Native.Nat.{_+_, _-_, _<_}
 use mathlib.Core.Path.{_≡_, refl, sym, ap, _∙_}
 use native.Mathlib.Omega.{arith}
 use denote.Ref.{now}
 use lib.ListN.{length, drop}
-use Rattle.json_sound.specs.Noted.{printed}
-use Rattle.card_seen.proofs.Prints.{printed-on, printed-end}
-use Rattle.card_seen.proofs.print_of.Statement.{statement}
-use Rattle.card_seen.proofs.print_of.Tie as tie
+use Rattle.json_prints.specs.Prints.{printed}
+use Rattle.json_prints.proofs.Prints.{printed-on, printed-end}
+use Rattle.json_prints.proofs.print_of.Statement.{statement}
+use Rattle.json_prints.proofs.print_of.Tie as tie
 
 abbrev Inv-loop : tie.InvT-loop
-Inv-loop i key p₀ k₀ p k = (p < 65536) × (printed p (drop k key) ≡ printed i key)
+Inv-loop from key p₀ k₀ p k = (p < 65536) × (printed p (drop k key) ≡ printed from key)
 
 abbrev μ-loop : tie.MeasureT-loop
-μ-loop i key p₀ k₀ p k = length key - k
+μ-loop from key p₀ k₀ p k = length key - k
 
 cast-p : tie.Need-cast-p Inv-loop μ-loop
 cast-p c = omega (arith, c .before .pre)
@@ -37,8 +37,11 @@ loop-again : tie.Need-loop-again Inv-loop μ-loop
 loop-again c =
     let at-loop-test = c .before .before in
     let at-loop = at-loop-test .before in
-    let start = at-loop .before .before in
-    (c .stirred .ensures .1, ap (λ q. printed q (drop (at-loop .loop .k + 1) (now (start .args .key)))) (c .stirred .ensures .0) ∙ sym (printed-on (now (start .args .key)) (at-loop .loop .p) (at-loop .loop .k) (at-loop-test .loop-test .taken)) ∙ (at-loop .loop .inv .1))
+    let start = at-loop .before .before in (
+      c .stirred .ensures .1,
+      ap (λ q. printed q (drop (at-loop .loop .k + 1) (now (start .args .key)))) (c .stirred .ensures .0) ∙ sym
+          (printed-on (now (start .args .key)) (at-loop .loop .p) (at-loop .loop .k) (at-loop-test .loop-test .taken)) ∙ (at-loop .loop .inv .1),
+    )
 
 cast-result : tie.Need-cast-result Inv-loop μ-loop
 cast-result c = omega (arith, c .before .loop .inv .0)
