@@ -72,9 +72,9 @@ abbrev pub LinesWithin : ℕ → ℕ → Lines → Type 0
 LinesWithin room most (All n k c) = (n ≤ room) × (k ≤ most)
 LinesWithin room most Wrong = Unit {0}
 
--- each line comes of a byte of the text at least
+-- each entry but the last has a comma after it, so that there are no more lines than bytes, and one
 abbrev pub RunIn : ℕ → ℕ → ℕ → Run → Type 0
-RunIn room text most (Ended r) = LinesWithin room text r
+RunIn room text most (Ended r) = LinesWithin room (text + 1) r
 RunIn room text most (More n lines ok at) = (n ≤ room) × (lines ≤ at) × (at ≤ text) × (lines ≡ most)
 
 -- lines before others

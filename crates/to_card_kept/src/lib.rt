@@ -17,7 +17,7 @@ use text::Turn;
 use text::look;
 use to_card_lines::Lines;
 ghost use mathlib.Core.Path.{_≡_};
-ghost use Prim.Native.Nat.{_≤_};
+ghost use Prim.Native.Nat.{_+_, _≤_};
 ghost use lib.ListN.{length};
 ghost use Rattle.line_table.specs.Table.{Sound};
 ghost use Rattle.class_member.specs.Member.{Room};
@@ -170,7 +170,7 @@ fn put_noted<'a, 'b, 'c, 'd, 'e, 'f>(
 ) -> Lines
     requires { ⌜ Lent (now b) (now t) (now scratch) (now s) (now slots) ⌝ }
     requires { ⌜ at ≤ length (now s) ⌝ }
-    ensures { λ r. ⌜ LinesWithin (length (now (out .entry))) (length (now (s .entry))) r ⌝ }
+    ensures { λ r. ⌜ LinesWithin (length (now (out .entry))) (length (now (s .entry)) + 1) r ⌝ }
     ensures { λ r. ⌜ length (now (out .exit)) ≡ length (now (out .entry)) ⌝ }
     ensures { λ r. ⌜ PutsFrom (now (s .entry)) (now (slots .entry)) at full parts (now (out .entry)) r (now (out .exit)) ⌝ }
 {
@@ -179,7 +179,7 @@ fn put_noted<'a, 'b, 'c, 'd, 'e, 'f>(
     let mut ends = [0usize; 9];
     let k = note_groups(&mut places, &mut prints, &mut ends, s, slots);
     let most = s.len() + 1;
-    let Run::Ended(r) = put_run(
+    match put_run(
         out,
         b,
         t,
@@ -193,10 +193,10 @@ fn put_noted<'a, 'b, 'c, 'd, 'e, 'f>(
         full,
         parts,
         most,
-    ) else {
-        return Lines::Wrong;
-    };
-    r
+    ) {
+        Run::Ended(r) => r,
+        Run::More(n, lines, ok, j) => Lines::Wrong,
+    }
 }
 
 // The entries from a place on. What the lines of the first sixteen ask is looked up by walks over the text: few cards have more of them.
@@ -218,7 +218,21 @@ fn put_from<'a, 'b, 'c, 'd, 'e, 'f>(
     ensures { λ r. ⌜ PutsFrom (now (s .entry)) (now (slots .entry)) at full parts (now (out .entry)) r (now (out .exit)) ⌝ }
 {
     let none = [0u16; 1];
-    match put_run(out, b, t, scratch, s, slots, &none, &none, &slots[0..0], at, full, parts, 16) {
+    match put_run(
+        out,
+        b,
+        t,
+        scratch,
+        s,
+        slots,
+        &none,
+        &none,
+        &slots[0..0],
+        at,
+        full,
+        parts,
+        16,
+    ) {
         Run::Ended(r) => r,
         Run::More(n, lines, ok, j) => {
             let Lines::All(m, l, c) = put_noted(
