@@ -5,10 +5,15 @@ use Rattle.kept_used.proofs.id_used.Statement.{statement}
 use Rattle.kept_used.proofs.id_used.Tie as tie
 
 has-name-requires : tie.Need-has-name-requires
-has-name-requires c κs = ((omega (arith, c .before .before .before .before .before .before .pre .0 .0), c .before .before .before .before .before .before .pre .0 .1), c .before .before .before .before .before .before .pre .1)
+has-name-requires c κs =
+    let pre = c .before .before .before .before .before .before .pre in
+    ((omega (arith, pre .0 .0), pre .0 .1), pre .1)
 
 returns : tie.Need-returns
-returns c = id-names (now (c .before .before .before .before .before .before .before .args .s)) (now (c .before .before .before .before .before .before .before .args .slots)) (c .before .before .before .before .before .before .before .args .i) (c .before .before .before .before .before .before .before .pre .0 .0) (now (c .before .before .before .before .before .before .before .args .key)) (c .has-name .result) (c .has-name .ensures)
+returns c =
+    let args = c .before .before .before .before .before .before .before .args in
+    let pre = c .before .before .before .before .before .before .before .pre in
+    id-names (now (args .s)) (now (args .slots)) (args .i) (pre .0 .0) (now (args .key)) (c .has-name .result) (c .has-name .ensures)
 
 pub id-used-spec : {M : Type 1} → statement M
 id-used-spec =

@@ -33,13 +33,19 @@ part-has-name-end : tie.Need-part-has-name-end
 part-has-name-end c = written _ (c .before .before .before .before .before .before .read-pointer .ensures) (c .before .before .n .given .1) .0
 
 has-name-requires : tie.Need-has-name-requires
-has-name-requires c κs = ((omega arith, c .before .before .before .before .before .before .before .before .before .before .before .before .before .before .before .before .pre .0 .2), c .before .before .before .before .before .before .before .before .before .before .before .before .before .before .before .before .pre .1)
+has-name-requires c κs =
+    let pre = c .before .before .before .before .before .before .before .before .before .before .before .before .before .before .before .before .pre in
+    ((omega arith, pre .0 .2), pre .1)
 
 same-length-2 : tie.Need-same-length-2
 same-length-2 c = search needs
 
 returns-2 : tie.Need-returns-2
-returns-2 c = pointer-read (now (c .before .before .before .before .before .before .before .before .before .before .before .before .before .before .before .before .before .args .s)) (now (c .before .before .before .before .before .before .before .before .before .before .before .before .before .before .before .before .before .args .p)) (now (c .before .before .before .before .before .before .before .before .before .before .before .before .before .before .before .before .before .args .scratch)) (c .before .before .before .before .before .before .before .before .read-pointer .ensures) (now (c .before .before .before .before .before .before .before .before .before .before .before .before .before .before .before .before .before .args .slots)) _ (c .before .before .before .before .n .given .1) (c .has-name .result) (c .has-name .ensures)
+returns-2 c =
+    let args = c .before .before .before .before .before .before .before .before .before .before .before .before .before .before .before .before .before .args in
+    let read-pointer = c .before .before .before .before .before .before .before .before .read-pointer in
+    let n = c .before .before .before .before .n in
+    pointer-read (now (args .s)) (now (args .p)) (now (args .scratch)) (read-pointer .ensures) (now (args .slots)) _ (n .given .1) (c .has-name .result) (c .has-name .ensures)
 
 pub pointer-used-spec : {M : Type 1} → statement M
 pointer-used-spec =

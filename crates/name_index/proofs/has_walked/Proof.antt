@@ -9,7 +9,9 @@ has-member-requires : tie.Need-has-member-requires
 has-member-requires c κs = search needs
 
 returns : tie.Need-returns
-returns c = has-last (now (c .before .before .before .before .before .args .s)) (now (c .before .before .before .before .before .args .slots)) (c .before .before .before .before .before .args .i) (now (c .before .before .before .before .before .args .key)) (c .has-member .result) (c .before .if1 .taken) (c .has-member .ensures)
+returns c =
+    let args = c .before .before .before .before .before .args in
+    has-last (now (args .s)) (now (args .slots)) (args .i) (now (args .key)) (c .has-member .result) (c .before .if1 .taken) (c .has-member .ensures)
 
 add-k : tie.Need-add-k
 add-k c = search needs
@@ -21,13 +23,19 @@ shared-slice-read-at : tie.Need-shared-slice-read-at
 shared-slice-read-at c = search needs
 
 returns-2 : tie.Need-returns-2
-returns-2 c = has-empty (now (c .before .before .before .before .before .before .args .s)) (now (c .before .before .before .before .before .before .args .slots)) (c .before .before .before .before .before .before .args .i) (now (c .before .before .before .before .before .before .args .key)) false (c .before .before .if1 .left) (c .if2 .taken)
+returns-2 c =
+    let args = c .before .before .before .before .before .before .args in
+    let if1 = c .before .before .if1 in
+    has-empty (now (args .s)) (now (args .slots)) (args .i) (now (args .key)) false (if1 .left) (c .if2 .taken)
 
 has-member-requires-2 : tie.Need-has-member-requires-2
 has-member-requires-2 c κs = search needs
 
 returns-3 : tie.Need-returns-3
-returns-3 c = has-slot (now (c .before .before .before .before .before .before .before .args .s)) (now (c .before .before .before .before .before .before .before .args .slots)) (c .before .before .before .before .before .before .before .args .i) (now (c .before .before .before .before .before .before .before .args .key)) (c .has-member2 .result) (c .before .before .before .if1 .left) (c .before .if2 .left) (c .has-member2 .ensures)
+returns-3 c =
+    let args = c .before .before .before .before .before .before .before .args in
+    let if1 = c .before .before .before .if1 in
+    has-slot (now (args .s)) (now (args .slots)) (args .i) (now (args .key)) (c .has-member2 .result) (if1 .left) (c .before .if2 .left) (c .has-member2 .ensures)
 
 pub has-walked-spec : {M : Type 1} → statement M
 has-walked-spec =

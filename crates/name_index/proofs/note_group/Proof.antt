@@ -16,7 +16,11 @@ same-length-2 : tie.Need-same-length-2
 same-length-2 c = search needs
 
 returns : tie.Need-returns
-returns c = (c .before .before .before .before .note-names .ensures .0, notes-last (now (c .before .before .before .before .before .before .before .before .before .before .before .before .args .s)) (now (c .before .before .before .before .before .before .before .before .before .before .before .before .args .slots)) (c .before .before .before .before .before .before .before .before .before .before .before .before .args .i) (c .before .before .before .before .note-names .result) _ _ (c .before .before .before .before .before .before .before .if1 .taken) (c .before .before .before .before .note-names .ensures .1))
+returns c =
+    let args = c .before .before .before .before .before .before .before .before .before .before .before .before .args in
+    let if1 = c .before .before .before .before .before .before .before .if1 in
+    let note-names = c .before .before .before .before .note-names in
+    (note-names .ensures .0, notes-last (now (args .s)) (now (args .slots)) (args .i) (note-names .result) _ _ (if1 .taken) (note-names .ensures .1))
 
 add-k : tie.Need-add-k
 add-k c = search needs
@@ -28,7 +32,10 @@ shared-slice-read-at : tie.Need-shared-slice-read-at
 shared-slice-read-at c = search needs
 
 returns-2 : tie.Need-returns-2
-returns-2 c = (omega arith, notes-empty (now (c .before .before .before .before .before .before .before .args .s)) (now (c .before .before .before .before .before .before .before .args .slots)) (c .before .before .before .before .before .before .before .args .i) (Rows 0) (now (c .before .before .before .before .before .before .before .args .places)) (now (c .before .before .before .before .before .before .before .args .prints)) (c .before .before .if1 .left) (c .if2 .taken))
+returns-2 c =
+    let args = c .before .before .before .before .before .before .before .args in
+    let if1 = c .before .before .if1 in
+    (omega arith, notes-empty (now (args .s)) (now (args .slots)) (args .i) (Rows 0) (now (args .places)) (now (args .prints)) (if1 .left) (c .if2 .taken))
 
 note-names-requires-2 : tie.Need-note-names-requires-2
 note-names-requires-2 c κs = search needs
@@ -40,7 +47,12 @@ same-length-4 : tie.Need-same-length-4
 same-length-4 c = search needs
 
 returns-3 : tie.Need-returns-3
-returns-3 c = (c .before .before .before .before .note-names2 .ensures .0, notes-slot (now (c .before .before .before .before .before .before .before .before .before .before .before .before .before .before .args .s)) (now (c .before .before .before .before .before .before .before .before .before .before .before .before .before .before .args .slots)) (c .before .before .before .before .before .before .before .before .before .before .before .before .before .before .args .i) (c .before .before .before .before .note-names2 .result) _ _ (c .before .before .before .before .before .before .before .before .before .if1 .left) (c .before .before .before .before .before .before .before .if2 .left) (c .before .before .before .before .note-names2 .ensures .1))
+returns-3 c =
+    let args = c .before .before .before .before .before .before .before .before .before .before .before .before .before .before .args in
+    let if1 = c .before .before .before .before .before .before .before .before .before .if1 in
+    let if2 = c .before .before .before .before .before .before .before .if2 in
+    let note-names2 = c .before .before .before .before .note-names2 in
+    (note-names2 .ensures .0, notes-slot (now (args .s)) (now (args .slots)) (args .i) (note-names2 .result) _ _ (if1 .left) (if2 .left) (note-names2 .ensures .1))
 
 pub note-group-spec : {M : Type 1} → statement M
 note-group-spec =

@@ -22,7 +22,10 @@ slice-write-ends : tie.Need-slice-write-ends Inv-loop μ-loop
 slice-write-ends c = omega (arith, c .before .before .before .before .before .pre .0 .0)
 
 loop-holds : tie.Need-loop-holds Inv-loop μ-loop
-loop-holds c = (c .before .before .before .before .before .pre .1, omega arith, length-set (now (c .before .before .before .before .before .args .ends)) 0 0 ∙ (c .before .before .before .before .before .pre .0 .0), omega arith, refl, refl, filled-none (now (c .before .before .before .before .before .args .s)) (now (c .before .before .before .before .before .args .slots)) (now (c .before .before .before .before .before .args .places)) (now (c .before .before .before .before .before .args .prints)) (now (c .before .before .before .before .before .args .ends)) (c .before .before .before .before .before .pre .0 .0))
+loop-holds c =
+    let pre = c .before .before .before .before .before .pre in
+    let args = c .before .before .before .before .before .args in
+    (pre .1, omega arith, length-set (now (args .ends)) 0 0 ∙ (pre .0 .0), omega arith, refl, refl, filled-none (now (args .s)) (now (args .slots)) (now (args .places)) (now (args .prints)) (now (args .ends)) (pre .0 .0))
 
 mul-note-group : tie.Need-mul-note-group Inv-loop μ-loop
 mul-note-group c = omega (arith, c .before .loop .inv .1)
@@ -49,7 +52,11 @@ part-note-group-end-2 : tie.Need-part-note-group-end-2 Inv-loop μ-loop
 part-note-group-end-2 c = le-refl _
 
 note-group-requires : tie.Need-note-group-requires Inv-loop μ-loop
-note-group-requires c κs = ((c .before .before .loop-test .taken, c .before .before .before .before .before .before .before .before .before .pre .0 .1), mids-even (c .before .before .before .loop .n) (c .before .before .before .loop .places) (c .before .before .before .loop .prints) (c .before .before .before .loop .inv .0))
+note-group-requires c κs =
+    let pre = c .before .before .before .before .before .before .before .before .before .pre in
+    let loop = c .before .before .before .loop in
+    let loop-test = c .before .before .loop-test in
+    ((loop-test .taken, pre .0 .1), mids-even (loop .n) (loop .places) (loop .prints) (loop .inv .0))
 
 enum-known-k : tie.Need-enum-known-k Inv-loop μ-loop
 enum-known-k c = search needs
@@ -58,19 +65,31 @@ enum-told : tie.Need-enum-told Inv-loop μ-loop
 enum-told c = search needs
 
 same-length : tie.Need-same-length Inv-loop μ-loop
-same-length c = same-len-mid (c .before .before .before .before .before .before .before .before .before .before .loop .n) (length (c .before .before .before .before .before .before .before .before .before .before .loop .places) - (c .before .before .before .before .before .before .before .before .before .before .loop .n)) (c .before .before .before .before .before .before .before .before .before .before .loop .places) (c .before .before .before .before .before .before .note-group .last .0) (c .before .before .before .before .before .before .note-group .kept .0) ∙ (c .before .before .before .before .before .before .before .before .before .before .loop .inv .4)
+same-length c =
+    let loop = c .before .before .before .before .before .before .before .before .before .before .loop in
+    let note-group = c .before .before .before .before .before .before .note-group in
+    same-len-mid (loop .n) (length (loop .places) - (loop .n)) (loop .places) (note-group .last .0) (note-group .kept .0) ∙ (loop .inv .4)
 
 same-length-2 : tie.Need-same-length-2 Inv-loop μ-loop
-same-length-2 c = same-len-mid (c .before .before .before .before .before .before .before .before .before .before .loop .n) (length (c .before .before .before .before .before .before .before .before .before .before .loop .prints) - (c .before .before .before .before .before .before .before .before .before .before .loop .n)) (c .before .before .before .before .before .before .before .before .before .before .loop .prints) (c .before .before .before .before .before .before .note-group .last .1 .0) (c .before .before .before .before .before .before .note-group .kept .1 .0) ∙ (c .before .before .before .before .before .before .before .before .before .before .loop .inv .5)
+same-length-2 c =
+    let loop = c .before .before .before .before .before .before .before .before .before .before .loop in
+    let note-group = c .before .before .before .before .before .before .note-group in
+    same-len-mid (loop .n) (length (loop .prints) - (loop .n)) (loop .prints) (note-group .last .1 .0) (note-group .kept .1 .0) ∙ (loop .inv .5)
 
 same-length-3 : tie.Need-same-length-3 Inv-loop μ-loop
-same-length-3 c = c .before .before .before .before .before .before .before .before .before .before .loop .inv .2 ∙ sym (c .before .before .before .before .before .before .before .before .before .before .before .before .before .before .before .before .pre .0 .0)
+same-length-3 c =
+    let pre = c .before .before .before .before .before .before .before .before .before .before .before .before .before .before .before .before .pre in
+    let loop = c .before .before .before .before .before .before .before .before .before .before .loop in
+    loop .inv .2 ∙ sym (pre .0 .0)
 
 returns : tie.Need-returns Inv-loop μ-loop
 returns c = (omega arith, λ l. absurd (omega (arith, l)))
 
 add-n : tie.Need-add-n Inv-loop μ-loop
-add-n c = omega (arith, rows-in (c .before .before .before .before .before .before .before .note-group .ensures .0) (c .before .k .given .1), mid-long (c .before .before .before .before .before .before .before .before .before .before .before .loop .n) (c .before .before .before .before .before .before .before .before .before .before .before .loop .places) (c .before .before .before .before .before .before .before .before .before .before .before .loop .inv .1))
+add-n c =
+    let loop = c .before .before .before .before .before .before .before .before .before .before .before .loop in
+    let note-group = c .before .before .before .before .before .before .before .note-group in
+    omega (arith, rows-in (note-group .ensures .0) (c .before .k .given .1), mid-long (loop .n) (loop .places) (loop .inv .1))
 
 add-i : tie.Need-add-i Inv-loop μ-loop
 add-i c = omega (arith, c .before .before .before .before .before .before .before .before .before .before .loop-test .taken)
@@ -79,25 +98,32 @@ mul-ends : tie.Need-mul-ends Inv-loop μ-loop
 mul-ends c = omega (arith, c .before .before .before .before .before .before .before .before .before .before .loop-test .taken)
 
 slice-write-ends-2 : tie.Need-slice-write-ends-2 Inv-loop μ-loop
-slice-write-ends-2 c = omega (arith, c .before .before .before .before .before .before .before .before .before .before .loop-test .taken, c .before .before .before .before .before .before .before .before .before .before .before .loop .inv .2)
+slice-write-ends-2 c =
+    let loop = c .before .before .before .before .before .before .before .before .before .before .before .loop in
+    let loop-test = c .before .before .before .before .before .before .before .before .before .before .loop-test in
+    omega (arith, loop-test .taken, loop .inv .2)
 
 loop-less : tie.Need-loop-less Inv-loop μ-loop
 loop-less c = omega (arith, c .before .before .before .before .before .before .before .before .before .before .loop-test .taken)
 
 loop-again : tie.Need-loop-again Inv-loop μ-loop
 loop-again c =
-    let k = rows-in (c .before .before .before .before .before .before .before .note-group .ensures .0) (c .before .k .given .1) in
-    let l = same-len-mid (c .before .before .before .before .before .before .before .before .before .before .before .loop .n) (length (c .before .before .before .before .before .before .before .before .before .before .before .loop .places) - (c .before .before .before .before .before .before .before .before .before .before .before .loop .n)) (c .before .before .before .before .before .before .before .before .before .before .before .loop .places) (c .before .before .before .before .before .before .before .note-group .last .0) (c .before .before .before .before .before .before .before .note-group .kept .0) in
-    let m = same-len-mid (c .before .before .before .before .before .before .before .before .before .before .before .loop .n) (length (c .before .before .before .before .before .before .before .before .before .before .before .loop .prints) - (c .before .before .before .before .before .before .before .before .before .before .before .loop .n)) (c .before .before .before .before .before .before .before .before .before .before .before .loop .prints) (c .before .before .before .before .before .before .before .note-group .last .1 .0) (c .before .before .before .before .before .before .before .note-group .kept .1 .0) in (
-      l ∙ (c .before .before .before .before .before .before .before .before .before .before .before .loop .inv .0) ∙ sym m,
-      omega (arith, k, l, mid-long (c .before .before .before .before .before .before .before .before .before .before .before .loop .n) (c .before .before .before .before .before .before .before .before .before .before .before .loop .places) (c .before .before .before .before .before .before .before .before .before .before .before .loop .inv .1)),
-      length-set (c .before .before .before .before .before .before .before .before .before .before .before .loop .ends) (c .before .before .before .before .before .before .before .before .before .before .before .loop .i + 1) _ ∙ (c .before .before .before .before .before .before .before .before .before .before .before .loop .inv .2),
-      omega (arith, c .before .before .before .before .before .before .before .before .before .before .loop-test .taken),
-      l ∙ (c .before .before .before .before .before .before .before .before .before .before .before .loop .inv .4),
-      m ∙ (c .before .before .before .before .before .before .before .before .before .before .before .loop .inv .5),
-      filled-on (now (c .before .before .before .before .before .before .before .before .before .before .before .before .before .before .before .before .before .args .s)) (now (c .before .before .before .before .before .before .before .before .before .before .before .before .before .before .before .before .before .args .slots)) (c .before .before .before .before .before .before .before .before .before .before .before .loop .places) (c .before .before .before .before .before .before .before .before .before .before .before .loop .prints) (c .before .before .before .before .before .before .before .before .before .before .before .loop .ends) (c .before .before .before .before .before .before .before .before .before .before .before .loop .i) (c .before .before .before .before .before .before .before .before .before .before .before .loop .n) (c .before .before .before .before .before .before .before .before .before .before .before .loop .inv .6) (c .before .before .before .before .before .before .before .before .before .before .before .loop .inv .0) (c .before .before .before .before .before .before .before .before .before .before .before .loop .inv .1) (c .before .before .before .before .before .before .before .before .before .before .before .loop .inv .2) (c .before .before .before .before .before .before .before .before .before .before .loop-test .taken)
-          _ (c .before .before .before .before .before .before .before .note-group .last .0) (c .before .before .before .before .before .before .before .note-group .last .1 .0) (c .before .before .before .before .before .before .before .note-group .kept .0) (c .before .before .before .before .before .before .before .note-group .kept .1 .0)
-          (rows-noted (now (c .before .before .before .before .before .before .before .before .before .before .before .before .before .before .before .before .before .args .s)) (now (c .before .before .before .before .before .before .before .before .before .before .before .before .before .before .before .before .before .args .slots)) (c .before .before .before .before .before .before .before .before .before .before .before .loop .i) _ _ _ (c .before .before .before .before .before .before .before .note-group .result) (c .before .before .before .before .before .before .before .note-group .ensures .1) (c .before .k .given .1)) k,
+    let args = c .before .before .before .before .before .before .before .before .before .before .before .before .before .before .before .before .before .args in
+    let loop = c .before .before .before .before .before .before .before .before .before .before .before .loop in
+    let loop-test = c .before .before .before .before .before .before .before .before .before .before .loop-test in
+    let note-group = c .before .before .before .before .before .before .before .note-group in
+    let k = rows-in (note-group .ensures .0) (c .before .k .given .1) in
+    let l = same-len-mid (loop .n) (length (loop .places) - (loop .n)) (loop .places) (note-group .last .0) (note-group .kept .0) in
+    let m = same-len-mid (loop .n) (length (loop .prints) - (loop .n)) (loop .prints) (note-group .last .1 .0) (note-group .kept .1 .0) in (
+      l ∙ (loop .inv .0) ∙ sym m,
+      omega (arith, k, l, mid-long (loop .n) (loop .places) (loop .inv .1)),
+      length-set (loop .ends) (loop .i + 1) _ ∙ (loop .inv .2),
+      omega (arith, loop-test .taken),
+      l ∙ (loop .inv .4),
+      m ∙ (loop .inv .5),
+      filled-on (now (args .s)) (now (args .slots)) (loop .places) (loop .prints) (loop .ends) (loop .i) (loop .n) (loop .inv .6) (loop .inv .0) (loop .inv .1) (loop .inv .2) (loop-test .taken)
+          _ (note-group .last .0) (note-group .last .1 .0) (note-group .kept .0) (note-group .kept .1 .0)
+          (rows-noted (now (args .s)) (now (args .slots)) (loop .i) _ _ _ (note-group .result) (note-group .ensures .1) (c .before .k .given .1)) k,
     )
 
 same-length-4 : tie.Need-same-length-4 Inv-loop μ-loop
@@ -110,7 +136,9 @@ same-length-6 : tie.Need-same-length-6 Inv-loop μ-loop
 same-length-6 c = c .before .loop .inv .2 ∙ sym (c .before .before .before .before .before .before .before .pre .0 .0)
 
 returns-2 : tie.Need-returns-2 Inv-loop μ-loop
-returns-2 c = (omega arith, indexed (now (c .before .before .before .before .before .before .before .args .s)) (now (c .before .before .before .before .before .before .before .args .slots)) (c .before .loop .places) (c .before .loop .prints) (c .before .loop .ends) (c .before .loop .i) (c .before .loop .n) (c .before .loop .inv .6) (c .before .loop .inv .0) (c .before .loop .inv .2) (omega (arith, c .loop-test .left)))
+returns-2 c =
+    let args = c .before .before .before .before .before .before .before .args in
+    (omega arith, indexed (now (args .s)) (now (args .slots)) (c .before .loop .places) (c .before .loop .prints) (c .before .loop .ends) (c .before .loop .i) (c .before .loop .n) (c .before .loop .inv .6) (c .before .loop .inv .0) (c .before .loop .inv .2) (omega (arith, c .loop-test .left)))
 
 pub note-groups-spec : {M : Type 1} → statement M
 note-groups-spec =

@@ -42,7 +42,11 @@ same-length-2 : tie.Need-same-length-2
 same-length-2 c = search needs
 
 returns-4 : tie.Need-returns-4
-returns-4 c = name-noted (now (c .before .before .before .before .before .before .before .args .s)) (c .before .before .before .before .before .before .before .args .at) (c .before .before .before .before .before .before .before .args .k) (now (c .before .before .before .before .before .before .before .args .places)) (now (c .before .before .before .before .before .before .before .args .prints)) (c .before .print-from .result) (omega (arith, c .before .before .before .if1 .left)) (c .before .before .before .before .before .before .before .pre .1) (c .before .print-from .ensures .0)
+returns-4 c =
+    let args = c .before .before .before .before .before .before .before .args in
+    let pre = c .before .before .before .before .before .before .before .pre in
+    let if1 = c .before .before .before .if1 in
+    name-noted (now (args .s)) (args .at) (args .k) (now (args .places)) (now (args .prints)) (c .before .print-from .result) (omega (arith, if1 .left)) (pre .1) (c .before .print-from .ensures .0)
 
 pub note-name-spec : {M : Type 1} → statement M
 note-name-spec =

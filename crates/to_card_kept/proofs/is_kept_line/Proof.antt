@@ -33,7 +33,10 @@ class-line-requires c κs =
     (record { wide = record { counts = search needs; froms = search needs; tos = search needs }; row = scan-rows .ensures; sound = pre .0 .0 }, pre .0 .1)
 
 is-kept-class-requires : tie.Need-is-kept-class-requires
-is-kept-class-requires c κs = ((omega (arith, c .before .before .before .before .before .before .before .before .before .before .before .before .before .before .before .before .before .before .before .before .before .before .before .pre .0 .2), omega (arith, c .before .before .before .before .before .before .before .before .before .before .before .before .before .before .before .before .before .before .before .before .before .before .before .pre .0 .1 .fits, c .before .before .before .class-line .kept .1 .1 .1 .1 .1 .0), c .before .before .before .class-line .ensures .within), c .before .before .before .before .before .before .before .before .before .before .before .before .before .before .before .before .before .before .before .before .before .before .before .pre .1)
+is-kept-class-requires c κs =
+    let pre = c .before .before .before .before .before .before .before .before .before .before .before .before .before .before .before .before .before .before .before .before .before .before .before .pre in
+    let class-line = c .before .before .before .class-line in
+    ((omega (arith, pre .0 .2), omega (arith, pre .0 .1 .fits, class-line .kept .1 .1 .1 .1 .1 .0), class-line .ensures .within), pre .1)
 
 same-length : tie.Need-same-length
 same-length c = search needs

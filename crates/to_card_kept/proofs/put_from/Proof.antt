@@ -26,7 +26,9 @@ part-put-run-end : tie.Need-part-put-run-end
 part-put-run-end c = search needs
 
 put-run-requires : tie.Need-put-run-requires
-put-run-requires c κs = (c .before .before .before .before .before .before .before .before .before .before .before .before .before .pre .0, (λ l. absurd (omega (arith, l)), c .before .before .before .before .before .before .before .before .before .before .before .before .before .pre .1))
+put-run-requires c κs =
+    let pre = c .before .before .before .before .before .before .before .before .before .before .before .before .before .pre in
+    (pre .0, (λ l. absurd (omega (arith, l)), pre .1))
 
 enum-known-r : tie.Need-enum-known-r
 enum-known-r c = search needs
@@ -36,21 +38,29 @@ enum-known-n c = search needs
 
 sub-put-noted : tie.Need-sub-put-noted
 sub-put-noted c =
-    let v = more-within (length (now (c .before .before .before .before .before .before .before .before .before .before .before .before .before .before .before .before .before .before .before .before .before .before .before .before .before .args .out))) (length (now (c .before .before .before .before .before .before .before .before .before .before .before .before .before .before .before .before .before .before .before .before .before .before .before .before .before .args .s))) 16 (c .before .before .before .before .before .before .before .before .before .before .before .put-run .ensures .0) _ _ _ _ (c .before .n .given .1) in
-    omega (arith, v .0, c .before .before .before .before .before .before .before .before .before .before .before .put-run .ensures .1 .0)
+    let args = c .before .before .before .before .before .before .before .before .before .before .before .before .before .before .before .before .before .before .before .before .before .before .before .before .before .args in
+    let put-run = c .before .before .before .before .before .before .before .before .before .before .before .put-run in
+    let v = more-within (length (now (args .out))) (length (now (args .s))) 16 (put-run .ensures .0) _ _ _ _ (c .before .n .given .1) in
+    omega (arith, v .0, put-run .ensures .1 .0)
 
 part-put-noted-start : tie.Need-part-put-noted-start
 part-put-noted-start c =
-    let v = more-within (length (now (c .before .before .before .before .before .before .before .before .before .before .before .before .before .before .before .before .before .before .before .before .before .before .before .before .before .args .out))) (length (now (c .before .before .before .before .before .before .before .before .before .before .before .before .before .before .before .before .before .before .before .before .before .before .before .before .before .args .s))) 16 (c .before .before .before .before .before .before .before .before .before .before .before .put-run .ensures .0) _ _ _ _ (c .before .n .given .1) in
-    omega (arith, v .0, c .before .before .before .before .before .before .before .before .before .before .before .put-run .ensures .1 .0)
+    let args = c .before .before .before .before .before .before .before .before .before .before .before .before .before .before .before .before .before .before .before .before .before .before .before .before .before .args in
+    let put-run = c .before .before .before .before .before .before .before .before .before .before .before .put-run in
+    let v = more-within (length (now (args .out))) (length (now (args .s))) 16 (put-run .ensures .0) _ _ _ _ (c .before .n .given .1) in
+    omega (arith, v .0, put-run .ensures .1 .0)
 
 part-put-noted-end : tie.Need-part-put-noted-end
 part-put-noted-end c = search needs
 
 put-noted-requires : tie.Need-put-noted-requires
 put-noted-requires c κs =
-    let v = more-within (length (now (c .before .before .before .before .before .before .before .before .before .before .before .before .before .before .before .before .before .before .before .before .before .before .before .before .before .before .before .before .before .args .out))) (length (now (c .before .before .before .before .before .before .before .before .before .before .before .before .before .before .before .before .before .before .before .before .before .before .before .before .before .before .before .before .before .args .s))) 16 (c .before .before .before .before .before .before .before .before .before .before .before .before .before .before .before .put-run .ensures .0) _ _ _ _ (c .before .before .before .before .before .n .given .1) in
-    (record { all = lent-as (c .before .before .before .before .before .before .before .before .before .before .before .before .before .before .before .before .before .before .before .before .before .before .before .before .before .before .before .before .before .pre .0 .all) (c .before .before .before .before .before .before .before .before .before .before .before .before .before .before .before .put-run .kept .1 .0) (c .before .before .before .before .before .before .before .before .before .before .before .before .before .before .before .put-run .kept .1 .1 .0) (c .before .before .before .before .before .before .before .before .before .before .before .before .before .before .before .put-run .kept .1 .1 .1 .0); index = c .before .before .before .before .before .before .before .before .before .before .before .before .before .before .before .before .before .before .before .before .before .before .before .before .before .before .before .before .before .pre .0 .index }, v .2)
+    let args = c .before .before .before .before .before .before .before .before .before .before .before .before .before .before .before .before .before .before .before .before .before .before .before .before .before .before .before .before .before .args in
+    let pre = c .before .before .before .before .before .before .before .before .before .before .before .before .before .before .before .before .before .before .before .before .before .before .before .before .before .before .before .before .before .pre in
+    let put-run = c .before .before .before .before .before .before .before .before .before .before .before .before .before .before .before .put-run in
+    let n = c .before .before .before .before .before .n in
+    let v = more-within (length (now (args .out))) (length (now (args .s))) 16 (put-run .ensures .0) _ _ _ _ (n .given .1) in
+    (record { all = lent-as (pre .0 .all) (put-run .kept .1 .0) (put-run .kept .1 .1 .0) (put-run .kept .1 .1 .1 .0); index = pre .0 .index }, v .2)
 
 enum-known-m : tie.Need-enum-known-m
 enum-known-m c = search needs
@@ -72,22 +82,43 @@ same-length-4 c = search needs
 
 returns : tie.Need-returns
 returns c =
-    let v = more-within (length (now (c .before .before .before .before .before .before .before .before .before .before .before .before .before .before .before .before .before .before .before .before .before .before .before .before .before .before .before .before .before .before .before .before .before .before .before .before .before .before .before .before .args .out))) (length (now (c .before .before .before .before .before .before .before .before .before .before .before .before .before .before .before .before .before .before .before .before .before .before .before .before .before .before .before .before .before .before .before .before .before .before .before .before .before .before .before .before .args .s))) 16 (c .before .before .before .before .before .before .before .before .before .before .before .before .before .before .before .before .before .before .before .before .before .before .before .before .before .before .put-run .ensures .0) _ _ _ _ (c .before .before .before .before .before .before .before .before .before .before .before .before .before .before .before .before .n .given .1) in
-    let i : (c .before .before .before .before .before .before .before .before .before .before .before .before .before .before .before .before .n .given .0 .0) ≤ length (c .before .before .before .before .before .before .before .before .before .before .before .before .before .before .before .before .before .before .before .before .before .before .before .before .before .before .put-run .last .0) = omega (arith, v .0, c .before .before .before .before .before .before .before .before .before .before .before .before .before .before .before .before .before .before .before .before .before .before .before .before .before .before .put-run .ensures .1 .0) in
-    (tt, (part-length (c .before .before .before .before .before .before .before .before .before .before .before .before .before .before .before .before .n .given .0 .0) (c .before .before .before .before .before .before .before .before .before .before .before .before .before .before .before .before .before .before .before .before .before .before .before .before .before .before .put-run .last .0) (c .before .before .before .before .before .before .before .before .before .before .put-noted .last .0) i (c .before .before .before .before .before .before .before .before .before .before .put-noted .ensures .1 .0) ∙ (c .before .before .before .before .before .before .before .before .before .before .before .before .before .before .before .before .before .before .before .before .before .before .before .before .before .before .put-run .ensures .1 .0), more-puts (now (c .before .before .before .before .before .before .before .before .before .before .before .before .before .before .before .before .before .before .before .before .before .before .before .before .before .before .before .before .before .before .before .before .before .before .before .before .before .before .before .before .args .s)) (now (c .before .before .before .before .before .before .before .before .before .before .before .before .before .before .before .before .before .before .before .before .before .before .before .before .before .before .before .before .before .before .before .before .before .before .before .before .before .before .before .before .args .slots)) (c .before .before .before .before .before .before .before .before .before .before .before .before .before .before .before .before .before .before .before .before .before .before .before .before .before .before .before .before .before .before .before .before .before .before .before .before .before .before .before .before .args .at) (c .before .before .before .before .before .before .before .before .before .before .before .before .before .before .before .before .before .before .before .before .before .before .before .before .before .before .before .before .before .before .before .before .before .before .before .before .before .before .before .before .args .full) (c .before .before .before .before .before .before .before .before .before .before .before .before .before .before .before .before .before .before .before .before .before .before .before .before .before .before .before .before .before .before .before .before .before .before .before .before .before .before .before .before .args .parts) (now (c .before .before .before .before .before .before .before .before .before .before .before .before .before .before .before .before .before .before .before .before .before .before .before .before .before .before .before .before .before .before .before .before .before .before .before .before .before .before .before .before .args .out)) (c .before .before .before .before .before .before .before .before .before .before .before .before .before .before .before .before .before .before .before .before .before .before .before .before .before .before .put-run .result) (c .before .before .before .before .before .before .before .before .before .before .before .before .before .before .before .before .before .before .before .before .before .before .before .before .before .before .put-run .last .0) (c .before .before .before .before .before .before .before .before .before .before .before .before .before .before .before .before .before .before .before .before .before .before .before .before .before .before .put-run .ensures .1 .1) _ _ _ _ (c .before .before .before .before .before .before .before .before .before .before .before .before .before .before .before .before .n .given .1) (c .before .before .before .before .before .before .before .before .before .before .put-noted .result) (c .before .before .before .before .before .before .before .before .before .before .put-noted .last .0) (c .before .before .before .before .before .before .before .before .before .before .put-noted .ensures .1 .1) _ (c .enum-told .given .1)))
+    let args = c .before .before .before .before .before .before .before .before .before .before .before .before .before .before .before .before .before .before .before .before .before .before .before .before .before .before .before .before .before .before .before .before .before .before .before .before .before .before .before .before .args in
+    let put-run = c .before .before .before .before .before .before .before .before .before .before .before .before .before .before .before .before .before .before .before .before .before .before .before .before .before .before .put-run in
+    let n = c .before .before .before .before .before .before .before .before .before .before .before .before .before .before .before .before .n in
+    let put-noted = c .before .before .before .before .before .before .before .before .before .before .put-noted in
+    let v = more-within (length (now (args .out))) (length (now (args .s))) 16 (put-run .ensures .0) _ _ _ _ (n .given .1) in
+    let i : (n .given .0 .0) ≤ length (put-run .last .0) = omega (arith, v .0, put-run .ensures .1 .0) in (
+      tt,
+      (
+        part-length (n .given .0 .0) (put-run .last .0) (put-noted .last .0) i (put-noted .ensures .1 .0) ∙ (put-run .ensures .1 .0),
+        more-puts (now (args .s)) (now (args .slots)) (args .at) (args .full) (args .parts) (now (args .out)) (put-run .result) (put-run .last .0)
+            (put-run .ensures .1 .1) _ _ _ _ (n .given .1) (put-noted .result) (put-noted .last .0) (put-noted .ensures .1 .1) _
+            (c .enum-told .given .1),
+      ),
+    )
 
 add-t39 : tie.Need-add-t39
 add-t39 c =
-    let v = more-within (length (now (c .before .before .before .before .before .before .before .before .before .before .before .before .before .before .before .before .before .before .before .before .before .before .before .before .before .before .before .before .before .before .before .before .before .before .before .before .before .before .before .before .before .args .out))) (length (now (c .before .before .before .before .before .before .before .before .before .before .before .before .before .before .before .before .before .before .before .before .before .before .before .before .before .before .before .before .before .before .before .before .before .before .before .before .before .before .before .before .before .args .s))) 16 (c .before .before .before .before .before .before .before .before .before .before .before .before .before .before .before .before .before .before .before .before .before .before .before .before .before .before .before .put-run .ensures .0) _ _ _ _ (c .before .before .before .before .before .before .before .before .before .before .before .before .before .before .before .before .before .n .given .1) in
-    let i : (c .before .before .before .before .before .before .before .before .before .before .before .before .before .before .before .before .before .n .given .0 .0) ≤ length (c .before .before .before .before .before .before .before .before .before .before .before .before .before .before .before .before .before .before .before .before .before .before .before .before .before .before .before .put-run .last .0) = omega (arith, v .0, c .before .before .before .before .before .before .before .before .before .before .before .before .before .before .before .before .before .before .before .before .before .before .before .before .before .before .before .put-run .ensures .1 .0) in
-    let w = all-within _ _ _ _ _ (c .before .before .before .before .before .before .before .before .before .before .before .put-noted .ensures .0) (c .before .m .given .1) in
-    record { fits = omega (arith, part-in (c .before .before .before .before .before .before .before .before .before .before .before .before .before .before .before .before .before .n .given .0 .0) (c .before .before .before .before .before .before .before .before .before .before .before .before .before .before .before .before .before .before .before .before .before .before .before .before .before .before .before .put-run .last .0) i (w .0), c .before .before .before .before .before .before .before .before .before .before .before .before .before .before .before .before .before .before .before .before .before .before .before .before .before .before .before .put-run .ensures .1 .0, c .before .before .before .before .before .before .before .before .before .before .before .before .before .before .before .before .before .before .before .before .before .before .before .before .before .before .before .before .before .before .before .before .before .before .before .before .before .before .before .before .before .good .0 .0) }
+    let args = c .before .before .before .before .before .before .before .before .before .before .before .before .before .before .before .before .before .before .before .before .before .before .before .before .before .before .before .before .before .before .before .before .before .before .before .before .before .before .before .before .before .args in
+    let good = c .before .before .before .before .before .before .before .before .before .before .before .before .before .before .before .before .before .before .before .before .before .before .before .before .before .before .before .before .before .before .before .before .before .before .before .before .before .before .before .before .before .good in
+    let put-run = c .before .before .before .before .before .before .before .before .before .before .before .before .before .before .before .before .before .before .before .before .before .before .before .before .before .before .before .put-run in
+    let n = c .before .before .before .before .before .before .before .before .before .before .before .before .before .before .before .before .before .n in
+    let put-noted = c .before .before .before .before .before .before .before .before .before .before .before .put-noted in
+    let v = more-within (length (now (args .out))) (length (now (args .s))) 16 (put-run .ensures .0) _ _ _ _ (n .given .1) in
+    let i : (n .given .0 .0) ≤ length (put-run .last .0) = omega (arith, v .0, put-run .ensures .1 .0) in
+    let w = all-within _ _ _ _ _ (put-noted .ensures .0) (c .before .m .given .1) in
+    record { fits = omega (arith, part-in (n .given .0 .0) (put-run .last .0) i (w .0), put-run .ensures .1 .0, good .0 .0) }
 
 add-t48 : tie.Need-add-t48
 add-t48 c =
-    let v = more-within (length (now (c .before .before .before .before .before .before .before .before .before .before .before .before .before .before .before .before .before .before .before .before .before .before .before .before .before .before .before .before .before .before .before .before .before .before .before .before .before .before .before .before .before .args .out))) (length (now (c .before .before .before .before .before .before .before .before .before .before .before .before .before .before .before .before .before .before .before .before .before .before .before .before .before .before .before .before .before .before .before .before .before .before .before .before .before .before .before .before .before .args .s))) 16 (c .before .before .before .before .before .before .before .before .before .before .before .before .before .before .before .before .before .before .before .before .before .before .before .before .before .before .before .put-run .ensures .0) _ _ _ _ (c .before .before .before .before .before .before .before .before .before .before .before .before .before .before .before .before .before .n .given .1) in
-    let w = all-within _ _ _ _ _ (c .before .before .before .before .before .before .before .before .before .before .before .put-noted .ensures .0) (c .before .m .given .1) in
-    record { fits = omega (arith, v .3, w .1, c .before .before .before .before .before .before .before .before .before .before .before .before .before .before .before .before .before .before .before .before .before .before .before .before .before .before .before .before .before .before .before .before .before .before .before .before .before .before .before .before .before .pre .0 .all .small) }
+    let args = c .before .before .before .before .before .before .before .before .before .before .before .before .before .before .before .before .before .before .before .before .before .before .before .before .before .before .before .before .before .before .before .before .before .before .before .before .before .before .before .before .before .args in
+    let pre = c .before .before .before .before .before .before .before .before .before .before .before .before .before .before .before .before .before .before .before .before .before .before .before .before .before .before .before .before .before .before .before .before .before .before .before .before .before .before .before .before .before .pre in
+    let put-run = c .before .before .before .before .before .before .before .before .before .before .before .before .before .before .before .before .before .before .before .before .before .before .before .before .before .before .before .put-run in
+    let n = c .before .before .before .before .before .before .before .before .before .before .before .before .before .before .before .before .before .n in
+    let put-noted = c .before .before .before .before .before .before .before .before .before .before .before .put-noted in
+    let v = more-within (length (now (args .out))) (length (now (args .s))) 16 (put-run .ensures .0) _ _ _ _ (n .given .1) in
+    let w = all-within _ _ _ _ _ (put-noted .ensures .0) (c .before .m .given .1) in
+    record { fits = omega (arith, v .3, w .1, pre .0 .all .small) }
 
 same-length-5 : tie.Need-same-length-5
 same-length-5 c = search needs
@@ -103,7 +134,15 @@ same-length-8 c = search needs
 
 returns-2 : tie.Need-returns-2
 returns-2 c =
-    (ended-in (length (now (c .before .before .before .before .before .before .before .before .before .before .before .before .before .before .before .before .before .before .before .before .before .before .before .before .before .args .out))) (length (now (c .before .before .before .before .before .before .before .before .before .before .before .before .before .before .before .before .before .before .before .before .before .before .before .before .before .args .s))) 16 (c .before .before .before .before .before .before .before .before .before .before .before .put-run .ensures .0) _ (c .before .r .given .1), (c .before .before .before .before .before .before .before .before .before .before .before .put-run .ensures .1 .0, ended-puts (now (c .before .before .before .before .before .before .before .before .before .before .before .before .before .before .before .before .before .before .before .before .before .before .before .before .before .args .s)) (now (c .before .before .before .before .before .before .before .before .before .before .before .before .before .before .before .before .before .before .before .before .before .before .before .before .before .args .slots)) (c .before .before .before .before .before .before .before .before .before .before .before .before .before .before .before .before .before .before .before .before .before .before .before .before .before .args .at) (c .before .before .before .before .before .before .before .before .before .before .before .before .before .before .before .before .before .before .before .before .before .before .before .before .before .args .full) (c .before .before .before .before .before .before .before .before .before .before .before .before .before .before .before .before .before .before .before .before .before .before .before .before .before .args .parts) (now (c .before .before .before .before .before .before .before .before .before .before .before .before .before .before .before .before .before .before .before .before .before .before .before .before .before .args .out)) (c .before .before .before .before .before .before .before .before .before .before .before .put-run .result) _ (c .before .before .before .before .before .before .before .before .before .before .before .put-run .ensures .1 .1) _ (c .before .r .given .1)))
+    let args = c .before .before .before .before .before .before .before .before .before .before .before .before .before .before .before .before .before .before .before .before .before .before .before .before .before .args in
+    let put-run = c .before .before .before .before .before .before .before .before .before .before .before .put-run in (
+      ended-in (length (now (args .out))) (length (now (args .s))) 16 (put-run .ensures .0) _ (c .before .r .given .1),
+      (
+        put-run .ensures .1 .0,
+        ended-puts (now (args .s)) (now (args .slots)) (args .at) (args .full) (args .parts) (now (args .out)) (put-run .result) _
+            (put-run .ensures .1 .1) _ (c .before .r .given .1),
+      ),
+    )
 
 same-length-9 : tie.Need-same-length-9
 same-length-9 c = search needs
@@ -119,10 +158,21 @@ same-length-12 c = search needs
 
 returns-3 : tie.Need-returns-3
 returns-3 c =
-    let v = more-within (length (now (c .before .before .before .before .before .before .before .before .before .before .before .before .before .before .before .before .before .before .before .before .before .before .before .before .before .before .before .before .before .before .before .before .before .before .before .before .before .before .before .before .before .args .out))) (length (now (c .before .before .before .before .before .before .before .before .before .before .before .before .before .before .before .before .before .before .before .before .before .before .before .before .before .before .before .before .before .before .before .before .before .before .before .before .before .before .before .before .before .args .s))) 16 (c .before .before .before .before .before .before .before .before .before .before .before .before .before .before .before .before .before .before .before .before .before .before .before .before .before .before .before .put-run .ensures .0) _ _ _ _ (c .before .before .before .before .before .before .before .before .before .before .before .before .before .before .before .before .before .n .given .1) in
-    let i : (c .before .before .before .before .before .before .before .before .before .before .before .before .before .before .before .before .before .n .given .0 .0) ≤ length (c .before .before .before .before .before .before .before .before .before .before .before .before .before .before .before .before .before .before .before .before .before .before .before .before .before .before .before .put-run .last .0) = omega (arith, v .0, c .before .before .before .before .before .before .before .before .before .before .before .before .before .before .before .before .before .before .before .before .before .before .before .before .before .before .before .put-run .ensures .1 .0) in
-    let w = all-within _ _ _ _ _ (c .before .before .before .before .before .before .before .before .before .before .before .put-noted .ensures .0) (c .before .m .given .1) in
-    (omega (arith, part-in (c .before .before .before .before .before .before .before .before .before .before .before .before .before .before .before .before .before .n .given .0 .0) (c .before .before .before .before .before .before .before .before .before .before .before .before .before .before .before .before .before .before .before .before .before .before .before .before .before .before .before .put-run .last .0) i (w .0), c .before .before .before .before .before .before .before .before .before .before .before .before .before .before .before .before .before .before .before .before .before .before .before .before .before .before .before .put-run .ensures .1 .0), (part-length (c .before .before .before .before .before .before .before .before .before .before .before .before .before .before .before .before .before .n .given .0 .0) (c .before .before .before .before .before .before .before .before .before .before .before .before .before .before .before .before .before .before .before .before .before .before .before .before .before .before .before .put-run .last .0) (c .before .before .before .before .before .before .before .before .before .before .before .put-noted .last .0) i (c .before .before .before .before .before .before .before .before .before .before .before .put-noted .ensures .1 .0) ∙ (c .before .before .before .before .before .before .before .before .before .before .before .before .before .before .before .before .before .before .before .before .before .before .before .before .before .before .before .put-run .ensures .1 .0), more-puts (now (c .before .before .before .before .before .before .before .before .before .before .before .before .before .before .before .before .before .before .before .before .before .before .before .before .before .before .before .before .before .before .before .before .before .before .before .before .before .before .before .before .before .args .s)) (now (c .before .before .before .before .before .before .before .before .before .before .before .before .before .before .before .before .before .before .before .before .before .before .before .before .before .before .before .before .before .before .before .before .before .before .before .before .before .before .before .before .before .args .slots)) (c .before .before .before .before .before .before .before .before .before .before .before .before .before .before .before .before .before .before .before .before .before .before .before .before .before .before .before .before .before .before .before .before .before .before .before .before .before .before .before .before .before .args .at) (c .before .before .before .before .before .before .before .before .before .before .before .before .before .before .before .before .before .before .before .before .before .before .before .before .before .before .before .before .before .before .before .before .before .before .before .before .before .before .before .before .before .args .full) (c .before .before .before .before .before .before .before .before .before .before .before .before .before .before .before .before .before .before .before .before .before .before .before .before .before .before .before .before .before .before .before .before .before .before .before .before .before .before .before .before .before .args .parts) (now (c .before .before .before .before .before .before .before .before .before .before .before .before .before .before .before .before .before .before .before .before .before .before .before .before .before .before .before .before .before .before .before .before .before .before .before .before .before .before .before .before .before .args .out)) (c .before .before .before .before .before .before .before .before .before .before .before .before .before .before .before .before .before .before .before .before .before .before .before .before .before .before .before .put-run .result) (c .before .before .before .before .before .before .before .before .before .before .before .before .before .before .before .before .before .before .before .before .before .before .before .before .before .before .before .put-run .last .0) (c .before .before .before .before .before .before .before .before .before .before .before .before .before .before .before .before .before .before .before .before .before .before .before .before .before .before .before .put-run .ensures .1 .1) _ _ _ _ (c .before .before .before .before .before .before .before .before .before .before .before .before .before .before .before .before .before .n .given .1) (c .before .before .before .before .before .before .before .before .before .before .before .put-noted .result) (c .before .before .before .before .before .before .before .before .before .before .before .put-noted .last .0) (c .before .before .before .before .before .before .before .before .before .before .before .put-noted .ensures .1 .1) _ (c .before .m .given .1)))
+    let args = c .before .before .before .before .before .before .before .before .before .before .before .before .before .before .before .before .before .before .before .before .before .before .before .before .before .before .before .before .before .before .before .before .before .before .before .before .before .before .before .before .before .args in
+    let put-run = c .before .before .before .before .before .before .before .before .before .before .before .before .before .before .before .before .before .before .before .before .before .before .before .before .before .before .before .put-run in
+    let n = c .before .before .before .before .before .before .before .before .before .before .before .before .before .before .before .before .before .n in
+    let put-noted = c .before .before .before .before .before .before .before .before .before .before .before .put-noted in
+    let v = more-within (length (now (args .out))) (length (now (args .s))) 16 (put-run .ensures .0) _ _ _ _ (n .given .1) in
+    let i : (n .given .0 .0) ≤ length (put-run .last .0) = omega (arith, v .0, put-run .ensures .1 .0) in
+    let w = all-within _ _ _ _ _ (put-noted .ensures .0) (c .before .m .given .1) in (
+      omega (arith, part-in (n .given .0 .0) (put-run .last .0) i (w .0), put-run .ensures .1 .0),
+      (
+        part-length (n .given .0 .0) (put-run .last .0) (put-noted .last .0) i (put-noted .ensures .1 .0) ∙ (put-run .ensures .1 .0),
+        more-puts (now (args .s)) (now (args .slots)) (args .at) (args .full) (args .parts) (now (args .out)) (put-run .result) (put-run .last .0)
+            (put-run .ensures .1 .1) _ _ _ _ (n .given .1) (put-noted .result) (put-noted .last .0) (put-noted .ensures .1 .1) _
+            (c .before .m .given .1),
+      ),
+    )
 
 pub put-from-spec : {M : Type 1} → statement M
 put-from-spec =

@@ -36,7 +36,11 @@ part-put-run-end : tie.Need-part-put-run-end
 part-put-run-end c = search needs
 
 put-run-requires : tie.Need-put-run-requires
-put-run-requires c κs = (c .before .before .before .before .before .before .before .before .before .before .before .before .before .before .before .before .before .before .before .before .before .pre .0, (index-taken (now (c .before .before .before .before .before .before .before .before .before .before .before .before .before .before .before .before .before .before .before .before .before .args .s)) (now (c .before .before .before .before .before .before .before .before .before .before .before .before .before .before .before .before .before .before .before .before .before .args .slots)) (c .before .before .before .before .before .before .before .before .before .before .before .note-groups .last .0) (c .before .before .before .before .before .before .before .before .before .before .before .note-groups .last .1 .0) (c .before .before .before .before .before .before .before .before .before .before .before .note-groups .last .1 .1 .0) (c .before .before .before .before .before .before .before .before .before .before .before .note-groups .result) (c .before .before .before .before .before .before .before .before .before .before .before .note-groups .ensures .1), c .before .before .before .before .before .before .before .before .before .before .before .before .before .before .before .before .before .before .before .before .before .pre .1))
+put-run-requires c κs =
+    let pre = c .before .before .before .before .before .before .before .before .before .before .before .before .before .before .before .before .before .before .before .before .before .pre in
+    let args = c .before .before .before .before .before .before .before .before .before .before .before .before .before .before .before .before .before .before .before .before .before .args in
+    let note-groups = c .before .before .before .before .before .before .before .before .before .before .before .note-groups in
+    (pre .0, (index-taken (now (args .s)) (now (args .slots)) (note-groups .last .0) (note-groups .last .1 .0) (note-groups .last .1 .1 .0) (note-groups .result) (note-groups .ensures .1), pre .1))
 
 enum-known-r : tie.Need-enum-known-r
 enum-known-r c = search needs
@@ -57,7 +61,16 @@ same-length-4 : tie.Need-same-length-4
 same-length-4 c = search needs
 
 returns : tie.Need-returns
-returns c = (ended-within (length (now (c .before .before .before .before .before .before .before .before .before .before .before .before .before .before .before .before .before .before .before .before .before .before .before .before .before .before .before .before .before .before .before .before .before .args .out))) (length (now (c .before .before .before .before .before .before .before .before .before .before .before .before .before .before .before .before .before .before .before .before .before .before .before .before .before .before .before .before .before .before .before .before .before .args .s))) _ (c .before .before .before .before .before .before .before .before .before .before .before .put-run .ensures .0) _ (c .before .r .given .1), (c .before .before .before .before .before .before .before .before .before .before .before .put-run .ensures .1 .0, ended-puts (now (c .before .before .before .before .before .before .before .before .before .before .before .before .before .before .before .before .before .before .before .before .before .before .before .before .before .before .before .before .before .before .before .before .before .args .s)) (now (c .before .before .before .before .before .before .before .before .before .before .before .before .before .before .before .before .before .before .before .before .before .before .before .before .before .before .before .before .before .before .before .before .before .args .slots)) (c .before .before .before .before .before .before .before .before .before .before .before .before .before .before .before .before .before .before .before .before .before .before .before .before .before .before .before .before .before .before .before .before .before .args .at) (c .before .before .before .before .before .before .before .before .before .before .before .before .before .before .before .before .before .before .before .before .before .before .before .before .before .before .before .before .before .before .before .before .before .args .full) (c .before .before .before .before .before .before .before .before .before .before .before .before .before .before .before .before .before .before .before .before .before .before .before .before .before .before .before .before .before .before .before .before .before .args .parts) (now (c .before .before .before .before .before .before .before .before .before .before .before .before .before .before .before .before .before .before .before .before .before .before .before .before .before .before .before .before .before .before .before .before .before .args .out)) (c .before .before .before .before .before .before .before .before .before .before .before .put-run .result) _ (c .before .before .before .before .before .before .before .before .before .before .before .put-run .ensures .1 .1) _ (c .before .r .given .1)))
+returns c =
+    let args = c .before .before .before .before .before .before .before .before .before .before .before .before .before .before .before .before .before .before .before .before .before .before .before .before .before .before .before .before .before .before .before .before .before .args in
+    let put-run = c .before .before .before .before .before .before .before .before .before .before .before .put-run in (
+      ended-within (length (now (args .out))) (length (now (args .s))) _ (put-run .ensures .0) _ (c .before .r .given .1),
+      (
+        put-run .ensures .1 .0,
+        ended-puts (now (args .s)) (now (args .slots)) (args .at) (args .full) (args .parts) (now (args .out)) (put-run .result) _
+            (put-run .ensures .1 .1) _ (c .before .r .given .1),
+      ),
+    )
 
 same-length-5 : tie.Need-same-length-5
 same-length-5 c = search needs
@@ -72,7 +85,10 @@ same-length-8 : tie.Need-same-length-8
 same-length-8 c = search needs
 
 returns-2 : tie.Need-returns-2
-returns-2 c = (tt, (c .before .before .before .before .before .before .before .before .before .before .before .put-run .ensures .1 .0, absurd (no-more (length (now (c .before .before .before .before .before .before .before .before .before .before .before .before .before .before .before .before .before .before .before .before .before .before .before .before .before .before .before .before .before .before .before .before .before .args .out))) (length (now (c .before .before .before .before .before .before .before .before .before .before .before .before .before .before .before .before .before .before .before .before .before .before .before .before .before .before .before .before .before .before .before .before .before .args .s))) (c .before .before .before .before .before .before .before .before .before .before .before .put-run .ensures .0) _ _ _ _ (c .before .n .given .1))))
+returns-2 c =
+    let args = c .before .before .before .before .before .before .before .before .before .before .before .before .before .before .before .before .before .before .before .before .before .before .before .before .before .before .before .before .before .before .before .before .before .args in
+    let put-run = c .before .before .before .before .before .before .before .before .before .before .before .put-run in
+    (tt, (put-run .ensures .1 .0, absurd (no-more (length (now (args .out))) (length (now (args .s))) (put-run .ensures .0) _ _ _ _ (c .before .n .given .1))))
 
 pub put-noted-spec : {M : Type 1} → statement M
 put-noted-spec =

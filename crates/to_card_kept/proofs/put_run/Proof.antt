@@ -24,17 +24,19 @@ abbrev μ-loop : tie.MeasureT-loop
 μ-loop out₀ b₀ t₀ scratch₀ s slots places prints ends at full parts most i₀ n₀ lines₀ ok₀ out b t scratch i n lines ok = length s - i
 
 loop-holds : tie.Need-loop-holds Inv-loop μ-loop
-loop-holds c = (
-  c .before .before .before .before .before .before .before .before .before .pre .1 .1,
-  omega arith,
-  refl,
-  omega arith,
-  c .before .before .before .before .before .before .before .before .before .pre .0 .all,
-  refl,
-  refl,
-  refl,
-  going-first (now (c .before .before .before .before .before .before .before .before .before .args .s)) (now (c .before .before .before .before .before .before .before .before .before .args .slots)) (c .before .before .before .before .before .before .before .before .before .args .at) (c .before .before .before .before .before .before .before .before .before .args .full) (c .before .before .before .before .before .before .before .before .before .args .parts) (now (c .before .before .before .before .before .before .before .before .before .args .out)),
-)
+loop-holds c =
+    let pre = c .before .before .before .before .before .before .before .before .before .pre in
+    let args = c .before .before .before .before .before .before .before .before .before .args in (
+      pre .1 .1,
+      omega arith,
+      refl,
+      omega arith,
+      pre .0 .all,
+      refl,
+      refl,
+      refl,
+      going-first (now (args .s)) (now (args .slots)) (args .at) (args .full) (args .parts) (now (args .out)),
+    )
 
 sub-put-entry : tie.Need-sub-put-entry Inv-loop μ-loop
 sub-put-entry c = c .loop .inv .1
@@ -46,7 +48,10 @@ part-put-entry-end : tie.Need-part-put-entry-end Inv-loop μ-loop
 part-put-entry-end c = le-refl _
 
 put-entry-requires : tie.Need-put-entry-requires Inv-loop μ-loop
-put-entry-requires c κs = (record { all = c .before .before .before .before .loop .inv .4; index = c .before .before .before .before .before .before .before .before .before .before .before .before .before .before .pre .0 .index }, (c .before .before .before .before .before .before .before .before .before .before .before .before .before .before .pre .1 .0, omega (arith, c .before .before .before .before .loop .inv .0)))
+put-entry-requires c κs =
+    let pre = c .before .before .before .before .before .before .before .before .before .before .before .before .before .before .pre in
+    let loop = c .before .before .before .before .loop in
+    (record { all = loop .inv .4; index = pre .0 .index }, (pre .1 .0, omega (arith, loop .inv .0)))
 
 enum-known-k : tie.Need-enum-known-k Inv-loop μ-loop
 enum-known-k c = search needs
@@ -56,48 +61,67 @@ enum-told c = search needs
 
 same-length : tie.Need-same-length Inv-loop μ-loop
 same-length c =
-    part-length (c .before .before .before .before .before .before .before .before .before .before .before .before .before .before .before .loop .n) (c .before .before .before .before .before .before .before .before .before .before .before .before .before .before .before .loop .out) (c .before .before .before .before .before .before .before .before .before .before .put-entry .last .0) (c .before .before .before .before .before .before .before .before .before .before .before .before .before .before .before .loop .inv .1) (c .before .before .before .before .before .before .before .before .before .before .put-entry .ensures .1 .0) ∙ (c .before .before .before .before .before .before .before .before .before .before .before .before .before .before .before .loop .inv .2)
+    let loop = c .before .before .before .before .before .before .before .before .before .before .before .before .before .before .before .loop in
+    let put-entry = c .before .before .before .before .before .before .before .before .before .before .put-entry in
+    part-length (loop .n) (loop .out) (put-entry .last .0) (loop .inv .1) (put-entry .ensures .1 .0) ∙ (loop .inv .2)
 
 same-length-2 : tie.Need-same-length-2 Inv-loop μ-loop
 same-length-2 c =
-    c .before .before .before .before .before .before .before .before .before .before .put-entry .kept .1 .0 ∙ (c .before .before .before .before .before .before .before .before .before .before .before .before .before .before .before .loop .inv .5)
+    let loop = c .before .before .before .before .before .before .before .before .before .before .before .before .before .before .before .loop in
+    let put-entry = c .before .before .before .before .before .before .before .before .before .before .put-entry in
+    put-entry .kept .1 .0 ∙ (loop .inv .5)
 
 same-length-3 : tie.Need-same-length-3 Inv-loop μ-loop
 same-length-3 c =
-    c .before .before .before .before .before .before .before .before .before .before .put-entry .kept .1 .1 .0 ∙ (c .before .before .before .before .before .before .before .before .before .before .before .before .before .before .before .loop .inv .6)
+    let loop = c .before .before .before .before .before .before .before .before .before .before .before .before .before .before .before .loop in
+    let put-entry = c .before .before .before .before .before .before .before .before .before .before .put-entry in
+    put-entry .kept .1 .1 .0 ∙ (loop .inv .6)
 
 same-length-4 : tie.Need-same-length-4 Inv-loop μ-loop
 same-length-4 c =
-    c .before .before .before .before .before .before .before .before .before .before .put-entry .kept .1 .1 .1 .0 ∙ (c .before .before .before .before .before .before .before .before .before .before .before .before .before .before .before .loop .inv .7)
+    let loop = c .before .before .before .before .before .before .before .before .before .before .before .before .before .before .before .loop in
+    let put-entry = c .before .before .before .before .before .before .before .before .before .before .put-entry in
+    put-entry .kept .1 .1 .1 .0 ∙ (loop .inv .7)
 
 returns : tie.Need-returns Inv-loop μ-loop
-returns c = (
-  tt,
-  (
-    part-length (c .before .before .before .before .before .before .before .before .before .before .before .before .before .before .before .loop .n) (c .before .before .before .before .before .before .before .before .before .before .before .before .before .before .before .loop .out) (c .before .before .before .before .before .before .before .before .before .before .put-entry .last .0) (c .before .before .before .before .before .before .before .before .before .before .before .before .before .before .before .loop .inv .1) (c .before .before .before .before .before .before .before .before .before .before .put-entry .ensures .1 .0) ∙ (c .before .before .before .before .before .before .before .before .before .before .before .before .before .before .before .loop .inv .2),
-    puts-wrong (now (c .before .before .before .before .before .before .before .before .before .before .before .before .before .before .before .before .before .before .before .before .before .before .before .before .before .args .s)) (now (c .before .before .before .before .before .before .before .before .before .before .before .before .before .before .before .before .before .before .before .before .before .before .before .before .before .args .slots)) (c .before .before .before .before .before .before .before .before .before .before .before .before .before .before .before .before .before .before .before .before .before .before .before .before .before .args .at) (c .before .before .before .before .before .before .before .before .before .before .before .before .before .before .before .before .before .before .before .before .before .before .before .before .before .args .full) (c .before .before .before .before .before .before .before .before .before .before .before .before .before .before .before .before .before .before .before .before .before .before .before .before .before .args .parts) (now (c .before .before .before .before .before .before .before .before .before .before .before .before .before .before .before .before .before .before .before .before .before .before .before .before .before .args .out)) (c .before .before .before .before .before .before .before .before .before .before .before .before .before .before .before .loop .i) (c .before .before .before .before .before .before .before .before .before .before .before .before .before .before .before .loop .n) (c .before .before .before .before .before .before .before .before .before .before .before .before .before .before .before .loop .lines) (c .before .before .before .before .before .before .before .before .before .before .before .before .before .before .before .loop .ok) (c .before .before .before .before .before .before .before .before .before .before .before .before .before .before .before .loop .out) (c .before .before .before .before .before .before .before .before .before .before .before .before .before .before .before .loop .inv .8) (asLines (c .before .before .before .before .before .before .before .before .before .before .put-entry .result)) _ (c .before .before .before .before .before .before .before .before .before .before .put-entry .ensures .1 .1) _ (ap asLines (c .enum-told .given .1)),
-  ),
-)
+returns c =
+    let args = c .before .before .before .before .before .before .before .before .before .before .before .before .before .before .before .before .before .before .before .before .before .before .before .before .before .args in
+    let loop = c .before .before .before .before .before .before .before .before .before .before .before .before .before .before .before .loop in
+    let put-entry = c .before .before .before .before .before .before .before .before .before .before .put-entry in (
+      tt,
+      (
+        part-length (loop .n) (loop .out) (put-entry .last .0) (loop .inv .1) (put-entry .ensures .1 .0) ∙ (loop .inv .2),
+        puts-wrong (now (args .s)) (now (args .slots)) (args .at) (args .full) (args .parts) (now (args .out)) (loop .i) (loop .n) (loop .lines) (loop .ok) (loop .out) (loop .inv .8) (asLines (put-entry .result)) _ (put-entry .ensures .1 .1) _ (ap asLines (c .enum-told .given .1)),
+      ),
+    )
 
 add-n : tie.Need-add-n Inv-loop μ-loop
 add-n c =
-    let e = entered-in (now (c .before .before .before .before .before .before .before .before .before .before .before .before .before .before .before .before .before .before .before .before .before .before .before .before .before .before .args .s)) (c .before .before .before .before .before .before .before .before .before .before .before .before .before .before .before .before .loop .i) (c .before .before .before .before .before .before .before .before .before .before .before .put-entry .ensures .0) (c .before .k .given .1) in
+    let args = c .before .before .before .before .before .before .before .before .before .before .before .before .before .before .before .before .before .before .before .before .before .before .before .before .before .before .args in
+    let good = c .before .before .before .before .before .before .before .before .before .before .before .before .before .before .before .before .before .before .before .before .before .before .before .before .before .before .good in
+    let loop = c .before .before .before .before .before .before .before .before .before .before .before .before .before .before .before .before .loop in
+    let put-entry = c .before .before .before .before .before .before .before .before .before .before .before .put-entry in
+    let e = entered-in (now (args .s)) (loop .i) (put-entry .ensures .0) (c .before .k .given .1) in
     record {
       fits = omega (
         arith,
-        part-in (c .before .before .before .before .before .before .before .before .before .before .before .before .before .before .before .before .loop .n) (c .before .before .before .before .before .before .before .before .before .before .before .before .before .before .before .before .loop .out) (c .before .before .before .before .before .before .before .before .before .before .before .before .before .before .before .before .loop .inv .1) (e .0),
-        c .before .before .before .before .before .before .before .before .before .before .before .before .before .before .before .before .loop .inv .2,
-        c .before .before .before .before .before .before .before .before .before .before .before .before .before .before .before .before .before .before .before .before .before .before .before .before .before .before .good .0 .0,
+        part-in (loop .n) (loop .out) (loop .inv .1) (e .0),
+        loop .inv .2,
+        good .0 .0,
       );
     }
 
 add-lines : tie.Need-add-lines Inv-loop μ-loop
 add-lines c =
-    omega (arith, c .before .before .before .before .before .before .before .before .before .before .before .before .before .before .before .before .loop .inv .3, c .before .before .before .before .before .before .before .before .before .before .before .before .before .before .before .before .loop .inv .0)
+    let loop = c .before .before .before .before .before .before .before .before .before .before .before .before .before .before .before .before .loop in
+    omega (arith, loop .inv .3, loop .inv .0)
 
 separator-requires : tie.Need-separator-requires Inv-loop μ-loop
 separator-requires c κs =
-    let e = entered-in (now (c .before .before .before .before .before .before .before .before .before .before .before .before .before .before .before .before .before .before .before .before .before .before .before .before .before .before .args .s)) (c .before .before .before .before .before .before .before .before .before .before .before .before .before .before .before .before .loop .i) (c .before .before .before .before .before .before .before .before .before .before .before .put-entry .ensures .0) (c .before .k .given .1) in
+    let args = c .before .before .before .before .before .before .before .before .before .before .before .before .before .before .before .before .before .before .before .before .before .before .before .before .before .before .args in
+    let loop = c .before .before .before .before .before .before .before .before .before .before .before .before .before .before .before .before .loop in
+    let put-entry = c .before .before .before .before .before .before .before .before .before .before .before .put-entry in
+    let e = entered-in (now (args .s)) (loop .i) (put-entry .ensures .0) (c .before .k .given .1) in
     (e .1 .within, omega arith)
 
 enum-known-j : tie.Need-enum-known-j Inv-loop μ-loop
@@ -105,53 +129,79 @@ enum-known-j c = search needs
 
 same-length-5 : tie.Need-same-length-5 Inv-loop μ-loop
 same-length-5 c =
-    part-length (c .before .before .before .before .before .before .before .before .before .before .before .before .before .before .before .before .before .before .before .before .before .loop .n) (c .before .before .before .before .before .before .before .before .before .before .before .before .before .before .before .before .before .before .before .before .before .loop .out) (c .before .before .before .before .before .before .before .before .before .before .before .before .before .before .before .before .put-entry .last .0) (c .before .before .before .before .before .before .before .before .before .before .before .before .before .before .before .before .before .before .before .before .before .loop .inv .1) (c .before .before .before .before .before .before .before .before .before .before .before .before .before .before .before .before .put-entry .ensures .1 .0) ∙ (c .before .before .before .before .before .before .before .before .before .before .before .before .before .before .before .before .before .before .before .before .before .loop .inv .2)
+    let loop = c .before .before .before .before .before .before .before .before .before .before .before .before .before .before .before .before .before .before .before .before .before .loop in
+    let put-entry = c .before .before .before .before .before .before .before .before .before .before .before .before .before .before .before .before .put-entry in
+    part-length (loop .n) (loop .out) (put-entry .last .0) (loop .inv .1) (put-entry .ensures .1 .0) ∙ (loop .inv .2)
 
 same-length-6 : tie.Need-same-length-6 Inv-loop μ-loop
 same-length-6 c =
-    c .before .before .before .before .before .before .before .before .before .before .before .before .before .before .before .before .put-entry .kept .1 .0 ∙ (c .before .before .before .before .before .before .before .before .before .before .before .before .before .before .before .before .before .before .before .before .before .loop .inv .5)
+    let loop = c .before .before .before .before .before .before .before .before .before .before .before .before .before .before .before .before .before .before .before .before .before .loop in
+    let put-entry = c .before .before .before .before .before .before .before .before .before .before .before .before .before .before .before .before .put-entry in
+    put-entry .kept .1 .0 ∙ (loop .inv .5)
 
 same-length-7 : tie.Need-same-length-7 Inv-loop μ-loop
 same-length-7 c =
-    c .before .before .before .before .before .before .before .before .before .before .before .before .before .before .before .before .put-entry .kept .1 .1 .0 ∙ (c .before .before .before .before .before .before .before .before .before .before .before .before .before .before .before .before .before .before .before .before .before .loop .inv .6)
+    let loop = c .before .before .before .before .before .before .before .before .before .before .before .before .before .before .before .before .before .before .before .before .before .loop in
+    let put-entry = c .before .before .before .before .before .before .before .before .before .before .before .before .before .before .before .before .put-entry in
+    put-entry .kept .1 .1 .0 ∙ (loop .inv .6)
 
 same-length-8 : tie.Need-same-length-8 Inv-loop μ-loop
 same-length-8 c =
-    c .before .before .before .before .before .before .before .before .before .before .before .before .before .before .before .before .put-entry .kept .1 .1 .1 .0 ∙ (c .before .before .before .before .before .before .before .before .before .before .before .before .before .before .before .before .before .before .before .before .before .loop .inv .7)
+    let loop = c .before .before .before .before .before .before .before .before .before .before .before .before .before .before .before .before .before .before .before .before .before .loop in
+    let put-entry = c .before .before .before .before .before .before .before .before .before .before .before .before .before .before .before .before .put-entry in
+    put-entry .kept .1 .1 .1 .0 ∙ (loop .inv .7)
 
 returns-2 : tie.Need-returns-2 Inv-loop μ-loop
 returns-2 c =
-    let h = turn-as (c .before .before .before .before .separator .ensures) (c .before .before .j .given .1) in
-    let e = entered-in (now (c .before .before .before .before .before .before .before .before .before .before .before .before .before .before .before .before .before .before .before .before .before .before .before .before .before .before .before .before .before .before .before .args .s)) (c .before .before .before .before .before .before .before .before .before .before .before .before .before .before .before .before .before .before .before .before .before .loop .i) (c .before .before .before .before .before .before .before .before .before .before .before .before .before .before .before .before .put-entry .ensures .0) (c .before .before .before .before .before .before .k .given .1) in
-    let l = part-length (c .before .before .before .before .before .before .before .before .before .before .before .before .before .before .before .before .before .before .before .before .before .loop .n) (c .before .before .before .before .before .before .before .before .before .before .before .before .before .before .before .before .before .before .before .before .before .loop .out) (c .before .before .before .before .before .before .before .before .before .before .before .before .before .before .before .before .put-entry .last .0) (c .before .before .before .before .before .before .before .before .before .before .before .before .before .before .before .before .before .before .before .before .before .loop .inv .1) (c .before .before .before .before .before .before .before .before .before .before .before .before .before .before .before .before .put-entry .ensures .1 .0) in (
-      (omega (arith, part-in (c .before .before .before .before .before .before .before .before .before .before .before .before .before .before .before .before .before .before .before .before .before .loop .n) (c .before .before .before .before .before .before .before .before .before .before .before .before .before .before .before .before .before .before .before .before .before .loop .out) (c .before .before .before .before .before .before .before .before .before .before .before .before .before .before .before .before .before .before .before .before .before .loop .inv .1) (e .0), c .before .before .before .before .before .before .before .before .before .before .before .before .before .before .before .before .before .before .before .before .before .loop .inv .2), omega (arith, c .before .before .before .before .before .before .before .before .before .before .before .before .before .before .before .before .before .before .before .before .before .loop .inv .3, h .within .0, e .1 .from), h .within .1, c .if1 .taken),
+    let args = c .before .before .before .before .before .before .before .before .before .before .before .before .before .before .before .before .before .before .before .before .before .before .before .before .before .before .before .before .before .before .before .args in
+    let loop = c .before .before .before .before .before .before .before .before .before .before .before .before .before .before .before .before .before .before .before .before .before .loop in
+    let put-entry = c .before .before .before .before .before .before .before .before .before .before .before .before .before .before .before .before .put-entry in
+    let k = c .before .before .before .before .before .before .k in
+    let separator = c .before .before .before .before .separator in
+    let j = c .before .before .j in
+    let h = turn-as (separator .ensures) (j .given .1) in
+    let e = entered-in (now (args .s)) (loop .i) (put-entry .ensures .0) (k .given .1) in
+    let l = part-length (loop .n) (loop .out) (put-entry .last .0) (loop .inv .1) (put-entry .ensures .1 .0) in (
+      (omega (arith, part-in (loop .n) (loop .out) (loop .inv .1) (e .0), loop .inv .2), omega (arith, loop .inv .3, h .within .0, e .1 .from), h .within .1, c .if1 .taken),
       (
-        l ∙ (c .before .before .before .before .before .before .before .before .before .before .before .before .before .before .before .before .before .before .before .before .before .loop .inv .2),
-        run-more (now (c .before .before .before .before .before .before .before .before .before .before .before .before .before .before .before .before .before .before .before .before .before .before .before .before .before .before .before .before .before .before .before .args .s)) (now (c .before .before .before .before .before .before .before .before .before .before .before .before .before .before .before .before .before .before .before .before .before .before .before .before .before .before .before .before .before .before .before .args .slots)) (c .before .before .before .before .before .before .before .before .before .before .before .before .before .before .before .before .before .before .before .before .before .before .before .before .before .before .before .before .before .before .before .args .at) (c .before .before .before .before .before .before .before .before .before .before .before .before .before .before .before .before .before .before .before .before .before .before .before .before .before .before .before .before .before .before .before .args .full) (c .before .before .before .before .before .before .before .before .before .before .before .before .before .before .before .before .before .before .before .before .before .before .before .before .before .before .before .before .before .before .before .args .parts) (now (c .before .before .before .before .before .before .before .before .before .before .before .before .before .before .before .before .before .before .before .before .before .before .before .before .before .before .before .before .before .before .before .args .out)) _ _ _ _ _ (going-on (now (c .before .before .before .before .before .before .before .before .before .before .before .before .before .before .before .before .before .before .before .before .before .before .before .before .before .before .before .before .before .before .before .args .s)) (now (c .before .before .before .before .before .before .before .before .before .before .before .before .before .before .before .before .before .before .before .before .before .before .before .before .before .before .before .before .before .before .before .args .slots)) (c .before .before .before .before .before .before .before .before .before .before .before .before .before .before .before .before .before .before .before .before .before .before .before .before .before .before .before .before .before .before .before .args .at) (c .before .before .before .before .before .before .before .before .before .before .before .before .before .before .before .before .before .before .before .before .before .before .before .before .before .before .before .before .before .before .before .args .full) (c .before .before .before .before .before .before .before .before .before .before .before .before .before .before .before .before .before .before .before .before .before .before .before .before .before .before .before .before .before .before .before .args .parts) (now (c .before .before .before .before .before .before .before .before .before .before .before .before .before .before .before .before .before .before .before .before .before .before .before .before .before .before .before .before .before .before .before .args .out)) (c .before .before .before .before .before .before .before .before .before .before .before .before .before .before .before .before .before .before .before .before .before .loop .i) (c .before .before .before .before .before .before .before .before .before .before .before .before .before .before .before .before .before .before .before .before .before .loop .n) (c .before .before .before .before .before .before .before .before .before .before .before .before .before .before .before .before .before .before .before .before .before .loop .lines) (c .before .before .before .before .before .before .before .before .before .before .before .before .before .before .before .before .before .before .before .before .before .loop .ok) (c .before .before .before .before .before .before .before .before .before .before .before .before .before .before .before .before .before .before .before .before .before .loop .out) (c .before .before .before .before .before .before .before .before .before .before .before .before .before .before .before .before .before .before .before .before .before .loop .inv .8)
-            (asLines (c .before .before .before .before .before .before .before .before .before .before .before .before .before .before .before .before .put-entry .result)) _ (c .before .before .before .before .before .before .before .before .before .before .before .before .before .before .before .before .put-entry .ensures .1 .1) _ _ _ (ap asLines (c .before .before .before .before .before .before .k .given .1)) _ (e .1 .ends) _ h),
+        l ∙ (loop .inv .2),
+        run-more (now (args .s)) (now (args .slots)) (args .at) (args .full) (args .parts) (now (args .out)) _ _ _ _ _ (going-on (now (args .s)) (now (args .slots)) (args .at) (args .full) (args .parts) (now (args .out)) (loop .i) (loop .n) (loop .lines) (loop .ok) (loop .out) (loop .inv .8)
+            (asLines (put-entry .result)) _ (put-entry .ensures .1 .1) _ _ _ (ap asLines (k .given .1)) _ (e .1 .ends) _ h),
       ),
     )
 
 loop-less : tie.Need-loop-less Inv-loop μ-loop
 loop-less c =
-    let h = turn-as (c .before .before .before .before .separator .ensures) (c .before .before .j .given .1) in
-    let e = entered-in (now (c .before .before .before .before .before .before .before .before .before .before .before .before .before .before .before .before .before .before .before .before .before .before .before .before .before .before .before .before .before .before .before .args .s)) (c .before .before .before .before .before .before .before .before .before .before .before .before .before .before .before .before .before .before .before .before .before .loop .i) (c .before .before .before .before .before .before .before .before .before .before .before .before .before .before .before .before .put-entry .ensures .0) (c .before .before .before .before .before .before .k .given .1) in
+    let args = c .before .before .before .before .before .before .before .before .before .before .before .before .before .before .before .before .before .before .before .before .before .before .before .before .before .before .before .before .before .before .before .args in
+    let loop = c .before .before .before .before .before .before .before .before .before .before .before .before .before .before .before .before .before .before .before .before .before .loop in
+    let put-entry = c .before .before .before .before .before .before .before .before .before .before .before .before .before .before .before .before .put-entry in
+    let k = c .before .before .before .before .before .before .k in
+    let separator = c .before .before .before .before .separator in
+    let j = c .before .before .j in
+    let h = turn-as (separator .ensures) (j .given .1) in
+    let e = entered-in (now (args .s)) (loop .i) (put-entry .ensures .0) (k .given .1) in
     omega (arith, h .within .0, h .within .1, e .1 .from)
 
 loop-again : tie.Need-loop-again Inv-loop μ-loop
 loop-again c =
-    let h = turn-as (c .before .before .before .before .separator .ensures) (c .before .before .j .given .1) in
-    let e = entered-in (now (c .before .before .before .before .before .before .before .before .before .before .before .before .before .before .before .before .before .before .before .before .before .before .before .before .before .before .before .before .before .before .before .args .s)) (c .before .before .before .before .before .before .before .before .before .before .before .before .before .before .before .before .before .before .before .before .before .loop .i) (c .before .before .before .before .before .before .before .before .before .before .before .before .before .before .before .before .put-entry .ensures .0) (c .before .before .before .before .before .before .k .given .1) in
-    let l = part-length (c .before .before .before .before .before .before .before .before .before .before .before .before .before .before .before .before .before .before .before .before .before .loop .n) (c .before .before .before .before .before .before .before .before .before .before .before .before .before .before .before .before .before .before .before .before .before .loop .out) (c .before .before .before .before .before .before .before .before .before .before .before .before .before .before .before .before .put-entry .last .0) (c .before .before .before .before .before .before .before .before .before .before .before .before .before .before .before .before .before .before .before .before .before .loop .inv .1) (c .before .before .before .before .before .before .before .before .before .before .before .before .before .before .before .before .put-entry .ensures .1 .0) in (
+    let args = c .before .before .before .before .before .before .before .before .before .before .before .before .before .before .before .before .before .before .before .before .before .before .before .before .before .before .before .before .before .before .before .args in
+    let loop = c .before .before .before .before .before .before .before .before .before .before .before .before .before .before .before .before .before .before .before .before .before .loop in
+    let put-entry = c .before .before .before .before .before .before .before .before .before .before .before .before .before .before .before .before .put-entry in
+    let k = c .before .before .before .before .before .before .k in
+    let separator = c .before .before .before .before .separator in
+    let j = c .before .before .j in
+    let h = turn-as (separator .ensures) (j .given .1) in
+    let e = entered-in (now (args .s)) (loop .i) (put-entry .ensures .0) (k .given .1) in
+    let l = part-length (loop .n) (loop .out) (put-entry .last .0) (loop .inv .1) (put-entry .ensures .1 .0) in (
       h .within .1,
-      omega (arith, l, part-in (c .before .before .before .before .before .before .before .before .before .before .before .before .before .before .before .before .before .before .before .before .before .loop .n) (c .before .before .before .before .before .before .before .before .before .before .before .before .before .before .before .before .before .before .before .before .before .loop .out) (c .before .before .before .before .before .before .before .before .before .before .before .before .before .before .before .before .before .before .before .before .before .loop .inv .1) (e .0)),
-      l ∙ (c .before .before .before .before .before .before .before .before .before .before .before .before .before .before .before .before .before .before .before .before .before .loop .inv .2),
-      omega (arith, c .before .before .before .before .before .before .before .before .before .before .before .before .before .before .before .before .before .before .before .before .before .loop .inv .3, h .within .0, e .1 .from),
-      lent-as (c .before .before .before .before .before .before .before .before .before .before .before .before .before .before .before .before .before .before .before .before .before .loop .inv .4) (c .before .before .before .before .before .before .before .before .before .before .before .before .before .before .before .before .put-entry .kept .1 .0) (c .before .before .before .before .before .before .before .before .before .before .before .before .before .before .before .before .put-entry .kept .1 .1 .0) (c .before .before .before .before .before .before .before .before .before .before .before .before .before .before .before .before .put-entry .kept .1 .1 .1 .0),
-      c .before .before .before .before .before .before .before .before .before .before .before .before .before .before .before .before .put-entry .kept .1 .0 ∙ (c .before .before .before .before .before .before .before .before .before .before .before .before .before .before .before .before .before .before .before .before .before .loop .inv .5),
-      c .before .before .before .before .before .before .before .before .before .before .before .before .before .before .before .before .put-entry .kept .1 .1 .0 ∙ (c .before .before .before .before .before .before .before .before .before .before .before .before .before .before .before .before .before .before .before .before .before .loop .inv .6),
-      c .before .before .before .before .before .before .before .before .before .before .before .before .before .before .before .before .put-entry .kept .1 .1 .1 .0 ∙ (c .before .before .before .before .before .before .before .before .before .before .before .before .before .before .before .before .before .before .before .before .before .loop .inv .7),
-      going-on (now (c .before .before .before .before .before .before .before .before .before .before .before .before .before .before .before .before .before .before .before .before .before .before .before .before .before .before .before .before .before .before .before .args .s)) (now (c .before .before .before .before .before .before .before .before .before .before .before .before .before .before .before .before .before .before .before .before .before .before .before .before .before .before .before .before .before .before .before .args .slots)) (c .before .before .before .before .before .before .before .before .before .before .before .before .before .before .before .before .before .before .before .before .before .before .before .before .before .before .before .before .before .before .before .args .at) (c .before .before .before .before .before .before .before .before .before .before .before .before .before .before .before .before .before .before .before .before .before .before .before .before .before .before .before .before .before .before .before .args .full) (c .before .before .before .before .before .before .before .before .before .before .before .before .before .before .before .before .before .before .before .before .before .before .before .before .before .before .before .before .before .before .before .args .parts) (now (c .before .before .before .before .before .before .before .before .before .before .before .before .before .before .before .before .before .before .before .before .before .before .before .before .before .before .before .before .before .before .before .args .out)) (c .before .before .before .before .before .before .before .before .before .before .before .before .before .before .before .before .before .before .before .before .before .loop .i) (c .before .before .before .before .before .before .before .before .before .before .before .before .before .before .before .before .before .before .before .before .before .loop .n) (c .before .before .before .before .before .before .before .before .before .before .before .before .before .before .before .before .before .before .before .before .before .loop .lines) (c .before .before .before .before .before .before .before .before .before .before .before .before .before .before .before .before .before .before .before .before .before .loop .ok) (c .before .before .before .before .before .before .before .before .before .before .before .before .before .before .before .before .before .before .before .before .before .loop .out) (c .before .before .before .before .before .before .before .before .before .before .before .before .before .before .before .before .before .before .before .before .before .loop .inv .8) (asLines (c .before .before .before .before .before .before .before .before .before .before .before .before .before .before .before .before .put-entry .result)) _ (c .before .before .before .before .before .before .before .before .before .before .before .before .before .before .before .before .put-entry .ensures .1 .1) _ _ _ (ap asLines (c .before .before .before .before .before .before .k .given .1)) _ (e .1 .ends) _ h,
+      omega (arith, l, part-in (loop .n) (loop .out) (loop .inv .1) (e .0)),
+      l ∙ (loop .inv .2),
+      omega (arith, loop .inv .3, h .within .0, e .1 .from),
+      lent-as (loop .inv .4) (put-entry .kept .1 .0) (put-entry .kept .1 .1 .0) (put-entry .kept .1 .1 .1 .0),
+      put-entry .kept .1 .0 ∙ (loop .inv .5),
+      put-entry .kept .1 .1 .0 ∙ (loop .inv .6),
+      put-entry .kept .1 .1 .1 .0 ∙ (loop .inv .7),
+      going-on (now (args .s)) (now (args .slots)) (args .at) (args .full) (args .parts) (now (args .out)) (loop .i) (loop .n) (loop .lines) (loop .ok) (loop .out) (loop .inv .8) (asLines (put-entry .result)) _ (put-entry .ensures .1 .1) _ _ _ (ap asLines (k .given .1)) _ (e .1 .ends) _ h,
     )
 
 enum-known-r : tie.Need-enum-known-r Inv-loop μ-loop
@@ -159,27 +209,42 @@ enum-known-r c = search needs
 
 same-length-9 : tie.Need-same-length-9 Inv-loop μ-loop
 same-length-9 c =
-    part-length (c .before .before .before .before .before .before .before .before .before .before .before .before .before .before .before .before .before .before .before .before .loop .n) (c .before .before .before .before .before .before .before .before .before .before .before .before .before .before .before .before .before .before .before .before .loop .out) (c .before .before .before .before .before .before .before .before .before .before .before .before .before .before .before .put-entry .last .0) (c .before .before .before .before .before .before .before .before .before .before .before .before .before .before .before .before .before .before .before .before .loop .inv .1) (c .before .before .before .before .before .before .before .before .before .before .before .before .before .before .before .put-entry .ensures .1 .0) ∙ (c .before .before .before .before .before .before .before .before .before .before .before .before .before .before .before .before .before .before .before .before .loop .inv .2)
+    let loop = c .before .before .before .before .before .before .before .before .before .before .before .before .before .before .before .before .before .before .before .before .loop in
+    let put-entry = c .before .before .before .before .before .before .before .before .before .before .before .before .before .before .before .put-entry in
+    part-length (loop .n) (loop .out) (put-entry .last .0) (loop .inv .1) (put-entry .ensures .1 .0) ∙ (loop .inv .2)
 
 same-length-10 : tie.Need-same-length-10 Inv-loop μ-loop
 same-length-10 c =
-    c .before .before .before .before .before .before .before .before .before .before .before .before .before .before .before .put-entry .kept .1 .0 ∙ (c .before .before .before .before .before .before .before .before .before .before .before .before .before .before .before .before .before .before .before .before .loop .inv .5)
+    let loop = c .before .before .before .before .before .before .before .before .before .before .before .before .before .before .before .before .before .before .before .before .loop in
+    let put-entry = c .before .before .before .before .before .before .before .before .before .before .before .before .before .before .before .put-entry in
+    put-entry .kept .1 .0 ∙ (loop .inv .5)
 
 same-length-11 : tie.Need-same-length-11 Inv-loop μ-loop
 same-length-11 c =
-    c .before .before .before .before .before .before .before .before .before .before .before .before .before .before .before .put-entry .kept .1 .1 .0 ∙ (c .before .before .before .before .before .before .before .before .before .before .before .before .before .before .before .before .before .before .before .before .loop .inv .6)
+    let loop = c .before .before .before .before .before .before .before .before .before .before .before .before .before .before .before .before .before .before .before .before .loop in
+    let put-entry = c .before .before .before .before .before .before .before .before .before .before .before .before .before .before .before .put-entry in
+    put-entry .kept .1 .1 .0 ∙ (loop .inv .6)
 
 same-length-12 : tie.Need-same-length-12 Inv-loop μ-loop
 same-length-12 c =
-    c .before .before .before .before .before .before .before .before .before .before .before .before .before .before .before .put-entry .kept .1 .1 .1 .0 ∙ (c .before .before .before .before .before .before .before .before .before .before .before .before .before .before .before .before .before .before .before .before .loop .inv .7)
+    let loop = c .before .before .before .before .before .before .before .before .before .before .before .before .before .before .before .before .before .before .before .before .loop in
+    let put-entry = c .before .before .before .before .before .before .before .before .before .before .before .before .before .before .before .put-entry in
+    put-entry .kept .1 .1 .1 .0 ∙ (loop .inv .7)
 
 returns-3 : tie.Need-returns-3 Inv-loop μ-loop
 returns-3 c =
-    let e = entered-in (now (c .before .before .before .before .before .before .before .before .before .before .before .before .before .before .before .before .before .before .before .before .before .before .before .before .before .before .before .before .before .before .args .s)) (c .before .before .before .before .before .before .before .before .before .before .before .before .before .before .before .before .before .before .before .before .loop .i) (c .before .before .before .before .before .before .before .before .before .before .before .before .before .before .before .put-entry .ensures .0) (c .before .before .before .before .before .k .given .1) in (
-      (omega (arith, part-in (c .before .before .before .before .before .before .before .before .before .before .before .before .before .before .before .before .before .before .before .before .loop .n) (c .before .before .before .before .before .before .before .before .before .before .before .before .before .before .before .before .before .before .before .before .loop .out) (c .before .before .before .before .before .before .before .before .before .before .before .before .before .before .before .before .before .before .before .before .loop .inv .1) (e .0), c .before .before .before .before .before .before .before .before .before .before .before .before .before .before .before .before .before .before .before .before .loop .inv .2), omega (arith, c .before .before .before .before .before .before .before .before .before .before .before .before .before .before .before .before .before .before .before .before .loop .inv .3, e .1 .from, e .1 .within)),
+    let args = c .before .before .before .before .before .before .before .before .before .before .before .before .before .before .before .before .before .before .before .before .before .before .before .before .before .before .before .before .before .before .args in
+    let loop = c .before .before .before .before .before .before .before .before .before .before .before .before .before .before .before .before .before .before .before .before .loop in
+    let put-entry = c .before .before .before .before .before .before .before .before .before .before .before .before .before .before .before .put-entry in
+    let k = c .before .before .before .before .before .k in
+    let separator = c .before .before .before .separator in
+    let e = entered-in (now (args .s)) (loop .i) (put-entry .ensures .0) (k .given .1) in (
+      (omega (arith, part-in (loop .n) (loop .out) (loop .inv .1) (e .0), loop .inv .2), omega (arith, loop .inv .3, e .1 .from, e .1 .within)),
       (
-        part-length (c .before .before .before .before .before .before .before .before .before .before .before .before .before .before .before .before .before .before .before .before .loop .n) (c .before .before .before .before .before .before .before .before .before .before .before .before .before .before .before .before .before .before .before .before .loop .out) (c .before .before .before .before .before .before .before .before .before .before .before .before .before .before .before .put-entry .last .0) (c .before .before .before .before .before .before .before .before .before .before .before .before .before .before .before .before .before .before .before .before .loop .inv .1) (c .before .before .before .before .before .before .before .before .before .before .before .before .before .before .before .put-entry .ensures .1 .0) ∙ (c .before .before .before .before .before .before .before .before .before .before .before .before .before .before .before .before .before .before .before .before .loop .inv .2),
-        puts-all (now (c .before .before .before .before .before .before .before .before .before .before .before .before .before .before .before .before .before .before .before .before .before .before .before .before .before .before .before .before .before .before .args .s)) (now (c .before .before .before .before .before .before .before .before .before .before .before .before .before .before .before .before .before .before .before .before .before .before .before .before .before .before .before .before .before .before .args .slots)) (c .before .before .before .before .before .before .before .before .before .before .before .before .before .before .before .before .before .before .before .before .before .before .before .before .before .before .before .before .before .before .args .at) (c .before .before .before .before .before .before .before .before .before .before .before .before .before .before .before .before .before .before .before .before .before .before .before .before .before .before .before .before .before .before .args .full) (c .before .before .before .before .before .before .before .before .before .before .before .before .before .before .before .before .before .before .before .before .before .before .before .before .before .before .before .before .before .before .args .parts) (now (c .before .before .before .before .before .before .before .before .before .before .before .before .before .before .before .before .before .before .before .before .before .before .before .before .before .before .before .before .before .before .args .out)) (c .before .before .before .before .before .before .before .before .before .before .before .before .before .before .before .before .before .before .before .before .loop .i) (c .before .before .before .before .before .before .before .before .before .before .before .before .before .before .before .before .before .before .before .before .loop .n) (c .before .before .before .before .before .before .before .before .before .before .before .before .before .before .before .before .before .before .before .before .loop .lines) (c .before .before .before .before .before .before .before .before .before .before .before .before .before .before .before .before .before .before .before .before .loop .ok) (c .before .before .before .before .before .before .before .before .before .before .before .before .before .before .before .before .before .before .before .before .loop .out) (c .before .before .before .before .before .before .before .before .before .before .before .before .before .before .before .before .before .before .before .before .loop .inv .8) (asLines (c .before .before .before .before .before .before .before .before .before .before .before .before .before .before .before .put-entry .result)) _ (c .before .before .before .before .before .before .before .before .before .before .before .before .before .before .before .put-entry .ensures .1 .1) _ _ _ (ap asLines (c .before .before .before .before .before .k .given .1)) _ (e .1 .ends) _ (turn-as (c .before .before .before .separator .ensures) (c .before .r .given .1)),
+        part-length (loop .n) (loop .out) (put-entry .last .0) (loop .inv .1) (put-entry .ensures .1 .0) ∙ (loop .inv .2),
+        puts-all (now (args .s)) (now (args .slots)) (args .at) (args .full) (args .parts) (now (args .out)) (loop .i) (loop .n) (loop .lines)
+            (loop .ok) (loop .out) (loop .inv .8) (asLines (put-entry .result)) _ (put-entry .ensures .1 .1) _ _ _ (ap asLines (k .given .1)) _
+            (e .1 .ends) _ (turn-as (separator .ensures) (c .before .r .given .1)),
       ),
     )
 
