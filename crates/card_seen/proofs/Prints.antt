@@ -1,15 +1,13 @@
 -- Prints of keys: where no print is equal, no key is.
 use mathlib.Core.Path.{_≡_, refl, sym, ap, _∙_}
-use mathlib.Core.Bool.{Bool, true, false, _&&_, _||_}
-use mathlib.Core.List.{List, [], _∷_}
-use Prim.Native.Nat.{ℕ, zero, suc, _+_, _*_, _≤_, _<_}
+use mathlib.Core.Bool.{false}
+use mathlib.Core.List.{List}
+use Prim.Native.Nat.{ℕ, zero, suc, _*_, _≤_, _<_}
 use native.Mathlib.Omega.{arith}
-use native.Mathlib.Numerals.{add-one}
 use lib.Dec.{eqb}
-use lib.ListN.{length, drop, getD, drop-of-length-le}
-use lib.Seq.{drop-cons}
+use lib.ListN.{getD}
 use borrow.Author.Tests.{eqb-true}
-use Rattle.text.specs.Bytes.{Bytes, any, same}
+use Rattle.text.specs.Bytes.{Bytes, any}
 use Rattle.text.proofs.Cases.{byBool, and-left, and-right}
 use Rattle.text.proofs.Same.{same-true}
 use Rattle.json_prints.specs.Prints.{printed, Absent}

@@ -4,7 +4,7 @@ use mathlib.Core.Logic.{_⊎_, ⊎-elim}
 use mathlib.Core.Bool.{Bool, true, false, _||_}
 use mathlib.Core.List.{List, [], _∷_, _++_, map, map-append}
 use mathlib.Core.Option.{Option, none, some}
-use Prim.Native.Nat.{ℕ, zero, suc, _+_, _-_, _*_, _%_, _≤_, _<_}
+use Prim.Native.Nat.{ℕ, zero, suc, _+_, _-_, _≤_, _<_}
 use native.Mathlib.Nat.{eq-or-lt-of-le}
 use native.Mathlib.Numerals.{add-one}
 use native.Mathlib.Omega.{arith}
@@ -21,7 +21,7 @@ use Rattle.json_strings.specs.declared.Byte.{Byte}
 use Rattle.json_strings.specs.declared.Byte.the-variants.{One}
 use Rattle.json_strings.proofs.NextByte.{is-one}
 use Rattle.json_strings.specs.Spelled.{spelled, left, byteOf, spells, agree}
-use Rattle.json_prints.specs.Prints.{stir, printed, printOf, Told, Clear, Absent, Same, Block, meets, Names, Sought, SoughtKey}
+use Rattle.json_prints.specs.Prints.{stir, printed, printOf, Told, Clear, Absent, meets, Names, Sought, SoughtKey}
 
 -- ---- one place after the other
 or-true : (a : Bool) → a || true ≡ true
@@ -61,20 +61,10 @@ last-or i k m = eq-or-lt-of-le (omega (arith, m))
 
 -- ---- prints
 -- THE law: what agrees has the same print
-pub differing : (o x : Option Bytes) → (printOf 0 x ≡ printOf 0 o → ⊥) → agree o x ≡ false
+differing : (o x : Option Bytes) → (printOf 0 x ≡ printOf 0 o → ⊥) → agree o x ≡ false
 differing none x n = refl
 differing (some a) none n = refl
 differing (some a) (some b) n = byBool (same a b) (λ e. absurd (n (ap (printed 0) (sym (same-true a b e))))) (λ e. e)
-
-pub compared : (o x : Option Bytes) (f : ℕ) (r : Bool) → r ≡ agree o x → Same o x f r
-compared o x f true e = sym e
-compared o x f false e = λ q. sym e
-
-pub apart : (o x : Option Bytes) (f p : ℕ) → p ≡ printOf 0 o → (f ≡ p → ⊥) → Same o x f false
-apart o x f p e n = λ q. differing o x (λ w. n (sym q ∙ w ∙ sym e))
-
-pub same-as : (o x : Option Bytes) (f : ℕ) {r q : Bool} → Same o x f r → r ≡ q → Same o x f q
-same-as o x f h e = subst (Same o x f) e h
 
 -- a loop over prints with no early way out
 pub absent-as : (fs : List ℕ) (p from to : ℕ) {r q : Bool} → Absent fs p from to r → r ≡ q → Absent fs p from to q
@@ -90,17 +80,11 @@ absent-more fs p from k false h =
     (λ e. subst (Absent fs p from (k + 1)) (sym e) (λ i l m q. ⊎-elim (λ z. not-both (eq-eqb (getD fs k 0) p (ap (λ (x : ℕ). getD fs x 0) (sym z) ∙ q)) e) (λ z. h i l z q) (last-or i k m)))
 
 module _ (s : Bytes) (o : Option Bytes) (ps fs : List ℕ) where
-  pub block-as : (from to : ℕ) {r q : Bool} → Block s o ps fs from to r → r ≡ q → Block s o ps fs from to q
-  block-as from to h e = subst (Block s o ps fs from to) e h
-
-  pub clear-none : (from : ℕ) → Clear s o ps fs from from
-  clear-none from k l m t = absurd (omega (arith, l, m))
-
-  pub clear-more : (from k : ℕ) → Clear s o ps fs from k → (printOf 0 (spelled s (getD ps k 0)) ≡ getD fs k 0 → agree o (spelled s (getD ps k 0)) ≡ false) → Clear s o ps fs from (k + 1)
+  clear-more : (from k : ℕ) → Clear s o ps fs from k → (printOf 0 (spelled s (getD ps k 0)) ≡ getD fs k 0 → agree o (spelled s (getD ps k 0)) ≡ false) → Clear s o ps fs from (k + 1)
   clear-more from k h e i l m t =
       ⊎-elim (λ z. let w : Told s ps fs k = subst (Told s ps fs) z t in ap (λ (x : ℕ). agree o (spelled s (getD ps x 0))) z ∙ e w) (λ z. h i l z t) (last-or i k m)
 
-  pub clear-join : (from k to : ℕ) → Clear s o ps fs from k → Clear s o ps fs k to → Clear s o ps fs from to
+  clear-join : (from k to : ℕ) → Clear s o ps fs from k → Clear s o ps fs k to → Clear s o ps fs from to
   clear-join from k to h g i l m t = byBool (ltb i k) (λ z. h i l (ltb-true i k z) t) (λ z. g i (ltb-false i k z) m t)
 
   pub clear-absent : (p from to : ℕ) → p ≡ printOf 0 o → Absent fs p from to false → Clear s o ps fs from to
@@ -172,16 +156,12 @@ told-at s ps fs n ns l e k h =
     ∙ ap (λ (x : List ℕ). getD x k 0) (spelt-print s (take n ps) ns (e .0) ∙ e .1) ∙ getD-take n fs k 0 h
 
 module _ (s : Bytes) (o : Option Bytes) (ps fs : List ℕ) (n : ℕ) (l : n ≤ length ps) where
-  pub sought-yes : (from to : ℕ) → to ≤ n → Block s o ps fs from to true → Sought s o ps fs n true
-  sought-yes from to h b = λ ns e. sym (meets-hit s o ps n l (b .0) (omega (arith, b .1)) (b .2))
+  pub sought-yes : (k : ℕ) → k < n → agree o (spelled s (getD ps k 0)) ≡ true → Sought s o ps fs n true
+  sought-yes k h e = λ ns f. sym (meets-hit s o ps n l k h e)
 
   pub sought-no : (k : ℕ) → n ≤ k → Clear s o ps fs 0 k → Sought s o ps fs n false
   sought-no k h b = λ ns e. sym (meets-clear s o ps n l (λ i g. b i (omega arith) (omega (arith, g)) (told-at s ps fs n ns l e i g)))
-
   -- the last block, after others without such a string
-  pub sought-last : (k : ℕ) → Clear s o ps fs 0 k → (r : Bool) → Block s o ps fs k n r → Sought s o ps fs n r
-  sought-last k h true b = sought-yes k n (omega arith) b
-  sought-last k h false b = sought-no n (omega arith) (clear-join s o ps fs 0 k n h b)
 
 next-taken : (ps : List ℕ) (k q : ℕ) → k < length ps → take (k + 1) (set ps k q) ≡ take k ps ++ (q ∷ [])
 next-taken ps k q l = ap (λ (i : ℕ). take i (set ps k q)) (add-one k) ∙ take-suc-set ps k q l
@@ -205,6 +185,10 @@ absent-next fs p from k h n = absent-as fs p from (k + 1) (absent-more fs p from
 pub absent-join : (fs : List ℕ) (p from k to : ℕ) → Absent fs p from k false → Absent fs p k to false → Absent fs p from to false
 absent-join fs p from k to h g i l m = byBool (ltb i k) (λ z. h i l (ltb-true i k z)) (λ z. g i (ltb-false i k z) m)
 
+-- the string at k does not agree, and up to j no print is equal
+pub clear-on : (s : Bytes) (o : Option Bytes) (ps fs : List ℕ) (p k j : ℕ) → p ≡ printOf 0 o → agree o (spelled s (getD ps k 0)) ≡ false → Absent fs p (k + 1) j false → Clear s o ps fs 0 k → Clear s o ps fs 0 j
+clear-on s o ps fs p k j is e a h = clear-join s o ps fs 0 (k + 1) j (clear-more s o ps fs 0 k h (λ t. e)) (clear-absent s o ps fs p (k + 1) j is a)
+
 -- ---- some bytes sought among the names noted
 pub agree-spells : (key : Bytes) (x : Option Bytes) → agree (some key) x ≡ spells x key
 agree-spells key none = refl
@@ -218,13 +202,7 @@ module _ (s key : Bytes) (ps fs : List ℕ) where
       h ns (subst (λ (x : List ℕ). Names s x (take (length ps) fs) ns) (sym a) (subst (λ (x : List ℕ). Names s ps x ns) (sym b) e)) ∙ ap (meets s (some key)) a ∙ meets-among s key ps fs ns e
 
   pub key-yes : length ps ≡ length fs → (k : ℕ) → k < length ps → agree (some key) (spelled s (getD ps k 0)) ≡ true → SoughtKey s key ps fs true
-  key-yes l k h e = key-whole l (sought-yes s (some key) ps fs (length ps) (omega arith) 0 (length ps) (omega arith) (k, h, e))
+  key-yes l k h e = key-whole l (sought-yes s (some key) ps fs (length ps) (omega arith) k h e)
 
   pub key-no : length ps ≡ length fs → (k : ℕ) → length ps ≤ k → Clear s (some key) ps fs 0 k → SoughtKey s key ps fs false
   key-no l k h c = key-whole l (sought-no s (some key) ps fs (length ps) (omega arith) k h c)
-
-  -- the string at k does not stand for the key, and up to j no print is equal
-  pub key-next : (p k j : ℕ) → p ≡ printed 0 key → agree (some key) (spelled s (getD ps k 0)) ≡ false → Absent fs p (k + 1) j false → Clear s (some key) ps fs 0 k → Clear s (some key) ps fs 0 j
-  key-next p k j is e a h =
-      clear-join s (some key) ps fs 0 (k + 1) j (clear-more s (some key) ps fs 0 k h (λ t. e))
-      (clear-absent s (some key) ps fs p (k + 1) j is a)

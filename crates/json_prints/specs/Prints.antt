@@ -36,14 +36,6 @@ abbrev pub Absent : List ℕ → ℕ → ℕ → ℕ → Bool → Type 0
 Absent fs p from to true = Unit {0}
 Absent fs p from to false = (k : ℕ) → from ≤ k → k < to → getD fs k 0 ≡ p → ⊥
 
-abbrev pub Same : Option Bytes → Option Bytes → ℕ → Bool → Type 0
-Same o x f true = agree o x ≡ true
-Same o x f false = printOf 0 x ≡ f → agree o x ≡ false
-
-abbrev pub Block : Bytes → Option Bytes → List ℕ → List ℕ → ℕ → ℕ → Bool → Type 0
-Block s o ps fs from to true = (k : ℕ) × (k < to) × (agree o (spelled s (getD ps k 0)) ≡ true)
-Block s o ps fs from to false = Clear s o ps fs from to
-
 -- what the strings at these places stand for, and their prints
 unfoldable pub Names : Bytes → List ℕ → List ℕ → List Bytes → Type 0
 Names s ps fs ns = (map (spelled s) ps ≡ map some ns) × (map (printed 0) ns ≡ fs)

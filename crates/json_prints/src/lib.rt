@@ -9,7 +9,7 @@ ghost use mathlib.Core.Bool.{false};
 ghost use Prim.Native.Nat.{_+_, _*_, _≤_, _<_};
 ghost use lib.ListN.{length};
 ghost use Rattle.json_strings.specs.Spelled.{spelled};
-ghost use Rattle.json_prints.specs.Prints.{stir, printed, printOf, Absent, Same, Block, Sought, SoughtKey};
+ghost use Rattle.json_prints.specs.Prints.{stir, printed, printOf, Absent, Sought, SoughtKey};
 
 // A print with one byte more.
 pub fn stirred(p: u32, b: u8) -> u32
@@ -47,6 +47,17 @@ pub fn print_from(s: &[u8], at: usize, from: u32) -> u32
     }
 }
 
+// The print of the string at a place; 65536 where it stands for nothing.
+pub fn print_at(s: &[u8], at: usize) -> u32
+    ensures { λ r. ⌜ r ≡ printOf 0 (spelled (now (s .entry)) at) ⌝ }
+    ensures { λ r. ⌜ r ≤ 65536 ⌝ }
+{
+    if at > s.len() {
+        return 65536;
+    }
+    print_from(s, at, 0)
+}
+
 // The print of some bytes, where the print so far is `from`.
 pub fn print_of(from: usize, key: &[u8]) -> u16
     requires { ⌜ from < 65536 ⌝ }
@@ -76,78 +87,6 @@ pub fn any_print(prints: &[u16], p: u16, from: usize, to: usize) -> bool
     found
 }
 
-fn wide(place: u16) -> usize
-    ensures { λ r. ⌜ r ≡ place ⌝ }
-{
-    place as usize
-}
-
-// The string at `at`, of print `p`, and one whose print is noted: compared by their bytes where the prints are equal.
-fn is_same(s: &[u8], at: usize, p: u16, place: usize, print: u16) -> bool
-    requires { ⌜ p ≡ printOf 0 (spelled (now s) at) ⌝ }
-    ensures { λ r. ⌜ Same (spelled (now (s .entry)) at) (spelled (now (s .entry)) place) print r ⌝ }
-{
-    if print != p {
-        return false;
-    }
-    same_text(s, at, place)
-}
-
-// The names of one block, compared by their bytes where their prints are equal.
-fn in_block<'a, 'b>(
-    s: &'a [u8],
-    at: usize,
-    p: u16,
-    places: &'b [u16],
-    prints: &'b [u16],
-    from: usize,
-    to: usize,
-) -> bool
-    requires { ⌜ from ≤ to ⌝ }
-    requires { ⌜ to ≤ length (now places) ⌝ }
-    requires { ⌜ to ≤ length (now prints) ⌝ }
-    requires { ⌜ p ≡ printOf 0 (spelled (now s) at) ⌝ }
-    ensures { λ r. ⌜ Block (now (s .entry)) (spelled (now (s .entry)) at) (now (places .entry)) (now (prints .entry)) from to r ⌝ }
-{
-    if !any_print(prints, p, from, to) {
-        return false;
-    }
-    let mut k = from;
-    while k < to {
-        if is_same(s, at, p, wide(places[k]), prints[k]) {
-            return true;
-        }
-        k += 1;
-    }
-    false
-}
-
-// THE comparing of strings, oldest first: the string at `at`, of print `p`, stands for the same as that at one of the first `count` places noted.
-// Blocks of one length: the loop over the prints of one is laid out without a jump.
-pub fn is_noted<'a, 'b>(
-    s: &'a [u8],
-    at: usize,
-    p: u16,
-    places: &'b [u16],
-    prints: &'b [u16],
-    count: usize,
-) -> bool
-    requires { ⌜ count ≤ length (now places) ⌝ }
-    requires { ⌜ count ≤ length (now prints) ⌝ }
-    requires { ⌜ p ≡ printOf 0 (spelled (now s) at) ⌝ }
-    ensures { λ r. ⌜ Sought (now (s .entry)) (spelled (now (s .entry)) at) (now (places .entry)) (now (prints .entry)) count r ⌝ }
-{
-    let mut k = 0;
-    while count - k > 256 {
-        let e = k + 256;
-        if in_block(s, at, p, places, prints, k, e) {
-            return true;
-        }
-        k = e;
-    }
-    in_block(s, at, p, places, prints, k, count)
-}
-
 // The first place of a print from a place on, before another; that other where it is not there.
 fn print_in(prints: &[u16], p: u16, from: usize, to: usize) -> usize
     requires { ⌜ from ≤ to ⌝ }
@@ -167,7 +106,7 @@ fn print_in(prints: &[u16], p: u16, from: usize, to: usize) -> usize
     k
 }
 
-// The same in a long row, block by block.
+// The same in a long row, block by block. Blocks of one length: the loop over the prints of one is laid out without a jump.
 fn next_print(prints: &[u16], p: u16, from: usize, to: usize) -> usize
     requires { ⌜ from ≤ to ⌝ }
     requires { ⌜ to ≤ length (now prints) ⌝ }
@@ -183,6 +122,60 @@ fn next_print(prints: &[u16], p: u16, from: usize, to: usize) -> usize
         k = e;
     }
     print_in(prints, p, k, to)
+}
+
+fn wide(place: u16) -> usize
+    ensures { λ r. ⌜ r ≡ place ⌝ }
+{
+    place as usize
+}
+
+// THE comparing of strings, oldest first: the string at `at`, of print `p`, stands for the same as that at one of the first `count` places noted.
+pub fn is_noted<'a, 'b>(
+    s: &'a [u8],
+    at: usize,
+    p: u16,
+    places: &'b [u16],
+    prints: &'b [u16],
+    count: usize,
+) -> bool
+    requires { ⌜ count ≤ length (now places) ⌝ }
+    requires { ⌜ count ≤ length (now prints) ⌝ }
+    requires { ⌜ p ≡ printOf 0 (spelled (now s) at) ⌝ }
+    ensures { λ r. ⌜ Sought (now (s .entry)) (spelled (now (s .entry)) at) (now (places .entry)) (now (prints .entry)) count r ⌝ }
+{
+    let mut k = next_print(prints, p, 0, count);
+    while k < count {
+        if same_text(s, at, wide(places[k])) {
+            return true;
+        }
+        k = next_print(prints, p, k + 1, count);
+    }
+    false
+}
+
+// The same, where places may be over 65535.
+pub fn is_noted_wide<'a, 'b>(
+    s: &'a [u8],
+    at: usize,
+    p: u16,
+    places: &'b [usize],
+    prints: &'b [u16],
+    count: usize,
+) -> bool
+    requires { ⌜ count ≤ length (now places) ⌝ }
+    requires { ⌜ count ≤ length (now prints) ⌝ }
+    requires { ⌜ p ≡ printOf 0 (spelled (now s) at) ⌝ }
+    ensures { λ r. ⌜ Sought (now (s .entry)) (spelled (now (s .entry)) at) (now (places .entry)) (now (prints .entry)) count r ⌝ }
+{
+    let mut k = next_print(prints, p, 0, count);
+    while k < count {
+        if same_text(s, at, places[k]) {
+            return true;
+        }
+        k = next_print(prints, p, k + 1, count);
+    }
+    false
 }
 
 // Whether some bytes are what one of the strings noted stands for.

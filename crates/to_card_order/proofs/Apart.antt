@@ -1,34 +1,22 @@
 -- Whether two kinds have a value in common.
-use mathlib.Core.Path.{_≡_, refl, sym, ap, subst, _∙_}
+use mathlib.Core.Path.{_≡_, refl, sym, ap, _∙_}
 use mathlib.Core.Bool.{Bool, true, false, _&&_, _||_, not}
 use mathlib.Core.List.{List, [], _∷_, _++_}
-use mathlib.Core.Option.{Option, none, some}
-use Prim.Native.Nat.{ℕ, zero, suc, _+_, _≤_, _<_}
+use mathlib.Core.Option.{Option, some}
+use Prim.Native.Nat.{ℕ, _+_, _≤_, _<_}
 use native.Mathlib.Omega.{arith}
 use lib.Dec.{eqb}
-use lib.ListN.{length, take, drop, getD}
-use Rattle.text.specs.declared.Read.{Read}
-use Rattle.text.specs.declared.Turn.the-variants.{Go, Stop}
+use lib.ListN.{take, getD}
 use Rattle.text.specs.Choice.{pick}
 use Rattle.text.specs.Bytes.{Bytes, all, any, among, same}
-use Rattle.text.specs.Places.{GivesT}
-use Rattle.text.proofs.Choices.{none-some, some-same}
 use Rattle.text.proofs.Same.{among-none, among-append}
-use Rattle.json.specs.Tree.{elemsOf}
-use Rattle.json.specs.Syntax.{sep}
 use Rattle.json_strings.specs.Spelled.{spelled, agree}
-use Rattle.json_access.specs.declared.Part.{Part}
-use Rattle.json_access.specs.Access.{TellsElement}
 use Rattle.convert.specs.Value.{filled}
 use Rattle.convert.specs.Carry.{apart}
-use Rattle.convert.specs.FromJson.{Component, component, componentOf, ofKind}
+use Rattle.convert.specs.FromJson.{Component, component, ofKind}
 use Rattle.to_card_head.specs.Head.{TellsFilled}
-use Rattle.to_card_parts.specs.declared.Found.{Found}
-use Rattle.to_card_parts.specs.declared.Found.the-variants.{Of, Wrong}
-use Rattle.to_card_parts.specs.Parts.{TellsComponent, Lists, valuesOf, valueIf, RowsFrom}
-use Rattle.to_card_parts.proofs.Elements.{Far, far-first, Now, now-of}
+use Rattle.to_card_parts.specs.Parts.{Lists, valuesOf, valueIf, RowsFrom}
 use Rattle.to_card_parts.proofs.Values.{values-none, values-more, all-append}
-use Rattle.to_card_parts.proofs.Passes.{found-none, found-some}
 use Rattle.to_card_parts.proofs.Rows.{row-taken, rows-taken}
 use Rattle.to_card_order.specs.Order.{FindsAmong, Clashes, TellsApart}
 
@@ -55,36 +43,6 @@ module _ (s : Bytes) (kind value k v : ℕ) (b c : Bool) (agrees : c ≡ eqb kin
       agrees ∙ ap (λ (o : Option Bytes). eqb kind k && agree o (spelled s v)) q ∙ ap (λ (o : Option Bytes). eqb kind k && agree (some x) o) w ∙ sym (one-among x y (eqb kind k) h) in
       ap (λ (t : Bool). t || c) z ∙ ap (λ (t : Bool). among x (valuesOf kind past) || t) a ∙ sym (among-append x (valuesOf kind past) (ofKind kind (component k y))) ∙ ap (among x) (sym (values-more kind past (component k y)))
 
-abbrev pub Finding : Bytes → ℕ → ℕ → ℕ → ℕ → Bool → Type 0
-Finding s at kind value i b = (cs : List Component) (l : Lists s at cs) (x : Bytes) → spelled s value ≡ some x → filled x ≡ true
-    → (past : List Component) × Far componentOf 13 s (elemsOf (l .elems)) (l .rest) i past × (b ≡ among x (valuesOf kind past))
-
-pub finding-first : (s : Bytes) (at kind value : ℕ) → Finding s at kind value at false
-finding-first s at kind value cs l x q h = ([], far-first componentOf 13 s (l .units) (l .elems) (l .rest) at (l .read) (l .are), sym (ap (among x) (values-none kind) ∙ among-none x))
-
-module _ (s : Bytes) (at kind value i : ℕ) (b : Bool) (going : Finding s at kind value i b) (r : Part) (told : TellsElement 13 s i r) (f : Found) (tells : TellsComponent s (r .start) f) where
-  pub finds-wrong : f ≡ Wrong → FindsAmong s at kind value b
-  finds-wrong e cs l x q h =
-      let g = going cs l x q h in
-      let n = now-of (g .1) r told in
-      none-some (sym (n .fails (found-none s f (componentOf (n .val)) (tells (n .val) (n .is-val)) e)) ∙ l .is)
-
-  module _ (k v : ℕ) (e : f ≡ Of k v) (c : Bool) (agrees : c ≡ eqb kind k && agree (spelled s value) (spelled s v)) where
-    pub finding-on : (j : ℕ) → GivesT s (r .end) (sep 93 zero suc (drop (r .end) s)) (Go j) → Finding s at kind value j (b || c)
-    finding-on j w cs l x q h =
-        let g = going cs l x q h in
-        let n = now-of (g .1) r told in
-        let d = found-some s f (componentOf (n .val)) (tells (n .val) (n .is-val)) k v e in
-        (g .0 ++ (component k (d .0) ∷ []), n .goes (component k (d .0)) (d .1) j w, more s kind value k v b c agrees (g .0) x (d .0) q (d .2) h (g .2))
-
-    pub finds-all : (u : Read) → GivesT s (r .end) (sep 93 zero suc (drop (r .end) s)) (Stop u) → FindsAmong s at kind value (b || c)
-    finds-all u w cs l x q h =
-        let g = going cs l x q h in
-        let n = now-of (g .1) r told in
-        let d = found-some s f (componentOf (n .val)) (tells (n .val) (n .is-val)) k v e in
-        let y : g .0 ++ (component k (d .0) ∷ []) ≡ cs = some-same (sym (n .ends (component k (d .0)) (d .1) u w) ∙ l .is) in
-        more s kind value k v b c agrees (g .0) x (d .0) q (d .2) h (g .2) ∙ ap (λ (t : List Component). among x (valuesOf kind t)) y
-
 -- by the rows of the components: those before row i
 abbrev pub FindingTo : Bytes → ℕ → ℕ → ℕ → ℕ → Bool → Type 0
 FindingTo s at kind value i b = (cs : List Component) → Lists s at cs → (x : Bytes) → spelled s value ≡ some x → filled x ≡ true → b ≡ among x (valuesOf kind (take i cs))
@@ -105,7 +63,7 @@ module _ (s : Bytes) (at kind value : ℕ) (kinds values : List ℕ) (rows : ℕ
 
 -- ---- a value that clashes
 
-apart-none : (ws : List Bytes) → apart [] ws ≡ true
+pub apart-none : (ws : List Bytes) → apart [] ws ≡ true
 unfolding apart all
 apart-none ws = refl
 
@@ -113,11 +71,11 @@ and-end : (b : Bool) → b ≡ (b && true)
 and-end true = refl
 and-end false = refl
 
-apart-one : (x : Bytes) (ws : List Bytes) → not (among x ws) ≡ apart (x ∷ []) ws
+pub apart-one : (x : Bytes) (ws : List Bytes) → not (among x ws) ≡ apart (x ∷ []) ws
 unfolding apart all
 apart-one x ws = and-end (not (among x ws))
 
-and-false : (a : Bool) → a && false ≡ false
+pub and-false : (a : Bool) → a && false ≡ false
 and-false true = refl
 and-false false = refl
 
@@ -139,47 +97,16 @@ module _ (s : Bytes) (at : ℕ) (wanted : Bool) (value kind : ℕ) where
 
 -- ---- two kinds
 
-abbrev pub Parting : Bytes → ℕ → ℕ → ℕ → ℕ → Bool → Type 0
-Parting s at one other i ok = (cs : List Component) (l : Lists s at cs)
-    → (past : List Component) × Far componentOf 13 s (elemsOf (l .elems)) (l .rest) i past × (ok ≡ apart (valuesOf one past) (valuesOf other cs))
-
-pub parting-first : (s : Bytes) (at one other : ℕ) → Parting s at one other at true
-parting-first s at one other cs l = ([], far-first componentOf 13 s (l .units) (l .elems) (l .rest) at (l .read) (l .are), sym (ap (λ (vs : List Bytes). apart vs (valuesOf other cs)) (values-none one) ∙ apart-none (valuesOf other cs)))
-
 apart-append : (vs ws us : List Bytes) → apart (vs ++ ws) us ≡ apart vs us && apart ws us
 unfolding apart
 apart-append vs ws us = all-append (λ v. not (among v us)) vs ws
 
 -- one component more
-module _ (s : Bytes) (at one other k v : ℕ) (ok c : Bool) (clash : Clashes s at (eqb one k) v other c) where
-  parted : (cs : List Component) → Lists s at cs → (past : List Component) (y : Bytes) → spelled s v ≡ some y → ok ≡ apart (valuesOf one past) (valuesOf other cs)
-      → (ok && not c) ≡ apart (valuesOf one (past ++ (component k y ∷ []))) (valuesOf other cs)
-  parted cs l past y w z =
-      ap (λ (t : Bool). t && not c) z ∙ ap (λ (t : Bool). apart (valuesOf one past) (valuesOf other cs) && t) (clash cs l y w)
-      ∙ sym (apart-append (valuesOf one past) (ofKind one (component k y)) (valuesOf other cs)) ∙ ap (λ (t : List Bytes). apart t (valuesOf other cs)) (sym (values-more one past (component k y)))
-
-module _ (s : Bytes) (at one other i : ℕ) (ok : Bool) (going : Parting s at one other i ok) (r : Part) (told : TellsElement 13 s i r) (f : Found) (tells : TellsComponent s (r .start) f) where
-  pub parts-wrong : f ≡ Wrong → TellsApart s at one other ok
-  parts-wrong e cs l =
-      let g = going cs l in
-      let n = now-of (g .1) r told in
-      none-some (sym (n .fails (found-none s f (componentOf (n .val)) (tells (n .val) (n .is-val)) e)) ∙ l .is)
-
-  module _ (k v : ℕ) (e : f ≡ Of k v) (c : Bool) (clash : Clashes s at (eqb one k) v other c) where
-    pub parting-on : (j : ℕ) → GivesT s (r .end) (sep 93 zero suc (drop (r .end) s)) (Go j) → Parting s at one other j (ok && not c)
-    parting-on j w cs l =
-        let g = going cs l in
-        let n = now-of (g .1) r told in
-        let d = found-some s f (componentOf (n .val)) (tells (n .val) (n .is-val)) k v e in
-        (g .0 ++ (component k (d .0) ∷ []), n .goes (component k (d .0)) (d .1) j w, parted s at one other k v ok c clash cs l (g .0) (d .0) (d .2) (g .2))
-
-    pub parts-all : (u : Read) → GivesT s (r .end) (sep 93 zero suc (drop (r .end) s)) (Stop u) → TellsApart s at one other (ok && not c)
-    parts-all u w cs l =
-        let g = going cs l in
-        let n = now-of (g .1) r told in
-        let d = found-some s f (componentOf (n .val)) (tells (n .val) (n .is-val)) k v e in
-        let y : g .0 ++ (component k (d .0) ∷ []) ≡ cs = some-same (sym (n .ends (component k (d .0)) (d .1) u w) ∙ l .is) in
-        parted s at one other k v ok c clash cs l (g .0) (d .0) (d .2) (g .2) ∙ ap (λ (t : List Component). apart (valuesOf one t) (valuesOf other cs)) y
+pub parted : (one k : ℕ) (ok c : Bool) (past : List Component) (y : Bytes) (ws : List Bytes) → not c ≡ apart (valueIf (eqb one k) y) ws → ok ≡ apart (valuesOf one past) ws
+    → (ok && not c) ≡ apart (valuesOf one (past ++ (component k y ∷ []))) ws
+parted one k ok c past y ws clash z =
+    ap (λ (t : Bool). t && not c) z ∙ ap (λ (t : Bool). apart (valuesOf one past) ws && t) clash
+    ∙ sym (apart-append (valuesOf one past) (ofKind one (component k y)) ws) ∙ ap (λ (t : List Bytes). apart t ws) (sym (values-more one past (component k y)))
 
 -- by the rows of the components: those before row i
 abbrev pub PartingTo : Bytes → ℕ → ℕ → ℕ → ℕ → Bool → Type 0
@@ -193,7 +120,7 @@ module _ (s : Bytes) (at one other : ℕ) (kinds values : List ℕ) (rows : ℕ)
   parting-row l c clash cs y =
       let g = given le cs y in
       let r = g .row i l in
-      parted s at one other (getD kinds i 0) (getD values i 0) ok c clash cs y (take i cs) (r .0) (r .2) (going cs y)
+      parted one (getD kinds i 0) ok c (take i cs) (r .0) (valuesOf other cs) (clash cs y (r .0) (r .2)) (going cs y)
       ∙ ap (λ (t : List Component). apart (valuesOf one t) (valuesOf other cs)) (sym (row-taken s kinds values rows cs g i l))
 
   pub parts-rows : rows ≤ i → TellsApart s at one other ok

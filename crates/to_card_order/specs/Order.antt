@@ -3,12 +3,14 @@ use mathlib.Core.Path.{_≡_}
 use mathlib.Core.Bool.{Bool, true, false, _&&_, _||_, not}
 use mathlib.Core.List.{List, [], _∷_, _++_, map}
 use mathlib.Core.Option.{some}
-use Prim.Native.Nat.{ℕ, _-_}
+use Prim.Native.Nat.{ℕ, _-_, _≤_}
 use Prim.Native.Char.{code}
 use lib.Dec.{eqb, ltb}
+use lib.ListN.{length, take}
 use Rattle.text.specs.Choice.{pick}
 use Rattle.text.specs.Bytes.{Bytes, all, among, empty}
 use Rattle.json_strings.specs.Spelled.{spelled}
+use Rattle.json_prints.specs.Prints.{printOf, Names}
 use Rattle.line_pen.specs.Pen.{Pens}
 use Rattle.card_pen.specs.declared.Told.{Told}
 use Rattle.card_pen.specs.Styles.{writtenIn, allStandIn}
@@ -18,6 +20,7 @@ use Rattle.convert.specs.Carry.{apart}
 use Rattle.convert.specs.FromJson.{Component, byKind}
 use Rattle.to_card_parts.specs.declared.Inked.{Inked}
 use Rattle.to_card_parts.specs.Parts.{Lists, valuesOf, Marked, listFrom, valueIf}
+use Rattle.to_card_order.specs.declared.Kept.{Kept}
 
 -- ---- an order of kinds: digits, and semicolons between parts
 
@@ -70,3 +73,37 @@ Clashes s at wanted value kind r = (cs : List Component) → Lists s at cs → (
 
 abbrev pub TellsApart : Bytes → ℕ → ℕ → ℕ → Bool → Type 0
 TellsApart s at one other r = (cs : List Component) → Lists s at cs → r ≡ apart (valuesOf one cs) (valuesOf other cs)
+
+-- ---- the same by values that are noted
+
+-- the print of a value that is not empty and asked for, and no print of others
+pub record PrintsValue (s : Bytes) (wanted : Bool) (value r : ℕ) : Type 0 where
+  pub in-range : r ≤ 65536
+  pub print-is : (r ≡ 65536 → ⊥) → r ≡ printOf 0 (spelled s value)
+  pub value-is : (r ≡ 65536 → ⊥) → (x : Bytes) → spelled s value ≡ some x → valueIf wanted x ≡ x ∷ []
+  pub value-none : r ≡ 65536 → (x : Bytes) → spelled s value ≡ some x → valueIf wanted x ≡ []
+
+-- the first n values noted stand for these
+abbrev pub Noted : Bytes → List ℕ → List ℕ → ℕ → List Bytes → Type 0
+Noted s places prints n ws = Names s (take n places) (take n prints) ws
+
+abbrev pub MeetsNoted : Bytes → Bool → ℕ → List ℕ → List ℕ → ℕ → Bool → Type 0
+MeetsNoted s wanted value places prints n r = (ws : List Bytes) → Noted s places prints n ws → (x : Bytes) → spelled s value ≡ some x → not r ≡ apart (valueIf wanted x) ws
+
+abbrev pub ApartNoted : Bytes → ℕ → ℕ → List ℕ → List ℕ → ℕ → Bool → Type 0
+ApartNoted s at kind places prints n r = (cs : List Component) → Lists s at cs → (ws : List Bytes) → Noted s places prints n ws → r ≡ apart (valuesOf kind cs) ws
+
+-- values noted, and one more: some go, and whether the one kind is apart from them is told; the others are noted
+pub record Keeps (s : Bytes) (vs ws : List Bytes) (places prints : List ℕ) (r : Kept) : Type 0 where
+  pub gone : List Bytes
+  pub noted : List Bytes
+  pub these : gone ++ noted ≡ ws
+  pub told : r .ok ≡ apart vs gone
+  pub are : Noted s places prints (r .count) noted
+
+pub record NotesValue (s : Bytes) (at one : ℕ) (wanted : Bool) (value : ℕ) (places prints : List ℕ) (n : ℕ) (places′ prints′ : List ℕ) (r : Kept) : Type 0 where
+  pub few : r .count ≤ 2304
+  pub long-places : length places′ ≡ length places
+  pub long-prints : length prints′ ≡ length prints
+  pub says : (cs : List Component) → Lists s at cs → (ws : List Bytes) → Noted s places prints n ws → (x : Bytes) → spelled s value ≡ some x
+      → Keeps s (valuesOf one cs) (ws ++ valueIf wanted x) places′ prints′ r

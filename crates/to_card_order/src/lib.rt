@@ -2,6 +2,8 @@
 use card_pen::Told;
 use json_access::element_at;
 use json_marks::separator;
+use json_prints::is_noted_wide;
+use json_prints::print_at;
 use json_strings::same_text;
 use line_pen::pen_byte;
 use text::RIGHT_BRACKET;
@@ -17,7 +19,7 @@ ghost use Prim.Native.Nat.{_≤_};
 ghost use lib.ListN.{length};
 ghost use Rattle.json_strings.specs.Spelled.{spelled, agree};
 ghost use Rattle.to_card_parts.specs.Parts.{RowsFrom};
-ghost use Rattle.to_card_order.specs.Order.{InksPlace, InksOrder, FindsAmong, Clashes, TellsApart};
+ghost use Rattle.to_card_order.specs.Order.{InksPlace, InksOrder, FindsAmong, Clashes, TellsApart, PrintsValue, MeetsNoted, ApartNoted, NotesValue};
 
 // One place of an order: a semicolon, or the values of the kind that a digit names, by the rows of the components. Kinds without a mark have no values.
 fn pen_place<'a, 'b, 'c, 'd, 'e>(
@@ -156,32 +158,6 @@ fn agrees(s: &[u8], wanted: bool, a: usize, b: usize) -> bool
     same_text(s, a, b)
 }
 
-// Whether a string that is not empty is a value of a kind, of the components from a place on.
-fn is_among(s: &[u8], at: usize, kind: usize, value: usize) -> bool
-    requires { ⌜ at ≤ length (now s) ⌝ }
-    ensures { λ r. ⌜ FindsAmong (now (s .entry)) at kind value r ⌝ }
-{
-    let mut i = at;
-    let mut found = false;
-    loop {
-        let p = element_at(s, i, 13);
-        let a = p.start;
-        let e = p.end;
-        let Found::Of(k, v) = component_at(s, a) else {
-            return found;
-        };
-        found = found | agrees(s, kind == k, value, v);
-        match separator(s, e, RIGHT_BRACKET) {
-            Turn::Go(j) => {
-                i = j;
-            }
-            Turn::Stop(r) => {
-                return found;
-            }
-        }
-    }
-}
-
 // Whether a string that is not empty is a value of a kind, by the rows of the components from a place on.
 fn is_listed<'a, 'b, 'c>(
     s: &'a [u8],
@@ -195,12 +171,10 @@ fn is_listed<'a, 'b, 'c>(
     requires { ⌜ at ≤ length (now s) ⌝ }
     requires { ⌜ 16 ≤ length (now kinds) ⌝ }
     requires { ⌜ 16 ≤ length (now values) ⌝ }
+    requires { ⌜ rows ≤ 16 ⌝ }
     requires { ⌜ RowsFrom (now s) at (now kinds) (now values) rows ⌝ }
     ensures { λ r. ⌜ FindsAmong (now (s .entry)) at kind value r ⌝ }
 {
-    if rows > 16 {
-        return is_among(s, at, kind, value);
-    }
     let mut i = 0;
     let mut found = false;
     while i < rows {
@@ -224,6 +198,7 @@ fn clashes<'a, 'b, 'c>(
     requires { ⌜ at ≤ length (now s) ⌝ }
     requires { ⌜ 16 ≤ length (now kinds) ⌝ }
     requires { ⌜ 16 ≤ length (now values) ⌝ }
+    requires { ⌜ rows ≤ 16 ⌝ }
     requires { ⌜ RowsFrom (now s) at (now kinds) (now values) rows ⌝ }
     ensures { λ r. ⌜ Clashes (now (s .entry)) at wanted value kind r ⌝ }
 {
@@ -236,22 +211,56 @@ fn clashes<'a, 'b, 'c>(
     is_listed(s, at, kinds, values, rows, kind, value)
 }
 
-// Whether no value of the one kind is a value of the other, of the components from a place on.
-fn walk_apart<'a, 'b, 'c>(
+// The print of a value that is asked for and not empty; 65536 for others.
+fn value_print(s: &[u8], wanted: bool, value: usize) -> u32
+    ensures { λ r. ⌜ PrintsValue (now (s .entry)) wanted value r ⌝ }
+{
+    if !wanted {
+        return 65536;
+    }
+    if !is_filled(s, value) {
+        return 65536;
+    }
+    print_at(s, value)
+}
+
+// Whether a value, where it is asked for and not empty, is one of those noted.
+fn is_met<'a, 'b>(
+    s: &'a [u8],
+    wanted: bool,
+    value: usize,
+    places: &'b [usize],
+    prints: &'b [u16],
+    count: usize,
+) -> bool
+    requires { ⌜ count ≤ length (now places) ⌝ }
+    requires { ⌜ count ≤ length (now prints) ⌝ }
+    ensures { λ r. ⌜ MeetsNoted (now (s .entry)) wanted value (now (places .entry)) (now (prints .entry)) count r ⌝ }
+{
+    let m = value_print(s, wanted, value);
+    if m == 65536 {
+        return false;
+    }
+    is_noted_wide(s, value, m as u16, places, prints, count)
+}
+
+// Whether no value of a kind is one of those noted, of the components from a place on.
+fn none_met<'a, 'b>(
     s: &'a [u8],
     at: usize,
-    kinds: &'b [usize],
-    values: &'c [usize],
-    rows: usize,
-    one: usize,
-    other: usize,
+    kind: usize,
+    places: &'b [usize],
+    prints: &'b [u16],
+    count: usize,
 ) -> bool
     requires { ⌜ at ≤ length (now s) ⌝ }
-    requires { ⌜ 16 ≤ length (now kinds) ⌝ }
-    requires { ⌜ 16 ≤ length (now values) ⌝ }
-    requires { ⌜ RowsFrom (now s) at (now kinds) (now values) rows ⌝ }
-    ensures { λ r. ⌜ TellsApart (now (s .entry)) at one other r ⌝ }
+    requires { ⌜ count ≤ length (now places) ⌝ }
+    requires { ⌜ count ≤ length (now prints) ⌝ }
+    ensures { λ r. ⌜ ApartNoted (now (s .entry)) at kind (now (places .entry)) (now (prints .entry)) count r ⌝ }
 {
+    if count == 0 {
+        return true;
+    }
     let mut i = at;
     let mut ok = true;
     loop {
@@ -261,7 +270,7 @@ fn walk_apart<'a, 'b, 'c>(
         let Found::Of(k, v) = component_at(s, a) else {
             return ok;
         };
-        ok = ok & !clashes(s, at, kinds, values, rows, one == k, v, other);
+        ok = ok & !is_met(s, kind == k, v, places, prints, count);
         match separator(s, e, RIGHT_BRACKET) {
             Turn::Go(j) => {
                 i = j;
@@ -271,6 +280,98 @@ fn walk_apart<'a, 'b, 'c>(
             }
         }
     }
+}
+
+// How many values are noted, and whether no value of the one kind is one of those that had to go.
+struct Kept {
+    count: usize,
+    ok: bool,
+}
+
+// A value, where it is asked for and not empty, is noted. Where there is no place left, those noted go, after the values of the one kind have met them.
+fn note_value<'a, 'b>(
+    places: &'a mut [usize],
+    prints: &'a mut [u16],
+    count: usize,
+    s: &'b [u8],
+    at: usize,
+    one: usize,
+    wanted: bool,
+    value: usize,
+) -> Kept
+    requires { ⌜ at ≤ length (now s) ⌝ }
+    requires { ⌜ 2304 ≤ length (now places) ⌝ }
+    requires { ⌜ 2304 ≤ length (now prints) ⌝ }
+    requires { ⌜ count ≤ 2304 ⌝ }
+    ensures { λ r. ⌜ NotesValue (now (s .entry)) at one wanted value (now (places .entry)) (now (prints .entry)) count (now (places .exit)) (now (prints .exit)) r ⌝ }
+{
+    let m = value_print(s, wanted, value);
+    if m == 65536 {
+        return Kept {
+            count: count,
+            ok: true,
+        };
+    }
+    if count < 2304 {
+        places[count] = value;
+        prints[count] = m as u16;
+        return Kept {
+            count: count + 1,
+            ok: true,
+        };
+    }
+    let ok = none_met(s, at, one, places, prints, count);
+    places[0] = value;
+    prints[0] = m as u16;
+    Kept { count: 1, ok: ok }
+}
+
+// Whether no value of the one kind is a value of the other, of the components from a place on: the other's values are noted, then the one's meet them.
+fn note_apart<'a, 'b>(
+    places: &'a mut [usize],
+    prints: &'a mut [u16],
+    s: &'b [u8],
+    at: usize,
+    one: usize,
+    other: usize,
+) -> bool
+    requires { ⌜ at ≤ length (now s) ⌝ }
+    requires { ⌜ 2304 ≤ length (now places) ⌝ }
+    requires { ⌜ 2304 ≤ length (now prints) ⌝ }
+    ensures { λ r. ⌜ TellsApart (now (s .entry)) at one other r ⌝ }
+{
+    let mut i = at;
+    let mut n = 0;
+    let mut ok = true;
+    loop {
+        let p = element_at(s, i, 13);
+        let a = p.start;
+        let e = p.end;
+        let Found::Of(k, v) = component_at(s, a) else {
+            return ok;
+        };
+        let t = note_value(places, prints, n, s, at, one, other == k, v);
+        n = t.count;
+        ok = ok & t.ok;
+        match separator(s, e, RIGHT_BRACKET) {
+            Turn::Go(j) => {
+                i = j;
+            }
+            Turn::Stop(r) => {
+                return ok & none_met(s, at, one, places, prints, n);
+            }
+        }
+    }
+}
+
+// The same, with places for the values: a component with one takes 29 bytes with its comma, so a text of 65,536 bytes has less than 2,304.
+fn walk_apart(s: &[u8], at: usize, one: usize, other: usize) -> bool
+    requires { ⌜ at ≤ length (now s) ⌝ }
+    ensures { λ r. ⌜ TellsApart (now (s .entry)) at one other r ⌝ }
+{
+    let mut places = [0usize; 2304];
+    let mut prints = [0u16; 2304];
+    note_apart(&mut places, &mut prints, s, at, one, other)
 }
 
 // Whether no value of the one kind is a value of the other, by the rows of the components from a place on.
@@ -290,7 +391,7 @@ pub fn are_apart<'a, 'b, 'c>(
     ensures { λ r. ⌜ TellsApart (now (s .entry)) at one other r ⌝ }
 {
     if rows > 16 {
-        return walk_apart(s, at, kinds, values, rows, one, other);
+        return walk_apart(s, at, one, other);
     }
     let mut i = 0;
     let mut ok = true;

@@ -29,11 +29,13 @@ print-in-requires c κs = (omega arith, omega (arith, c .loop-test .taken, c .be
 
 returns : tie.Need-returns Inv-loop μ-loop
 returns c =
-    let k = c .before .before .before .loop .k in
+    let args = c .before .before .before .before .before .args in
+    let loop = c .before .before .before .loop in
+    let k = loop .k in
     let j = c .before .print-in .ensures in (
-      omega (arith, c .before .before .before .loop .inv .0, j .0),
-      omega (arith, c .before .before .loop-test .taken, c .before .before .before .loop .inv .1, j .1),
-      absent-join (now (c .before .before .before .before .before .args .prints)) (c .before .before .before .before .before .args .p) (c .before .before .before .before .before .args .from) k (c .before .print-in .result) (c .before .before .before .loop .inv .2) (j .2),
+      omega (arith, loop .inv .0, j .0),
+      omega (arith, c .before .before .loop-test .taken, loop .inv .1, j .1),
+      absent-join (now (args .prints)) (args .p) (args .from) k (c .before .print-in .result) (loop .inv .2) (j .2),
     )
 
 loop-less : tie.Need-loop-less Inv-loop μ-loop
@@ -41,13 +43,15 @@ loop-less c = omega (arith, c .before .before .loop-test .taken, c .before .befo
 
 loop-again : tie.Need-loop-again Inv-loop μ-loop
 loop-again c =
-    let k = c .before .before .before .loop .k in
-    let fs = now (c .before .before .before .before .before .args .prints) in
+    let args = c .before .before .before .before .before .args in
+    let loop = c .before .before .before .loop in
+    let k = loop .k in
+    let fs = now (args .prints) in
     let j = c .before .print-in .ensures in
     let e : c .before .print-in .result ≡ k + 256 = omega (arith, j .1, c .if1 .left) in (
-      omega (arith, c .before .before .before .loop .inv .0),
-      omega (arith, c .before .before .loop-test .taken, c .before .before .before .loop .inv .1),
-      absent-join fs (c .before .before .before .before .before .args .p) (c .before .before .before .before .before .args .from) k (k + 256) (c .before .before .before .loop .inv .2) (subst (λ (n : ℕ). Absent fs (c .before .before .before .before .before .args .p) k n false) e (j .2)),
+      omega (arith, loop .inv .0),
+      omega (arith, c .before .before .loop-test .taken, loop .inv .1),
+      absent-join fs (args .p) (args .from) k (k + 256) (loop .inv .2) (subst (λ (n : ℕ). Absent fs (args .p) k n false) e (j .2)),
     )
 
 print-in-requires-2 : tie.Need-print-in-requires-2 Inv-loop μ-loop
@@ -55,10 +59,12 @@ print-in-requires-2 c κs = (c .before .loop .inv .1, c .before .before .before 
 
 returns-2 : tie.Need-returns-2 Inv-loop μ-loop
 returns-2 c =
+    let args = c .before .before .before .before .args in
+    let loop = c .before .before .loop in
     let j = c .print-in2 .ensures in (
-      omega (arith, c .before .before .loop .inv .0, j .0),
+      omega (arith, loop .inv .0, j .0),
       j .1,
-      absent-join (now (c .before .before .before .before .args .prints)) (c .before .before .before .before .args .p) (c .before .before .before .before .args .from) (c .before .before .loop .k) (c .print-in2 .result) (c .before .before .loop .inv .2) (j .2),
+      absent-join (now (args .prints)) (args .p) (args .from) (loop .k) (c .print-in2 .result) (loop .inv .2) (j .2),
     )
 
 pub next-print-spec : {M : Type 1} → statement M

@@ -19,7 +19,13 @@ any-print-requires : tie.Need-any-print-requires Inv-loop μ-loop
 any-print-requires c κs = search needs
 
 returns : tie.Need-returns Inv-loop μ-loop
-returns c = (omega (arith, c .before .before .before .pre .0), omega arith, absent-as (now (c .before .before .before .args .prints)) (c .before .before .before .args .p) (c .before .before .before .args .from) (c .before .before .before .args .to) (c .before .any-print .ensures) (not-true (c .before .any-print .result) (c .if1 .taken)))
+returns c =
+    let args = c .before .before .before .args in (
+      omega (arith, c .before .before .before .pre .0),
+      omega arith,
+      absent-as (now (args .prints)) (args .p) (args .from) (args .to) (c .before .any-print .ensures)
+          (not-true (c .before .any-print .result) (c .if1 .taken)),
+    )
 
 loop-holds : tie.Need-loop-holds Inv-loop μ-loop
 loop-holds c = (search needs, search needs, absent-none (now (c .before .before .before .args .prints)) (c .before .before .before .args .p) (c .before .before .before .args .from))
@@ -40,7 +46,14 @@ loop-less : tie.Need-loop-less Inv-loop μ-loop
 loop-less c = search needs
 
 loop-again : tie.Need-loop-again Inv-loop μ-loop
-loop-again c = (omega (arith, c .before .before .before .loop .inv .0), omega (arith, c .before .before .loop-test .taken), absent-next (now (c .before .before .before .before .before .before .before .args .prints)) (c .before .before .before .before .before .before .before .args .p) (c .before .before .before .before .before .before .before .args .from) (c .before .before .before .loop .k) (c .before .before .before .loop .inv .2) (c .if2 .left))
+loop-again c =
+    let args = c .before .before .before .before .before .before .before .args in
+    let loop = c .before .before .before .loop in (
+      omega (arith, loop .inv .0),
+      omega (arith, c .before .before .loop-test .taken),
+      absent-next (now (args .prints)) (args .p) (args .from) (loop .k) (loop .inv .2)
+          (c .if2 .left),
+    )
 
 returns-3 : tie.Need-returns-3 Inv-loop μ-loop
 returns-3 c = c .before .loop .inv

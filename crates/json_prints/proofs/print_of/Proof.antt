@@ -1,5 +1,5 @@
 use borrow.Author.Needs.{needs}
-use Prim.Native.Nat.{_+_, _-_, _≤_, _<_}
+use Prim.Native.Nat.{_+_, _-_, _<_}
 use mathlib.Core.Path.{_≡_, refl, sym, ap, _∙_}
 use native.Mathlib.Omega.{arith}
 use denote.Ref.{now}
@@ -37,8 +37,11 @@ loop-again : tie.Need-loop-again Inv-loop μ-loop
 loop-again c =
     let at-loop-test = c .before .before in
     let at-loop = at-loop-test .before in
-    let start = at-loop .before .before in
-    (c .stirred .ensures .1, ap (λ q. printed q (drop (at-loop .loop .k + 1) (now (start .args .key)))) (c .stirred .ensures .0) ∙ sym (printed-on (now (start .args .key)) (at-loop .loop .p) (at-loop .loop .k) (at-loop-test .loop-test .taken)) ∙ (at-loop .loop .inv .1))
+    let start = at-loop .before .before in (
+      c .stirred .ensures .1,
+      ap (λ q. printed q (drop (at-loop .loop .k + 1) (now (start .args .key)))) (c .stirred .ensures .0) ∙ sym
+          (printed-on (now (start .args .key)) (at-loop .loop .p) (at-loop .loop .k) (at-loop-test .loop-test .taken)) ∙ (at-loop .loop .inv .1),
+    )
 
 cast-result : tie.Need-cast-result Inv-loop μ-loop
 cast-result c = omega (arith, c .before .loop .inv .0)

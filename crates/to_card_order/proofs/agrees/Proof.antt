@@ -6,9 +6,6 @@ use Rattle.json_strings.specs.Spelled.{spelled, agree}
 use borrow.Author.Needs.{needs}
 use Rattle.to_card_order.proofs.agrees.Statement.{statement}
 use Rattle.to_card_order.proofs.agrees.Tie as tie
-use Rattle.to_card_order.proofs.agrees.Reads as reads
-use Rattle.to_card_order.proofs.agrees.Lts as lts
-use Rattle.json_strings.proofs.same_text.Reads as same-text-reads
 
 returns : tie.Need-returns
 returns c = sym (ap (λ (b : Bool). b && agree (spelled (now (c .before .before .args .s)) (c .before .before .args .a)) (spelled (now (c .before .before .args .s)) (c .before .before .args .b))) (not-true (c .before .before .args .wanted) (c .if1 .taken)))

@@ -4,10 +4,6 @@ use Rattle.to_card_order.proofs.Apart.{clash-unwanted, clash-empty, cla
 use borrow.Author.Needs.{needs}
 use Rattle.to_card_order.proofs.clashes.Statement.{statement}
 use Rattle.to_card_order.proofs.clashes.Tie as tie
-use Rattle.to_card_order.proofs.clashes.Reads as reads
-use Rattle.to_card_order.proofs.clashes.Lts as lts
-use Rattle.to_card_head.proofs.is_filled.Reads as is-filled-reads
-use Rattle.to_card_order.proofs.is_among.Reads as is-among-reads
 
 returns : tie.Need-returns
 returns c = clash-unwanted (now (c .before .before .before .before .args .s)) (c .before .before .before .before .args .at) (c .before .before .before .before .args .wanted) (c .before .before .before .before .args .value) (c .before .before .before .before .args .kind) (not-true _ (c .if1 .taken))

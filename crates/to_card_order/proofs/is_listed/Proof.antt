@@ -4,10 +4,6 @@ use Prim.Native.Nat.{_-_}
 use Rattle.to_card_order.proofs.Apart.{FindingTo, finding-none, finding-row, finds-rows}
 use Rattle.to_card_order.proofs.is_listed.Statement.{statement}
 use Rattle.to_card_order.proofs.is_listed.Tie as tie
-use Rattle.to_card_order.proofs.is_listed.Reads as reads
-use Rattle.to_card_order.proofs.is_listed.Lts as lts
-use Rattle.to_card_order.proofs.agrees.Reads as agrees-reads
-use Rattle.to_card_order.proofs.is_among.Reads as is-among-reads
 
 abbrev Inv-loop : tie.InvT-loop
 Inv-loop s at kinds values rows kind value i₀ found₀ i found = FindingTo s at kind value i found
@@ -15,48 +11,49 @@ Inv-loop s at kinds values rows kind value i₀ found₀ i found = FindingTo s a
 abbrev μ-loop : tie.MeasureT-loop
 μ-loop s at kinds values rows kind value i₀ found₀ i found = rows - i
 
-is-among-requires : tie.Need-is-among-requires Inv-loop μ-loop
-is-among-requires c κs = c .before .before .before .before .pre .0
-
-returns : tie.Need-returns Inv-loop μ-loop
-returns c = c .is-among .ensures
-
 loop-holds : tie.Need-loop-holds Inv-loop μ-loop
-loop-holds c = finding-none (now (c .before .before .before .before .args .s)) (c .before .before .before .before .args .at) (c .before .before .before .before .args .kind) (c .before .before .before .before .args .value)
+loop-holds c = finding-none (now (c .before .before .before .args .s)) (c .before .before .before .args .at) (c .before .before .before .args .kind) (c .before .before .before .args .value)
 
 mul-agrees : tie.Need-mul-agrees Inv-loop μ-loop
-mul-agrees c = omega (arith, c .loop-test .taken, c .before .before .if1 .left, c .before .before .before .before .before .before .pre .1 .0, c .before .before .before .before .before .before .pre .1 .1 .0)
+mul-agrees c = omega (arith, c .loop-test .taken, c .before .before .before .before .before .pre .1 .1 .1 .0)
 
 shared-slice-read-agrees : tie.Need-shared-slice-read-agrees Inv-loop μ-loop
-shared-slice-read-agrees c = omega (arith, c .before .loop-test .taken, c .before .before .before .if1 .left, c .before .before .before .before .before .before .before .pre .1 .0, c .before .before .before .before .before .before .before .pre .1 .1 .0)
+shared-slice-read-agrees c =
+    let pre = c .before .before .before .before .before .before .pre in
+    omega (arith, c .before .loop-test .taken, pre .1 .0, pre .1 .1 .1 .0)
 
 mul-agrees-2 : tie.Need-mul-agrees-2 Inv-loop μ-loop
-mul-agrees-2 c = omega (arith, c .before .loop-test .taken, c .before .before .before .if1 .left, c .before .before .before .before .before .before .before .pre .1 .0, c .before .before .before .before .before .before .before .pre .1 .1 .0)
+mul-agrees-2 c = omega (arith, c .before .loop-test .taken, c .before .before .before .before .before .before .pre .1 .1 .1 .0)
 
 shared-slice-read-agrees-2 : tie.Need-shared-slice-read-agrees-2 Inv-loop μ-loop
-shared-slice-read-agrees-2 c = omega (arith, c .before .before .loop-test .taken, c .before .before .before .before .if1 .left, c .before .before .before .before .before .before .before .before .pre .1 .0, c .before .before .before .before .before .before .before .before .pre .1 .1 .0)
+shared-slice-read-agrees-2 c =
+    let pre = c .before .before .before .before .before .before .before .pre in
+    omega (arith, c .before .before .loop-test .taken, pre .1 .1 .0, pre .1 .1 .1 .0)
 
 agrees-requires : tie.Need-agrees-requires Inv-loop μ-loop
 agrees-requires c κs = tt
 
 add-i : tie.Need-add-i Inv-loop μ-loop
-add-i c = omega (arith, c .before .before .before .loop-test .taken, c .before .before .before .before .before .if1 .left)
+add-i c = omega (arith, c .before .before .before .loop-test .taken, c .before .before .before .before .before .before .before .before .pre .1 .1 .1 .0)
 
 loop-less : tie.Need-loop-less Inv-loop μ-loop
 loop-less c = omega (arith, c .before .before .before .loop-test .taken)
 
 loop-again : tie.Need-loop-again Inv-loop μ-loop
 loop-again c =
-    let args = c .before .before .before .before .before .before .before .before .before .args in
+    let args = c .before .before .before .before .before .before .before .before .args in
+    let pre = c .before .before .before .before .before .before .before .before .pre in
     let loop = c .before .before .before .before .loop in
-    finding-row (now (args .s)) (args .at) (args .kind) (args .value) (now (args .kinds)) (now (args .values)) (args .rows) (omega (arith, c .before .before .before .before .before .if1 .left)) (c .before .before .before .before .before .before .before .before .before .pre .1 .1 .1) (loop .i) (loop .found) (loop .inv)
+    finding-row (now (args .s)) (args .at) (args .kind) (args .value) (now (args .kinds)) (now (args .values)) (args .rows) (pre .1 .1 .1 .0) (pre .1 .1 .1 .1) (loop .i)
+    (loop .found) (loop .inv)
     (c .before .before .before .loop-test .taken) (c .agrees .result) (c .agrees .ensures)
 
-returns-2 : tie.Need-returns-2 Inv-loop μ-loop
-returns-2 c =
-    let args = c .before .before .before .before .before .before .args in
-    let loop = c .before .loop in
-    finds-rows (now (args .s)) (args .at) (args .kind) (args .value) (now (args .kinds)) (now (args .values)) (args .rows) (omega (arith, c .before .before .if1 .left)) (c .before .before .before .before .before .before .pre .1 .1 .1) (loop .i) (loop .found) (loop .inv)
+returns : tie.Need-returns Inv-loop μ-loop
+returns c =
+    let args = c .before .before .before .before .before .args in
+    let pre = c .before .before .before .before .before .pre in
+    finds-rows (now (args .s)) (args .at) (args .kind) (args .value) (now (args .kinds)) (now (args .values)) (args .rows) (pre .1 .1 .1 .0) (pre .1 .1 .1 .1)
+    (c .before .loop .i) (c .before .loop .found) (c .before .loop .inv)
     (c .loop-test .left)
 
 pub is-listed-spec : {M : Type 1} → statement M
@@ -65,8 +62,6 @@ is-listed-spec =
     (tie.spec
     Inv-loop
     μ-loop
-    is-among-requires
-    returns
     loop-holds
     mul-agrees
     shared-slice-read-agrees
@@ -76,4 +71,4 @@ is-listed-spec =
     add-i
     loop-less
     loop-again
-    returns-2)
+    returns)

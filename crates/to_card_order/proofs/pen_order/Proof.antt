@@ -8,10 +8,6 @@ use Rattle.line_pen.proofs.Laws.{pens-in, pens-length, pens-then}
 use Rattle.to_card_order.proofs.Places.{Ordering, ordering-first, ordering-on, ordering-end}
 use Rattle.to_card_order.proofs.pen_order.Statement.{statement}
 use Rattle.to_card_order.proofs.pen_order.Tie as tie
-use Rattle.to_card_order.proofs.pen_order.Reads as reads
-use Rattle.to_card_order.proofs.pen_order.Lts as lts
-use Rattle.to_card_order.proofs.pen_place.Reads as pen-place-reads
-use Rattle.to_card_parts.proofs.list_rows.Reads as list-rows-reads
 
 abbrev Inv-loop : tie.InvT-loop
 Inv-loop out₀ column style mark s at marks kinds values rows order n₀ c₀ b₀ ok₀ i₀ out n c b ok i = (i ≤ length order) × Ordering s at marks style mark order out₀ column n c b ok i out

@@ -5,10 +5,6 @@ use Rattle.to_card_order.proofs.Places.{inks-semi, inks-low, inks-high,
 use borrow.Author.Needs.{needs}
 use Rattle.to_card_order.proofs.pen_place.Statement.{statement}
 use Rattle.to_card_order.proofs.pen_place.Tie as tie
-use Rattle.to_card_order.proofs.pen_place.Reads as reads
-use Rattle.to_card_order.proofs.pen_place.Lts as lts
-use Rattle.line_pen.proofs.pen_byte.Reads as pen-byte-reads
-use Rattle.to_card_parts.proofs.pen_kind.Reads as pen-kind-reads
 
 pen-byte-requires : tie.Need-pen-byte-requires
 pen-byte-requires c κs = tt
