@@ -6,7 +6,8 @@ use mathlib.Core.Option.{Option, none, some}
 use Prim.Native.Nat.{ℕ, zero, suc, _+_, _<_}
 use native.Mathlib.Omega.{arith}
 use lib.ListN.{length, take, drop, getD}
-use borrow.Author.Tests.{eq-eqb, ne-eqb}
+use lib.Dec.{eqb}
+use borrow.Author.Tests.{eq-eqb, ne-eqb, eqb-true, eqb-false}
 use Rattle.text.specs.Choice.{with-some, chain, provided}
 use Rattle.text.specs.Bytes.{Bytes, ascii, any, same, among, each}
 use Rattle.text.proofs.Cases.{byBool}
@@ -15,7 +16,9 @@ use Rattle.text.proofs.Lists.{any-append}
 use Rattle.text.proofs.Same.{among-none}
 use Rattle.json.specs.Tree.{Json, Member, member, nameOf, asString, asNumber, asObject}
 use Rattle.json_index.specs.Index.{firstAt}
-use Rattle.json_has.specs.Has.{named, hasName, HasMember}
+use Rattle.json_has.specs.Has.{named, hasName}
+use Rattle.name_index.specs.Groups.{namesOf, HasName}
+use Rattle.name_index.proofs.Groups.{has-among, group-empty, group-slot}
 use Rattle.convert.specs.Table.{Map, maps, typeNames, position, reserved}
 use Rattle.convert.specs.Model.{Entry}
 use Rattle.convert.specs.Value.{isKeyText, isPref}
@@ -107,10 +110,14 @@ module _ (s : Bytes) (slots : List ℕ) (i : ℕ) (h : i < 7) (key : Bytes) wher
       ap (λ (j : ℕ). any (isId j key) (idsFrom 0 ess)) (sym z) ∙ ids-at key i 0 ess
       ∙ value-keys (getD maps i organizations) (firstAt reserved (i + 5) ms) (getD ess i []) key (slot-map i h ms ∙ each-at (mapFrom ms) maps ess i organizations [] e h)
 
-  pub id-none : getD slots (i + 5) 0 ≡ 0 → IdUsed s slots i key false
-  id-none z ms ess x e = sym (seen-is ms ess e ∙ ap (λ (o : Option Json). with-some o (hasName key) false) (slot-none (x (i + 5)) z))
-
-  pub id-some : (getD slots (i + 5) 0 ≡ 0 → ⊥) → (r : Bool) → HasMember 14 s (getD slots (i + 5) 0) key r → IdUsed s slots i key r
-  id-some n r g ms ess x e =
-      let v = slot-some (x (i + 5)) n in
-      g (v .0) (v .2) ∙ sym (seen-is ms ess e ∙ ap (λ (o : Option Json). with-some o (hasName key) false) (v .1))
+  pub id-names : (r : Bool) → HasName s slots i key r → IdUsed s slots i key r
+  id-names r g ms ess x e =
+      byBool (eqb (getD slots (i + 5) 0) 0)
+      (λ z.
+      let y = eqb-true (getD slots (i + 5) 0) 0 z in
+      g [] (group-empty s slots i h y) ∙ among-none key ∙ sym (seen-is ms ess e ∙ ap (λ (o : Option Json). with-some o (hasName key) false) (slot-none (x (i + 5)) y)))
+      (λ z.
+      let y = eqb-false (getD slots (i + 5) 0) 0 z in
+      let v = slot-some (x (i + 5)) y in
+      g (namesOf (v .0)) (group-slot s slots i h y (v .0) (v .2)) ∙ sym (has-among key (v .0))
+      ∙ sym (seen-is ms ess e ∙ ap (λ (o : Option Json). with-some o (hasName key) false) (v .1)))

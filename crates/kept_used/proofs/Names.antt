@@ -14,7 +14,9 @@ use Rattle.output.specs.declared.Wrote.{Wrote}
 use Rattle.output.specs.declared.Wrote.the-variants.{Bytes as Wrote-Bytes, Full}
 use Rattle.output.specs.Put.{Puts}
 use Rattle.output.proofs.Laws.{said-full}
-use Rattle.json_has.specs.Has.{named, HasMember}
+use Rattle.json_has.specs.Has.{named}
+use Rattle.name_index.specs.Groups.{namesOf, HasName}
+use Rattle.name_index.proofs.Groups.{group-last}
 use Rattle.convert.specs.Table.{reserved}
 use Rattle.convert.specs.FromJson.{otherMembers}
 use Rattle.convert_pointer.specs.Name.{nameIn}
@@ -38,7 +40,7 @@ module _ (s p scratch : Bytes) {w : Wrote} {out : Bytes} (puts : Puts scratch (n
   pointer-full l e r n q =
       absurd (omega (arith, said-full scratch (nameIn p) (sym (puts .said) ∙ e), ap length (is-name p n q), no-longer p n q))
 
-  pub pointer-read : (k : ℕ) → w ≡ Wrote-Bytes k → (r : Bool) → HasMember 15 s 0 (take (k - 0) (drop 0 out)) r → PointerUsed s p r
-  pointer-read k e r g n q u v ms t o =
+  pub pointer-read : (slots : List ℕ) (k : ℕ) → w ≡ Wrote-Bytes k → (r : Bool) → HasName s slots 7 (take (k - 0) (drop 0 out)) r → PointerUsed s p r
+  pointer-read slots k e r g n q u v ms t o =
       let z : take (k - 0) (drop 0 out) ≡ n = written k puts e .1 ∙ is-name p n q in
-      g v t ∙ ap (λ x. with-some (asObject v) (named x) false) z ∙ ap (λ y. with-some y (named n) false) o ∙ others-have n u ms
+      g (namesOf v) (group-last s slots v t) ∙ ap (λ x. among x (namesOf v)) z ∙ ap (λ y. among n (with-some y (map nameOf) [])) o ∙ others-have n u ms

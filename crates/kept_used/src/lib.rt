@@ -1,43 +1,68 @@
 // Whether a line is kept after all converted lines of a JSON card. `class_line` leaves one question open, to what was seen: whether a PROP-ID is used
-// in its map, or a member's name in the card. Both are answered by the JSON text.
+// in its map, or a member's name in the card. Both are answered by the JSON text, by what is noted of its names where that is.
 ghost use mathlib.Core.Path.{_≡_};
 ghost use Prim.Native.Nat.{_≤_, _<_};
 ghost use lib.ListN.{length};
 ghost use Rattle.class_line.specs.Class.{ClassIn};
 ghost use Rattle.convert_pointer.specs.Name.{Pointing};
+ghost use Rattle.name_index.specs.Groups.{Indexes};
 ghost use Rattle.kept_used.specs.Used.{IdUsed, PointerUsed, KeptIn};
 use class_line::Class;
 use convert_pointer::read_pointer;
-use json_has::has_member;
+use name_index::has_name;
 use output::Wrote;
 
 // Whether an entry of the map i has the key. The slots are those of the top-level members, by the list of reserved names: the first map's is the sixth.
-pub fn id_used(s: &[u8], slots: &[usize], i: usize, key: &[u8]) -> bool
+// What is noted of the names is in `places`, `prints` and `ends`.
+pub fn id_used<'a, 'b, 'c, 'd, 'e>(
+    s: &'a [u8],
+    slots: &'b [usize],
+    places: &'c [u16],
+    prints: &'c [u16],
+    ends: &'d [usize],
+    i: usize,
+    key: &'e [u8],
+) -> bool
     requires { ⌜ (i < 7) × (12 ≤ length (now slots)) ⌝ }
+    requires { ⌜ Indexes (now s) (now slots) (now places) (now prints) (now ends) ⌝ }
     ensures { λ r. ⌜ IdUsed (now (s .entry)) (now (slots .entry)) i (now (key .entry)) r ⌝ }
 {
-    let k = i + 5;
-    let at = slots[k];
-    if at == 0 {
-        return false;
-    }
-    has_member(s, at, 14, key)
+    has_name(s, slots, places, prints, ends, i, key)
 }
 
 // Whether the card has the member that the pointer points at. The scratch is for its name.
-pub fn pointer_used(s: &[u8], scratch: &mut [u8], p: &[u8]) -> bool
-    requires { ⌜ Pointing (now p) × (length (now p) ≤ length (now scratch)) ⌝ }
+pub fn pointer_used<'a, 'b, 'c, 'd, 'e, 'f>(
+    s: &'a [u8],
+    slots: &'b [usize],
+    places: &'c [u16],
+    prints: &'c [u16],
+    ends: &'d [usize],
+    scratch: &'e mut [u8],
+    p: &'f [u8],
+) -> bool
+    requires { ⌜ Pointing (now p) × (length (now p) ≤ length (now scratch)) × (12 ≤ length (now slots)) ⌝ }
+    requires { ⌜ Indexes (now s) (now slots) (now places) (now prints) (now ends) ⌝ }
     ensures { λ r. ⌜ PointerUsed (now (s .entry)) (now (p .entry)) r ⌝ }
 {
     let Wrote::Bytes(n) = read_pointer(scratch, p) else {
         return false;
     };
-    has_member(s, 0, 15, &scratch[0..n])
+    has_name(s, slots, places, prints, ends, 7, &scratch[0..n])
 }
 
 // Whether the line in b, of that class, is kept.
-pub fn is_kept_class(s: &[u8], slots: &[usize], b: &[u8], scratch: &mut [u8], class: Class) -> bool
+pub fn is_kept_class<'a, 'b, 'c, 'd, 'e, 'f>(
+    s: &'a [u8],
+    slots: &'b [usize],
+    places: &'c [u16],
+    prints: &'c [u16],
+    ends: &'d [usize],
+    b: &'e [u8],
+    scratch: &'f mut [u8],
+    class: Class,
+) -> bool
     requires { ⌜ (12 ≤ length (now slots)) × (length (now b) ≤ length (now scratch)) × ClassIn (now b) class ⌝ }
+    requires { ⌜ Indexes (now s) (now slots) (now places) (now prints) (now ends) ⌝ }
     ensures { λ r. ⌜ KeptIn (now (s .entry)) (now (slots .entry)) (now (b .entry)) class r ⌝ }
 {
     match class {
@@ -49,7 +74,11 @@ pub fn is_kept_class(s: &[u8], slots: &[usize], b: &[u8], scratch: &mut [u8], cl
         Class::Full => false,
         Class::Parts => false,
         Class::Entry { map } => false,
-        Class::Keyed { map, start, end } => id_used(s, slots, map, &b[start..end]),
-        Class::Member { start, end } => pointer_used(s, scratch, &b[start..end]),
+        Class::Keyed { map, start, end } => {
+            id_used(s, slots, places, prints, ends, map, &b[start..end])
+        }
+        Class::Member { start, end } => {
+            pointer_used(s, slots, places, prints, ends, scratch, &b[start..end])
+        }
     }
 }

@@ -1,3 +1,4 @@
 pub mod Entry
 pub mod Loop
+pub mod Runs
 pub mod Whole

@@ -27,7 +27,8 @@ use Rattle.to_card_lines.specs.declared.Lines.the-variants.{All, Wrong}
 use Rattle.to_card_lines.specs.Lines.{Part, PartAs, noLines, joinParts, partsOf}
 use Rattle.to_card_lines.proofs.Parts.{before, before-none, before-one, before-last, parts-none, parts-one, Done, done-none, done-on, done-all, none-wrong, not-all}
 use Rattle.to_card_kept.specs.Kept.{seenOf, entryPart}
-use Rattle.to_card_kept.specs.Puts.{ForKnown, EntryAt, PutsEntry, EntriesAt, PutsFrom}
+use Rattle.to_card_kept.specs.declared.Run.the-variants.{More}
+use Rattle.to_card_kept.specs.Puts.{ForKnown, EntryAt, PutsEntry, EntriesAt, PutsFrom, beforeLines, PutsRun}
 
 -- ---- the entry that is next
 
@@ -141,3 +142,21 @@ module _ (s : Bytes) (slots : List ℕ) (at : ℕ) (full parts : Bool) (room : B
         let y = further _ (g .part) (entryPart seen (x .val)) (partsOf (entryPart seen) (elemsOf (x .others))) (split seen (elemsOf es) g x) (puts (x .val) (x .entry) mm ess known m f h) (g .done) in
         let z : partsOf (entryPart seen) (elemsOf (x .others)) ≡ some noLines = ap (partsOf (entryPart seen)) (x .ends end is-end v w) ∙ parts-none (entryPart seen) in
         done-all room (n + k) (lines + l) (ok && c) _ (y .0) (y .2) (partsOf (entryPart seen) (elemsOf es)) (y .1 ∙ ap (before (y .0)) z ∙ before-last (y .0))
+
+-- ---- a run that stops before the last entry
+
+module _ (room : Bytes) (n lines : ℕ) (ok : Bool) (out last : Bytes) where
+  -- the others, put into the rest of the room
+  rest-put : (d : Part) (o want : Option Part) → want ≡ before d o → Done room n lines ok out d → (r : Lines) → PartAs (midOf n (length out - n) out) r last o
+      → PartAs room (beforeLines n lines ok r) (putMid n (length out - n) out last) want
+  rest-put d none want q done r w = subst (PartAs room (beforeLines n lines ok r) (putMid n (length out - n) out last)) (sym q) (ap (beforeLines n lines ok) w)
+  rest-put d (some x) want q done r w =
+      subst (λ (z : Lines). PartAs room z (putMid n (length out - n) out last) want) (sym (ap (beforeLines n lines ok) (w .1)))
+      (done-all room (n + w .0) (lines + length (x .lines)) (ok && x .carried) _ (joinParts d x) (done-on room n lines ok out d done r last x w (w .1)) want q)
+
+pub run-more : (s : Bytes) (slots : List ℕ) (at : ℕ) (full parts : Bool) (room : Bytes) (i n lines : ℕ) (ok : Bool) (out : Bytes) → Going s slots at full parts room i n lines ok out
+    → PutsRun s slots at full parts room (More n lines ok i) out
+run-more s slots at full parts room i n lines ok out going r last puts es a mm ess known m f h =
+    let seen = seenOf m ess (membersOf mm) in
+    let g = going es a mm ess known m f h in
+    rest-put room n lines ok out last (g .part) (partsOf (entryPart seen) (elemsOf (g .rest))) _ (g .is-all) (g .done) r (puts (g .rest) (g .entries) mm ess known m f h)

@@ -1,10 +1,11 @@
 -- One entry of vCardProps, and entries one after the other: what is promised on the way to `PutsKept`.
 use mathlib.Core.Path.{_≡_}
-use mathlib.Core.Bool.{Bool, true}
+use mathlib.Core.Bool.{Bool, true, _&&_}
 use mathlib.Core.List.{List}
 use mathlib.Core.Option.{some}
-use Prim.Native.Nat.{ℕ, _+_, _≤_}
+use Prim.Native.Nat.{ℕ, _+_, _-_, _≤_}
 use lib.ListN.{length, drop}
+use borrow.Rule.Slice.PartMut.{midOf, putMid}
 use Rattle.text.specs.Choice.{is-some}
 use Rattle.text.specs.Bytes.{Bytes, all}
 use Rattle.text.specs.Reader.{got, loop}
@@ -22,6 +23,8 @@ use Rattle.card_entry.specs.declared.Entered.the-variants.{Line, Refused}
 use Rattle.to_card_lines.specs.declared.Lines.{Lines}
 use Rattle.to_card_lines.specs.declared.Lines.the-variants.{All, Wrong}
 use Rattle.to_card_lines.specs.Lines.{PartAs, partsOf}
+use Rattle.to_card_kept.specs.declared.Run.{Run}
+use Rattle.to_card_kept.specs.declared.Run.the-variants.{Ended, More}
 use Rattle.to_card_kept.specs.Kept.{Known, seenOf, entryPart}
 
 -- whatever is known of the text, and whatever its name is
@@ -61,3 +64,26 @@ pub record EntriesAt (s : Bytes) (at : ℕ) (es : Elems) : Type 0 where
 
 abbrev pub PutsFrom : Bytes → List ℕ → ℕ → Bool → Bool → Bytes → Lines → Bytes → Type 0
 PutsFrom s slots at full parts room r after = (es : Elems) → EntriesAt s at es → ForKnown s slots full parts λ seen. PartAs room r after (partsOf (entryPart seen) (elemsOf es))
+
+-- ---- entries up to a number of them
+
+-- what is written is in the room, and the lines are so many at most
+abbrev pub LinesWithin : ℕ → ℕ → Lines → Type 0
+LinesWithin room most (All n k c) = (n ≤ room) × (k ≤ most)
+LinesWithin room most Wrong = Unit {0}
+
+-- each entry but the last has a comma after it, so that there are no more lines than bytes, and one
+abbrev pub RunIn : ℕ → ℕ → ℕ → Run → Type 0
+RunIn room text most (Ended r) = LinesWithin room (text + 1) r
+RunIn room text most (More n lines ok at) = (n ≤ room) × (lines ≤ at) × (at ≤ text) × (lines ≡ most)
+
+-- lines before others
+abbrev pub beforeLines : ℕ → ℕ → Bool → Lines → Lines
+beforeLines n lines ok (All m k c) = All (n + m) (lines + k) (ok && c)
+beforeLines n lines ok Wrong = Wrong
+
+-- all entries; or some, and whatever is then put of the others into the rest of the room makes up all
+abbrev pub PutsRun : Bytes → List ℕ → ℕ → Bool → Bool → Bytes → Run → Bytes → Type 0
+PutsRun s slots at full parts room (Ended r) after = PutsFrom s slots at full parts room r after
+PutsRun s slots at full parts room (More n lines ok j) after = (r : Lines) (last : Bytes) → PutsFrom s slots j full parts (midOf n (length after - n) after) r last
+    → PutsFrom s slots at full parts room (beforeLines n lines ok r) (putMid n (length after - n) after last)

@@ -8,6 +8,7 @@ use kept_fill::Held;
 use kept_fill::fill_kept;
 use kept_line::put_kept_line;
 use kept_used::is_kept_class;
+use name_index::note_groups;
 use table_marks::scan_rows;
 use table_sound::is_sound;
 use text::LEFT_BRACKET;
@@ -16,26 +17,31 @@ use text::Turn;
 use text::look;
 use to_card_lines::Lines;
 ghost use mathlib.Core.Path.{_≡_};
-ghost use Prim.Native.Nat.{_≤_};
+ghost use Prim.Native.Nat.{_+_, _≤_};
 ghost use lib.ListN.{length};
 ghost use Rattle.line_table.specs.Table.{Sound};
 ghost use Rattle.class_member.specs.Member.{Room};
 ghost use Rattle.card_entry.specs.Rows.{EnteredIn};
 ghost use Rattle.to_card_lines.specs.Lines.{LinesIn};
+ghost use Rattle.name_index.specs.Groups.{Indexes};
 ghost use Rattle.to_card_kept.specs.Kept.{Lent, PutsKept};
-ghost use Rattle.to_card_kept.specs.Puts.{TellsKept, asLines, PutsEntry, PutsFrom};
+ghost use Rattle.to_card_kept.specs.Puts.{TellsKept, asLines, PutsEntry, PutsFrom, LinesWithin, RunIn, PutsRun};
 
 // Whether the line that the table holds is kept after all converted lines.
-fn is_kept_line(
-    b: &[u8],
-    t: &[usize],
-    scratch: &mut [u8],
-    s: &[u8],
-    slots: &[usize],
+fn is_kept_line<'a, 'b, 'c, 'd, 'e, 'f, 'g>(
+    b: &'a [u8],
+    t: &'b [usize],
+    scratch: &'c mut [u8],
+    s: &'d [u8],
+    slots: &'e [usize],
+    places: &'f [u16],
+    prints: &'f [u16],
+    ends: &'g [usize],
     full: bool,
     parts: bool,
 ) -> bool
     requires { ⌜ Sound (now b) (now t) × Room (now b) (now scratch) × (14 ≤ length (now slots)) ⌝ }
+    requires { ⌜ Indexes (now s) (now slots) (now places) (now prints) (now ends) ⌝ }
     ensures { λ r. ⌜ TellsKept (now (s .entry)) (now (slots .entry)) (now (b .entry)) (now (t .entry)) full parts r ⌝ }
 {
     let mut counts = [0usize; 8];
@@ -43,22 +49,26 @@ fn is_kept_line(
     let mut tos = [0usize; 8];
     scan_rows(&mut counts, &mut froms, &mut tos, b, t);
     let class = class_line(&counts, &froms, &tos, b, t, scratch, full, parts);
-    is_kept_class(s, slots, b, scratch, class)
+    is_kept_class(s, slots, places, prints, ends, b, scratch, class)
 }
 
 // An entry as a line: 12 where no kept line gives it in its place.
-fn put_entry<'a, 'b, 'c, 'd, 'e, 'f>(
+fn put_entry<'a, 'b, 'c, 'd, 'e, 'f, 'g, 'h>(
     out: &'a mut [u8],
     b: &'b mut [u8],
     t: &'c mut [usize],
     scratch: &'d mut [u8],
     s: &'e [u8],
     slots: &'f [usize],
+    places: &'g [u16],
+    prints: &'g [u16],
+    ends: &'h [usize],
     at: usize,
     full: bool,
     parts: bool,
 ) -> Entered
     requires { ⌜ Lent (now b) (now t) (now scratch) (now s) (now slots) ⌝ }
+    requires { ⌜ Indexes (now s) (now slots) (now places) (now prints) (now ends) ⌝ }
     requires { ⌜ at ≤ length (now s) ⌝ }
     ensures { λ r. ⌜ EnteredIn (now (s .entry)) at (length (now (out .entry))) r ⌝ }
     ensures { λ r. ⌜ length (now (out .exit)) ≡ length (now (out .entry)) ⌝ }
@@ -70,7 +80,7 @@ fn put_entry<'a, 'b, 'c, 'd, 'e, 'f>(
     if !is_sound(b, t) {
         return Entered::Refused;
     }
-    if !is_kept_line(b, t, scratch, s, slots, full, parts) {
+    if !is_kept_line(b, t, scratch, s, slots, places, prints, ends, full, parts) {
         return Entered::Refused;
     }
     let p = put_kept_line(out, b, t);
@@ -79,7 +89,117 @@ fn put_entry<'a, 'b, 'c, 'd, 'e, 'f>(
     Entered::Line(n, ok, end)
 }
 
-// The entries from a place on.
+// How far entries were written: to their end, or so many of them, with the place of the next.
+enum Run {
+    Ended(Lines),
+    More(usize, usize, bool, usize),
+}
+
+// The entries from a place on, `most` of them at most.
+fn put_run<'a, 'b, 'c, 'd, 'e, 'f, 'g, 'h>(
+    out: &'a mut [u8],
+    b: &'b mut [u8],
+    t: &'c mut [usize],
+    scratch: &'d mut [u8],
+    s: &'e [u8],
+    slots: &'f [usize],
+    places: &'g [u16],
+    prints: &'g [u16],
+    ends: &'h [usize],
+    at: usize,
+    full: bool,
+    parts: bool,
+    most: usize,
+) -> Run
+    requires { ⌜ Lent (now b) (now t) (now scratch) (now s) (now slots) ⌝ }
+    requires { ⌜ Indexes (now s) (now slots) (now places) (now prints) (now ends) ⌝ }
+    requires { ⌜ at ≤ length (now s) ⌝ }
+    ensures { λ r. ⌜ RunIn (length (now (out .entry))) (length (now (s .entry))) most r ⌝ }
+    ensures { λ r. ⌜ length (now (out .exit)) ≡ length (now (out .entry)) ⌝ }
+    ensures { λ r. ⌜ PutsRun (now (s .entry)) (now (slots .entry)) at full parts (now (out .entry)) r (now (out .exit)) ⌝ }
+{
+    let mut i = at;
+    let mut n = 0;
+    let mut lines = 0;
+    let mut ok = true;
+    loop {
+        let Entered::Line(k, c, e) = put_entry(
+            &mut out[n..],
+            b,
+            t,
+            scratch,
+            s,
+            slots,
+            places,
+            prints,
+            ends,
+            i,
+            full,
+            parts,
+        ) else {
+            return Run::Ended(Lines::Wrong);
+        };
+        n += k;
+        lines += 1;
+        ok = ok & c;
+        match separator(s, e, RIGHT_BRACKET) {
+            Turn::Go(j) => {
+                if lines == most {
+                    return Run::More(n, lines, ok, j);
+                }
+                i = j;
+            }
+            Turn::Stop(r) => {
+                return Run::Ended(Lines::All(n, lines, ok));
+            }
+        }
+    }
+}
+
+// All entries from a place on, after the names of the card are noted: no text has more entries than bytes.
+fn put_noted<'a, 'b, 'c, 'd, 'e, 'f>(
+    out: &'a mut [u8],
+    b: &'b mut [u8],
+    t: &'c mut [usize],
+    scratch: &'d mut [u8],
+    s: &'e [u8],
+    slots: &'f [usize],
+    at: usize,
+    full: bool,
+    parts: bool,
+) -> Lines
+    requires { ⌜ Lent (now b) (now t) (now scratch) (now s) (now slots) ⌝ }
+    requires { ⌜ at ≤ length (now s) ⌝ }
+    ensures { λ r. ⌜ LinesWithin (length (now (out .entry))) (length (now (s .entry)) + 1) r ⌝ }
+    ensures { λ r. ⌜ length (now (out .exit)) ≡ length (now (out .entry)) ⌝ }
+    ensures { λ r. ⌜ PutsFrom (now (s .entry)) (now (slots .entry)) at full parts (now (out .entry)) r (now (out .exit)) ⌝ }
+{
+    let mut places = [0u16; 16384];
+    let mut prints = [0u16; 16384];
+    let mut ends = [0usize; 9];
+    let k = note_groups(&mut places, &mut prints, &mut ends, s, slots);
+    let most = s.len() + 1;
+    match put_run(
+        out,
+        b,
+        t,
+        scratch,
+        s,
+        slots,
+        &places,
+        &prints,
+        &ends[0..k],
+        at,
+        full,
+        parts,
+        most,
+    ) {
+        Run::Ended(r) => r,
+        Run::More(n, lines, ok, j) => Lines::Wrong,
+    }
+}
+
+// The entries from a place on. What the lines of the first sixteen ask is looked up by walks over the text: few cards have more of them.
 fn put_from<'a, 'b, 'c, 'd, 'e, 'f>(
     out: &'a mut [u8],
     b: &'b mut [u8],
@@ -97,34 +217,38 @@ fn put_from<'a, 'b, 'c, 'd, 'e, 'f>(
     ensures { λ r. ⌜ length (now (out .exit)) ≡ length (now (out .entry)) ⌝ }
     ensures { λ r. ⌜ PutsFrom (now (s .entry)) (now (slots .entry)) at full parts (now (out .entry)) r (now (out .exit)) ⌝ }
 {
-    let mut i = at;
-    let mut n = 0;
-    let mut lines = 0;
-    let mut ok = true;
-    loop {
-        let Entered::Line(k, c, e) = put_entry(
-            &mut out[n..],
-            b,
-            t,
-            scratch,
-            s,
-            slots,
-            i,
-            full,
-            parts,
-        ) else {
-            return Lines::Wrong;
-        };
-        n += k;
-        lines += 1;
-        ok = ok & c;
-        match separator(s, e, RIGHT_BRACKET) {
-            Turn::Go(j) => {
-                i = j;
-            }
-            Turn::Stop(r) => {
-                return Lines::All(n, lines, ok);
-            }
+    let none = [0u16; 1];
+    match put_run(
+        out,
+        b,
+        t,
+        scratch,
+        s,
+        slots,
+        &none,
+        &none,
+        &slots[0..0],
+        at,
+        full,
+        parts,
+        16,
+    ) {
+        Run::Ended(r) => r,
+        Run::More(n, lines, ok, j) => {
+            let Lines::All(m, l, c) = put_noted(
+                &mut out[n..],
+                b,
+                t,
+                scratch,
+                s,
+                slots,
+                j,
+                full,
+                parts,
+            ) else {
+                return Lines::Wrong;
+            };
+            Lines::All(n + m, lines + l, ok & c)
         }
     }
 }

@@ -1,6 +1,7 @@
 use denote.Ref.{now}
 use Rattle.class_member.proofs.Values.{written}
 use Rattle.kept_used.proofs.Names.{pointer-full, pointer-read}
+use native.Mathlib.Omega.{arith}
 use borrow.Author.Needs.{needs}
 use Rattle.kept_used.proofs.pointer_used.Statement.{statement}
 use Rattle.kept_used.proofs.pointer_used.Tie as tie
@@ -19,28 +20,32 @@ same-length c = search needs
 
 returns : tie.Need-returns
 returns c =
-    let a = c .before .before .before .before .before .before .before .before .before in
-    pointer-full (now (a .args .s)) (now (a .args .p)) (now (a .args .scratch)) (c .before .before .before .before .read-pointer .ensures) (a .pre .1) (c .enum-told .given .1) _
+    let a = c .before .before .before .before .before .before .before .before .before .before .before .before .before in
+    pointer-full (now (a .args .s)) (now (a .args .p)) (now (a .args .scratch)) (c .before .before .before .before .read-pointer .ensures) (a .pre .0 .1) (c .enum-told .given .1) _
 
-sub-has-member : tie.Need-sub-has-member
-sub-has-member c = search needs
+sub-has-name : tie.Need-sub-has-name
+sub-has-name c = search needs
 
-part-has-member-start : tie.Need-part-has-member-start
-part-has-member-start c = search needs
+part-has-name-start : tie.Need-part-has-name-start
+part-has-name-start c = search needs
 
-part-has-member-end : tie.Need-part-has-member-end
-part-has-member-end c = written _ (c .before .before .before .before .before .before .read-pointer .ensures) (c .before .before .n .given .1) .0
+part-has-name-end : tie.Need-part-has-name-end
+part-has-name-end c = written _ (c .before .before .before .before .before .before .read-pointer .ensures) (c .before .before .n .given .1) .0
 
-has-member-requires : tie.Need-has-member-requires
-has-member-requires c κs = search needs
+has-name-requires : tie.Need-has-name-requires
+has-name-requires c κs =
+    let pre = c .before .before .before .before .before .before .before .before .before .before .before .before .before .before .before .before .pre in
+    ((omega arith, pre .0 .2), pre .1)
 
 same-length-2 : tie.Need-same-length-2
 same-length-2 c = search needs
 
 returns-2 : tie.Need-returns-2
 returns-2 c =
-    let a = c .before .before .before .before .before .before .before .before .before .before .before .before .before in
-    pointer-read (now (a .args .s)) (now (a .args .p)) (now (a .args .scratch)) (c .before .before .before .before .before .before .before .before .read-pointer .ensures) _ (c .before .before .before .before .n .given .1) (c .has-member .result) (c .has-member .ensures)
+    let args = c .before .before .before .before .before .before .before .before .before .before .before .before .before .before .before .before .before .args in
+    let read-pointer = c .before .before .before .before .before .before .before .before .read-pointer in
+    let n = c .before .before .before .before .n in
+    pointer-read (now (args .s)) (now (args .p)) (now (args .scratch)) (read-pointer .ensures) (now (args .slots)) _ (n .given .1) (c .has-name .result) (c .has-name .ensures)
 
 pub pointer-used-spec : {M : Type 1} → statement M
 pointer-used-spec =
@@ -51,9 +56,9 @@ pointer-used-spec =
     enum-told
     same-length
     returns
-    sub-has-member
-    part-has-member-start
-    part-has-member-end
-    has-member-requires
+    sub-has-name
+    part-has-name-start
+    part-has-name-end
+    has-name-requires
     same-length-2
     returns-2)

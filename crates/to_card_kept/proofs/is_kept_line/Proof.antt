@@ -1,5 +1,6 @@
 use Rattle.convert_entry.proofs.Entry.{clear-eight}
 use Rattle.to_card_kept.proofs.Entry.{tells-kept}
+use native.Mathlib.Omega.{arith}
 use borrow.Author.Needs.{needs}
 use Rattle.to_card_kept.proofs.is_kept_line.Statement.{statement}
 use Rattle.to_card_kept.proofs.is_kept_line.Tie as tie
@@ -14,7 +15,7 @@ slice-aggregate-scan-rows-3 : tie.Need-slice-aggregate-scan-rows-3
 slice-aggregate-scan-rows-3 c = search needs
 
 scan-rows-requires : tie.Need-scan-rows-requires
-scan-rows-requires c κs = (clear-eight, c .before .before .before .before .before .before .before .before .pre .0)
+scan-rows-requires c κs = (clear-eight, c .before .before .before .before .before .before .before .before .before .before .before .pre .0 .0)
 
 slice-aggregate-class-line : tie.Need-slice-aggregate-class-line
 slice-aggregate-class-line c = search needs
@@ -27,12 +28,15 @@ slice-aggregate-class-line-3 c = search needs
 
 class-line-requires : tie.Need-class-line-requires
 class-line-requires c κs =
-    let pre = c .before .before .before .before .before .before .before .before .before .before .before .before .before .before .before .before .pre in
+    let pre = c .before .before .before .before .before .before .before .before .before .before .before .before .before .before .before .before .before .before .before .pre in
     let scan-rows = c .before .before .before .before .before .before .before .scan-rows in
-    (record { wide = record { counts = search needs; froms = search needs; tos = search needs }; row = scan-rows .ensures; sound = pre .0 }, pre .1)
+    (record { wide = record { counts = search needs; froms = search needs; tos = search needs }; row = scan-rows .ensures; sound = pre .0 .0 }, pre .0 .1)
 
 is-kept-class-requires : tie.Need-is-kept-class-requires
-is-kept-class-requires c κs = search needs
+is-kept-class-requires c κs =
+    let pre = c .before .before .before .before .before .before .before .before .before .before .before .before .before .before .before .before .before .before .before .before .before .before .before .pre in
+    let class-line = c .before .before .before .class-line in
+    ((omega (arith, pre .0 .2), omega (arith, pre .0 .1 .fits, class-line .kept .1 .1 .1 .1 .1 .0), class-line .ensures .within), pre .1)
 
 same-length : tie.Need-same-length
 same-length c = search needs

@@ -11,8 +11,8 @@ use Rattle.to_card_kept.proofs.put_entry.Tie as tie
 
 fill-kept-requires : tie.Need-fill-kept-requires
 fill-kept-requires c κs =
-    let pre = c .before .before .before .before .before .before .before .before .pre in
-    (pre .0 .all .table, pre .1)
+    let pre = c .before .before .before .before .before .before .before .before .before .before .before .pre in
+    (pre .0 .all .table, pre .1 .1)
 
 enum-known-end : tie.Need-enum-known-end
 enum-known-end c = search needs
@@ -28,8 +28,8 @@ same-length-2 c = search needs
 
 returns : tie.Need-returns
 returns c =
-    let args = c .before .before .before .before .before .before .before .before .before .before .before .before .before .before .before .args in
-    let pre = c .before .before .before .before .before .before .before .before .before .before .before .before .before .before .before .pre in
+    let args = c .before .before .before .before .before .before .before .before .before .before .before .before .before .before .before .before .before .before .args in
+    let pre = c .before .before .before .before .before .before .before .before .before .before .before .before .before .before .before .before .before .before .pre in
     let fill-kept = c .before .before .before .before .before .before .fill-kept in (
       tt,
       (refl, entry-unfilled (now (args .s)) (now (args .slots)) (args .at) (args .full) (args .parts) (now (args .out)) (now (args .b)) (pre .0 .all .buffer) _ _ _ (fill-kept .ensures .1 .1) (ap isEntry (c .enum-told .given .1)) _),
@@ -37,7 +37,7 @@ returns c =
 
 is-sound-requires : tie.Need-is-sound-requires
 is-sound-requires c κs =
-    let pre = c .before .before .before .before .before .before .before .before .before .before .before .before .before .before .before .before .before .before .pre in
+    let pre = c .before .before .before .before .before .before .before .before .before .before .before .before .before .before .before .before .before .before .before .before .before .pre in
     let fill-kept = c .before .before .before .before .before .before .before .before .before .fill-kept in
     omega (arith, pre .0 .all .table, fill-kept .ensures .0 .wide)
 
@@ -49,8 +49,8 @@ same-length-4 c = search needs
 
 returns-2 : tie.Need-returns-2
 returns-2 c =
-    let pre = c .before .before .before .before .before .before .before .before .before .before .before .before .before .before .before .before .before .before .before .before .pre in
-    let args = c .before .before .before .before .before .before .before .before .before .before .before .before .before .before .before .before .before .before .before .before .args in
+    let pre = c .before .before .before .before .before .before .before .before .before .before .before .before .before .before .before .before .before .before .before .before .before .before .before .pre in
+    let args = c .before .before .before .before .before .before .before .before .before .before .before .before .before .before .before .before .before .before .before .before .before .before .before .args in
     let fill-kept = c .before .before .before .before .before .before .before .before .before .before .before .fill-kept in
     let is-sound = c .before .is-sound in (
       tt,
@@ -59,11 +59,11 @@ returns-2 c =
 
 is-kept-line-requires : tie.Need-is-kept-line-requires
 is-kept-line-requires c κs =
-    let pre = c .before .before .before .before .before .before .before .before .before .before .before .before .before .before .before .before .before .before .before .before .before .before .before .pre in
+    let pre = c .before .before .before .before .before .before .before .before .before .before .before .before .before .before .before .before .before .before .before .before .before .before .before .before .before .before .pre in
     let fill-kept = c .before .before .before .before .before .before .before .before .before .before .before .before .before .before .fill-kept in
     let is-sound = c .before .before .before .before .is-sound in
     let if1 = c .before .before .before .if1 in
-    (sound-is (is-sound .result) (is-sound .ensures) (not-false _ (if1 .left)), lent-room (pre .0 .all) (fill-kept .ensures .0 .long), pre .0 .index)
+    ((sound-is (is-sound .result) (is-sound .ensures) (not-false _ (if1 .left)), lent-room (pre .0 .all) (fill-kept .ensures .0 .long), pre .0 .index), pre .1 .0)
 
 same-length-5 : tie.Need-same-length-5
 same-length-5 c = search needs
@@ -76,8 +76,8 @@ same-length-7 c = search needs
 
 returns-3 : tie.Need-returns-3
 returns-3 c =
-    let args = c .before .before .before .before .before .before .before .before .before .before .before .before .before .before .before .before .before .before .before .before .before .before .before .before .before .before .before .args in
-    let pre = c .before .before .before .before .before .before .before .before .before .before .before .before .before .before .before .before .before .before .before .before .before .before .before .before .before .before .before .pre in
+    let args = c .before .before .before .before .before .before .before .before .before .before .before .before .before .before .before .before .before .before .before .before .before .before .before .before .before .before .before .before .before .before .args in
+    let pre = c .before .before .before .before .before .before .before .before .before .before .before .before .before .before .before .before .before .before .before .before .before .before .before .before .before .before .before .before .before .before .pre in
     let fill-kept = c .before .before .before .before .before .before .before .before .before .before .before .before .before .before .before .before .before .before .fill-kept in
     let is-kept-line = c .before .before .before .is-kept-line in (
       tt,
@@ -104,8 +104,8 @@ same-length-11 c = search needs
 
 returns-4 : tie.Need-returns-4
 returns-4 c =
-    let pre = c .before .before .before .before .before .before .before .before .before .before .before .before .before .before .before .before .before .before .before .before .before .before .before .before .before .before .before .before .before .before .before .before .before .pre in
-    let args = c .before .before .before .before .before .before .before .before .before .before .before .before .before .before .before .before .before .before .before .before .before .before .before .before .before .before .before .before .before .before .before .before .before .args in
+    let pre = c .before .before .before .before .before .before .before .before .before .before .before .before .before .before .before .before .before .before .before .before .before .before .before .before .before .before .before .before .before .before .before .before .before .before .before .before .pre in
+    let args = c .before .before .before .before .before .before .before .before .before .before .before .before .before .before .before .before .before .before .before .before .before .before .before .before .before .before .before .before .before .before .before .before .before .before .before .before .args in
     let fill-kept = c .before .before .before .before .before .before .before .before .before .before .before .before .before .before .before .before .before .before .before .before .before .before .before .before .fill-kept in
     let end = c .before .before .before .before .before .before .before .before .before .before .before .before .before .before .before .before .before .before .end in
     let is-kept-line = c .before .before .before .before .before .before .before .before .before .is-kept-line in

@@ -1,0 +1,72 @@
+use denote.Ref.{now}
+use native.Mathlib.Omega.{arith}
+use Rattle.name_index.specs.declared.Noted.the-variants.{Rows}
+use Rattle.name_index.proofs.Groups.{notes-last, notes-empty, notes-slot}
+use borrow.Author.Needs.{needs}
+use Rattle.name_index.proofs.note_group.Statement.{statement}
+use Rattle.name_index.proofs.note_group.Tie as tie
+
+note-names-requires : tie.Need-note-names-requires
+note-names-requires c κs = search needs
+
+same-length : tie.Need-same-length
+same-length c = search needs
+
+same-length-2 : tie.Need-same-length-2
+same-length-2 c = search needs
+
+returns : tie.Need-returns
+returns c =
+    let args = c .before .before .before .before .before .before .before .before .before .before .before .before .args in
+    let if1 = c .before .before .before .before .before .before .before .if1 in
+    let note-names = c .before .before .before .before .note-names in
+    (note-names .ensures .0, notes-last (now (args .s)) (now (args .slots)) (args .i) (note-names .result) _ _ (if1 .taken) (note-names .ensures .1))
+
+add-k : tie.Need-add-k
+add-k c = search needs
+
+mul-at : tie.Need-mul-at
+mul-at c = search needs
+
+shared-slice-read-at : tie.Need-shared-slice-read-at
+shared-slice-read-at c = search needs
+
+returns-2 : tie.Need-returns-2
+returns-2 c =
+    let args = c .before .before .before .before .before .before .before .args in
+    let if1 = c .before .before .if1 in
+    (omega arith, notes-empty (now (args .s)) (now (args .slots)) (args .i) (Rows 0) (now (args .places)) (now (args .prints)) (if1 .left) (c .if2 .taken))
+
+note-names-requires-2 : tie.Need-note-names-requires-2
+note-names-requires-2 c κs = search needs
+
+same-length-3 : tie.Need-same-length-3
+same-length-3 c = search needs
+
+same-length-4 : tie.Need-same-length-4
+same-length-4 c = search needs
+
+returns-3 : tie.Need-returns-3
+returns-3 c =
+    let args = c .before .before .before .before .before .before .before .before .before .before .before .before .before .before .args in
+    let if1 = c .before .before .before .before .before .before .before .before .before .if1 in
+    let if2 = c .before .before .before .before .before .before .before .if2 in
+    let note-names2 = c .before .before .before .before .note-names2 in
+    (note-names2 .ensures .0, notes-slot (now (args .s)) (now (args .slots)) (args .i) (note-names2 .result) _ _ (if1 .left) (if2 .left) (note-names2 .ensures .1))
+
+pub note-group-spec : {M : Type 1} → statement M
+note-group-spec =
+    tie.close
+    (tie.spec
+    note-names-requires
+    same-length
+    same-length-2
+    returns
+    add-k
+    mul-at
+    shared-slice-read-at
+    returns-2
+    note-names-requires-2
+    same-length-3
+    same-length-4
+    returns-3)
