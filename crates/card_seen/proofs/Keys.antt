@@ -9,7 +9,7 @@ use lib.ListN.{length, take, drop, getD, set, length-set, length-append, length-
 use lib.Seq.{getD-set-same, getD-set-other, drop-append-add, drop-append-le, take-append-le}
 use Rattle.text.specs.Bytes.{Bytes, any}
 use Rattle.text.proofs.Cases.{split}
-use Rattle.json_sound.specs.Noted.{printed}
+use Rattle.json_prints.specs.Prints.{printed}
 use Rattle.convert.specs.Classify.{Id, id, isId}
 use Rattle.line_table.specs.Table.{part, Span}
 use Rattle.card_seen.specs.Ids.{keyAt, idsAt, Listed, IdTable, withId, Cut}

@@ -12,17 +12,9 @@ use borrow.Author.Tests.{eqb-true}
 use Rattle.text.specs.Bytes.{Bytes, any, same}
 use Rattle.text.proofs.Cases.{byBool, and-left, and-right}
 use Rattle.text.proofs.Same.{same-true}
-use Rattle.json_sound.specs.Noted.{stir, printed, Absent}
+use Rattle.json_prints.specs.Prints.{printed, Absent}
 use Rattle.convert.specs.Classify.{id, isId}
 use Rattle.card_seen.specs.Ids.{keyAt, idsAt, IdTable}
-
-pub printed-on : (s : Bytes) (p k : ℕ) → k < length s → printed p (drop k s) ≡ printed (stir p (getD s k 0)) (drop (k + 1) s)
-unfolding printed
-printed-on s p k l = rw (drop-cons s k 0 l, add-one k)
-
-pub printed-end : (s : Bytes) (p k : ℕ) → length s ≤ k → printed p (drop k s) ≡ p
-unfolding printed
-printed-end s p k l = rw (drop-of-length-le s {i = k} l)
 
 module _ {bytes ids prints : List ℕ} {n : ℕ} (t : IdTable bytes ids prints n) (i p : ℕ) (key : Bytes) (is : p ≡ printed i key) (absent : Absent prints p 0 n false) where
   differs : (k : ℕ) → k < n → isId i key (id (getD ids (3 * k) 0) (keyAt bytes ids k)) ≡ false

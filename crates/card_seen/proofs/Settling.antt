@@ -13,7 +13,7 @@ use Rattle.text.specs.Bytes.{Bytes, any, among, same}
 use Rattle.text.proofs.Cases.{byBool, not-both}
 use Rattle.text.proofs.Choices.{some-same}
 use Rattle.text.proofs.Same.{same-true, same-eq, same-false, differ-same}
-use Rattle.json_sound.specs.Noted.{printed}
+use Rattle.json_prints.specs.Prints.{printed}
 use Rattle.convert.specs.Pointer.{pointed, pointer}
 use Rattle.convert.specs.Classify.{Id, id, isId, Seen}
 use Rattle.convert.proofs.Pointers.{pointer-pointed}

@@ -7,7 +7,7 @@ use mathlib.Core.Option.{some}
 use Prim.Native.Nat.{ℕ, zero, suc, _+_, _*_, _≤_, _<_}
 use lib.ListN.{length, getD, set}
 use Rattle.text.specs.Bytes.{Bytes, any, among}
-use Rattle.json_sound.specs.Noted.{printed}
+use Rattle.json_prints.specs.Prints.{printed}
 use Rattle.convert.specs.Pointer.{pointed}
 use Rattle.convert.specs.Classify.{Id, id, isId, Seen}
 use Rattle.line_table.specs.Table.{part, Span}

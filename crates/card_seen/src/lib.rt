@@ -3,7 +3,7 @@ ghost use mathlib.Core.Path.{_≡_};
 ghost use Prim.Native.Nat.{_+_, _≤_, _<_};
 ghost use lib.ListN.{length, set};
 ghost use Rattle.text.specs.Bytes.{any};
-ghost use Rattle.json_sound.specs.Noted.{printed};
+ghost use Rattle.json_prints.specs.Prints.{printed};
 ghost use Rattle.convert.specs.Classify.{isId};
 ghost use Rattle.line_table.specs.Table.{part, Span};
 ghost use Rattle.class_line.specs.Class.{ClassIn};
@@ -11,8 +11,8 @@ ghost use Rattle.card_seen.specs.Ids.{idsAt, Listed, IdTable, withId, Cu
 ghost use Rattle.card_seen.specs.Settled.{Settles, Notes};
 use class_line::Class;
 use convert_tests::is_id;
-use json_sound::any_print;
-use json_sound::stirred;
+use json_prints::any_print;
+use json_prints::print_of;
 
 // The number of the line's class; whether FN and N have converted now; how many keys the table has now.
 pub struct Settled {
@@ -20,20 +20,6 @@ pub struct Settled {
     pub full: bool,
     pub parts: bool,
     pub count: usize,
-}
-
-// A print of a key of the map i: equal keys of one map have equal prints.
-fn print_of(i: usize, key: &[u8]) -> u16
-    requires { ⌜ i < 8 ⌝ }
-    ensures { λ r. ⌜ r ≡ printed i (now (key .entry)) ⌝ }
-{
-    let mut p = i as u32;
-    let mut k = 0;
-    while k < key.len() {
-        p = stirred(p, key[k]);
-        k += 1;
-    }
-    p as u16
 }
 
 // Whether one of the n keys is that key of the map i, by their bytes, the last first.

@@ -1,7 +1,7 @@
 use mathlib.Core.Path.{sym}
 use denote.Ref.{now}
 use Rattle.text.proofs.Cases.{not-true}
-use Rattle.json_sound.proofs.Names.{absent-as}
+use Rattle.json_prints.proofs.Prints.{absent-as}
 use Rattle.card_seen.proofs.Prints.{unprinted}
 use borrow.Author.Needs.{needs}
 use Rattle.card_seen.proofs.is_used.Statement.{statement}

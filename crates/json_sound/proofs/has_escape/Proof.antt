@@ -4,8 +4,8 @@ use denote.Ref.{now}
 use mathlib.Core.Path.{subst}
 use Prim.Native.Nat.{ℕ, _≤_, _-_}
 use lib.ListN.{length}
-use Rattle.json_sound.specs.Noted.{Absent}
-use Rattle.json_sound.proofs.Names.{absent-more, absent-none}
+use Rattle.json_prints.specs.Prints.{Absent}
+use Rattle.json_prints.proofs.Prints.{absent-more, absent-none}
 use Rattle.json_sound.proofs.has_escape.Statement.{statement}
 use Rattle.json_sound.proofs.has_escape.Tie as tie
 

@@ -7,8 +7,8 @@ use lib.ListN.{length}
 use borrow.Author.Tests.{not-false}
 use Rattle.json_chars.specs.Strings.{ToEnd}
 use Rattle.json_strings.specs.Spelled.{spelled}
-use Rattle.json_sound.specs.Noted.{printOf}
-use Rattle.json_sound.proofs.Names.{print-byte}
+use Rattle.json_prints.specs.Prints.{printOf}
+use Rattle.json_prints.proofs.Prints.{print-byte}
 use Rattle.json_sound.proofs.Plain.{raw-as, raw-below, raw-at, end-on}
 use Rattle.json_sound.proofs.name_start.Statement.{statement}
 use Rattle.json_sound.proofs.name_start.Tie as tie

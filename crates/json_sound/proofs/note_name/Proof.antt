@@ -8,10 +8,11 @@ use Rattle.text.specs.Choice.{is-some}
 use Rattle.text.proofs.Places.{gives-as, at-next, at-bad, then-bad}
 use Rattle.json.specs.Syntax.{name}
 use Rattle.json.specs.Strings.{decode}
-use Rattle.json_sound.specs.Noted.{meets, printOf}
+use Rattle.json_prints.specs.Prints.{meets, printOf}
 use Rattle.json_strings.specs.Spelled.{spelled}
 use Rattle.json_strings.proofs.Names.{name-string}
-use Rattle.json_sound.proofs.Names.{name-takes, not-paired, already, no-print, a-print, meets-among, names-noted}
+use Rattle.json_prints.proofs.Prints.{no-print, a-print, meets-among, names-noted}
+use Rattle.json_sound.proofs.Names.{name-takes, not-paired, already}
 use borrow.Author.Needs.{needs}
 use Rattle.json_sound.proofs.note_name.Statement.{statement}
 use Rattle.json_sound.proofs.note_name.Tie as tie

@@ -3,8 +3,8 @@ use denote.Ref.{now}
 use mathlib.Core.Path.{sym, ap, _∙_}
 use borrow.Author.Needs.{needs}
 use Rattle.json_strings.proofs.Laws.{quote-at}
-use Rattle.json_sound.specs.Noted.{printOf}
-use Rattle.json_sound.proofs.Names.{print-end}
+use Rattle.json_prints.specs.Prints.{printOf}
+use Rattle.json_prints.proofs.Prints.{print-end}
 use Rattle.json_sound.proofs.print_rest.Statement.{statement}
 use Rattle.json_sound.proofs.print_rest.Tie as tie
 

@@ -4,16 +4,16 @@ use mathlib.Core.Path.{_≡_, refl, sym, ap, _∙_}
 use native.Mathlib.Omega.{arith}
 use denote.Ref.{now}
 use lib.ListN.{length, drop}
-use Rattle.json_sound.specs.Noted.{printed}
-use Rattle.card_seen.proofs.Prints.{printed-on, printed-end}
-use Rattle.card_seen.proofs.print_of.Statement.{statement}
-use Rattle.card_seen.proofs.print_of.Tie as tie
+use Rattle.json_prints.specs.Prints.{printed}
+use Rattle.json_prints.proofs.Prints.{printed-on, printed-end}
+use Rattle.json_prints.proofs.print_of.Statement.{statement}
+use Rattle.json_prints.proofs.print_of.Tie as tie
 
 abbrev Inv-loop : tie.InvT-loop
-Inv-loop i key p₀ k₀ p k = (p < 65536) × (printed p (drop k key) ≡ printed i key)
+Inv-loop from key p₀ k₀ p k = (p < 65536) × (printed p (drop k key) ≡ printed from key)
 
 abbrev μ-loop : tie.MeasureT-loop
-μ-loop i key p₀ k₀ p k = length key - k
+μ-loop from key p₀ k₀ p k = length key - k
 
 cast-p : tie.Need-cast-p Inv-loop μ-loop
 cast-p c = omega (arith, c .before .pre)

@@ -1,0 +1,208 @@
+// Strings of a JSON text by their prints: whether one stands for the same as one of those that are noted, by their places and their prints. Every pair of prints
+// is met, many at a time; bytes are compared only where prints are equal.
+use json_strings::Byte;
+use json_strings::equals;
+use json_strings::next_byte;
+use json_strings::same_text;
+ghost use mathlib.Core.Path.{_≡_};
+ghost use mathlib.Core.Bool.{false};
+ghost use Prim.Native.Nat.{_+_, _*_, _≤_, _<_};
+ghost use lib.ListN.{length};
+ghost use Rattle.json_strings.specs.Spelled.{spelled};
+ghost use Rattle.json_prints.specs.Prints.{stir, printed, printOf, Absent, Same, Block, Sought, SoughtKey};
+
+// A print with one byte more.
+pub fn stirred(p: u32, b: u8) -> u32
+    requires { ⌜ p < 65536 ⌝ }
+    ensures { λ r. ⌜ r ≡ stir p b ⌝ }
+    ensures { λ r. ⌜ r < 65536 ⌝ }
+{
+    (p * 40503 + (b as u32)) % 65536
+}
+
+// The print of a string from a place on, where the print so far is `from`; 65536 where a surrogate is alone.
+pub fn print_from(s: &[u8], at: usize, from: u32) -> u32
+    requires { ⌜ at ≤ length (now s) ⌝ }
+    requires { ⌜ from < 65536 ⌝ }
+    ensures { λ r. ⌜ r ≡ printOf from (spelled (now (s .entry)) at) ⌝ }
+    ensures { λ r. ⌜ r ≤ 65536 ⌝ }
+{
+    let mut i = at;
+    let mut h = 0;
+    let mut p = from;
+    loop {
+        match next_byte(s, i, h) {
+            Byte::Alone => {
+                return 65536;
+            }
+            Byte::End => {
+                return p;
+            }
+            Byte::One(b, j, g) => {
+                p = stirred(p, b);
+                i = j;
+                h = g;
+            }
+        }
+    }
+}
+
+// The print of some bytes, where the print so far is `from`.
+pub fn print_of(from: usize, key: &[u8]) -> u16
+    requires { ⌜ from < 65536 ⌝ }
+    ensures { λ r. ⌜ r ≡ printed from (now (key .entry)) ⌝ }
+{
+    let mut p = from as u32;
+    let mut k = 0;
+    while k < key.len() {
+        p = stirred(p, key[k]);
+        k += 1;
+    }
+    p as u16
+}
+
+// Whether a print is among those from a place to another. No early way out: the loop is a vector loop.
+pub fn any_print(prints: &[u16], p: u16, from: usize, to: usize) -> bool
+    requires { ⌜ from ≤ to ⌝ }
+    requires { ⌜ to ≤ length (now prints) ⌝ }
+    ensures { λ r. ⌜ Absent (now (prints .entry)) p from to r ⌝ }
+{
+    let mut found = false;
+    let mut k = from;
+    while k < to {
+        found = found | (prints[k] == p);
+        k += 1;
+    }
+    found
+}
+
+fn wide(place: u16) -> usize
+    ensures { λ r. ⌜ r ≡ place ⌝ }
+{
+    place as usize
+}
+
+// The string at `at`, of print `p`, and one whose print is noted: compared by their bytes where the prints are equal.
+fn is_same(s: &[u8], at: usize, p: u16, place: usize, print: u16) -> bool
+    requires { ⌜ p ≡ printOf 0 (spelled (now s) at) ⌝ }
+    ensures { λ r. ⌜ Same (spelled (now (s .entry)) at) (spelled (now (s .entry)) place) print r ⌝ }
+{
+    if print != p {
+        return false;
+    }
+    same_text(s, at, place)
+}
+
+// The names of one block, compared by their bytes where their prints are equal.
+fn in_block<'a, 'b>(
+    s: &'a [u8],
+    at: usize,
+    p: u16,
+    places: &'b [u16],
+    prints: &'b [u16],
+    from: usize,
+    to: usize,
+) -> bool
+    requires { ⌜ from ≤ to ⌝ }
+    requires { ⌜ to ≤ length (now places) ⌝ }
+    requires { ⌜ to ≤ length (now prints) ⌝ }
+    requires { ⌜ p ≡ printOf 0 (spelled (now s) at) ⌝ }
+    ensures { λ r. ⌜ Block (now (s .entry)) (spelled (now (s .entry)) at) (now (places .entry)) (now (prints .entry)) from to r ⌝ }
+{
+    if !any_print(prints, p, from, to) {
+        return false;
+    }
+    let mut k = from;
+    while k < to {
+        if is_same(s, at, p, wide(places[k]), prints[k]) {
+            return true;
+        }
+        k += 1;
+    }
+    false
+}
+
+// THE comparing of strings, oldest first: the string at `at`, of print `p`, stands for the same as that at one of the first `count` places noted.
+// Blocks of one length: the loop over the prints of one is laid out without a jump.
+pub fn is_noted<'a, 'b>(
+    s: &'a [u8],
+    at: usize,
+    p: u16,
+    places: &'b [u16],
+    prints: &'b [u16],
+    count: usize,
+) -> bool
+    requires { ⌜ count ≤ length (now places) ⌝ }
+    requires { ⌜ count ≤ length (now prints) ⌝ }
+    requires { ⌜ p ≡ printOf 0 (spelled (now s) at) ⌝ }
+    ensures { λ r. ⌜ Sought (now (s .entry)) (spelled (now (s .entry)) at) (now (places .entry)) (now (prints .entry)) count r ⌝ }
+{
+    let mut k = 0;
+    while count - k > 256 {
+        let e = k + 256;
+        if in_block(s, at, p, places, prints, k, e) {
+            return true;
+        }
+        k = e;
+    }
+    in_block(s, at, p, places, prints, k, count)
+}
+
+// The first place of a print from a place on, before another; that other where it is not there.
+fn print_in(prints: &[u16], p: u16, from: usize, to: usize) -> usize
+    requires { ⌜ from ≤ to ⌝ }
+    requires { ⌜ to ≤ length (now prints) ⌝ }
+    ensures { λ r. ⌜ (from ≤ r) × (r ≤ to) × Absent (now (prints .entry)) p from r false ⌝ }
+{
+    if !any_print(prints, p, from, to) {
+        return to;
+    }
+    let mut k = from;
+    while k < to {
+        if prints[k] == p {
+            return k;
+        }
+        k += 1;
+    }
+    k
+}
+
+// The same in a long row, block by block.
+fn next_print(prints: &[u16], p: u16, from: usize, to: usize) -> usize
+    requires { ⌜ from ≤ to ⌝ }
+    requires { ⌜ to ≤ length (now prints) ⌝ }
+    ensures { λ r. ⌜ (from ≤ r) × (r ≤ to) × Absent (now (prints .entry)) p from r false ⌝ }
+{
+    let mut k = from;
+    while to - k > 256 {
+        let e = k + 256;
+        let j = print_in(prints, p, k, e);
+        if j < e {
+            return j;
+        }
+        k = e;
+    }
+    print_in(prints, p, k, to)
+}
+
+// Whether some bytes are what one of the strings noted stands for.
+pub fn is_key_noted<'a, 'b, 'c>(
+    s: &'a [u8],
+    key: &'b [u8],
+    places: &'c [u16],
+    prints: &'c [u16],
+) -> bool
+    requires { ⌜ length (now places) ≡ length (now prints) ⌝ }
+    ensures { λ r. ⌜ SoughtKey (now (s .entry)) (now (key .entry)) (now (places .entry)) (now (prints .entry)) r ⌝ }
+{
+    let n = prints.len();
+    let p = print_of(0, key);
+    let mut k = next_print(prints, p, 0, n);
+    while k < n {
+        if equals(s, wide(places[k]), key) {
+            return true;
+        }
+        k = next_print(prints, p, k + 1, n);
+    }
+    false
+}
