@@ -59,7 +59,7 @@ after-none seen = refl
 
 -- ---- one line more
 
-module _ {bytes s t codes ids codes′ ids′ prints′ : List ℕ} {k code : ℕ} {p r : Pass} {j : Judged} {class : Answered} (low : k < 512)
+module _ {bytes s t codes ids codes′ ids′ prints′ : List ℕ} {k code : ℕ} {p r : Pass} {j : Judged} {class : Answered}
     (is : Coded code (lineIn s t))
     (judges : j ≡ judgedWith (p .judged) (k + 1) code (misused (lineIn s t)) (emptied (lineIn s t)) (isVersionLine (lineIn s t)))
     (classes : Classes s t (p .full) (p .parts) class)
@@ -295,14 +295,15 @@ module _ {raw : List Bytes} {n : ℕ} {bytes starts : List ℕ} (laid : Laid raw
       let w : length s ≤ length bytes = omega (arith, simp length-append at (ap length (line-cut .is))) in
       record { fits = omega (arith, w, room .fits); small = omega (arith, w, room .small) }
 
-pub ready-none : {codes ids prints table text bytes : List ℕ} (p : Pass) → p ≡ fresh → Lent codes ids prints table text bytes → Ready bytes codes ids prints 0 p
+pub ready-none : {codes ids prints table text bytes : List ℕ} {n : ℕ} (p : Pass) → p ≡ fresh → Lent codes ids prints table text bytes n → Ready bytes codes ids prints 0 p
 ready-none p e lent =
     rw e (record {
       table = record {
-        listed = record { few = omega arith; wide = lent .keys; span = λ k h. absurd (omega (arith, h)) };
-        long = lent .printed;
+        listed = record { wide = omega arith; span = λ k h. absurd (omega (arith, h)) };
+        long = omega arith;
         print = λ k h. absurd (omega (arith, h));
       };
       few = omega arith;
-      room = lent .numbers;
+      keys = lent .keys;
+      printed = lent .printed;
     })

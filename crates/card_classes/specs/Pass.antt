@@ -3,7 +3,7 @@ use mathlib.Core.Path.{_≡_}
 use mathlib.Core.Bool.{Bool, true, false}
 use mathlib.Core.List.{List, [], _∷_, _++_, map}
 use mathlib.Core.Option.{some}
-use Prim.Native.Nat.{ℕ, _+_, _≤_, _<_}
+use Prim.Native.Nat.{ℕ, _+_, _*_, _≤_, _<_}
 use lib.ListN.{length, take, drop, set}
 use Rattle.text.specs.Bytes.{Bytes, each}
 use Rattle.line.specs.Grammar.{Line, readLine}
@@ -36,7 +36,8 @@ numbersIn cs = map (λ (c : Classed). codeOf (c .class)) cs
 pub record Ready (bytes codes ids prints : List ℕ) (k : ℕ) (p : Pass) : Type 0 where
   pub table : IdTable bytes ids prints (p .count)
   pub few : p .count ≤ k
-  pub room : 512 ≤ length codes
+  pub keys : 3 * length codes ≤ length ids
+  pub printed : length codes ≤ length prints
 
 -- these lines are done: what is seen after them, and what that leaves of the classes of any further lines
 pub record Sofar (bytes codes ids : List ℕ) (k : ℕ) (p : Pass) (done : List Classed) : Type 0 where
@@ -78,11 +79,11 @@ pub record Through (bytes codes ids : List ℕ) (raw : List Bytes) (k : ℕ) (p 
 abbrev pub HasLines : Bytes → List ℕ → ℕ → Type 0
 HasLines bytes starts n = (raw : List Bytes) × Laid raw n bytes starts
 
--- the tables that the pass is lent
-pub record Lent (codes ids prints table text bytes : List ℕ) : Type 0 where
-  pub numbers : 512 ≤ length codes
-  pub keys : 1536 ≤ length ids
-  pub printed : 512 ≤ length prints
+-- the tables that the pass over n lines is lent: each line may leave a key, of three numbers, and its print
+pub record Lent (codes ids prints table text bytes : List ℕ) (n : ℕ) : Type 0 where
+  pub numbers : n ≤ length codes
+  pub keys : 3 * length codes ≤ length ids
+  pub printed : length codes ≤ length prints
   pub parts : 264 ≤ length table
   pub room : Room bytes text
 

@@ -68,7 +68,7 @@ fn pass_line(
     s: &[u8],
     class: Class,
 ) -> Pass
-    requires { ⌜ (k < 512) × Ready (now bytes) (now codes) (now ids) (now prints) k p × Cut (now bytes) (now s) at × ClassIn (now s) class ⌝ }
+    requires { ⌜ (k < length (now codes)) × Ready (now bytes) (now codes) (now ids) (now prints) k p × Cut (now bytes) (now s) at × ClassIn (now s) class ⌝ }
     ensures { λ r. ⌜ Noted (now (bytes .entry)) (now (s .entry)) (now (codes .entry)) (now (ids .entry)) k p judged class (now (codes .exit)) (now (ids .exit)) (now (prints .exit)) r ⌝ }
 {
     let r = settle(ids, prints, p.count, p.full, p.parts, bytes, at, s, class);
@@ -94,7 +94,7 @@ fn next_line(
     s: &[u8],
     t: &[usize],
 ) -> Pass
-    requires { ⌜ (k < 512) × Ready (now bytes) (now codes) (now ids) (now prints) k p × Cut (now bytes) (now s) at × Sound (now s) (now t) × Room (now s) (now text) ⌝ }
+    requires { ⌜ (k < 512) × (k < length (now codes)) × Ready (now bytes) (now codes) (now ids) (now prints) k p × Cut (now bytes) (now s) at × Sound (now s) (now t) × Room (now s) (now text) ⌝ }
     ensures { λ r. ⌜ NextLine (now (bytes .entry)) (now (s .entry)) (now (t .entry)) (now (codes .entry)) (now (ids .entry)) k p (now (codes .exit)) (now (ids .exit)) (now (prints .exit)) r ⌝ }
 {
     let mut counts = [0usize; 8];
@@ -123,7 +123,7 @@ fn begun() -> Pass
     }
 }
 
-// All n lines. The tables are scratch, but `codes`: there the number of each line's class stands where no refusal is given.
+// All n lines. The tables are scratch, as long as n lines need, but `codes`: there the number of each line's class stands where no refusal is given.
 pub fn class_lines(
     codes: &mut [u8],
     ids: &mut [usize],
@@ -134,7 +134,7 @@ pub fn class_lines(
     starts: &[usize],
     n: usize,
 ) -> Refusal
-    requires { ⌜ HasLines (now bytes) (now starts) n × Lent (now codes) (now ids) (now prints) (now table) (now text) (now bytes) ⌝ }
+    requires { ⌜ HasLines (now bytes) (now starts) n × Lent (now codes) (now ids) (now prints) (now table) (now text) (now bytes) n ⌝ }
     ensures { λ r. ⌜ Passes (now (bytes .entry)) (now (starts .entry)) (now (codes .exit)) n r ⌝ }
 {
     let mut p = begun();

@@ -84,25 +84,24 @@ module _ (ids : List ℕ) (n i a b : ℕ) where
       unfolding idsAt
       ids-more = rw (add-one, with-map, key-new, ids-below n (omega arith))
 
-      pub listed-more : Listed bytes ids n → n < 512 → Span bytes a b → Listed bytes (withId ids n i a b) (n + 1)
-      listed-more t l w = record {
-        few = omega arith;
-        wide = omega (arith, t .wide, with-length);
+      pub listed-more : Listed bytes ids n → Span bytes a b → Listed bytes (withId ids n i a b) (n + 1)
+      listed-more t w = record {
+        wide = omega (arith, room, with-length);
         span = λ k h.
             split n k
             (λ e. let z : k ≡ n = omega arith in rw (z, with-from, with-to) w)
             (λ e. rw (with-below (3 * k + 1) (omega arith), with-below (3 * k + 2) (omega arith)) (t .span k e));
       }
 
-      pub table-more : (prints : List ℕ) (p : ℕ) → IdTable bytes ids prints n → n < 512 → Span bytes a b → p ≡ printed i (part bytes a b)
+      pub table-more : (prints : List ℕ) (p : ℕ) → IdTable bytes ids prints n → n < length prints → Span bytes a b → p ≡ printed i (part bytes a b)
           → IdTable bytes (withId ids n i a b) (set prints n p) (n + 1)
       table-more prints p t l w e = record {
-        listed = listed-more (t .listed) l w;
-        long = omega (arith, t .long, length-set prints n p);
+        listed = listed-more (t .listed) w;
+        long = omega (arith, l, length-set prints n p);
         print = λ k h.
             split n k
             (λ g. let z : k ≡ n = omega arith in
-            rw (z, getD-set-same prints n p 0 (omega (arith, t .long)), with-map, key-new) e)
+            rw (z, getD-set-same prints n p 0 l, with-map, key-new) e)
             (λ g. rw (getD-set-other prints n k p 0 (λ z. omega arith), with-below (3 * k) (omega arith), key-below k g) (t .print k g));
       }
 

@@ -23,7 +23,7 @@ use Rattle.class_line.specs.declared.Class.{Class as Answer}
 use Rattle.class_line.specs.declared.Class.the-variants.{Kept, Dropped, Version, Uid, Kind, Full, Parts, Entry, Keyed, Member}
 use Rattle.class_line.specs.Class.{idUsed, memberUsed, withMember, seenWith, numberOf, Points}
 use Rattle.card_seen.specs.declared.Settled.{Settled}
-use Rattle.card_seen.specs.Ids.{pointers, idsAt, IdTable, withId, Remembers, Cut}
+use Rattle.card_seen.specs.Ids.{pointers, idsAt, IdTable, Unfilled, withId, Remembers, Cut}
 use Rattle.card_seen.specs.Settled.{Notes, Follows, Settles}
 use Rattle.card_seen.proofs.Keys.{ids-more, table-more, cut-part, cut-span}
 
@@ -33,12 +33,12 @@ module _ {bytes s ids prints : List ℕ} {n i a b : ℕ} (t : IdTable bytes ids 
   pub notes-not : u ≡ true → Notes bytes s ids n i a b ids prints n
   notes-not e = record { table = t; few = omega arith; stays = λ h. (refl, refl); grows = λ h. not-both (sym is ∙ e) h }
 
-  pub notes-one : u ≡ false → n < 512 → (at p : ℕ) → Cut bytes s at → Span s a b → p ≡ printed i (part s a b) → (ids′ prints′ : List ℕ) (r : ℕ)
+  pub notes-one : u ≡ false → Unfilled ids prints n → (at p : ℕ) → Cut bytes s at → Span s a b → p ≡ printed i (part s a b) → (ids′ prints′ : List ℕ) (r : ℕ)
       → r ≡ n + 1 → ids′ ≡ withId ids n i (at + a) (at + b) → prints′ ≡ set prints n p → Notes bytes s ids n i a b ids′ prints′ r
   notes-one e l at p cut w print ids′ prints′ r m x y =
-      let room : 3 * n + 2 < length ids = omega (arith, t .listed .wide) in
+      let room : 3 * n + 2 < length ids = omega (arith, l .wide) in
       rw (m, x, y) (record {
-        table = table-more ids n i (at + a) (at + b) room bytes prints p t l (cut-span cut w) (print ∙ ap (printed i) (sym (cut-part cut w)));
+        table = table-more ids n i (at + a) (at + b) room bytes prints p t (l .long) (cut-span cut w) (print ∙ ap (printed i) (sym (cut-part cut w)));
         few = omega arith;
         stays = λ h. not-both h (sym is ∙ e);
         grows = λ h. (refl, ids-more ids n i (at + a) (at + b) room bytes ∙ ap (λ k. id i k ∷ idsAt bytes ids n) (cut-part cut w));

@@ -24,15 +24,19 @@ idsAt bytes ids (suc n) = id (getD ids (3 * n) 0) (keyAt bytes ids n) ∷ idsAt 
 
 -- n of them, all within the bytes
 pub record Listed (bytes ids : List ℕ) (n : ℕ) : Type 0 where
-  pub few : n ≤ 512
-  pub wide : 1536 ≤ length ids
+  pub wide : 3 * n ≤ length ids
   pub span : (k : ℕ) → k < n → Span bytes (getD ids (3 * k + 1) 0) (getD ids (3 * k + 2) 0)
 
 -- and their prints beside them: the print of a key begins with its map
 pub record IdTable (bytes ids prints : List ℕ) (n : ℕ) : Type 0 where
   pub listed : Listed bytes ids n
-  pub long : 512 ≤ length prints
+  pub long : n ≤ length prints
   pub print : (k : ℕ) → k < n → getD prints k 0 ≡ printed (getD ids (3 * k) 0) (keyAt bytes ids k)
+
+-- there is room for one more
+pub record Unfilled (ids prints : List ℕ) (n : ℕ) : Type 0 where
+  pub wide : 3 * n + 3 ≤ length ids
+  pub long : n < length prints
 
 -- one more
 unfoldable pub withId : List ℕ → ℕ → ℕ → ℕ → ℕ → List ℕ

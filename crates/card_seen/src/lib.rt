@@ -7,7 +7,7 @@ ghost use Rattle.json_prints.specs.Prints.{printed};
 ghost use Rattle.convert.specs.Classify.{isId};
 ghost use Rattle.line_table.specs.Table.{part, Span};
 ghost use Rattle.class_line.specs.Class.{ClassIn};
-ghost use Rattle.card_seen.specs.Ids.{idsAt, Listed, IdTable, withId, Cut};
+ghost use Rattle.card_seen.specs.Ids.{idsAt, Listed, IdTable, Unfilled, withId, Cut};
 ghost use Rattle.card_seen.specs.Settled.{Settles, Notes};
 use class_line::Class;
 use convert_tests::is_id;
@@ -70,7 +70,7 @@ fn put_id(
     b: usize,
     p: u16,
 ) -> usize
-    requires { ⌜ (n < 512) × (1536 ≤ length (now ids)) × (512 ≤ length (now prints)) ⌝ }
+    requires { ⌜ Unfilled (now ids) (now prints) n ⌝ }
     ensures { λ r. ⌜ (r ≡ n + 1) × (now (ids .exit) ≡ withId (now (ids .entry)) n i a b) × (now (prints .exit) ≡ set (now (prints .entry)) n p) ⌝ }
 {
     let at = 3 * n;
@@ -93,7 +93,7 @@ fn note_key(
     a: usize,
     b: usize,
 ) -> usize
-    requires { ⌜ IdTable (now bytes) (now ids) (now prints) n × (n < 512) × (i < 8) × Span (now s) a b × Cut (now bytes) (now s) at ⌝ }
+    requires { ⌜ IdTable (now bytes) (now ids) (now prints) n × Unfilled (now ids) (now prints) n × (i < 8) × Span (now s) a b × Cut (now bytes) (now s) at ⌝ }
     ensures { λ r. ⌜ Notes (now (bytes .entry)) (now (s .entry)) (now (ids .entry)) n i a b (now (ids .exit)) (now (prints .exit)) r ⌝ }
 {
     let p = print_of(i, &s[a..b]);
@@ -115,7 +115,7 @@ pub fn settle(
     s: &[u8],
     class: Class,
 ) -> Settled
-    requires { ⌜ IdTable (now bytes) (now ids) (now prints) n × (n < 512) × ClassIn (now s) class × Cut (now bytes) (now s) at ⌝ }
+    requires { ⌜ IdTable (now bytes) (now ids) (now prints) n × Unfilled (now ids) (now prints) n × ClassIn (now s) class × Cut (now bytes) (now s) at ⌝ }
     ensures { λ r. ⌜ Settles (now (bytes .entry)) (now (s .entry)) (now (ids .entry)) n full parts class (now (ids .exit)) (now (prints .exit)) r ⌝ }
 {
     match class {

@@ -2,6 +2,7 @@
 use mathlib.Core.Path.{_≡_, refl, sym, ap, subst, _∙_}
 use mathlib.Core.Bool.{Bool}
 use mathlib.Core.List.{List, [], _∷_}
+use mathlib.Core.Logic.{inr}
 use mathlib.Core.Option.{Option, none, some}
 use Prim.Native.Nat.{ℕ, suc, _-_, _≤_, _<_}
 use native.Mathlib.Omega.{arith}
@@ -26,9 +27,9 @@ use Rattle.card_refusals.proofs.Judging.{tests-are}
 use Rattle.card_classes.specs.Pass.{Passed, Lent}
 use Rattle.to_json_maps.proofs.Turns.{put-front, fits-front}
 use Rattle.card_to_json.specs.Inner.{inner}
-use Rattle.card_to_json.specs.Making.{Tested, Makes, MakesJson, linesAnswer}
+use Rattle.card_to_json.specs.Making.{Tested, Makes, MakesJson, MakesCard, linesAnswer}
 use Rattle.card_to_json.specs.declared.Made.{Made}
-use Rattle.card_to_json.specs.declared.Made.the-variants.{Json, Full}
+use Rattle.card_to_json.specs.declared.Made.the-variants.{Json, Refused, Full}
 use Rattle.card_to_json.proofs.Steps.{inner-some}
 
 -- ---- 4, then 5 to 10
@@ -93,13 +94,21 @@ made-lines stem number scratch starts codes n r raw room m after t e made =
     subst (λ a. Makes a room m after) (sym (t .refusals _ ∙ ap (λ q. answered q (yes (printJson (cardOfLines stem number (linesOf raw))))) e))
     (made (classed (linesOf raw)) (t .classes e))
 
-pub made-card : (stem : Bytes) (number : ℕ) (card : Bytes) (raw : List Bytes) (room : Bytes) (m : Made) (after : Bytes) → rawLines card ≡ some raw
-    → Makes (linesAnswer stem number raw) room m after → Makes (inner stem number card) room m after
-made-card stem number card raw room m after e made = subst (λ a. Makes a room m after) (sym (inner-some stem number card raw e)) made
+made-as : (stem : Bytes) (number : ℕ) (card : Bytes) (most : ℕ) (room : Bytes) (m : Made) (after : Bytes)
+    → Makes (inner stem number card) room m after → MakesCard stem number card most room m after
+made-as stem number card most room (Json k) after made = made
+made-as stem number card most room (Refused n p) after made = made
+made-as stem number card most room Full after made = inr made
 
-pub lent-as : (codes ids prints table text s s′ : List ℕ) → length s′ ≡ length s → Lent codes ids prints table text s → Lent codes ids prints table text s′
-lent-as codes ids prints table text s s′ e l = record {
-  numbers = l .numbers;
+pub made-card : (stem : Bytes) (number : ℕ) (card : Bytes) (raw : List Bytes) (room : Bytes) (m : Made) (after : Bytes) → rawLines card ≡ some raw
+    → (most : ℕ) → Makes (linesAnswer stem number raw) room m after → MakesCard stem number card most room m after
+made-card stem number card raw room m after e most made = made-as stem number card most room m after (subst (λ a. Makes a room m after) (sym (inner-some stem number card raw e)) made)
+
+-- other bytes of the same length, and fewer lines than there may be
+pub lent-as : (codes ids prints table text s s′ : List ℕ) (n : ℕ) → length s′ ≡ length s → n ≤ length codes → Lent codes ids prints table text s (length codes)
+    → Lent codes ids prints table text s′ n
+lent-as codes ids prints table text s s′ n e h l = record {
+  numbers = h;
   keys = l .keys;
   printed = l .printed;
   parts = l .parts;

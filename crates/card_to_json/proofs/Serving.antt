@@ -1,6 +1,7 @@
 -- What the caller sees: the room of the result, then the order of 15, 3 (bytes) and the rest.
 use mathlib.Core.Path.{_≡_, refl, sym, ap, subst, _∙_}
 use mathlib.Core.Bool.{Bool, true, false, not, _&&_}
+use mathlib.Core.Logic.{_⊎_, inl, inr}
 use Prim.Native.Nat.{ℕ, _-_, _≤_, _<_}
 use native.Mathlib.Omega.{arith}
 use lib.Dec.{ltb}
@@ -9,35 +10,44 @@ use borrow.Author.Tests.{lt-ltb, le-ltb}
 use Rattle.text.specs.Choice.{pick}
 use Rattle.text.specs.Bytes.{Bytes}
 use Rattle.line.specs.Physical.{sizeOf}
-use Rattle.convert.specs.Answers.{Answer, no, yes, cardRoom, jsonRoom, cardToJson, isStemText, isCardNumber}
+use Rattle.convert.specs.Answers.{Answer, no, yes, cardRoom, jsonRoom, lineRoom, cardToJson, isStemText, isCardNumber}
 use Rattle.convert.specs.Served.{leftBy}
 use Rattle.served.specs.declared.Outcome.{Outcome}
 use Rattle.served.specs.declared.Outcome.the-variants.{Refused as Outcome-Refused}
 use Rattle.served.specs.Served.{outcomeOf}
 use Rattle.card_to_json.specs.Inner.{inner, fit, Serves}
-use Rattle.card_to_json.specs.Making.{Makes}
+use Rattle.card_to_json.specs.Laying.{Many}
+use Rattle.card_to_json.specs.Making.{Makes, MakesCard}
 use Rattle.card_to_json.specs.declared.Made.{Made}
 use Rattle.card_to_json.specs.declared.Made.the-variants.{Json, Refused, Full}
 use Rattle.card_to_json.proofs.Inner.{answer-is, fit-large, serves-refused}
+use Rattle.card_to_json.proofs.Steps.{inner-3}
 
 -- ---- the result
 
-pub of-refused : (out : Bytes) (a : Answer) (room : Bytes) (m : Made) (after : Bytes) (n p : ℕ) → Makes a room m after → m ≡ Refused n p → Serves out a (Outcome-Refused n p) out
-of-refused out a room m after n p made e = serves-refused out a n p (ap (fit (length out)) (subst (λ x. Makes a room x after) e made))
+module _ (stem : Bytes) (number : ℕ) (card : Bytes) (most : ℕ) (room : Bytes) (m : Made) (after : Bytes) (made : MakesCard stem number card most room m after) where
+  made-is : (o : Made) → m ≡ o → MakesCard stem number card most room o after
+  made-is o e = subst (λ x. MakesCard stem number card most room x after) e made
 
-pub of-full : (out : Bytes) (a : Answer) (room : Bytes) (m : Made) (after : Bytes) → Makes a room m after → m ≡ Full → jsonRoom ≤ length room → Serves out a (Outcome-Refused 3 0) out
-of-full out a room m after made e h =
-    let f : Makes a room Full after = subst (λ x. Makes a room x after) e made in
-    serves-refused out a 3 0 (ap (fit (length out)) (f .1) ∙ fit-large (length out) (f .0) (omega (arith, f .2, h)))
+  pub json-fits : (k : ℕ) → m ≡ Json k → k ≤ length after
+  json-fits k e = made-is (Json k) e .3
 
-pub json-fits : (a : Answer) (room : Bytes) (m : Made) (after : Bytes) (k : ℕ) → Makes a room m after → m ≡ Json k → k ≤ length after
-json-fits a room m after k made e = (subst (λ x. Makes a room x after) e made) .3
+  pub of-refused : (out : Bytes) (n p : ℕ) → m ≡ Refused n p → Serves out (inner stem number card) (Outcome-Refused n p) out
+  of-refused out n p e = serves-refused out (inner stem number card) n p (ap (fit (length out)) (made-is (Refused n p) e))
 
-pub of-json : (out : Bytes) (a : Answer) (room : Bytes) (m : Made) (after : Bytes) (k : ℕ) (r : Outcome) (out′ : Bytes) → Makes a room m after → m ≡ Json k
-    → Serves out (yes (take (k - 0) after)) r out′ → Serves out a r out′
-of-json out a room m after k r out′ made e s =
-    let f : Makes a room (Json k) after = subst (λ x. Makes a room x after) e made in
-    subst (λ b. Serves out b r out′) (ap yes (f .2) ∙ sym (f .1)) s
+  pub of-json : (out : Bytes) (k : ℕ) (r : Outcome) (out′ : Bytes) → m ≡ Json k → Serves out (yes (take (k - 0) after)) r out′ → Serves out (inner stem number card) r out′
+  of-json out k r out′ e s =
+      let f = made-is (Json k) e in
+      subst (λ b. Serves out b r out′) (ap yes (f .2) ∙ sym (f .1)) s
+
+  -- where the tables and the result are as long as 01 allows, a card that they are too short for is refused
+  module _ (lines : lineRoom ≤ most) (bytes : jsonRoom ≤ length room) where
+    over-room : (lent : ℕ) → Many most card ⊎ Makes (inner stem number card) room Full after → fit lent (inner stem number card) ≡ no 3 0
+    over-room lent (inl many) = ap (fit lent) (inner-3 card most lines many stem number)
+    over-room lent (inr f) = ap (fit lent) (f .1) ∙ fit-large lent (f .0) (omega (arith, f .2, bytes))
+
+    pub of-full : (out : Bytes) → m ≡ Full → Serves out (inner stem number card) (Outcome-Refused 3 0) out
+    of-full out e = serves-refused out (inner stem number card) 3 0 (over-room (length out) (made-is Full e))
 
 pub front-short : (after : Bytes) (k : ℕ) → length after ≤ jsonRoom → length (take (k - 0) after) ≤ jsonRoom
 front-short after k h = simp (length-take) (omega (arith, h))

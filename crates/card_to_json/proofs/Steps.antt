@@ -19,7 +19,7 @@ use Rattle.convert.specs.Answers.{Answer, no, yes, seek, lineTests, lineRoom, l
 use Rattle.convert.specs.FromCard.{cardOfLines}
 use Rattle.convert.specs.ToJson.{printJson}
 use Rattle.card_to_json.specs.Inner.{inner}
-use Rattle.card_to_json.specs.Laying.{Lays}
+use Rattle.card_to_json.specs.Laying.{Many, Lays}
 use Rattle.card_to_json.specs.declared.Lines.{Lines}
 use Rattle.card_to_json.specs.declared.Lines.the-variants.{Count}
 
@@ -55,15 +55,22 @@ body s r a b e f = subst (Framed s) e f
 pub part-length : (s : Bytes) (a b : ℕ) → length (take (b - a) (drop a s)) ≤ length s
 part-length s a b = simp (length-take, length-drop) (omega arith)
 
-pub inner-3 : (s x : Bytes) (r : Unfolded) (scratch starts : List ℕ) → framed (physical s) ≡ some (physical x) → r ≡ TooMany
-    → Unfolds (unfold′ (physical x)) r scratch starts → (stem : Bytes) (n : ℕ) → inner stem n s ≡ no 3 0
-inner-3 s x r scratch starts f e u stem n =
-    inner-some stem n s (unfold′ (physical x)) (raw-some s (physical x) f)
-    ∙ many (unfold′ (physical x)) _ (subst (λ o. Unfolds (unfold′ (physical x)) o scratch starts) e u)
+-- 3 (lines), where as many are taken as a card may have
+pub inner-3 : (s : Bytes) (most : ℕ) → lineRoom ≤ most → Many most s → (stem : Bytes) (n : ℕ) → inner stem n s ≡ no 3 0
+inner-3 s most h m stem n = inner-some stem n s (m .0) (m .1) ∙ many (m .0) _ (omega (arith, h, m .2))
 
-pub lays : (s x : Bytes) (r : Unfolded) (k : ℕ) (scratch starts : List ℕ) → framed (physical s) ≡ some (physical x) → r ≡ Unfolded-Lines k
-    → Unfolds (unfold′ (physical x)) r scratch starts → Lays s (Count k) scratch starts
-lays s x r k scratch starts f e u = (unfold′ (physical x), raw-some s (physical x) f, subst (λ o. Unfolds (unfold′ (physical x)) o scratch starts) e u)
+module _ (most : ℕ) (s x : Bytes) (r : Unfolded) (scratch starts : List ℕ) (f : framed (physical s) ≡ some (physical x))
+    (u : Unfolds most (unfold′ (physical x)) r scratch starts) where
+  unfolds : (o : Unfolded) → r ≡ o → Unfolds most (unfold′ (physical x)) o scratch starts
+  unfolds o e = subst (λ o. Unfolds most (unfold′ (physical x)) o scratch starts) e u
 
-pub lays-as : (s : Bytes) (r r′ : Lines) (scratch starts : List ℕ) → r ≡ r′ → Lays s r scratch starts → Lays s r′ scratch starts
-lays-as s r r′ scratch starts e l = subst (λ o. Lays s o scratch starts) e l
+  pub lays-many : r ≡ TooMany → Many most s
+  lays-many e = (unfold′ (physical x), raw-some s (physical x) f, unfolds TooMany e)
+
+  pub lays : (k : ℕ) → r ≡ Unfolded-Lines k → Lays most s (Count k) scratch starts
+  lays k e =
+      let l = unfolds (Unfolded-Lines k) e in
+      (unfold′ (physical x), raw-some s (physical x) f, l .0, l .1)
+
+pub lays-as : (most : ℕ) (s : Bytes) (r r′ : Lines) (scratch starts : List ℕ) → r ≡ r′ → Lays most s r scratch starts → Lays most s r′ scratch starts
+lays-as most s r r′ scratch starts e l = subst (λ o. Lays most s o scratch starts) e l

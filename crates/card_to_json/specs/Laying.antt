@@ -2,15 +2,21 @@
 use mathlib.Core.Path.{_≡_}
 use mathlib.Core.List.{List}
 use mathlib.Core.Option.{some}
-use Prim.Native.Nat.{ℕ}
+use Prim.Native.Nat.{ℕ, _≤_, _<_}
+use lib.ListN.{length}
 use Rattle.text.specs.Bytes.{Bytes}
 use Rattle.line_unfold.specs.Table.{Laid}
 use Rattle.convert.specs.Answers.{no, rawLines}
 use Rattle.card_to_json.specs.Inner.{inner}
 use Rattle.card_to_json.specs.declared.Lines.{Lines}
-use Rattle.card_to_json.specs.declared.Lines.the-variants.{Count, Refused}
+use Rattle.card_to_json.specs.declared.Lines.the-variants.{Count, NotOne, TooMany}
 
--- refusals 1 and 3 (lines), else the lines stand in the scratch
-abbrev pub Lays : Bytes → Lines → Bytes → List ℕ → Type 0
-Lays card (Count n) scratch starts = (raw : List Bytes) × (rawLines card ≡ some raw) × Laid raw n scratch starts
-Lays card (Refused k p) scratch starts = (stem : Bytes) (number : ℕ) → inner stem number card ≡ no k p
+-- a card of more lines than that
+abbrev pub Many : ℕ → Bytes → Type 0
+Many most card = (raw : List Bytes) × (rawLines card ≡ some raw) × (most < length raw)
+
+-- refusal 1, or more lines than are taken, else the lines stand in the scratch
+abbrev pub Lays : ℕ → Bytes → Lines → Bytes → List ℕ → Type 0
+Lays most card (Count n) scratch starts = (raw : List Bytes) × (rawLines card ≡ some raw) × Laid raw n scratch starts × (n ≤ most)
+Lays most card NotOne scratch starts = (stem : Bytes) (number : ℕ) → inner stem number card ≡ no 1 0
+Lays most card TooMany scratch starts = Many most card

@@ -1,6 +1,7 @@
 -- What the steps from a card's lines to its JSON answer.
 use mathlib.Core.Path.{_≡_}
 use mathlib.Core.List.{List}
+use mathlib.Core.Logic.{_⊎_}
 use Prim.Native.Nat.{ℕ, _-_, _≤_, _<_}
 use lib.ListN.{length, take}
 use Rattle.text.specs.Bytes.{Bytes}
@@ -13,6 +14,8 @@ use Rattle.card_garbled.specs.Garbled.{OfLines}
 use Rattle.card_refusals.specs.declared.Refusal.{Refusal}
 use Rattle.card_refusals.specs.declared.Refusal.the-variants.{None}
 use Rattle.card_refusals.specs.Judged.{answered}
+use Rattle.card_to_json.specs.Inner.{inner}
+use Rattle.card_to_json.specs.Laying.{Many}
 use Rattle.card_to_json.specs.declared.Made.{Made}
 use Rattle.card_to_json.specs.declared.Made.the-variants.{Json, Refused, Full}
 
@@ -39,3 +42,9 @@ linesAnswer stem number raw = seek (lineTests raw (linesOf raw)) (yes (printJson
 
 abbrev pub MakesLines : Bytes → ℕ → Bytes → List ℕ → ℕ → Bytes → Made → Bytes → Type 0
 MakesLines stem number scratch starts n room r after = OfLines scratch starts n (λ raw. Makes (linesAnswer stem number raw) room r after)
+
+-- of a card, for whose lines the tables may be too short
+abbrev pub MakesCard : Bytes → ℕ → Bytes → ℕ → Bytes → Made → Bytes → Type 0
+MakesCard stem number card most room (Json k) after = Makes (inner stem number card) room (Json k) after
+MakesCard stem number card most room (Refused n p) after = Makes (inner stem number card) room (Refused n p) after
+MakesCard stem number card most room Full after = Many most card ⊎ Makes (inner stem number card) room Full after

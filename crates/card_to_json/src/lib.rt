@@ -1,15 +1,15 @@
 // Card to JSON: the service.
 ghost use mathlib.Core.Path.{_≡_};
-ghost use Prim.Native.Nat.{_≤_};
+ghost use Prim.Native.Nat.{_≤_, _<_};
 ghost use lib.ListN.{length};
-ghost use Rattle.convert.specs.Answers.{cardRoom, jsonRoom, yes, cardToJson};
+ghost use Rattle.convert.specs.Answers.{cardRoom, jsonRoom, lineRoom, yes, cardToJson};
 ghost use Rattle.convert.specs.Served.{leftBy};
 ghost use Rattle.served.specs.Served.{outcomeOf};
 ghost use Rattle.card_classes.specs.Pass.{HasLines, Lent};
 ghost use Rattle.to_json_card.specs.Card.{Lent as Written};
 ghost use Rattle.card_to_json.specs.Inner.{inner, Serves};
 ghost use Rattle.card_to_json.specs.Laying.{Lays};
-ghost use Rattle.card_to_json.specs.Making.{Tests, Makes, MakesJson, MakesLines};
+ghost use Rattle.card_to_json.specs.Making.{Tests, MakesJson, MakesLines, MakesCard};
 use card_classes::class_lines;
 use card_garbled::first_garbled;
 use card_refusals::Refusal;
@@ -45,28 +45,23 @@ pub fn finish(out: &mut [u8], text: &[u8]) -> Outcome
     Outcome::Written(k)
 }
 
-// How many unfolded lines a card has, or refusal 1 or 3.
+// How many unfolded lines a card has; or it is not one card; or it has more lines than are taken.
 pub enum Lines {
     Count(usize),
-    Refused { number: u8, place: usize },
+    NotOne,
+    TooMany,
 }
 
 // The lines between BEGIN and END, unfolded into a scratch.
-fn lines_of(scratch: &mut [u8], starts: &mut [usize], card: &[u8]) -> Lines
-    requires { ⌜ (length (now card) ≤ length (now scratch)) × (513 ≤ length (now starts)) ⌝ }
-    ensures { λ r. ⌜ Lays (now (card .entry)) r (now (scratch .exit)) (now (starts .exit)) ⌝ }
+fn lines_of(scratch: &mut [u8], starts: &mut [usize], most: usize, card: &[u8]) -> Lines
+    requires { ⌜ (length (now card) ≤ length (now scratch)) × (most < length (now starts)) × (most ≤ lineRoom) ⌝ }
+    ensures { λ r. ⌜ Lays most (now (card .entry)) r (now (scratch .exit)) (now (starts .exit)) ⌝ }
 {
     let Frame::Body(a, b) = frame_of(card) else {
-        return Lines::Refused {
-            number: 1,
-            place: 0,
-        };
+        return Lines::NotOne;
     };
-    let Unfolded::Lines(n) = unfold(scratch, starts, &card[a..b]) else {
-        return Lines::Refused {
-            number: 3,
-            place: 0,
-        };
+    let Unfolded::Lines(n) = unfold(scratch, starts, most, &card[a..b]) else {
+        return Lines::TooMany;
     };
     Lines::Count(n)
 }
@@ -82,7 +77,7 @@ fn refusal_in(
     starts: &[usize],
     n: usize,
 ) -> Refusal
-    requires { ⌜ HasLines (now scratch) (now starts) n × Lent (now codes) (now ids) (now prints) (now t) (now text) (now scratch) ⌝ }
+    requires { ⌜ HasLines (now scratch) (now starts) n × Lent (now codes) (now ids) (now prints) (now t) (now text) (now scratch) n ⌝ }
     ensures { λ r. ⌜ Tests (now (scratch .entry)) (now (starts .entry)) (now (codes .exit)) n r ⌝ }
 {
     let place = first_garbled(scratch, starts, n);
@@ -92,7 +87,7 @@ fn refusal_in(
     class_lines(codes, ids, prints, t, text, scratch, starts, n)
 }
 
-// The length of a card's JSON at the front of a result; or a refusal; or the result is too short for it.
+// The length of a card's JSON at the front of a result; or a refusal; or the result is too short for it, or the tables for its lines.
 pub enum Made {
     Json(usize),
     Refused { number: u8, place: usize },
@@ -134,7 +129,7 @@ fn json_of(
     starts: &[usize],
     n: usize,
 ) -> Made
-    requires { ⌜ HasLines (now scratch) (now starts) n × Lent (now codes) (now ids) (now prints) (now t) (now text) (now scratch) ⌝ }
+    requires { ⌜ HasLines (now scratch) (now starts) n × Lent (now codes) (now ids) (now prints) (now t) (now text) (now scratch) n ⌝ }
     ensures { λ r. ⌜ MakesLines (now (stem .entry)) number (now (scratch .entry)) (now (starts .entry)) n (now (result .entry)) r (now (result .exit)) ⌝ }
 {
     let Refusal::At { number: k, place } = refusal_in(
@@ -152,7 +147,7 @@ fn json_of(
     Made::Refused { number: k, place }
 }
 
-// Of a card. All that is lent but `result` is scratch.
+// Of a card. All that is lent but `result` is scratch: the tables are for as many lines as `codes` is long.
 fn convert(
     result: &mut [u8],
     scratch: &mut [u8],
@@ -166,12 +161,18 @@ fn convert(
     number: usize,
     card: &[u8],
 ) -> Made
-    requires { ⌜ (length (now card) ≤ length (now scratch)) × (513 ≤ length (now starts)) × Lent (now codes) (now ids) (now prints) (now t) (now text) (now scratch) ⌝ }
-    ensures { λ r. ⌜ Makes (inner (now (stem .entry)) number (now (card .entry))) (now (result .entry)) r (now (result .exit)) ⌝ }
+    requires { ⌜ (length (now card) ≤ length (now scratch)) × (length (now codes) < length (now starts)) × (length (now codes) ≤ lineRoom) × Lent (now codes) (now ids) (now prints) (now t) (now text) (now scratch) (length (now codes)) ⌝ }
+    ensures { λ r. ⌜ MakesCard (now (stem .entry)) number (now (card .entry)) (length (now (codes .entry))) (now (result .entry)) r (now (result .exit)) ⌝ }
 {
-    match lines_of(scratch, starts, card) {
-        Lines::Refused { number: k, place } => {
-            return Made::Refused { number: k, place };
+    match lines_of(scratch, starts, codes.len(), card) {
+        Lines::NotOne => {
+            return Made::Refused {
+                number: 1,
+                place: 0,
+            };
+        }
+        Lines::TooMany => {
+            return Made::Full;
         }
         Lines::Count(n) => {
             return json_of(
@@ -232,17 +233,17 @@ fn large(out: &mut [u8], stem: &[u8], number: usize, card: &[u8]) -> Outcome
     }
 }
 
-// Most cards are short: their scratch is quick to clear. A result that is too long for it goes the large way.
+// Most cards are short: their scratch, for 64 lines and a result of 4,096 bytes, is quick to clear. A card that it is too small for goes the large way.
 fn small(out: &mut [u8], stem: &[u8], number: usize, card: &[u8]) -> Outcome
     requires { ⌜ length (now card) ≤ 2048 ⌝ }
     ensures { λ r. ⌜ Serves (now (out .entry)) (inner (now (stem .entry)) number (now (card .entry))) r (now (out .exit)) ⌝ }
 {
-    let mut result = [0u8; 8192];
+    let mut result = [0u8; 4096];
     let mut scratch = [0u8; 2048];
-    let mut starts = [0usize; 513];
-    let mut codes = [0u8; 512];
-    let mut ids = [0usize; 1536];
-    let mut prints = [0u16; 512];
+    let mut starts = [0usize; 65];
+    let mut codes = [0u8; 64];
+    let mut ids = [0usize; 192];
+    let mut prints = [0u16; 64];
     let mut t = [0usize; 264];
     let mut text = [0u8; 2048];
     match convert(

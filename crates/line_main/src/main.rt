@@ -126,7 +126,7 @@ fn body(s: &[u8]) {
     if s.len() > 32768 {
         return;
     }
-    match line_unfold::unfold(&mut bytes, &mut table, s) {
+    match line_unfold::unfold(&mut bytes, &mut table, 512, s) {
         Unfolded::Lines(n) => {
             io::print_decimal(STDOUT_FILENO, n as u64);
             say(b" lines\n");

@@ -26,10 +26,10 @@ pub record Laid (ls : List Bytes) (k : ℕ) (out table : List ℕ) : Type 0 wher
   pub bytes : take (length (flat ls)) out ≡ flat ls
   pub starts : take (k + 1) table ≡ marks 0 ls
 
--- what unfolding answers, and leaves
-abbrev pub Unfolds : List Bytes → Unfolded → List ℕ → List ℕ → Type 0
-Unfolds ls (Lines k) out table = Laid ls k out table
-Unfolds ls TooMany out table = 512 < length ls
+-- what unfolding answers, and leaves, where at most that many lines are taken
+abbrev pub Unfolds : ℕ → List Bytes → Unfolded → List ℕ → List ℕ → Type 0
+Unfolds most ls (Lines k) out table = Laid ls k out table × (k ≤ most)
+Unfolds most ls TooMany out table = most < length ls
 
 -- the line with that number, and nothing where the table has none
 unfoldable pub lineAt : Bytes → List ℕ → ℕ → Bytes

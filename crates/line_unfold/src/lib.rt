@@ -1,6 +1,6 @@
 // Unfolding: the lines between BEGIN and END into a lent scratch, and where each begins into a table.
 ghost use mathlib.Core.Path.{_≡_};
-ghost use Prim.Native.Nat.{_+_, _≤_};
+ghost use Prim.Native.Nat.{_+_, _≤_, _<_};
 ghost use lib.ListN.{length};
 ghost use Rattle.text.specs.Reader.{first};
 ghost use Rattle.line.specs.Class.{isBlank};
@@ -11,7 +11,7 @@ use line_class::Class;
 use line_class::in_class;
 use line_frame::next_line;
 
-// How many lines, or that there are more than 512.
+// How many lines, or that there are more than are taken.
 pub enum Unfolded {
     Lines(usize),
     TooMany,
@@ -40,10 +40,10 @@ fn append(out: &mut [u8], at: usize, src: &[u8]) -> usize
     at + i
 }
 
-// The table has the start of each line, and the end of the last.
-pub fn unfold(out: &mut [u8], table: &mut [usize], s: &[u8]) -> Unfolded
-    requires { ⌜ (length (now s) ≤ length (now out)) × (513 ≤ length (now table)) ⌝ }
-    ensures { λ r. ⌜ Unfolds (unfold′ (physical (now (s .entry)))) r (now (out .exit)) (now (table .exit)) ⌝ }
+// The table has the start of each line, and the end of the last. At most `most` lines are taken, so that a short table does for few lines.
+pub fn unfold(out: &mut [u8], table: &mut [usize], most: usize, s: &[u8]) -> Unfolded
+    requires { ⌜ (length (now s) ≤ length (now out)) × (most < length (now table)) × (most ≤ 512) ⌝ }
+    ensures { λ r. ⌜ Unfolds most (unfold′ (physical (now (s .entry)))) r (now (out .exit)) (now (table .exit)) ⌝ }
 {
     let mut n = 0;
     let mut k = 0;
@@ -59,7 +59,7 @@ pub fn unfold(out: &mut [u8], table: &mut [usize], s: &[u8]) -> Unfolded
             i = next;
             continue;
         }
-        if k >= 512 {
+        if k >= most {
             return Unfolded::TooMany;
         }
         table[k] = n;

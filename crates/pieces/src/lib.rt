@@ -55,7 +55,7 @@ pub extern "C" fn pieces_unfold(out: &mut [u8], starts: &mut [usize], card: &[u8
     if body.len() > out.len() {
         return 0;
     }
-    match unfold(out, starts, body) {
+    match unfold(out, starts, 512, body) {
         Unfolded::Lines(n) => n,
         Unfolded::TooMany => 0,
     }

@@ -85,6 +85,7 @@ next-line-requires c κs =
     let at-loop = at-loop-test .before in
     let start = at-loop .before .before .before .before .before .before .before .before .before in (
       omega (arith, start .pre .0 .1 .few, at-loop-test .loop-test .taken),
+      omega (arith, start .pre .1 .numbers, at-loop .loop .inv .5, at-loop-test .loop-test .taken),
       at-loop .loop .inv .1,
       line-cut (start .pre .0 .1) (at-loop-test .loop-test .taken) (at-line-at .line-at .ensures),
       (filled (now (at-line-at .line-at .result)) (at-fill .fill .last .0) (at-fill .fill .result) (not-false (at-fill .fill .result) (at-if1 .if1 .left)) (at-fill .fill .ensures)) .sound,
@@ -143,7 +144,8 @@ returns-2 : tie.Need-returns-2 Inv-loop μ-loop
 returns-2 c =
     let at-loop-test = c .before .before in
     let at-loop = at-loop-test .before in
-    λ raw laid. through-end (at-loop .loop .inv .4 raw laid) laid (omega (arith, laid .few, at-loop .loop .inv .1 .room)) (omega (arith, at-loop-test .loop-test .left)) (at-loop .loop .inv .0) (c .refusal-of .result) (c .refusal-of .ensures)
+    let start = at-loop .before .before .before .before .before .before .before .before .before in
+    λ raw laid. through-end (at-loop .loop .inv .4 raw laid) laid (omega (arith, start .pre .1 .numbers, at-loop .loop .inv .5)) (omega (arith, at-loop-test .loop-test .left)) (at-loop .loop .inv .0) (c .refusal-of .result) (c .refusal-of .ensures)
 
 pub class-lines-spec : {M : Type 1} → statement M
 class-lines-spec =

@@ -17,7 +17,7 @@ slice-aggregate-scan-rows-3 : tie.Need-slice-aggregate-scan-rows-3
 slice-aggregate-scan-rows-3 c = search needs
 
 scan-rows-requires : tie.Need-scan-rows-requires
-scan-rows-requires c κs = (clear-eight, c .before .before .before .before .before .before .before .before .before .before .pre .3)
+scan-rows-requires c κs = (clear-eight, c .before .before .before .before .before .before .before .before .before .before .pre .4)
 
 shared-slice-read-a : tie.Need-shared-slice-read-a
 shared-slice-read-a c = search needs
@@ -51,7 +51,7 @@ judge-line-requires c κs =
     let at-name-code = c .before .before .before .before in
     let at-scan-rows = at-name-code .before .before .before .before .before .before .before in
     let start = at-scan-rows .before .before .before .before .before .before .before .before .before .before .before in
-    (start .pre .0, record { wide = record { counts = search needs; froms = search needs; tos = search needs }; row = at-scan-rows .scan-rows .ensures; sound = start .pre .3 }, coded (now (start .args .s)) (now (start .args .t)) (at-name-code .name-code .result) (at-name-code .name-code .ensures))
+    (start .pre .0, record { wide = record { counts = search needs; froms = search needs; tos = search needs }; row = at-scan-rows .scan-rows .ensures; sound = start .pre .4 }, coded (now (start .args .s)) (now (start .args .t)) (at-name-code .name-code .result) (at-name-code .name-code .ensures))
 
 slice-aggregate-class-line : tie.Need-slice-aggregate-class-line
 slice-aggregate-class-line c = search needs
@@ -66,13 +66,13 @@ class-line-requires : tie.Need-class-line-requires
 class-line-requires c κs =
     let at-scan-rows = c .before .before .before .before .before .before .before .before .before .before .before .before .before .before .before .before in
     let start = at-scan-rows .before .before .before .before .before .before .before .before .before .before .before in
-    (record { wide = record { counts = search needs; froms = search needs; tos = search needs }; row = at-scan-rows .scan-rows .ensures; sound = start .pre .3 }, start .pre .4)
+    (record { wide = record { counts = search needs; froms = search needs; tos = search needs }; row = at-scan-rows .scan-rows .ensures; sound = start .pre .4 }, start .pre .5)
 
 pass-line-requires : tie.Need-pass-line-requires
 pass-line-requires c κs =
     let at-class-line = c .before .before .before .before .before in
     let start = at-class-line .before .before .before .before .before .before .before .before .before .before .before .before .before .before .before .before .before .before .before .before .before .before .before .before .before .before .before .before in
-    (start .pre .0, start .pre .1, start .pre .2, at-class-line .class-line .ensures .within)
+    (start .pre .1, start .pre .2, start .pre .3, at-class-line .class-line .ensures .within)
 
 same-length : tie.Need-same-length
 same-length c = search needs
@@ -93,7 +93,7 @@ returns c =
     let at-judge-line = at-class-line .before .before .before .before .before in
     let at-name-code = at-judge-line .before .before .before .before .before in
     let start = at-name-code .before .before .before .before .before .before .before .before .before .before .before .before .before .before .before .before .before .before in
-    next-line (start .pre .0) (coded (now (start .args .s)) (now (start .args .t)) (at-name-code .name-code .result) (at-name-code .name-code .ensures)) (at-judge-line .judge-line .ensures) (at-class-line .class-line .ensures) (at-pass-line .pass-line .ensures) (omega (arith, start .pre .0, start .pre .1 .room))
+    next-line (coded (now (start .args .s)) (now (start .args .t)) (at-name-code .name-code .result) (at-name-code .name-code .ensures)) (at-judge-line .judge-line .ensures) (at-class-line .class-line .ensures) (at-pass-line .pass-line .ensures) (start .pre .1)
 
 pub next-line-spec : {M : Type 1} → statement M
 next-line-spec =

@@ -24,22 +24,22 @@ sub-k : tie.Need-sub-k Inv-loop μ-loop
 sub-k c = search needs
 
 mul-at : tie.Need-mul-at Inv-loop μ-loop
-mul-at c = omega (arith, c .before .before .before .before .before .pre .few, c .before .before .before .before .before .pre .wide, c .loop-test .taken, c .before .loop .inv .0)
+mul-at c = omega (arith, c .before .before .before .before .before .pre .wide, c .loop-test .taken, c .before .loop .inv .0)
 
 mul-j : tie.Need-mul-j Inv-loop μ-loop
-mul-j c = omega (arith, c .before .before .before .before .before .pre .few, c .before .before .before .before .before .pre .wide, c .loop-test .taken, c .before .loop .inv .0)
+mul-j c = omega (arith, c .before .before .before .before .before .pre .wide, c .loop-test .taken, c .before .loop .inv .0)
 
 shared-slice-read-j : tie.Need-shared-slice-read-j Inv-loop μ-loop
 shared-slice-read-j c =
     let at-loop = c .before .before in
     let start = at-loop .before .before .before .before in
-    omega (arith, start .pre .few, start .pre .wide, c .before .loop-test .taken, at-loop .loop .inv .0)
+    omega (arith, start .pre .wide, c .before .loop-test .taken, at-loop .loop .inv .0)
 
 add-a : tie.Need-add-a Inv-loop μ-loop
 add-a c =
     let at-loop = c .before .before in
     let start = at-loop .before .before .before .before in
-    omega (arith, start .pre .few, start .pre .wide, c .before .loop-test .taken, at-loop .loop .inv .0)
+    omega (arith, start .pre .wide, c .before .loop-test .taken, at-loop .loop .inv .0)
 
 mul-a : tie.Need-mul-a Inv-loop μ-loop
 mul-a c = search needs
@@ -49,28 +49,28 @@ shared-slice-read-a c =
     let at-loop-test = c .before .before in
     let at-loop = at-loop-test .before in
     let start = at-loop .before .before .before .before in
-    omega (arith, start .pre .few, start .pre .wide, at-loop-test .loop-test .taken, at-loop .loop .inv .0)
+    omega (arith, start .pre .wide, at-loop-test .loop-test .taken, at-loop .loop .inv .0)
 
 add-b : tie.Need-add-b Inv-loop μ-loop
 add-b c =
     let at-loop-test = c .before .before in
     let at-loop = at-loop-test .before in
     let start = at-loop .before .before .before .before in
-    omega (arith, start .pre .few, start .pre .wide, at-loop-test .loop-test .taken, at-loop .loop .inv .0)
+    omega (arith, start .pre .wide, at-loop-test .loop-test .taken, at-loop .loop .inv .0)
 
 mul-b : tie.Need-mul-b Inv-loop μ-loop
 mul-b c =
     let at-loop-test = c .before .before in
     let at-loop = at-loop-test .before in
     let start = at-loop .before .before .before .before in
-    omega (arith, start .pre .few, start .pre .wide, at-loop-test .loop-test .taken, at-loop .loop .inv .0)
+    omega (arith, start .pre .wide, at-loop-test .loop-test .taken, at-loop .loop .inv .0)
 
 shared-slice-read-b : tie.Need-shared-slice-read-b Inv-loop μ-loop
 shared-slice-read-b c =
     let at-loop-test = c .before .before .before in
     let at-loop = at-loop-test .before in
     let start = at-loop .before .before .before .before in
-    omega (arith, start .pre .few, start .pre .wide, at-loop-test .loop-test .taken, at-loop .loop .inv .0)
+    omega (arith, start .pre .wide, at-loop-test .loop-test .taken, at-loop .loop .inv .0)
 
 is-id-requires : tie.Need-is-id-requires Inv-loop μ-loop
 is-id-requires c κs =

@@ -23,7 +23,7 @@ mul-ids-2 : tie.Need-mul-ids-2
 mul-ids-2 c = search needs
 
 slice-write-ids-2 : tie.Need-slice-write-ids-2
-slice-write-ids-2 c = simp length-set (omega (arith, c .pre .0, c .pre .1))
+slice-write-ids-2 c = simp length-set (omega (arith, c .pre .wide))
 
 add-ids-2 : tie.Need-add-ids-2
 add-ids-2 c = search needs
@@ -32,7 +32,7 @@ mul-ids-3 : tie.Need-mul-ids-3
 mul-ids-3 c = search needs
 
 slice-write-ids-3 : tie.Need-slice-write-ids-3
-slice-write-ids-3 c = simp length-set (omega (arith, c .pre .0, c .pre .1))
+slice-write-ids-3 c = simp length-set (omega (arith, c .pre .wide))
 
 mul-prints : tie.Need-mul-prints
 mul-prints c = search needs

@@ -1,6 +1,5 @@
 use borrow.Author.Needs.{needs}
 use denote.Ref.{now}
-use Rattle.card_to_json.specs.Inner.{inner}
 use Rattle.card_to_json.proofs.Serving.{of-refused, of-full, of-json, json-fits, front-short}
 use Rattle.card_to_json.proofs.large.Statement.{statement}
 use Rattle.card_to_json.proofs.large.Tie as tie
@@ -39,7 +38,7 @@ returns : tie.Need-returns
 returns c =
     let at-convert = c .before .before .before .before .before .before .before .before .before .before .before in
     let start = at-convert .before .before .before .before .before .before .before .before .before .before .before .before in
-    of-refused (now (start .args .out)) (inner (now (start .args .stem)) (start .args .number) (now (start .args .card))) _ (at-convert .convert .result) (at-convert .convert .last .0) _ _ (at-convert .convert .ensures) (c .before .k .given .1)
+    of-refused (now (start .args .stem)) (start .args .number) (now (start .args .card)) _ _ (at-convert .convert .result) (at-convert .convert .last .0) (at-convert .convert .ensures) (now (start .args .out)) _ _ (c .before .k .given .1)
 
 enum-told : tie.Need-enum-told
 enum-told c = search needs
@@ -48,7 +47,7 @@ returns-2 : tie.Need-returns-2
 returns-2 c =
     let at-convert = c .before .before .before .before .before .before .before .before .before .before in
     let start = at-convert .before .before .before .before .before .before .before .before .before .before .before .before in
-    of-full (now (start .args .out)) (inner (now (start .args .stem)) (start .args .number) (now (start .args .card))) _ (at-convert .convert .result) (at-convert .convert .last .0) (at-convert .convert .ensures) (c .enum-told .given .1) (search needs)
+    of-full (now (start .args .stem)) (start .args .number) (now (start .args .card)) _ _ (at-convert .convert .result) (at-convert .convert .last .0) (at-convert .convert .ensures) (search needs) (search needs) (now (start .args .out)) (c .enum-told .given .1)
 
 enum-known-k-2 : tie.Need-enum-known-k-2
 enum-known-k-2 c = search needs
@@ -64,7 +63,7 @@ part-finish-end c =
     let at-k2 = c .before .before .before in
     let at-convert = at-k2 .before .before .before .before .before .before .before .before .before .before in
     let start = at-convert .before .before .before .before .before .before .before .before .before .before .before .before in
-    json-fits (inner (now (start .args .stem)) (start .args .number) (now (start .args .card))) _ (at-convert .convert .result) (at-convert .convert .last .0) _ (at-convert .convert .ensures) (at-k2 .k2 .given .1)
+    json-fits (now (start .args .stem)) (start .args .number) (now (start .args .card)) _ _ (at-convert .convert .result) (at-convert .convert .last .0) (at-convert .convert .ensures) _ (at-k2 .k2 .given .1)
 
 finish-requires : tie.Need-finish-requires
 finish-requires c κs =
@@ -80,7 +79,7 @@ returns-3 c =
     let at-k2 = c .before .before .before .before .before .before .before in
     let at-convert = at-k2 .before .before .before .before .before .before .before .before .before .before in
     let start = at-convert .before .before .before .before .before .before .before .before .before .before .before .before in
-    of-json (now (start .args .out)) (inner (now (start .args .stem)) (start .args .number) (now (start .args .card))) _ (at-convert .convert .result) (at-convert .convert .last .0) _ (c .before .before .finish .result) _ (at-convert .convert .ensures) (at-k2 .k2 .given .1) (c .before .before .finish .ensures)
+    of-json (now (start .args .stem)) (start .args .number) (now (start .args .card)) _ _ (at-convert .convert .result) (at-convert .convert .last .0) (at-convert .convert .ensures) (now (start .args .out)) _ (c .before .before .finish .result) _ (at-k2 .k2 .given .1) (c .before .before .finish .ensures)
 
 pub large-spec : {M : Type 1} → statement M
 large-spec =

@@ -1,7 +1,7 @@
 use borrow.Author.Needs.{needs}
 use native.Mathlib.Omega.{arith}
 use denote.Ref.{now}
-use Rattle.card_to_json.proofs.Steps.{inner-1, inner-3, body, lays, part-length}
+use Rattle.card_to_json.proofs.Steps.{inner-1, body, lays, lays-many, part-length}
 use Rattle.card_to_json.proofs.lines_of.Statement.{statement}
 use Rattle.card_to_json.proofs.lines_of.Tie as tie
 
@@ -42,7 +42,7 @@ unfold-requires : tie.Need-unfold-requires
 unfold-requires c κs =
     let at-a = c .before .before .before .before in
     let start = at-a .before .before .before .before .before .before in
-    (omega (arith, part-length (now (start .args .card)) (at-a .a .given .0 .0) (at-a .a .given .0 .1 .0), start .pre .0), omega (arith, start .pre .1))
+    (omega (arith, part-length (now (start .args .card)) (at-a .a .given .0 .0) (at-a .a .given .0 .1 .0), start .pre .0), start .pre .1, start .pre .2)
 
 enum-known-n : tie.Need-enum-known-n
 enum-known-n c = search needs
@@ -62,7 +62,8 @@ returns-2 c =
     let at-a = at-unfold .before .before .before .before .before in
     let at-frame-of = at-a .before .before in
     let start = at-frame-of .before .before .before .before in
-    inner-3 (now (start .args .card)) _ (at-unfold .«unfold» .result) (at-unfold .«unfold» .last .0) (at-unfold .«unfold» .last .1 .0) ((body (now (start .args .card)) (at-frame-of .frame-of .result) (at-a .a .given .0 .0) (at-a .a .given .0 .1 .0) (at-a .a .given .1) (at-frame-of .frame-of .ensures)) .2) (c .enum-told2 .given .1) (at-unfold .«unfold» .ensures)
+    let f = body (now (start .args .card)) (at-frame-of .frame-of .result) (at-a .a .given .0 .0) (at-a .a .given .0 .1 .0) (at-a .a .given .1) (at-frame-of .frame-of .ensures) in
+    lays-many (start .args .most) (now (start .args .card)) _ (at-unfold .«unfold» .result) (at-unfold .«unfold» .last .0) (at-unfold .«unfold» .last .1 .0) (f .2) (at-unfold .«unfold» .ensures) (c .enum-told2 .given .1)
 
 same-length-3 : tie.Need-same-length-3
 same-length-3 c = search needs
@@ -76,7 +77,8 @@ returns-3 c =
     let at-a = at-unfold .before .before .before .before .before in
     let at-frame-of = at-a .before .before in
     let start = at-frame-of .before .before .before .before in
-    lays (now (start .args .card)) _ (at-unfold .«unfold» .result) (c .before .n .given .0 .0) (at-unfold .«unfold» .last .0) (at-unfold .«unfold» .last .1 .0) ((body (now (start .args .card)) (at-frame-of .frame-of .result) (at-a .a .given .0 .0) (at-a .a .given .0 .1 .0) (at-a .a .given .1) (at-frame-of .frame-of .ensures)) .2) (c .before .n .given .1) (at-unfold .«unfold» .ensures)
+    let f = body (now (start .args .card)) (at-frame-of .frame-of .result) (at-a .a .given .0 .0) (at-a .a .given .0 .1 .0) (at-a .a .given .1) (at-frame-of .frame-of .ensures) in
+    lays (start .args .most) (now (start .args .card)) _ (at-unfold .«unfold» .result) (at-unfold .«unfold» .last .0) (at-unfold .«unfold» .last .1 .0) (f .2) (at-unfold .«unfold» .ensures) (c .before .n .given .0 .0) (c .before .n .given .1)
 
 pub lines-of-spec : {M : Type 1} → statement M
 lines-of-spec =

@@ -1,7 +1,6 @@
 use borrow.Author.Needs.{needs}
 use native.Mathlib.Omega.{arith}
 use denote.Ref.{now}
-use Rattle.card_to_json.specs.Inner.{inner}
 use Rattle.card_to_json.proofs.Serving.{of-refused, of-json, json-fits, front-short}
 use Rattle.card_to_json.proofs.small.Statement.{statement}
 use Rattle.card_to_json.proofs.small.Tie as tie
@@ -40,7 +39,7 @@ returns : tie.Need-returns
 returns c =
     let at-convert = c .before .before .before .before .before .before .before .before .before .before .before in
     let start = at-convert .before .before .before .before .before .before .before .before .before .before .before .before in
-    of-refused (now (start .args .out)) (inner (now (start .args .stem)) (start .args .number) (now (start .args .card))) _ (at-convert .convert .result) (at-convert .convert .last .0) _ _ (at-convert .convert .ensures) (c .before .k .given .1)
+    of-refused (now (start .args .stem)) (start .args .number) (now (start .args .card)) _ _ (at-convert .convert .result) (at-convert .convert .last .0) (at-convert .convert .ensures) (now (start .args .out)) _ _ (c .before .k .given .1)
 
 enum-told : tie.Need-enum-told
 enum-told c = search needs
@@ -70,7 +69,7 @@ part-finish-end c =
     let at-k2 = c .before .before .before in
     let at-convert = at-k2 .before .before .before .before .before .before .before .before .before .before in
     let start = at-convert .before .before .before .before .before .before .before .before .before .before .before .before in
-    json-fits (inner (now (start .args .stem)) (start .args .number) (now (start .args .card))) _ (at-convert .convert .result) (at-convert .convert .last .0) _ (at-convert .convert .ensures) (at-k2 .k2 .given .1)
+    json-fits (now (start .args .stem)) (start .args .number) (now (start .args .card)) _ _ (at-convert .convert .result) (at-convert .convert .last .0) (at-convert .convert .ensures) _ (at-k2 .k2 .given .1)
 
 finish-requires : tie.Need-finish-requires
 finish-requires c κs =
@@ -86,7 +85,7 @@ returns-3 c =
     let at-k2 = c .before .before .before .before .before .before .before in
     let at-convert = at-k2 .before .before .before .before .before .before .before .before .before .before in
     let start = at-convert .before .before .before .before .before .before .before .before .before .before .before .before in
-    of-json (now (start .args .out)) (inner (now (start .args .stem)) (start .args .number) (now (start .args .card))) _ (at-convert .convert .result) (at-convert .convert .last .0) _ (c .before .before .finish .result) _ (at-convert .convert .ensures) (at-k2 .k2 .given .1) (c .before .before .finish .ensures)
+    of-json (now (start .args .stem)) (start .args .number) (now (start .args .card)) _ _ (at-convert .convert .result) (at-convert .convert .last .0) (at-convert .convert .ensures) (now (start .args .out)) _ (c .before .before .finish .result) _ (at-k2 .k2 .given .1) (c .before .before .finish .ensures)
 
 pub small-spec : {M : Type 1} → statement M
 small-spec =

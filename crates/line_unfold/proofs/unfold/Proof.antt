@@ -18,15 +18,15 @@ use Rattle.line_unfold.proofs.unfold.Statement.{statement}
 use Rattle.line_unfold.proofs.unfold.Tie as tie
 
 abbrev Inv-loop : tie.InvT-loop
-Inv-loop out₀ table₀ s n₀ k₀ i₀ out table n k i =
+Inv-loop out₀ table₀ most s n₀ k₀ i₀ out table n k i =
     (i ≤ length s)
     × (n ≤ i)
-    × (k ≤ 512)
+    × (k ≤ most)
     × Rest out₀ (flat (unfold′ (physical s))) (bytesLeft k (physical (drop i s))) n out
     × Rest table₀ (marks 0 (unfold′ (physical s))) (marksLeft k n (physical (drop i s))) k table
 
 abbrev μ-loop : tie.MeasureT-loop
-μ-loop out₀ table₀ s n₀ k₀ i₀ out table n k i = length s - i
+μ-loop out₀ table₀ most s n₀ k₀ i₀ out table n k i = length s - i
 
 loop-holds : tie.Need-loop-holds Inv-loop μ-loop
 loop-holds c = (omega arith, omega arith, omega arith, bytes-first _ _, marks-first _ _)
@@ -229,8 +229,7 @@ returns-2 c =
     let args = c .before .before .before .before .before .args in
     let pre = c .before .before .before .before .before .pre in
     let loop = c .before .loop in
-    laid (now (args .s)) (loop .i) (loop .k) (loop .n) (c .loop-test .left) (loop .inv .2)
-    (omega (arith, loop .inv .2, pre .1, rest-same (loop .inv .4))) (loop .inv .3) (loop .inv .4)
+    (laid (now (args .s)) (loop .i) (loop .k) (loop .n) (c .loop-test .left) (omega (arith, loop .inv .2, pre .2)) (omega (arith, loop .inv .2, pre .1, rest-same (loop .inv .4))) (loop .inv .3) (loop .inv .4), loop .inv .2)
 
 pub unfold-spec : {M : Type 1} → statement M
 unfold-spec =
