@@ -1,5 +1,6 @@
 // Compact JSON: strings, numbers, names and members, each written to a lent part of the output. (`output::put_text` writes true, false and null.)
 use json_strings::Byte;
+use json_strings::copy_sixteen;
 use json_strings::is_paired;
 use json_strings::next_byte;
 use output::Wrote;
@@ -7,12 +8,12 @@ use output::put_byte;
 use output::put_text;
 ghost use mathlib.Core.Path.{_≡_};
 ghost use mathlib.Core.Bool.{true};
-ghost use mathlib.Core.List.{_∷_, [], _++_};
+ghost use mathlib.Core.List.{_∷_, []};
 ghost use Prim.Native.Nat.{_+_, _≤_, _<_};
-ghost use lib.ListN.{length, take, drop};
-ghost use Rattle.text.specs.Bytes.{Bytes, ascii, code};
+ghost use lib.ListN.{length, drop};
+ghost use Rattle.text.specs.Bytes.{ascii, code};
 ghost use Rattle.text.specs.Reader.{taken};
-ghost use Rattle.output.specs.Put.{Puts, Sofar};
+ghost use Rattle.output.specs.Put.{Puts};
 ghost use Rattle.text.specs.Decimal.{decimal};
 ghost use Rattle.json.specs.Compact.{hexDigit, spelled, spelledAll, quoted};
 ghost use Rattle.json_write.specs.Pieces.{coded, bare, BareFor, runAt};
@@ -130,19 +131,6 @@ fn has_run(room: usize, s: &[u8], at: usize) -> bool
         return false;
     }
     are_bare(s, at)
-}
-
-// Sixteen bytes, after what stands before `to`. There is room: no early way out, so they are copied as a vector.
-fn copy_sixteen(out: &mut [u8], to: usize, s: &[u8], at: usize)
-    requires { ⌜ to + 16 ≤ length (now out) ⌝ }
-    requires { ⌜ at + 16 ≤ length (now s) ⌝ }
-    ensures { λ _. ⌜ ((room x : Bytes) → Sofar room x to (now (out .entry)) → Sofar room (x ++ take 16 (drop at (now (s .entry)))) (to + 16) (now (out .exit))) ⌝ }
-{
-    let mut k = 0;
-    while k < 16 {
-        out[to + k] = s[at + k];
-        k += 1;
-    }
 }
 
 // The bytes from `at` on, up to the first that does not stand for itself.
