@@ -64,13 +64,22 @@ copy-from-requires : tie.Need-copy-from-requires Inv-loop μ-loop
 copy-from-requires c κs = c .before .before .before .loop .inv .within
 
 add-result : tie.Need-add-result Inv-loop μ-loop
-add-result c = omega (arith, copied-then (now (c .before .before .before .before .before .before .before .before .before .before .args .s)) (c .before .before .before .before .before .before .before .before .before .before .args .at) (c .before .before .before .before .before .before .loop .inv) (c .before .before .copy-from .ensures) .so .fits, c .before .before .before .before .before .before .before .before .before .before .good .0 .0)
+add-result c =
+    let args = c .before .before .before .before .before .before .before .before .before .before .args in
+    let all = copied-then (now (args .s)) (args .at) (c .before .before .before .before .before .before .loop .inv) (c .before .before .copy-from .ensures) in
+    omega (arith, all .so .fits, c .before .before .before .before .before .before .before .before .before .before .good .0 .0)
 
 same-length : tie.Need-same-length Inv-loop μ-loop
-same-length c = copied-then (now (c .before .before .before .before .before .before .before .before .before .before .args .s)) (c .before .before .before .before .before .before .before .before .before .before .args .at) (c .before .before .before .before .before .before .loop .inv) (c .before .before .copy-from .ensures) .so .same
+same-length c =
+    let args = c .before .before .before .before .before .before .before .before .before .before .args in
+    let all = copied-then (now (args .s)) (args .at) (c .before .before .before .before .before .before .loop .inv) (c .before .before .copy-from .ensures) in
+    all .so .same
 
 returns-2 : tie.Need-returns-2 Inv-loop μ-loop
-returns-2 c = copied-held _ _ (c .before .before .before .before .before .before .before .if1 .left) (copied-then (now (c .before .before .before .before .before .before .before .before .before .before .args .s)) (c .before .before .before .before .before .before .before .before .before .before .args .at) (c .before .before .before .before .before .before .loop .inv) (c .before .before .copy-from .ensures))
+returns-2 c =
+    let args = c .before .before .before .before .before .before .before .before .before .before .args in
+    let all = copied-then (now (args .s)) (args .at) (c .before .before .before .before .before .before .loop .inv) (c .before .before .copy-from .ensures) in
+    copied-held _ _ (c .before .before .before .before .before .before .before .if1 .left) all
 
 pub copy-bare-spec : {M : Type 1} → statement M
 copy-bare-spec =
