@@ -10,13 +10,13 @@ use text::look;
 ghost use mathlib.Core.Path.{_≡_};
 ghost use mathlib.Core.Bool.{true};
 ghost use mathlib.Core.Option.{Option, some};
-ghost use Prim.Native.Nat.{_≤_, _<_};
-ghost use lib.ListN.{length, drop};
-ghost use Rattle.text.specs.Bytes.{between};
+ghost use Prim.Native.Nat.{ℕ, _+_, _≤_, _<_};
+ghost use lib.ListN.{length, take, drop, getD};
+ghost use Rattle.text.specs.Bytes.{Bytes, between};
 ghost use Rattle.text.specs.Choice.{is-some};
 ghost use Rattle.json_strings.specs.Spelled.{spelled, pairOf, letterOf, LetterIn, leadOf, restOf, left, byteOf, ByteIn, spells, agree, textAt};
-ghost use mathlib.Core.List.{[]};
-ghost use Rattle.output.specs.Put.{Puts};
+ghost use mathlib.Core.List.{[], _++_};
+ghost use Rattle.output.specs.Put.{Puts, Sofar};
 ghost use Rattle.json_strings.specs.Bare.{BareByte, Copied};
 
 // A character of a string: a byte as it stands there, or a code point; the end; or a surrogate alone (or no string).
@@ -308,27 +308,14 @@ pub fn same_text(s: &[u8], a: usize, b: usize) -> bool
 fn is_bare(b: u16) -> bool
     ensures { λ r. ⌜ BareByte b r ⌝ }
 {
-    // Most bytes are small letters.
-    if b > b'\\' as u16 {
-        return b < 256;
-    }
-    if b < 32 {
-        return false;
-    }
-    if b == b'"' as u16 {
-        return false;
-    }
-    b != b'\\' as u16
+    !((b == b'"' as u16) | (b == b'\\' as u16) | (b < 32) | (b > 255))
 }
 
-// The bytes from a place on that stand for themselves, copied while there is room: how many. None where bytes are held, which come first.
-fn copy_bare<'a, 'b>(out: &'a mut [u8], s: &'b [u8], at: usize, hold: u32) -> usize
+// The bytes from a place on that stand for themselves, copied while there is room: how many. Byte by byte.
+fn copy_from(out: &mut [u8], s: &[u8], at: usize) -> usize
     requires { ⌜ at ≤ length (now s) ⌝ }
-    ensures { λ r. ⌜ Copied (now (s .entry)) at hold (now (out .entry)) r (now (out .exit)) ⌝ }
+    ensures { λ r. ⌜ Copied (now (s .entry)) at 0 (now (out .entry)) r (now (out .exit)) ⌝ }
 {
-    if hold != 0 {
-        return 0;
-    }
     let mut n = 0;
     loop {
         if n >= out.len() {
@@ -341,6 +328,66 @@ fn copy_bare<'a, 'b>(out: &'a mut [u8], s: &'b [u8], at: usize, hold: u32) -> us
         out[n] = b as u8;
         n += 1;
     }
+}
+
+// Whether sixteen bytes all stand for themselves. No early way out: one test of a vector.
+fn are_bare(s: &[u8], at: usize) -> bool
+    requires { ⌜ at + 16 ≤ length (now s) ⌝ }
+    ensures { λ r. ⌜ (r ≡ true → (k : ℕ) → k < 16 → BareByte (getD (now (s .entry)) (at + k) 0) true) ⌝ }
+{
+    let mut all = true;
+    let mut k = 0;
+    while k < 16 {
+        all = all & is_bare(s[at + k] as u16);
+        k += 1;
+    }
+    all
+}
+
+// Whether sixteen bytes stand there that all stand for themselves, and there is room for them.
+fn has_run(room: usize, s: &[u8], at: usize) -> bool
+    ensures { λ r. ⌜ (r ≡ true → (16 ≤ room) × (at + 16 ≤ length (now (s .entry))) × ((k : ℕ) → k < 16 → BareByte (getD (now (s .entry)) (at + k) 0) true)) ⌝ }
+{
+    if room < 16 {
+        return false;
+    }
+    if s.len() <= at {
+        return false;
+    }
+    if s.len() - at < 16 {
+        return false;
+    }
+    are_bare(s, at)
+}
+
+// Sixteen bytes, after what stands before `to`. There is room: no early way out, so they are copied as a vector.
+pub fn copy_sixteen(out: &mut [u8], to: usize, s: &[u8], at: usize)
+    requires { ⌜ to + 16 ≤ length (now out) ⌝ }
+    requires { ⌜ at + 16 ≤ length (now s) ⌝ }
+    ensures { λ _. ⌜ ((room x : Bytes) → Sofar room x to (now (out .entry)) → Sofar room (x ++ take 16 (drop at (now (s .entry)))) (to + 16) (now (out .exit))) ⌝ }
+{
+    let mut k = 0;
+    while k < 16 {
+        out[to + k] = s[at + k];
+        k += 1;
+    }
+}
+
+// The bytes from a place on that stand for themselves, copied while there is room: how many. None where bytes are held, which come first.
+fn copy_bare<'a, 'b>(out: &'a mut [u8], s: &'b [u8], at: usize, hold: u32) -> usize
+    requires { ⌜ at ≤ length (now s) ⌝ }
+    ensures { λ r. ⌜ Copied (now (s .entry)) at hold (now (out .entry)) r (now (out .exit)) ⌝ }
+{
+    if hold != 0 {
+        return 0;
+    }
+    let mut n = 0;
+    while has_run(out.len() - n, s, at + n) {
+        copy_sixteen(out, n, s, at + n);
+        n += 16;
+    }
+    let m = copy_from(&mut out[n..], s, at + n);
+    n + m
 }
 
 // The decoded bytes of the string whose first quote stands just before a place. Nothing is written where it stands for nothing: a surrogate

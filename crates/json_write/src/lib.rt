@@ -1,20 +1,22 @@
 // Compact JSON: strings, numbers, names and members, each written to a lent part of the output. (`output::put_text` writes true, false and null.)
 use json_strings::Byte;
+use json_strings::copy_sixteen;
 use json_strings::is_paired;
 use json_strings::next_byte;
 use output::Wrote;
 use output::put_byte;
 use output::put_text;
 ghost use mathlib.Core.Path.{_≡_};
+ghost use mathlib.Core.Bool.{true};
 ghost use mathlib.Core.List.{_∷_, []};
-ghost use Prim.Native.Nat.{_<_};
-ghost use lib.ListN.{drop};
+ghost use Prim.Native.Nat.{_+_, _≤_, _<_};
+ghost use lib.ListN.{length, drop};
 ghost use Rattle.text.specs.Bytes.{ascii, code};
 ghost use Rattle.text.specs.Reader.{taken};
 ghost use Rattle.output.specs.Put.{Puts};
 ghost use Rattle.text.specs.Decimal.{decimal};
 ghost use Rattle.json.specs.Compact.{hexDigit, spelled, spelledAll, quoted};
-ghost use Rattle.json_write.specs.Pieces.{coded, bare, runAt};
+ghost use Rattle.json_write.specs.Pieces.{coded, bare, BareFor, runAt};
 ghost use Rattle.json_strings.specs.Spelled.{textAt};
 
 fn hex_digit(d: u8) -> u8
@@ -80,8 +82,8 @@ pub fn put_byte_spelled(out: &mut [u8], c: u8) -> Wrote
     put_escaped(out, c)
 }
 
-// The bytes from `at` on, up to the first that does not stand for itself.
-pub fn put_bare(out: &mut [u8], s: &[u8], at: usize) -> Wrote
+// The bytes from `at` on, up to the first that does not stand for itself: byte by byte.
+fn bare_from(out: &mut [u8], s: &[u8], at: usize) -> Wrote
     ensures { λ r. ⌜ Puts (now (out .entry)) (taken bare (drop at (now (s .entry)))) r (now (out .exit)) ⌝ }
 {
     let mut k = 0;
@@ -99,6 +101,54 @@ pub fn put_bare(out: &mut [u8], s: &[u8], at: usize) -> Wrote
         i += 1;
     }
     Wrote::Bytes(k)
+}
+
+// Whether sixteen bytes all stand for themselves. No early way out: one test of a vector.
+fn are_bare(s: &[u8], at: usize) -> bool
+    requires { ⌜ at + 16 ≤ length (now s) ⌝ }
+    ensures { λ r. ⌜ (r ≡ true → BareFor (now (s .entry)) at 16) ⌝ }
+{
+    let mut all = true;
+    let mut k = 0;
+    while k < 16 {
+        all = all & is_bare(s[at + k]);
+        k += 1;
+    }
+    all
+}
+
+// Whether sixteen bytes stand there that all stand for themselves, and there is room for them.
+fn has_run(room: usize, s: &[u8], at: usize) -> bool
+    ensures { λ r. ⌜ (r ≡ true → (16 ≤ room) × (at + 16 ≤ length (now (s .entry))) × BareFor (now (s .entry)) at 16) ⌝ }
+{
+    if room < 16 {
+        return false;
+    }
+    if s.len() <= at {
+        return false;
+    }
+    if s.len() - at < 16 {
+        return false;
+    }
+    are_bare(s, at)
+}
+
+// The bytes from `at` on, up to the first that does not stand for itself.
+pub fn put_bare(out: &mut [u8], s: &[u8], at: usize) -> Wrote
+    ensures { λ r. ⌜ Puts (now (out .entry)) (taken bare (drop at (now (s .entry)))) r (now (out .exit)) ⌝ }
+{
+    let mut k = 0;
+    let mut i = at;
+    while has_run(out.len() - k, s, i) {
+        copy_sixteen(out, k, s, i);
+        k += 16;
+        i += 16;
+    }
+    let Wrote::Bytes(n) = bare_from(&mut out[k..], s, i) else {
+        return Wrote::Full;
+    };
+    let kn = k + n;
+    Wrote::Bytes(kn)
 }
 
 // A string without its quotes.

@@ -1,70 +1,85 @@
 use borrow.Author.Needs.{needs}
+use native.Mathlib.Nat.{le-refl}
 use native.Mathlib.Omega.{arith}
 use denote.Ref.{now}
-use mathlib.Core.Path.{_≡_}
 use Prim.Native.Nat.{_-_}
 use lib.ListN.{length}
+use Rattle.output.proofs.Laws.{within}
 use Rattle.json_strings.specs.Bare.{Copied}
-use Rattle.json_strings.proofs.Bare.{bare-taken, copied-none, copied-one}
+use Rattle.json_strings.proofs.Bare.{copied-none, copied-run, copied-then, copied-held}
 use Rattle.json_strings.proofs.copy_bare.Statement.{statement}
 use Rattle.json_strings.proofs.copy_bare.Tie as tie
 
 abbrev Inv-loop : tie.InvT-loop
-Inv-loop out₀ s at hold n₀ out n = (hold ≡ 0) × Copied s at hold out₀ n out
+Inv-loop out₀ s at hold n₀ out n = Copied s at 0 out₀ n out
 
 abbrev μ-loop : tie.MeasureT-loop
-μ-loop out₀ s at hold n₀ out n = length out₀ - n
+μ-loop out₀ s at hold n₀ out n = length s - n
 
 returns : tie.Need-returns Inv-loop μ-loop
-returns c =
-    let args = c .before .before .before .args in
-    copied-none (now (args .s)) (args .at) (args .hold) _ (search needs)
+returns c = copied-none (now (c .before .before .before .args .s)) (c .before .before .before .args .at) (c .before .before .before .args .hold) _ (search needs)
 
 loop-holds : tie.Need-loop-holds Inv-loop μ-loop
-loop-holds c =
-    let args = c .before .before .before .args in
-    (c .if1 .left, copied-none (now (args .s)) (args .at) (args .hold) _ (search needs))
+loop-holds c = copied-none (now (c .before .before .before .args .s)) (c .before .before .before .args .at) 0 _ (search needs)
 
-same-length : tie.Need-same-length Inv-loop μ-loop
-same-length c = c .before .loop .inv .1 .so .same
+sub-has-run : tie.Need-sub-has-run Inv-loop μ-loop
+sub-has-run c = within (c .loop .inv .so)
 
-returns-2 : tie.Need-returns-2 Inv-loop μ-loop
-returns-2 c = c .before .loop .inv .1
+add-has-run : tie.Need-add-has-run Inv-loop μ-loop
+add-has-run c = omega (arith, c .loop .inv .within)
 
-add-look : tie.Need-add-look Inv-loop μ-loop
-add-look c = omega (arith, c .before .loop .inv .1 .within)
+has-run-requires : tie.Need-has-run-requires Inv-loop μ-loop
+has-run-requires c κs = search needs
 
-look-requires : tie.Need-look-requires Inv-loop μ-loop
-look-requires c κs = c .before .loop .inv .1 .within
+add-copy-sixteen : tie.Need-add-copy-sixteen Inv-loop μ-loop
+add-copy-sixteen c = omega (arith, c .before .before .before .loop .inv .within)
 
-is-bare-requires : tie.Need-is-bare-requires Inv-loop μ-loop
-is-bare-requires c κs = tt
-
-same-length-2 : tie.Need-same-length-2 Inv-loop μ-loop
-same-length-2 c = c .before .before .before .before .loop .inv .1 .so .same
-
-returns-3 : tie.Need-returns-3 Inv-loop μ-loop
-returns-3 c = c .before .before .before .before .loop .inv .1
-
-cast-out : tie.Need-cast-out Inv-loop μ-loop
-cast-out c = omega (arith, bare-taken (c .before .before .look .result) (c .before .is-bare .result) (c .before .is-bare .ensures) (c .if3 .left) .1)
-
-slice-write-out : tie.Need-slice-write-out Inv-loop μ-loop
-slice-write-out c = omega (arith, c .before .before .before .if2 .left)
+copy-sixteen-requires : tie.Need-copy-sixteen-requires Inv-loop μ-loop
+copy-sixteen-requires c κs = let run = c .before .before .has-run .ensures (c .before .if2 .taken) in (omega (arith, run .0), run .1)
 
 add-n : tie.Need-add-n Inv-loop μ-loop
-add-n c = omega (arith, c .before .before .before .if2 .left)
+add-n c = omega (arith, c .before .before .before .before .before .has-run .ensures (c .before .before .before .before .if2 .taken) .0, c .before .before .before .before .before .before .before .before .before .before .good .0 .0)
 
 loop-less : tie.Need-loop-less Inv-loop μ-loop
-loop-less c = omega (arith, c .before .before .before .if2 .left, c .before .before .before .before .loop .inv .1 .so .same)
+loop-less c = omega (arith, c .before .before .before .before .before .has-run .ensures (c .before .before .before .before .if2 .taken) .1)
 
 loop-again : tie.Need-loop-again Inv-loop μ-loop
 loop-again c =
-    let args = c .before .before .before .before .before .before .before .before .args in
-    let inv = c .before .before .before .before .loop .inv in
-    let look = c .before .before .look in
-    let w = bare-taken (look .result) (c .before .is-bare .result) (c .before .is-bare .ensures) (c .if3 .left) in
-    (inv .0, copied-one (now (args .s)) (args .at) (args .hold) (inv .1) (inv .0) (look .result) (look .ensures .0) w (omega (arith, w .1, look .ensures .1)) (c .before .before .before .if2 .left))
+    let run = c .before .before .before .before .before .has-run .ensures (c .before .before .before .before .if2 .taken) in
+    copied-run (now (c .before .before .before .before .before .before .before .before .before .before .args .s)) (c .before .before .before .before .before .before .before .before .before .before .args .at) (c .before .before .before .before .before .before .loop .inv) 16 (run .1) (run .2) (c .before .before .copy-sixteen .ensures)
+
+sub-copy-from : tie.Need-sub-copy-from Inv-loop μ-loop
+sub-copy-from c = within (c .before .before .loop .inv .so)
+
+part-copy-from-start : tie.Need-part-copy-from-start Inv-loop μ-loop
+part-copy-from-start c = within (c .before .before .loop .inv .so)
+
+part-copy-from-end : tie.Need-part-copy-from-end Inv-loop μ-loop
+part-copy-from-end c = le-refl _
+
+add-copy-from : tie.Need-add-copy-from Inv-loop μ-loop
+add-copy-from c = omega (arith, c .before .before .before .loop .inv .within)
+
+copy-from-requires : tie.Need-copy-from-requires Inv-loop μ-loop
+copy-from-requires c κs = c .before .before .before .loop .inv .within
+
+add-result : tie.Need-add-result Inv-loop μ-loop
+add-result c =
+    let args = c .before .before .before .before .before .before .before .before .before .before .args in
+    let all = copied-then (now (args .s)) (args .at) (c .before .before .before .before .before .before .loop .inv) (c .before .before .copy-from .ensures) in
+    omega (arith, all .so .fits, c .before .before .before .before .before .before .before .before .before .before .good .0 .0)
+
+same-length : tie.Need-same-length Inv-loop μ-loop
+same-length c =
+    let args = c .before .before .before .before .before .before .before .before .before .before .args in
+    let all = copied-then (now (args .s)) (args .at) (c .before .before .before .before .before .before .loop .inv) (c .before .before .copy-from .ensures) in
+    all .so .same
+
+returns-2 : tie.Need-returns-2 Inv-loop μ-loop
+returns-2 c =
+    let args = c .before .before .before .before .before .before .before .before .before .before .args in
+    let all = copied-then (now (args .s)) (args .at) (c .before .before .before .before .before .before .loop .inv) (c .before .before .copy-from .ensures) in
+    copied-held _ _ (c .before .before .before .before .before .before .before .if1 .left) all
 
 pub copy-bare-spec : {M : Type 1} → statement M
 copy-bare-spec =
@@ -74,15 +89,19 @@ copy-bare-spec =
     μ-loop
     returns
     loop-holds
-    same-length
-    returns-2
-    add-look
-    look-requires
-    is-bare-requires
-    same-length-2
-    returns-3
-    cast-out
-    slice-write-out
+    sub-has-run
+    add-has-run
+    has-run-requires
+    add-copy-sixteen
+    copy-sixteen-requires
     add-n
     loop-less
-    loop-again)
+    loop-again
+    sub-copy-from
+    part-copy-from-start
+    part-copy-from-end
+    add-copy-from
+    copy-from-requires
+    add-result
+    same-length
+    returns-2)

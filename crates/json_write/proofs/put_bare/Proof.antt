@@ -1,15 +1,16 @@
 use Prim.Native.Nat.{_-_}
+use native.Mathlib.Nat.{le-refl}
 use native.Mathlib.Omega.{arith}
-use mathlib.Core.Path.{sym, _∙_}
+use mathlib.Core.Path.{refl, sym}
+use mathlib.Core.List.{[], append-nil}
 use borrow.Author.Needs.{needs}
-use borrow.Author.Tests.{not-true, not-false}
 use denote.Ref.{now}
 use lib.ListN.{length, drop}
 use Rattle.text.specs.Reader.{taken}
 use Rattle.output.specs.Put.{Rest}
-use Rattle.output.proofs.Rests.{Going, going, rest-all, rest-as, rest-byte, rest-no-byte, rest-done, rest-same}
+use Rattle.output.proofs.Rests.{Going, going, rest-all, rest-as, rest-next, rest-stop, rest-done, rest-in, rest-fit, rest-same}
 use Rattle.json_write.specs.Pieces.{bare}
-use Rattle.json_write.proofs.Spelling.{bare-on, bare-stops, bare-out}
+use Rattle.json_write.proofs.Sixteen.{rest-copied}
 use Rattle.json_write.proofs.put_bare.Statement.{statement}
 use Rattle.json_write.proofs.put_bare.Tie as tie
 
@@ -19,51 +20,68 @@ Inv-loop out₀ s at k₀ i₀ out k i = Rest out₀ (taken bare (drop at s)) (t
 abbrev μ-loop : tie.MeasureT-loop
 μ-loop out₀ s at k₀ i₀ out k i = length s - i
 
--- the byte stands for itself
-abbrev onward : tie.Else1 Inv-loop μ-loop → Going
-onward c = going (rest-as (bare-on (now (c .before .before .before .before .before .before .before .args .s)) (c .before .before .before .before .loop .i) (c .before .before .before .loop-test .taken) (sym (c .before .is-bare .ensures) ∙ not-false _ (c .if1 .left))) (c .before .before .before .before .loop .inv))
+-- after the last bytes
+abbrev wrote : tie.After-known-told Inv-loop μ-loop → Going
+wrote c = going (rest-next [] (rest-as (sym (append-nil _)) (c .before .before .before .before .before .before .before .before .before .loop .inv)) (c .before .before .before .before .before .bare-from .ensures) (c .before .n .given .1))
 
 loop-holds : tie.Need-loop-holds Inv-loop μ-loop
 loop-holds c = rest-all _ _
 
-shared-slice-read-c : tie.Need-shared-slice-read-c Inv-loop μ-loop
-shared-slice-read-c c = search needs
+sub-has-run : tie.Need-sub-has-run Inv-loop μ-loop
+sub-has-run c = omega (arith, rest-in (c .loop .inv))
 
-is-bare-requires : tie.Need-is-bare-requires Inv-loop μ-loop
-is-bare-requires c κs = search needs
+has-run-requires : tie.Need-has-run-requires Inv-loop μ-loop
+has-run-requires c κs = search needs
 
-same-length : tie.Need-same-length Inv-loop μ-loop
-same-length c = rest-same (c .before .before .before .before .loop .inv)
-
-returns : tie.Need-returns Inv-loop μ-loop
-returns c = rest-done (bare-stops (now (c .before .before .before .before .before .before .before .args .s)) (c .before .before .before .before .loop .i) (c .before .before .before .loop-test .taken) (sym (c .before .is-bare .ensures) ∙ not-true _ (c .if1 .taken))) (c .before .before .before .before .loop .inv)
-
-same-length-2 : tie.Need-same-length-2 Inv-loop μ-loop
-same-length-2 c = rest-same (c .before .before .before .before .before .loop .inv)
-
-returns-2 : tie.Need-returns-2 Inv-loop μ-loop
-returns-2 c = rest-no-byte (onward (c .before) .left) (c .if2 .taken)
-
-slice-write-out : tie.Need-slice-write-out Inv-loop μ-loop
-slice-write-out c = search needs
+copy-sixteen-requires : tie.Need-copy-sixteen-requires Inv-loop μ-loop
+copy-sixteen-requires c κs = let run = c .before .before .has-run .ensures (c .before .if1 .taken) in (omega (arith, run .0), run .1)
 
 add-k : tie.Need-add-k Inv-loop μ-loop
-add-k c = omega (arith, c .if2 .left)
+add-k c = omega (arith, c .before .before .before .before .before .has-run .ensures (c .before .before .before .before .if1 .taken) .0, c .before .before .before .before .before .before .before .before .before .good .0 .0)
 
 add-i : tie.Need-add-i Inv-loop μ-loop
-add-i c = search needs
+add-i c = omega (arith, c .before .before .before .before .before .has-run .ensures (c .before .before .before .before .if1 .taken) .1)
 
 loop-less : tie.Need-loop-less Inv-loop μ-loop
-loop-less c = search needs
+loop-less c = omega (arith, c .before .before .before .before .before .has-run .ensures (c .before .before .before .before .if1 .taken) .1)
 
 loop-again : tie.Need-loop-again Inv-loop μ-loop
-loop-again c = rest-byte (onward (c .before) .left) (c .if2 .left)
+loop-again c =
+    let run = c .before .before .before .before .before .has-run .ensures (c .before .before .before .before .if1 .taken) in
+    rest-copied (now (c .before .before .before .before .before .before .before .before .before .args .s)) (c .before .before .before .before .before .before .loop .i) 16 (run .2) (c .before .before .before .before .before .before .loop .inv) (c .before .before .copy-sixteen .ensures)
 
-same-length-3 : tie.Need-same-length-3 Inv-loop μ-loop
-same-length-3 c = rest-same (c .before .loop .inv)
+sub-bare-from : tie.Need-sub-bare-from Inv-loop μ-loop
+sub-bare-from c = rest-in (c .before .before .loop .inv)
 
-returns-3 : tie.Need-returns-3 Inv-loop μ-loop
-returns-3 c = rest-done (bare-out (now (c .before .before .before .before .args .s)) (c .before .loop .i) (c .loop-test .left)) (c .before .loop .inv)
+part-bare-from-start : tie.Need-part-bare-from-start Inv-loop μ-loop
+part-bare-from-start c = rest-in (c .before .before .loop .inv)
+
+part-bare-from-end : tie.Need-part-bare-from-end Inv-loop μ-loop
+part-bare-from-end c = le-refl _
+
+bare-from-requires : tie.Need-bare-from-requires Inv-loop μ-loop
+bare-from-requires c κs = search needs
+
+enum-known-n : tie.Need-enum-known-n Inv-loop μ-loop
+enum-known-n c = c .match .keys1
+
+enum-told : tie.Need-enum-told Inv-loop μ-loop
+enum-told c = c .match .keys2
+
+same-length : tie.Need-same-length Inv-loop μ-loop
+same-length c = search needs
+
+returns : tie.Need-returns Inv-loop μ-loop
+returns c = rest-stop [] (rest-as (sym (append-nil _)) (c .before .before .before .before .before .before .before .before .loop .inv)) (c .before .before .before .before .bare-from .ensures) (c .enum-told .given .1)
+
+add-kn : tie.Need-add-kn Inv-loop μ-loop
+add-kn c = rest-fit (wrote c .left) (c .before .before .before .before .before .before .before .before .before .before .before .before .good .0 .0)
+
+same-length-2 : tie.Need-same-length-2 Inv-loop μ-loop
+same-length-2 c = rest-same (wrote c .left)
+
+returns-2 : tie.Need-returns-2 Inv-loop μ-loop
+returns-2 c = rest-done refl (wrote c .left)
 
 pub put-bare-spec : {M : Type 1} → statement M
 put-bare-spec =
@@ -72,16 +90,21 @@ put-bare-spec =
     Inv-loop
     μ-loop
     loop-holds
-    shared-slice-read-c
-    is-bare-requires
-    same-length
-    returns
-    same-length-2
-    returns-2
-    slice-write-out
+    sub-has-run
+    has-run-requires
+    copy-sixteen-requires
     add-k
     add-i
     loop-less
     loop-again
-    same-length-3
-    returns-3)
+    sub-bare-from
+    part-bare-from-start
+    part-bare-from-end
+    bare-from-requires
+    enum-known-n
+    enum-told
+    same-length
+    returns
+    add-kn
+    same-length-2
+    returns-2)
