@@ -6,7 +6,7 @@ use native.Mathlib.Omega.{arith}
 use lib.ListN.{length, take, drop}
 use Rattle.text.specs.Bytes.{Bytes}
 use Rattle.text.specs.Places.{byteAt}
-use Rattle.text.specs.Reader.{Got, got, bad, bind, loop}
+use Rattle.text.specs.Reader.{got, bind, loop}
 use Rattle.text.proofs.Fine.{under-inv, got-rest, got-what}
 use Rattle.line.specs.Grammar.{Param, param, valueTurn, paramTurn}
 use Rattle.line.proofs.Shapes.{added}
@@ -16,15 +16,11 @@ use Rattle.line_scan.specs.declared.Param.the-variants.{At as Param-At, Bad as 
 use Rattle.line_scan.specs.declared.Param.{Param as Found}
 use Rattle.line_scan.specs.declared.Value.the-variants.{At as Value-At, Bad as Value-Bad}
 use Rattle.line_scan.specs.declared.Value.{Value}
-use Rattle.line_scan.specs.Places.{Fails, ValueRead, ValueAt, ParamRead, ParamAt}
+use Rattle.line_scan.specs.Places.{ValueRead, ValueAt, ParamRead, ParamAt}
+use Rattle.line_scan.proofs.Reading.{fails-not}
 use Rattle.line_scan.proofs.ValueTurns.{at-comma, at-other, values-start, values-bad}
 use Rattle.line_scan.proofs.ParamTurns.{at-colon, at-semicolon, params-start, params-off, params-bad}
 use Rattle.line_params.specs.Scan.{ParamNext, ParamEnd, ValueNext, ValueLast}
-
--- a reader that fails gives nothing
-fails-not : {A : Type 0} (x : Got A) (a : A) (t : Bytes) → Fails x → x ≡ got a t → ⊥
-fails-not (got b u) a t h e = h
-fails-not (bad u) a t h e = let z : _≡_ {A = ℕ} 0 1 = cc in omega arith
 
 -- ---- parameters
 

@@ -71,7 +71,7 @@ module _ (s : Bytes) (at e c : ℕ) (is-end : e ≡ at + length (taken isName (d
   unfolding one
   no-equals n = fails-as (at-name ∙ ap (λ w. bind w (λ e t. valued name t)) (on-no (is 61) s e c looks got bad (ne-eqb c 61 n))) tt
 
-  at-equals : c ≡ 61 → parameter (drop at s) ≡ valued name (drop (e + 1) s)
+  pub at-equals : c ≡ 61 → parameter (drop at s) ≡ valued name (drop (e + 1) s)
   unfolding one
   at-equals h = at-name ∙ ap (λ w. bind w (λ e t. valued name t)) (on-yes (is 61) s e c looks got bad (eq-eqb c 61 h))
 

@@ -8,6 +8,7 @@ use lib.ListN.{length, take, drop, length-drop}
 use lib.Seq.{drop-drop}
 use Rattle.text.specs.Bytes.{Bytes}
 use Rattle.text.specs.Reader.{Got, got, bad, bind, under, Step, more, last, after, turns, loop, taken, past, run-of}
+use Rattle.text.proofs.Readers.{not-bad, under-inv}
 use Rattle.line_class.proofs.Runs.{taken-part, past-part, taken-within}
 use Rattle.line_scan.specs.Places.{Fails}
 
@@ -19,6 +20,11 @@ fails-bind (bad t) k h = tt
 
 pub fails-as : {A : Type 0} {x y : Got A} → x ≡ y → Fails y → Fails x
 fails-as {x = x} e h = subst Fails (sym e) h
+
+-- a reader that fails gives nothing
+pub fails-not : {A : Type 0} (x : Got A) (a : A) (t : Bytes) → Fails x → x ≡ got a t → ⊥
+fails-not (got b u) a t h e = h
+fails-not (bad u) a t h e = not-bad e
 
 fails-under : {A B : Type 0} (f : A → B) (x : Got A) → Fails x → Fails (under f x)
 fails-under f (got a t) h = absurd h
@@ -111,6 +117,13 @@ module _ {A : Type 0} {f : Bytes → Got (Step (List A))} {s : Bytes} {at i : �
   reading-last vs t e =
       let w = some-left f s i (r .left) (r .to) (r .enough) in
       r .is ∙ ap (λ n. under (λ vs. pre ++ vs) (turns f n (drop i s))) (w .1) ∙ ap (under (λ vs. pre ++ vs)) (turn-last f s (w .0) vs (drop i s) t e)
+
+  -- whatever is read in all begins with pre, and the rest is read in some turns from i on
+  pub reading-rest : {vs : List A} {t : Bytes} → loop f (drop at s) ≡ got vs t → (ws : List A) × (n : ℕ) × (turns f (suc n) (drop i s) ≡ got ws t) × (vs ≡ pre ++ ws)
+  reading-rest e =
+      let w = some-left f s i (r .left) (r .to) (r .enough) in
+      let q = under-inv (λ ws. pre ++ ws) (turns f (suc (w .0)) (drop i s)) (sym (r .is ∙ ap (λ n. under (λ vs. pre ++ vs) (turns f n (drop i s))) (w .1)) ∙ e) in
+      (q .0, w .0, q .1, sym (q .2))
 
   pub reading-bad : Fails (f (drop i s)) → Fails (loop f (drop at s))
   reading-bad h =

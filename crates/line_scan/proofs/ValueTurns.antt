@@ -71,7 +71,7 @@ module _ (s : Bytes) (i a b n c : ℕ) (v : ValueRead s i a b n) (looks : c ≡ 
       ap (λ w. bind w onward) (v .is)
       ∙ on-no (is 44) s n c looks (λ c t. got (more (λ vs. value ∷ vs)) t) (got (last (value ∷ []))) (ne-eqb c 44 h)
 
-no-value : (s : Bytes) (i : ℕ) → Fails (paramValue (drop i s)) → Fails (valueTurn (drop i s))
+pub no-value : (s : Bytes) (i : ℕ) → Fails (paramValue (drop i s)) → Fails (valueTurn (drop i s))
 unfolding valueTurn
 no-value s i h = fails-bind (paramValue (drop i s)) onward h
 

@@ -128,16 +128,18 @@ module _ (s : Bytes) (e : ℕ) (is-end : e ≡ 0 + length (taken isName (drop 0 
         let z : e - 0 ≡ e = omega arith in
         ap (λ w. bind w begun) (word-read s 0 e is-end some-word) ∙ ap (λ n. begun (take n s) (drop e s)) z
 
-    pub no-group : (r : Parsed) → (c ≡ 46 → ⊥) → RestAt s 0 0 e r → LineGives s (readLine s) r
+    -- the line is read from after this word on
+    pub ungrouped : (c ≡ 46 → ⊥) → readLine s ≡ ofGot (afterName (take 0 s) (take (e - 0) (drop 0 s)) (drop e s))
     unfolding readLine
-    no-group r n h =
+    ungrouped n =
         let z : e - 0 ≡ e = omega arith in
-        gives-as s r
-        (ap ofGot
+        ap ofGot
         (first-word
         ∙ on-no (is 46) s e c looks (λ c t. grouped (take e s) t) (afterName [] (take e s)) (ne-eqb c 46 n)
-        ∙ ap (λ m. afterName [] (take m s) (drop e s)) (sym z)))
-        h
+        ∙ ap (λ m. afterName [] (take m s) (drop e s)) (sym z))
+
+    pub no-group : (r : Parsed) → (c ≡ 46 → ⊥) → RestAt s 0 0 e r → LineGives s (readLine s) r
+    no-group r n h = gives-as s r (ungrouped n) h
 
     module _ (b : ℕ) (is-end₂ : b ≡ (e + 1) + length (taken isName (drop (e + 1) s))) (dot : c ≡ 46) where
       after-dot : lineReader s ≡ grouped (take e s) (drop (e + 1) s)
@@ -147,7 +149,10 @@ module _ (s : Bytes) (e : ℕ) (is-end : e ≡ 0 + length (taken isName (drop 0 
       unfolding readLine
       no-name h = ap ofGot after-dot ∙ of-bad (grouped (take e s) (drop (e + 1) s)) (fails-bind (word (drop (e + 1) s)) (λ n t. afterName (take e s) n t) (word-none s (e + 1) b is-end₂ h))
 
-      pub with-group : (r : Parsed) → (b ≡ e + 1 → ⊥) → RestAt s e (e + 1) b r → LineGives s (readLine s) r
+      -- the line is read from after the name on
+      pub after-group : (b ≡ e + 1 → ⊥) → readLine s ≡ ofGot (afterName (take e s) (take (b - (e + 1)) (drop (e + 1) s)) (drop b s))
       unfolding readLine
-      with-group r n h =
-          gives-as s r (ap ofGot (after-dot ∙ ap (λ w. bind w (λ n t. afterName (take e s) n t)) (word-read s (e + 1) b is-end₂ n))) h
+      after-group n = ap ofGot (after-dot ∙ ap (λ w. bind w (λ n t. afterName (take e s) n t)) (word-read s (e + 1) b is-end₂ n))
+
+      pub with-group : (r : Parsed) → (b ≡ e + 1 → ⊥) → RestAt s e (e + 1) b r → LineGives s (readLine s) r
+      with-group r n h = gives-as s r (after-group n) h

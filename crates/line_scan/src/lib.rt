@@ -116,7 +116,7 @@ pub fn params_at(s: &[u8], at: usize) -> Params
 }
 
 // Lines named BEGIN or END are refused wherever they stand.
-fn is_frame_name(name: &[u8]) -> bool
+pub fn is_frame_name(name: &[u8]) -> bool
     ensures { λ r. ⌜ r ≡ isFrameName (now (name .entry)) ⌝ }
 {
     if is_named(name, b"begin") {
