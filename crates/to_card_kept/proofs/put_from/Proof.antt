@@ -69,31 +69,16 @@ enum-told : tie.Need-enum-told
 enum-told c = search needs
 
 same-length : tie.Need-same-length
-same-length c =
-    let args = c .before .before .before .before .before .before .before .before .before .before .before .before .before .before .before .before .before .before .before .before .before .before .before .before .before .before .before .before .before .before .before .before .before .before .before .before .before .before .before .before .args in
-    let put-run = c .before .before .before .before .before .before .before .before .before .before .before .before .before .before .before .before .before .before .before .before .before .before .before .before .before .before .put-run in
-    let n = c .before .before .before .before .before .before .before .before .before .before .before .before .before .before .before .before .n in
-    let put-noted = c .before .before .before .before .before .before .before .before .before .before .put-noted in
-    let v = more-within (length (now (args .out))) (length (now (args .s))) 16 (put-run .ensures .0) _ _ _ _ (n .given .1) in
-    part-length (n .given .0 .0) (put-run .last .0) (put-noted .last .0) (omega (arith, v .0, put-run .ensures .1 .0)) (put-noted .ensures .1 .0) ∙ (put-run .ensures .1 .0)
+same-length c = search needs
 
 same-length-2 : tie.Need-same-length-2
-same-length-2 c =
-    let put-run = c .before .before .before .before .before .before .before .before .before .before .before .before .before .before .before .before .before .before .before .before .before .before .before .before .before .before .put-run in
-    let put-noted = c .before .before .before .before .before .before .before .before .before .before .put-noted in
-    put-noted .kept .1 .0 ∙ (put-run .kept .1 .0)
+same-length-2 c = search needs
 
 same-length-3 : tie.Need-same-length-3
-same-length-3 c =
-    let put-run = c .before .before .before .before .before .before .before .before .before .before .before .before .before .before .before .before .before .before .before .before .before .before .before .before .before .before .put-run in
-    let put-noted = c .before .before .before .before .before .before .before .before .before .before .put-noted in
-    put-noted .kept .1 .1 .0 ∙ (put-run .kept .1 .1 .0)
+same-length-3 c = search needs
 
 same-length-4 : tie.Need-same-length-4
-same-length-4 c =
-    let put-run = c .before .before .before .before .before .before .before .before .before .before .before .before .before .before .before .before .before .before .before .before .before .before .before .before .before .before .put-run in
-    let put-noted = c .before .before .before .before .before .before .before .before .before .before .put-noted in
-    put-noted .kept .1 .1 .1 .0 ∙ (put-run .kept .1 .1 .1 .0)
+same-length-4 c = search needs
 
 returns : tie.Need-returns
 returns c =
@@ -136,16 +121,16 @@ add-t48 c =
     record { fits = omega (arith, v .3, w .1, pre .0 .all .small) }
 
 same-length-5 : tie.Need-same-length-5
-same-length-5 c = c .before .before .before .before .before .before .before .before .before .before .before .put-run .kept .0
+same-length-5 c = search needs
 
 same-length-6 : tie.Need-same-length-6
-same-length-6 c = c .before .before .before .before .before .before .before .before .before .before .before .put-run .kept .1 .0
+same-length-6 c = search needs
 
 same-length-7 : tie.Need-same-length-7
-same-length-7 c = c .before .before .before .before .before .before .before .before .before .before .before .put-run .kept .1 .1 .0
+same-length-7 c = search needs
 
 same-length-8 : tie.Need-same-length-8
-same-length-8 c = c .before .before .before .before .before .before .before .before .before .before .before .put-run .kept .1 .1 .1 .0
+same-length-8 c = search needs
 
 returns-2 : tie.Need-returns-2
 returns-2 c =
@@ -160,31 +145,16 @@ returns-2 c =
     )
 
 same-length-9 : tie.Need-same-length-9
-same-length-9 c =
-    let args = c .before .before .before .before .before .before .before .before .before .before .before .before .before .before .before .before .before .before .before .before .before .before .before .before .before .before .before .before .before .before .before .before .before .before .before .before .before .before .before .before .before .args in
-    let put-run = c .before .before .before .before .before .before .before .before .before .before .before .before .before .before .before .before .before .before .before .before .before .before .before .before .before .before .before .put-run in
-    let n = c .before .before .before .before .before .before .before .before .before .before .before .before .before .before .before .before .before .n in
-    let put-noted = c .before .before .before .before .before .before .before .before .before .before .before .put-noted in
-    let v = more-within (length (now (args .out))) (length (now (args .s))) 16 (put-run .ensures .0) _ _ _ _ (n .given .1) in
-    part-length (n .given .0 .0) (put-run .last .0) (put-noted .last .0) (omega (arith, v .0, put-run .ensures .1 .0)) (put-noted .ensures .1 .0) ∙ (put-run .ensures .1 .0)
+same-length-9 c = search needs
 
 same-length-10 : tie.Need-same-length-10
-same-length-10 c =
-    let put-run = c .before .before .before .before .before .before .before .before .before .before .before .before .before .before .before .before .before .before .before .before .before .before .before .before .before .before .before .put-run in
-    let put-noted = c .before .before .before .before .before .before .before .before .before .before .before .put-noted in
-    put-noted .kept .1 .0 ∙ (put-run .kept .1 .0)
+same-length-10 c = search needs
 
 same-length-11 : tie.Need-same-length-11
-same-length-11 c =
-    let put-run = c .before .before .before .before .before .before .before .before .before .before .before .before .before .before .before .before .before .before .before .before .before .before .before .before .before .before .before .put-run in
-    let put-noted = c .before .before .before .before .before .before .before .before .before .before .before .put-noted in
-    put-noted .kept .1 .1 .0 ∙ (put-run .kept .1 .1 .0)
+same-length-11 c = search needs
 
 same-length-12 : tie.Need-same-length-12
-same-length-12 c =
-    let put-run = c .before .before .before .before .before .before .before .before .before .before .before .before .before .before .before .before .before .before .before .before .before .before .before .before .before .before .before .put-run in
-    let put-noted = c .before .before .before .before .before .before .before .before .before .before .before .put-noted in
-    put-noted .kept .1 .1 .1 .0 ∙ (put-run .kept .1 .1 .1 .0)
+same-length-12 c = search needs
 
 returns-3 : tie.Need-returns-3
 returns-3 c =
