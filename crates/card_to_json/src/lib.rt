@@ -233,7 +233,45 @@ fn large(out: &mut [u8], stem: &[u8], number: usize, card: &[u8]) -> Outcome
     }
 }
 
-// Most cards are short: their scratch, for 64 lines and a result of 4,096 bytes, is quick to clear. A card that it is too small for goes the large way.
+// Scratch for a card of some length: 8,192 bytes, 256 lines, a result of 16,384 bytes. A card that it is too small for goes the large way.
+fn medium(out: &mut [u8], stem: &[u8], number: usize, card: &[u8]) -> Outcome
+    requires { ⌜ length (now card) ≤ 8192 ⌝ }
+    ensures { λ r. ⌜ Serves (now (out .entry)) (inner (now (stem .entry)) number (now (card .entry))) r (now (out .exit)) ⌝ }
+{
+    let mut result = [0u8; 16384];
+    let mut scratch = [0u8; 8192];
+    let mut starts = [0usize; 257];
+    let mut codes = [0u8; 256];
+    let mut ids = [0usize; 768];
+    let mut prints = [0u16; 256];
+    let mut t = [0usize; 264];
+    let mut text = [0u8; 8192];
+    match convert(
+        &mut result,
+        &mut scratch,
+        &mut starts,
+        &mut codes,
+        &mut ids,
+        &mut prints,
+        &mut t,
+        &mut text,
+        stem,
+        number,
+        card,
+    ) {
+        Made::Refused { number: k, place } => {
+            return Outcome::Refused { number: k, place };
+        }
+        Made::Full => {
+            return large(out, stem, number, card);
+        }
+        Made::Json(k) => {
+            return finish(out, &result[0..k]);
+        }
+    }
+}
+
+// Most cards are short: their scratch, for 64 lines and a result of 4,096 bytes, is quick to clear. A card that it is too small for goes the medium way.
 fn small(out: &mut [u8], stem: &[u8], number: usize, card: &[u8]) -> Outcome
     requires { ⌜ length (now card) ≤ 2048 ⌝ }
     ensures { λ r. ⌜ Serves (now (out .entry)) (inner (now (stem .entry)) number (now (card .entry))) r (now (out .exit)) ⌝ }
@@ -263,7 +301,7 @@ fn small(out: &mut [u8], stem: &[u8], number: usize, card: &[u8]) -> Outcome
             return Outcome::Refused { number: k, place };
         }
         Made::Full => {
-            return large(out, stem, number, card);
+            return medium(out, stem, number, card);
         }
         Made::Json(k) => {
             return finish(out, &result[0..k]);
@@ -296,6 +334,9 @@ pub fn card_to_json(stem: &[u8], number: usize, card: &[u8], out: &mut [u8]) -> 
     }
     if card.len() <= 2048 {
         return small(out, stem, number, card);
+    }
+    if card.len() <= 8192 {
+        return medium(out, stem, number, card);
     }
     large(out, stem, number, card)
 }

@@ -56,18 +56,37 @@ returns-4 c =
     let numbers = sym (at-is-card-number .is-card-number .ensures) ∙ not-false _ (at-if2 .if2 .left) in
     seen (now (start .args .out)) _ _ (c .before .before .small .result) _ (the-rest (now (start .args .stem)) (start .args .number) (length (now (start .args .out))) (now (start .args .card)) stems numbers (omega (arith, at-size-of .size-of .ensures, at-if3 .if3 .left))) (c .before .before .small .ensures)
 
-large-requires : tie.Need-large-requires
-large-requires c κs =
-    let at-size-of = c .before .before .before in
-    let start = at-size-of .before .before .before .before .before .before .before .before in
-    size-length (now (start .args .card)) (omega (arith, at-size-of .size-of .ensures, c .before .before .if3 .left))
+medium-requires : tie.Need-medium-requires
+medium-requires c κs = omega (arith, c .before .if5 .taken)
 
 same-length-2 : tie.Need-same-length-2
 same-length-2 c = search needs
 
 returns-5 : tie.Need-returns-5
 returns-5 c =
-    let at-if3 = c .before .before .before .before .before in
+    let at-if3 = c .before .before .before .before .before .before in
+    let at-size-of = at-if3 .before in
+    let at-if2 = at-size-of .before in
+    let at-is-card-number = at-if2 .before in
+    let at-if1 = at-is-card-number .before in
+    let at-is-stem = at-if1 .before in
+    let start = at-is-stem .before .before .before .before in
+    let stems = sym (at-is-stem .is-stem .ensures) ∙ not-false _ (at-if1 .if1 .left) in
+    let numbers = sym (at-is-card-number .is-card-number .ensures) ∙ not-false _ (at-if2 .if2 .left) in
+    seen (now (start .args .out)) _ _ (c .before .before .medium .result) _ (the-rest (now (start .args .stem)) (start .args .number) (length (now (start .args .out))) (now (start .args .card)) stems numbers (omega (arith, at-size-of .size-of .ensures, at-if3 .if3 .left))) (c .before .before .medium .ensures)
+
+large-requires : tie.Need-large-requires
+large-requires c κs =
+    let at-size-of = c .before .before .before .before in
+    let start = at-size-of .before .before .before .before .before .before .before .before in
+    size-length (now (start .args .card)) (omega (arith, at-size-of .size-of .ensures, c .before .before .before .if3 .left))
+
+same-length-3 : tie.Need-same-length-3
+same-length-3 c = search needs
+
+returns-6 : tie.Need-returns-6
+returns-6 c =
+    let at-if3 = c .before .before .before .before .before .before in
     let at-size-of = at-if3 .before in
     let at-if2 = at-size-of .before in
     let at-is-card-number = at-if2 .before in
@@ -91,6 +110,9 @@ card-to-json-spec =
     small-requires
     same-length
     returns-4
-    large-requires
+    medium-requires
     same-length-2
-    returns-5)
+    returns-5
+    large-requires
+    same-length-3
+    returns-6)

@@ -44,8 +44,8 @@ returns c =
 enum-told : tie.Need-enum-told
 enum-told c = search needs
 
-large-requires : tie.Need-large-requires
-large-requires c κs =
+medium-requires : tie.Need-medium-requires
+medium-requires c κs =
     let start = c .before .before .before .before .before .before .before .before .before .before .before .before .before .before .before .before .before .before .before .before .before .before .before in
     omega (arith, start .pre)
 
@@ -53,7 +53,7 @@ same-length : tie.Need-same-length
 same-length c = search needs
 
 returns-2 : tie.Need-returns-2
-returns-2 c = c .before .before .large .ensures
+returns-2 c = c .before .before .medium .ensures
 
 enum-known-k-2 : tie.Need-enum-known-k-2
 enum-known-k-2 c = search needs
@@ -103,7 +103,7 @@ small-spec =
     enum-known-k
     returns
     enum-told
-    large-requires
+    medium-requires
     same-length
     returns-2
     enum-known-k-2
