@@ -107,7 +107,7 @@ fn print_in(prints: &[u16], p: u16, from: usize, to: usize) -> usize
 }
 
 // The same in a long row, block by block. Blocks of one length: the loop over the prints of one is laid out without a jump.
-fn next_print(prints: &[u16], p: u16, from: usize, to: usize) -> usize
+pub fn next_print(prints: &[u16], p: u16, from: usize, to: usize) -> usize
     requires { ⌜ from ≤ to ⌝ }
     requires { ⌜ to ≤ length (now prints) ⌝ }
     ensures { λ r. ⌜ (from ≤ r) × (r ≤ to) × Absent (now (prints .entry)) p from r false ⌝ }

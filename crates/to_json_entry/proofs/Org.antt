@@ -23,8 +23,9 @@ use Rattle.convert.specs.ToJson.{where′, contentJson}
 use Rattle.convert_put.specs.Pieces.{contentPiece, valuePiece, memberBytes, inside}
 use Rattle.convert_put.proofs.Compact.{quoted-append}
 use Rattle.convert_put.proofs.Entries.{string-bytes}
-use Rattle.to_json_items.specs.Items.{lead, opening, listed, elems, isOwn, textsOf, Readable}
-use Rattle.to_json_items.proofs.Texts.{plain-empty, rest-good, own-none, plain-is, each-plain}
+use Rattle.convert_values.specs.Values.{textsOf, Readable}
+use Rattle.to_json_items.specs.Items.{lead, opening, listed, elems}
+use Rattle.convert_values.proofs.Texts.{plain-empty, rest-good, plain-is, each-plain}
 use Rattle.convert_entry.proofs.Entry.{rest-part}
 use Rattle.to_json_items.proofs.Arrays.{array-bytes, first-items, listed-some}
 use Rattle.to_json_entry.specs.Entry.{stringPiece, orgName, unitsPiece, unitsAfter, orgPiece}

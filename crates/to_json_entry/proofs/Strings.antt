@@ -19,7 +19,6 @@ use Rattle.convert.specs.ToJson.{contentJson}
 use Rattle.convert_entry.specs.Rows.{formNumber, typeNumber}
 use Rattle.convert_put.specs.Pieces.{contentPiece, valuePiece, inside}
 use Rattle.convert_put.proofs.Entries.{string-bytes}
-use Rattle.to_json_items.specs.Items.{Readable}
 use Rattle.to_json_entry.specs.Entry.{stringPiece, orgPiece, stringsPiece, StringsGood}
 use Rattle.to_json_entry.proofs.Fields.{rawOf, TextOf, text-of, content-of}
 use Rattle.to_json_entry.proofs.Org.{OrgOf, org-of}

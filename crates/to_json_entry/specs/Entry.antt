@@ -25,7 +25,8 @@ use Rattle.line_table.specs.Table.{lineIn}
 use Rattle.convert_entry.specs.Rows.{Is}
 use Rattle.convert_put.specs.Pieces.{kindPiece, contentPiece, valuePiece, memberBytes, before}
 use Rattle.table_entry.specs.Key.{Rowed}
-use Rattle.to_json_items.specs.Items.{listed, Readable}
+use Rattle.convert_values.specs.Values.{Readable}
+use Rattle.to_json_items.specs.Items.{listed}
 
 -- an entry with its key
 abbrev pub keyed : Bytes → Entry → Entry

@@ -9,7 +9,7 @@ ghost use Rattle.text.specs.Bytes.{code, keep};
 ghost use Rattle.line.specs.Text.{readText, splitText};
 ghost use Rattle.line_text.specs.Split.{PartEnds};
 ghost use Rattle.convert.specs.Value.{filled};
-ghost use Rattle.to_json_items.specs.Items.{textsOf, Readable};
+ghost use Rattle.convert_values.specs.Values.{textsOf, Readable};
 ghost use Rattle.output.specs.Put.{Puts};
 ghost use Rattle.line_table.specs.Table.{Sound};
 ghost use Rattle.convert_put.specs.Pieces.{entryPieces};

@@ -1,3 +1,3 @@
-pub mod Texts
+pub mod Own
 pub mod Pieces
 pub mod Arrays

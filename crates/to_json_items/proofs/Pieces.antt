@@ -20,8 +20,9 @@ use Rattle.output.specs.declared.Wrote.the-variants.{Bytes as Wrote-Bytes, Full
 use Rattle.output.proofs.Rests.{rest-all, rest-as, rest-next, rest-stop, rest-done}
 use Rattle.line_text.specs.Read.{plainText}
 use Rattle.line_text.specs.Split.{PartEnds}
-use Rattle.to_json_items.specs.Items.{lead, opening, itemHead, itemPiece, listed, isOwn, textsOf, Readable}
-use Rattle.to_json_items.proofs.Texts.{rest-good}
+use Rattle.to_json_items.specs.Items.{lead, opening, itemHead, itemPiece, listed, isOwn}
+use Rattle.convert_values.specs.Values.{textsOf, Readable}
+use Rattle.convert_values.proofs.Texts.{rest-good}
 
 -- ---- heads
 
@@ -129,9 +130,3 @@ module _ (k d : ℕ) (others : List Bytes) (v : Bytes) {whole room out : Bytes} 
         good = rest-good d v i e p (h .good) l;
         rest = rest-as (ap (λ b. listed k (begun || on) (keep (isOwn others) (map plainText (pick b (splitText d (drop (e + 1) v)) [])))) (lt-ltb e (length v) l)) wrote;
       }
-
-pub picked-on : (b : Bool) (e : ℕ) → b ≡ true → e ≡ pick b e 0
-picked-on b e q = rw q
-
-pub picked-off : (b : Bool) (e : ℕ) → b ≡ false → 0 ≡ pick b e 0
-picked-off b e q = rw q

@@ -1,17 +1,14 @@
 -- Lists of TEXT values as JSON: the components of a name, the units of an organization.
-use mathlib.Core.Path.{_≡_}
-use mathlib.Core.Bool.{Bool, true, false, _&&_, not}
-use mathlib.Core.List.{List, [], _∷_, _++_, map}
+use mathlib.Core.Bool.{Bool, true, _&&_, not}
+use mathlib.Core.List.{List, [], _∷_, _++_}
 use Prim.Native.Nat.{ℕ}
 use Prim.Native.Char.{code}
 use lib.Dec.{eqb, ltb}
-use lib.ListN.{drop, getD}
-use Rattle.text.specs.Choice.{pick, is-some}
-use Rattle.text.specs.Bytes.{Bytes, ascii, same, among, keep, each, flat}
-use Rattle.line.specs.Text.{readText, splitText}
+use lib.ListN.{getD}
+use Rattle.text.specs.Choice.{pick}
+use Rattle.text.specs.Bytes.{Bytes, ascii, among, flat}
 use Rattle.json.specs.Tree.{Json}
 use Rattle.json.specs.Compact.{quoted, written}
-use Rattle.line_text.specs.Read.{plainText}
 use Rattle.convert.specs.Table.{componentKinds}
 use Rattle.convert.specs.Value.{filled}
 
@@ -38,19 +35,6 @@ listed k begun (t ∷ ts) = itemPiece begun k t ++ listed k true ts
 
 unfoldable pub isOwn : List Bytes → Bytes → Bool
 isOwn others t = filled t && not (among t others)
-
--- what the parts between bare separators stand for
-abbrev pub textsOf : ℕ → Bytes → List Bytes
-textsOf d v = map plainText (splitText d v)
-
--- every part has good escapes
-abbrev pub Readable : ℕ → Bytes → Type 0
-Readable d v = is-some (each readText (splitText d v)) ≡ true
-
--- the place after the character c, which stands next; or 0
-pub record NextIs (s : Bytes) (at c r : ℕ) : Type 0 where
-  pub hit : (r ≡ 0 → ⊥) → (plainText (drop at s) ≡ c ∷ plainText (drop r s)) × (is-some (readText (drop r s)) ≡ true)
-  pub miss : r ≡ 0 → (x : Bytes) → same (c ∷ x) (plainText (drop at s)) ≡ false
 
 -- ---- elements of an array with commas between them; the flag says that another came before
 unfoldable pub elems : Bool → List Json → Bytes

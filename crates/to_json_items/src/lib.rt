@@ -1,92 +1,34 @@
 // Lists of TEXT values as JSON, straight from a line's value: the components of a name, the units of an organization.
 ghost use mathlib.Core.Path.{_≡_};
 ghost use mathlib.Core.Bool.{true};
-ghost use mathlib.Core.List.{_∷_, [], map};
-ghost use Prim.Native.Nat.{_<_};
-ghost use lib.ListN.{drop};
+ghost use mathlib.Core.List.{[]};
+ghost use Prim.Native.Nat.{_≤_};
+ghost use lib.ListN.{length};
 ghost use Rattle.text.specs.Choice.{is-some, pick};
-ghost use Rattle.text.specs.Bytes.{code, same, among, keep};
+ghost use Rattle.text.specs.Bytes.{code, keep};
 ghost use Rattle.line.specs.Text.{readText};
 ghost use Rattle.output.specs.Put.{Puts};
 ghost use Rattle.line_text.specs.Read.{plainText};
-ghost use Rattle.to_json_items.specs.Items.{lead, opening, itemHead, itemPiece, listed, isOwn, textsOf, Readable, NextIs};
+ghost use Rattle.convert_values.specs.Values.{textsOf, Readable, Noted};
+ghost use Rattle.to_json_items.specs.Items.{lead, itemHead, itemPiece, listed, isOwn};
 use convert_put::put_plain;
-use line_text::Char;
-use line_text::next_char;
+use convert_values::is_among;
+use convert_values::is_noted;
+use convert_values::note_values;
 use line_text::part_end;
 use output::Wrote;
 use output::put_byte;
 use output::put_text;
 
-fn next_if(equal: bool, e: usize) -> usize
-    ensures { λ r. ⌜ r ≡ pick equal e 0 ⌝ }
-{
-    if equal {
-        return e;
-    }
-    0
-}
-
-// The place after the character c, or 0 where another comes next, or none.
-fn next_is(s: &[u8], at: usize, c: u8) -> usize
-    requires { ⌜ is-some (readText (drop at (now s))) ≡ true ⌝ }
-    ensures { λ r. ⌜ NextIs (now (s .entry)) at c r ⌝ }
-{
-    match next_char(s, at) {
-        Char::Byte(d, e) => next_if(c == d, e),
-        Char::Bad => 0,
-        Char::End => 0,
-    }
-}
-
-// Whether two TEXTs stand for the same bytes: `\n` and `\N` do.
-fn same_text(a: &[u8], b: &[u8]) -> bool
-    requires { ⌜ (is-some (readText (now a)) ≡ true) × (is-some (readText (now b)) ≡ true) ⌝ }
-    ensures { λ r. ⌜ r ≡ same (plainText (now (a .entry))) (plainText (now (b .entry))) ⌝ }
-{
-    let mut i = 0;
-    let mut j = 0;
-    loop {
-        match next_char(a, i) {
-            Char::Byte(c, e) => {
-                let f = next_is(b, j, c);
-                if f == 0 {
-                    return false;
-                }
-                i = e;
-                j = f;
-            }
-            Char::Bad => {
-                return false;
-            }
-            Char::End => {
-                return j >= b.len();
-            }
-        }
-    }
-}
-
-// Whether u is one of the values of o, split at bare commas.
-fn is_among(u: &[u8], o: &[u8]) -> bool
-    requires { ⌜ (is-some (readText (now u)) ≡ true) × Readable (code ",") (now o) ⌝ }
-    ensures { λ r. ⌜ r ≡ among (plainText (now (u .entry))) (textsOf (code ",") (now (o .entry))) ⌝ }
-{
-    let mut i = 0;
-    loop {
-        let e = part_end(o, i, b',');
-        if same_text(u, &o[i..e]) {
-            return true;
-        }
-        if e >= o.len() {
-            return false;
-        }
-        i = e + 1;
-    }
-}
-
-// Whether a value is filled, and none of those of o.
-fn is_own(u: &[u8], o: &[u8]) -> bool
-    requires { ⌜ (is-some (readText (now u)) ≡ true) × Readable (code ",") (now o) ⌝ }
+// Whether a value is filled, and none of those of o, which may be noted.
+fn is_own<'a, 'b, 'c>(
+    u: &'a [u8],
+    o: &'b [u8],
+    noted: bool,
+    places: &'c [u16],
+    prints: &'c [u16],
+) -> bool
+    requires { ⌜ (is-some (readText (now u)) ≡ true) × Readable (code ",") (now o) × (noted ≡ true → Noted (now o) (now places) (now prints)) ⌝ }
     ensures { λ r. ⌜ r ≡ isOwn (textsOf (code ",") (now (o .entry))) (plainText (now (u .entry))) ⌝ }
 {
     if u.len() == 0 {
@@ -94,6 +36,9 @@ fn is_own(u: &[u8], o: &[u8]) -> bool
     }
     if o.len() == 0 {
         return true;
+    }
+    if noted {
+        return !is_noted(u, o, places, prints);
     }
     !is_among(u, o)
 }
@@ -172,9 +117,19 @@ fn put_item_if(out: &mut [u8], on: bool, begun: bool, k: usize, u: &[u8]) -> Wro
     Wrote::Bytes(0)
 }
 
-// The values of v, split at bare separators d, as items of kind k: those that are filled and not among the values of o.
-pub fn put_items(out: &mut [u8], v: &[u8], d: u8, o: &[u8], k: usize, begun: bool) -> Wrote
-    requires { ⌜ Readable d (now v) × Readable (code ",") (now o) ⌝ }
+// The values of v, split at bare separators d, as items of kind k: those that are filled and not among the values of o, which may be noted.
+fn put_own<'a, 'b, 'c, 'd>(
+    out: &'a mut [u8],
+    v: &'b [u8],
+    d: u8,
+    o: &'c [u8],
+    k: usize,
+    begun: bool,
+    noted: bool,
+    places: &'d [u16],
+    prints: &'d [u16],
+) -> Wrote
+    requires { ⌜ Readable d (now v) × Readable (code ",") (now o) × (noted ≡ true → Noted (now o) (now places) (now prints)) ⌝ }
     ensures { λ r. ⌜ Puts (now (out .entry)) (listed k begun (keep (isOwn (textsOf (code ",") (now (o .entry)))) (textsOf d (now (v .entry))))) r (now (out .exit)) ⌝ }
 {
     let mut at = 0;
@@ -182,7 +137,7 @@ pub fn put_items(out: &mut [u8], v: &[u8], d: u8, o: &[u8], k: usize, begun: boo
     let mut some = begun;
     loop {
         let e = part_end(v, i, d);
-        let on = is_own(&v[i..e], o);
+        let on = is_own(&v[i..e], o, noted, places, prints);
         let Wrote::Bytes(n) = put_item_if(&mut out[at..], on, some, k, &v[i..e]) else {
             return Wrote::Full;
         };
@@ -193,4 +148,32 @@ pub fn put_items(out: &mut [u8], v: &[u8], d: u8, o: &[u8], k: usize, begun: boo
         some = some | on;
         i = e + 1;
     }
+}
+
+// The same where o is long: its values are noted once, and not read again for each of v.
+fn put_noted(out: &mut [u8], v: &[u8], d: u8, o: &[u8], k: usize, begun: bool) -> Wrote
+    requires { ⌜ Readable d (now v) × Readable (code ",") (now o) × (length (now o) ≤ 32768) ⌝ }
+    ensures { λ r. ⌜ Puts (now (out .entry)) (listed k begun (keep (isOwn (textsOf (code ",") (now (o .entry)))) (textsOf d (now (v .entry))))) r (now (out .exit)) ⌝ }
+{
+    let mut places = [0u16; 16384];
+    let mut prints = [0u16; 16384];
+    let n = note_values(o, &mut places, &mut prints);
+    put_own(out, v, d, o, k, begun, true, &places[0..n], &prints[0..n])
+}
+
+// The values of v, split at bare separators d, as items of kind k: those that are filled and not among the values of o. Nearly always o is short,
+// and read for each value of v.
+pub fn put_items(out: &mut [u8], v: &[u8], d: u8, o: &[u8], k: usize, begun: bool) -> Wrote
+    requires { ⌜ Readable d (now v) × Readable (code ",") (now o) ⌝ }
+    ensures { λ r. ⌜ Puts (now (out .entry)) (listed k begun (keep (isOwn (textsOf (code ",") (now (o .entry)))) (textsOf d (now (v .entry))))) r (now (out .exit)) ⌝ }
+{
+    if (64 < o.len()) & (o.len() <= 32768) {
+        // Two calls: so the compiler keeps put_noted apart, and its 64 KiB of stack are taken only here.
+        if begun {
+            return put_noted(out, v, d, o, k, true);
+        }
+        return put_noted(out, v, d, o, k, false);
+    }
+    let none = [0u16; 1];
+    put_own(out, v, d, o, k, begun, false, &none, &none)
 }

@@ -30,7 +30,7 @@ use Rattle.home.proofs.NormalCardParts.{name-read}
 use Rattle.convert_put.specs.Pieces.{memberBytes, inside, after}
 use Rattle.convert_put.proofs.Compact.{quoted-append, inside-append, inside-object}
 use Rattle.to_json_items.specs.Items.{lead, opening, listed, elems}
-use Rattle.to_json_items.proofs.Texts.{plain-is}
+use Rattle.convert_values.proofs.Texts.{plain-is}
 use Rattle.to_json_items.proofs.Arrays.{elems-append, array-bytes, Item, all-items, listed-some}
 use Rattle.to_json_name.specs.Name.{valuesOf, componentsFrom, NameGood, fullPiece, partsPiece, NamesGood, fullOf, partsOf, nameBytes}
 use Rattle.to_json_name.proofs.Parts.{Seven, name-seven}

@@ -19,8 +19,10 @@ use Rattle.line_text.specs.Split.{PartEnds}
 use Rattle.convert.specs.Model.{part}
 use Rattle.convert.specs.Table.{nameRow}
 use Rattle.convert.specs.Value.{filled, headOr, partValues, without, ownParts, readName, readParts}
-use Rattle.to_json_items.specs.Items.{isOwn, textsOf, Readable}
-use Rattle.to_json_items.proofs.Texts.{own-none, each-plain, nothing-readable}
+use Rattle.convert_values.specs.Values.{textsOf, Readable}
+use Rattle.to_json_items.specs.Items.{isOwn}
+use Rattle.convert_values.proofs.Texts.{each-plain, nothing-readable}
+use Rattle.to_json_items.proofs.Own.{own-none}
 use Rattle.to_json_name.specs.Name.{partOf, PartFrom, otherPart, othersOf, valuesOf, NameGood}
 
 -- ---- where part k begins

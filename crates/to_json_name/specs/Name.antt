@@ -17,7 +17,8 @@ use Rattle.convert.specs.Model.{noParts}
 use Rattle.convert.specs.Value.{headOr, readName}
 use Rattle.convert.specs.ToJson.{where′, nameJson}
 use Rattle.convert_put.specs.Pieces.{after}
-use Rattle.to_json_items.specs.Items.{listed, isOwn, textsOf, Readable}
+use Rattle.convert_values.specs.Values.{textsOf, Readable}
+use Rattle.to_json_items.specs.Items.{listed, isOwn}
 
 -- ---- N's parts
 

@@ -1,6 +1,6 @@
 use Rattle.to_json_entry.proofs.Org.{org-parts}
 use Rattle.to_json_entry.specs.Entry.{orgName}
-use Rattle.to_json_items.proofs.Texts.{part-good}
+use Rattle.convert_values.proofs.Texts.{part-good}
 use Rattle.output.proofs.Laws.{puts-as}
 use Rattle.text.specs.Bytes.{flat}
 use lib.ListN.{take}

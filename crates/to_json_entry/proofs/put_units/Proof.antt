@@ -7,9 +7,11 @@ use native.Mathlib.Omega.{arith}
 use Rattle.text.specs.Bytes.{keep}
 use Rattle.convert.specs.Value.{filled}
 use Rattle.output.proofs.Laws.{puts-as, first, first-full, next, stop, more, done, within}
-use Rattle.to_json_items.specs.Items.{listed, textsOf}
+use Rattle.convert_values.specs.Values.{textsOf}
+use Rattle.to_json_items.specs.Items.{listed}
 use Rattle.to_json_entry.proofs.Org.{units-more, units-none, units-some}
-use Rattle.to_json_items.proofs.Texts.{own-none, nothing-readable}
+use Rattle.convert_values.proofs.Texts.{nothing-readable}
+use Rattle.to_json_items.proofs.Own.{own-none}
 use Rattle.to_json_entry.proofs.put_units.Statement.{statement}
 use Rattle.to_json_entry.proofs.put_units.Tie as tie
 

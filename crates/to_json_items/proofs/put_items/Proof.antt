@@ -1,127 +1,69 @@
-use borrow.Author.Needs.{needs}
+use mathlib.Core.Path.{refl, sym, ap}
 use denote.Ref.{now}
-use mathlib.Core.Path.{refl}
-use Prim.Native.Nat.{_-_, _+_}
-use native.Mathlib.Nat.{le-refl}
-use native.Mathlib.Omega.{arith}
 use lib.ListN.{length}
 use Rattle.text.specs.Bytes.{keep}
-use Rattle.output.proofs.Rests.{rest-in, rest-fit, rest-same}
-use Rattle.to_json_items.specs.Items.{listed, isOwn, textsOf}
-use Rattle.to_json_items.proofs.Texts.{part-good}
-use Rattle.to_json_items.proofs.Pieces.{Putting, putting-start, putting-full, wrote, putting-last, putting-on}
+use Rattle.text.proofs.Cases.{not-both}
+use Rattle.output.proofs.Laws.{puts-as}
+use Rattle.convert_values.specs.Values.{textsOf}
+use Rattle.to_json_items.specs.Items.{listed, isOwn}
+use Rattle.to_json_items.proofs.Own.{long-fits}
+use borrow.Author.Needs.{needs}
 use Rattle.to_json_items.proofs.put_items.Statement.{statement}
 use Rattle.to_json_items.proofs.put_items.Tie as tie
 
-abbrev Inv-loop : tie.InvT-loop
-Inv-loop out₀ v d o k begun at₀ i₀ some₀ out at i some = Putting k d (textsOf 44 o) v (listed k begun (keep (isOwn (textsOf 44 o)) (textsOf d v))) out₀ out at i some
+put-noted-requires : tie.Need-put-noted-requires
+put-noted-requires c κs = (c .before .before .before .before .before .before .pre .0, c .before .before .before .before .before .before .pre .1, long-fits (length (now (c .before .before .before .before .before .before .args .o))) (c .before .before .if1 .taken))
 
-abbrev μ-loop : tie.MeasureT-loop
-μ-loop out₀ v d o k begun at₀ i₀ some₀ out at i some = (length v + 1) - i
-
-loop-holds : tie.Need-loop-holds Inv-loop μ-loop
-loop-holds c = putting-start (c .before .before .before .args .k) (c .before .before .before .args .d) (textsOf 44 (now (c .before .before .before .args .o))) (now (c .before .before .before .args .v)) (now (c .before .before .before .args .out)) (c .before .before .before .args .begun) (c .before .before .before .pre .0)
-
-part-end-requires : tie.Need-part-end-requires Inv-loop μ-loop
-part-end-requires c κs = tt
-
-sub-is-own : tie.Need-sub-is-own Inv-loop μ-loop
-sub-is-own c = omega (arith, c .part-end .ensures .from, c .part-end .ensures .within (c .before .loop .inv .upto))
-
-part-is-own-start : tie.Need-part-is-own-start Inv-loop μ-loop
-part-is-own-start c = omega (arith, c .part-end .ensures .from, c .part-end .ensures .within (c .before .loop .inv .upto))
-
-part-is-own-end : tie.Need-part-is-own-end Inv-loop μ-loop
-part-is-own-end c = omega (arith, c .part-end .ensures .from, c .part-end .ensures .within (c .before .loop .inv .upto))
-
-is-own-requires : tie.Need-is-own-requires Inv-loop μ-loop
-is-own-requires c κs = (part-good (c .before .before .before .before .before .before .args .d) (now (c .before .before .before .before .before .before .args .v)) (c .before .before .loop .i) _ (c .before .part-end .ensures) (c .before .before .loop .inv .good), c .before .before .before .before .before .before .pre .1)
-
-sub-put-item-if : tie.Need-sub-put-item-if Inv-loop μ-loop
-sub-put-item-if c = rest-in (c .before .before .before .loop .inv .rest)
-
-part-put-item-if-start : tie.Need-part-put-item-if-start Inv-loop μ-loop
-part-put-item-if-start c = rest-in (c .before .before .before .loop .inv .rest)
-
-part-put-item-if-end : tie.Need-part-put-item-if-end Inv-loop μ-loop
-part-put-item-if-end c = le-refl _
-
-sub-put-item-if-2 : tie.Need-sub-put-item-if-2 Inv-loop μ-loop
-sub-put-item-if-2 c = omega (arith, c .before .before .before .part-end .ensures .from, c .before .before .before .part-end .ensures .within (c .before .before .before .before .loop .inv .upto))
-
-part-put-item-if-start-2 : tie.Need-part-put-item-if-start-2 Inv-loop μ-loop
-part-put-item-if-start-2 c = omega (arith, c .before .before .before .part-end .ensures .from, c .before .before .before .part-end .ensures .within (c .before .before .before .before .loop .inv .upto))
-
-part-put-item-if-end-2 : tie.Need-part-put-item-if-end-2 Inv-loop μ-loop
-part-put-item-if-end-2 c = omega (arith, c .before .before .before .part-end .ensures .from, c .before .before .before .part-end .ensures .within (c .before .before .before .before .loop .inv .upto))
-
-put-item-if-requires : tie.Need-put-item-if-requires Inv-loop μ-loop
-put-item-if-requires c κs = part-good (c .before .before .before .before .before .before .before .before .before .args .d) (now (c .before .before .before .before .before .before .before .before .before .args .v)) (c .before .before .before .before .before .loop .i) _ (c .before .before .before .before .part-end .ensures) (c .before .before .before .before .before .loop .inv .good)
-
-enum-known-n : tie.Need-enum-known-n Inv-loop μ-loop
-enum-known-n c = c .match .keys1
-
-enum-told : tie.Need-enum-told Inv-loop μ-loop
-enum-told c = c .match .keys2
-
-same-length : tie.Need-same-length Inv-loop μ-loop
+same-length : tie.Need-same-length
 same-length c = search needs
 
-returns : tie.Need-returns Inv-loop μ-loop
+returns : tie.Need-returns
 returns c =
-    let c1 = c .before .before .before .before in
-    let c2 = c1 .before .before .before in
-    let c3 = c2 .before .before in
-    let c4 = c3 .before in
-    let c5 = c4 .before .before .before .before in
-    putting-full (c5 .args .k) (c5 .args .d) (textsOf 44 (now (c5 .args .o))) (now (c5 .args .v)) (c4 .loop .inv) _ (c3 .part-end .ensures) _ (c2 .is-own .ensures) (c1 .put-item-if .ensures) (c .enum-told .given .1)
+    let args = c .before .before .before .before .before .before .before .before .before .args in
+    let if2 = c .before .before .before .before .if2 in
+    puts-as (ap (λ b. listed (args .k) b (keep (isOwn (textsOf 44 (now (args .o)))) (textsOf (args .d) (now (args .v))))) (sym (if2 .taken)))
+    (c .before .before .put-noted .ensures)
 
-add-at : tie.Need-add-at Inv-loop μ-loop
-add-at c =
-    let c1 = c .before .before .before .before .before in
-    let c2 = c1 .before .before .before in
-    let c3 = c2 .before .before in
-    let c4 = c3 .before in
-    let c5 = c4 .before .before .before .before in
-    rest-fit (wrote (c5 .args .k) (c5 .args .d) (textsOf 44 (now (c5 .args .o))) (now (c5 .args .v)) (c4 .loop .inv) _ (c3 .part-end .ensures) _ (c2 .is-own .ensures) (c1 .put-item-if .ensures) _ (c .before .n .given .1)) (c5 .good .0 .0)
+put-noted-requires-2 : tie.Need-put-noted-requires-2
+put-noted-requires-2 c κs = (c .before .before .before .before .before .before .pre .0, c .before .before .before .before .before .before .pre .1, long-fits (length (now (c .before .before .before .before .before .before .args .o))) (c .before .before .if1 .taken))
 
-same-length-2 : tie.Need-same-length-2 Inv-loop μ-loop
-same-length-2 c =
-    let c1 = c .before .before in
-    let c2 = c1 .before .before .before .before in
-    let c3 = c2 .before .before .before in
-    let c4 = c3 .before .before in
-    let c5 = c4 .before in
-    let c6 = c5 .before .before .before .before in
-    rest-same (wrote (c6 .args .k) (c6 .args .d) (textsOf 44 (now (c6 .args .o))) (now (c6 .args .v)) (c5 .loop .inv) _ (c4 .part-end .ensures) _ (c3 .is-own .ensures) (c2 .put-item-if .ensures) _ (c1 .n .given .1))
+same-length-2 : tie.Need-same-length-2
+same-length-2 c = search needs
 
-returns-2 : tie.Need-returns-2 Inv-loop μ-loop
+returns-2 : tie.Need-returns-2
 returns-2 c =
-    let c1 = c .before .before in
-    let c2 = c1 .before .before .before .before in
-    let c3 = c2 .before .before .before in
-    let c4 = c3 .before .before in
-    let c5 = c4 .before in
-    let c6 = c5 .before .before .before .before in
-    putting-last (c6 .args .k) (c6 .args .d) (textsOf 44 (now (c6 .args .o))) (now (c6 .args .v)) (c5 .loop .inv) _ (c4 .part-end .ensures) _ (c3 .is-own .ensures) (c2 .put-item-if .ensures) _ (c1 .n .given .1) (omega (arith, c .if1 .taken))
+    let args = c .before .before .before .before .before .before .before .before .before .args in
+    let if2 = c .before .before .before .before .if2 in
+    puts-as (ap (λ b. listed (args .k) b (keep (isOwn (textsOf 44 (now (args .o)))) (textsOf (args .d) (now (args .v))))) (sym (if2 .left)))
+    (c .before .before .put-noted2 .ensures)
 
-add-i : tie.Need-add-i Inv-loop μ-loop
-add-i c = omega (arith, c .if1 .left, c .before .before .before .before .before .before .before .before .before .before .before .before .before .before .before .before .good .1 .0)
+slice-aggregate-put-own : tie.Need-slice-aggregate-put-own
+slice-aggregate-put-own c = search needs
 
-loop-less : tie.Need-loop-less Inv-loop μ-loop
-loop-less c = omega (arith, c .if1 .left, c .before .before .before .before .before .before .before .before .before .before .before .part-end .ensures .from)
+slice-aggregate-put-own-2 : tie.Need-slice-aggregate-put-own-2
+slice-aggregate-put-own-2 c = search needs
 
-loop-again : tie.Need-loop-again Inv-loop μ-loop
-loop-again c =
-    let c1 = c .before .before in
-    let c2 = c1 .before .before .before .before in
-    let c3 = c2 .before .before .before in
-    let c4 = c3 .before .before in
-    let c5 = c4 .before in
-    let c6 = c5 .before .before .before .before in
-    putting-on (c6 .args .k) (c6 .args .d) (textsOf 44 (now (c6 .args .o))) (now (c6 .args .v)) (c5 .loop .inv) _ (c4 .part-end .ensures) _ (c3 .is-own .ensures) (c2 .put-item-if .ensures) _ (c1 .n .given .1) (omega (arith, c .if1 .left))
+put-own-requires : tie.Need-put-own-requires
+put-own-requires c κs = (c .before .before .before .before .before .before .before .pre .0, c .before .before .before .before .before .before .before .pre .1, λ e. not-both e refl)
+
+same-length-3 : tie.Need-same-length-3
+same-length-3 c = search needs
+
+returns-3 : tie.Need-returns-3
+returns-3 c = search needs
 
 pub put-items-spec : {M : Type 1} → statement M
 put-items-spec =
     tie.close
-    (tie.spec Inv-loop μ-loop loop-holds part-end-requires sub-is-own part-is-own-start part-is-own-end is-own-requires sub-put-item-if part-put-item-if-start part-put-item-if-end sub-put-item-if-2 part-put-item-if-start-2 part-put-item-if-end-2 put-item-if-requires enum-known-n enum-told same-length returns add-at same-length-2 returns-2 add-i loop-less loop-again)
+    (tie.spec
+    put-noted-requires
+    same-length
+    returns
+    put-noted-requires-2
+    same-length-2
+    returns-2
+    slice-aggregate-put-own
+    slice-aggregate-put-own-2
+    put-own-requires
+    same-length-3
+    returns-3)

@@ -4,7 +4,7 @@ use mathlib.Core.Path.{ap}
 use native.Mathlib.Omega.{arith}
 use Rattle.output.proofs.Laws.{puts-as}
 use Rattle.to_json_items.specs.Items.{listed}
-use Rattle.to_json_items.proofs.Texts.{nothing-readable}
+use Rattle.convert_values.proofs.Texts.{nothing-readable}
 use Rattle.to_json_name.proofs.Parts.{slice-is, slice-good, values-alone, values-besides}
 use Rattle.to_json_name.proofs.put_part.Statement.{statement}
 use Rattle.to_json_name.proofs.put_part.Tie as tie

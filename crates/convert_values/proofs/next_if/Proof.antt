@@ -1,8 +1,8 @@
 use borrow.Author.Needs.{needs}
 use denote.Ref.{now}
-use Rattle.to_json_items.proofs.Pieces.{picked-on, picked-off}
-use Rattle.to_json_items.proofs.next_if.Statement.{statement}
-use Rattle.to_json_items.proofs.next_if.Tie as tie
+use Rattle.convert_values.proofs.Texts.{picked-on, picked-off}
+use Rattle.convert_values.proofs.next_if.Statement.{statement}
+use Rattle.convert_values.proofs.next_if.Tie as tie
 
 returns : tie.Need-returns
 returns c = picked-on (c .before .args .equal) (c .before .args .e) (c .if1 .taken)

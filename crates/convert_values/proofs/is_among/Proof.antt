@@ -5,9 +5,9 @@ use Prim.Native.Nat.{_-_, _+_}
 use native.Mathlib.Omega.{arith}
 use lib.ListN.{length}
 use Rattle.line_text.specs.Read.{plainText}
-use Rattle.to_json_items.proofs.Texts.{part-good, Seeking, seek-found, seek-on, seek-none}
-use Rattle.to_json_items.proofs.is_among.Statement.{statement}
-use Rattle.to_json_items.proofs.is_among.Tie as tie
+use Rattle.convert_values.proofs.Texts.{part-good, Seeking, seek-found, seek-on, seek-none}
+use Rattle.convert_values.proofs.is_among.Statement.{statement}
+use Rattle.convert_values.proofs.is_among.Tie as tie
 
 abbrev Inv-loop : tie.InvT-loop
 Inv-loop u o i₀ i = Seeking (plainText u) o i

@@ -1,8 +1,8 @@
 use borrow.Author.Needs.{needs}
 use denote.Ref.{now}
-use Rattle.to_json_items.proofs.Texts.{next-byte, next-end, next-bad}
-use Rattle.to_json_items.proofs.next_is.Statement.{statement}
-use Rattle.to_json_items.proofs.next_is.Tie as tie
+use Rattle.convert_values.proofs.Texts.{next-byte, next-end, next-bad}
+use Rattle.convert_values.proofs.next_is.Statement.{statement}
+use Rattle.convert_values.proofs.next_is.Tie as tie
 
 next-char-requires : tie.Need-next-char-requires
 next-char-requires c κs = tt

@@ -5,9 +5,9 @@ use Prim.Native.Nat.{_-_}
 use native.Mathlib.Omega.{arith}
 use lib.ListN.{length}
 use Rattle.line_text.proofs.Reading.{onward}
-use Rattle.to_json_items.proofs.Texts.{Comparing, compare-on, compare-no, compare-bad, compare-end}
-use Rattle.to_json_items.proofs.same_text.Statement.{statement}
-use Rattle.to_json_items.proofs.same_text.Tie as tie
+use Rattle.convert_values.proofs.Texts.{Comparing, compare-on, compare-no, compare-bad, compare-end}
+use Rattle.convert_values.proofs.same_text.Statement.{statement}
+use Rattle.convert_values.proofs.same_text.Tie as tie
 
 abbrev Inv-loop : tie.InvT-loop
 Inv-loop a b i₀ j₀ i j = Comparing a b i j

@@ -1,15 +1,15 @@
 -- TEXT values compared as they read, and one part after the other.
 use mathlib.Core.Path.{_≡_, refl, sym, ap, _∙_}
-use mathlib.Core.Bool.{Bool, true, false, _&&_, _||_, not}
+use mathlib.Core.Bool.{Bool, true, false, _&&_, _||_}
 use mathlib.Core.List.{List, [], _∷_, map}
 use mathlib.Core.Option.{Option, none, some}
-use Prim.Native.Nat.{ℕ, zero, suc, _+_, _-_, _≤_, _<_}
+use Prim.Native.Nat.{ℕ, _+_, _-_, _≤_, _<_}
 use native.Mathlib.Omega.{arith}
 use lib.Dec.{eqb, ltb, leb}
 use lib.ListN.{length, take, drop, length-drop, drop-of-length-le}
 use borrow.Author.Tests.{eq-eqb, eqb-true, lt-ltb, le-ltb, ltb-true, ltb-false}
 use Rattle.text.specs.Choice.{pick, is-some, both, with-some}
-use Rattle.text.specs.Bytes.{Bytes, empty, same, among, any, keep, each}
+use Rattle.text.specs.Bytes.{Bytes, empty, same, among, any, each}
 use Rattle.text.proofs.Cases.{byBool, tests}
 use Rattle.text.proofs.Choices.{both-inv, some-same}
 use Rattle.line.specs.Text.{push, escaped, textFrom, readText, splitFrom, splitText}
@@ -18,19 +18,18 @@ use Rattle.line_text.specs.Split.{PartEnds}
 use Rattle.line_text.specs.declared.Char.{Char}
 use Rattle.line_text.specs.declared.Char.the-variants.{Byte, Bad, End}
 use Rattle.line_text.proofs.Reading.{onward, byte-good, bad-good, byte-plain, end-plain}
-use Rattle.convert.specs.Value.{filled}
-use Rattle.to_json_items.specs.Items.{isOwn, textsOf, Readable, NextIs}
+use Rattle.convert_values.specs.Values.{textsOf, Readable, NextIs}
 
 never : {P : Type 0} → false ≡ true → P
 never e = absurd (let z : _≡_ {A = ℕ} 0 1 = cc in omega arith)
 
 -- ---- what is read of a filled TEXT is filled
 
-length-empty : (v : Bytes) → length v ≡ 0 → empty v ≡ true
+pub length-empty : (v : Bytes) → length v ≡ 0 → empty v ≡ true
 length-empty [] e = refl
 length-empty (c ∷ v) e = absurd (omega (arith, e))
 
-length-filled : (v : Bytes) → (length v ≡ 0 → ⊥) → empty v ≡ false
+pub length-filled : (v : Bytes) → (length v ≡ 0 → ⊥) → empty v ≡ false
 length-filled [] n = absurd (n refl)
 length-filled (c ∷ v) n = refl
 
@@ -73,6 +72,12 @@ plain-empty [] e = nothing
 plain-empty (c ∷ s) e = plain-of (readText (c ∷ s)) e ∙ read-filled c s e
 
 -- ---- one character of the other text
+
+pub picked-on : (b : Bool) (e : ℕ) → b ≡ true → e ≡ pick b e 0
+picked-on b e q = rw q
+
+pub picked-off : (b : Bool) (e : ℕ) → b ≡ false → 0 ≡ pick b e 0
+picked-off b e q = rw q
 
 same-more : (c d : ℕ) (x y : Bytes) → same (c ∷ x) (d ∷ y) ≡ eqb c d && same x y
 unfolding same
@@ -205,44 +210,6 @@ module _ (t o : Bytes) (i e : ℕ) (h : Seeking t o i) (p : PartEnds 44 o i e) (
 
   pub seek-none : b ≡ false → length o ≤ e → false ≡ among t (textsOf 44 o)
   seek-none z l = sym (ap (among t) (texts-last 44 o i e p (h .good) l) ∙ among-more t _ _ ∙ ap (λ y. y || among t []) (sym q ∙ z) ∙ among-none t) ∙ h .is
-
--- ---- a value's own
-
-alone : (o : Bytes) → length o ≡ 0 → (t : Bytes) → empty t ≡ false → among t (textsOf 44 o) ≡ false
-unfolding among any same splitText splitFrom plainText readText textFrom
-alone [] z [] e = never (sym e)
-alone [] z (c ∷ t) e = refl
-alone (x ∷ o) z t e = absurd (omega (arith, z))
-
-module _ (u o : Bytes) (good : is-some (readText u) ≡ true) where
-  pub own-empty : length u ≡ 0 → false ≡ isOwn (textsOf 44 o) (plainText u)
-  unfolding isOwn
-  own-empty e = sym (ap (λ b. not b && not (among (plainText u) (textsOf 44 o))) (plain-empty u good ∙ length-empty u e))
-
-  own-filled : (length u ≡ 0 → ⊥) → isOwn (textsOf 44 o) (plainText u) ≡ not (among (plainText u) (textsOf 44 o))
-  unfolding isOwn
-  own-filled n = ap (λ b. not b && not (among (plainText u) (textsOf 44 o))) (plain-empty u good ∙ length-filled u n)
-
-  -- the only value of nothing is empty
-  pub own-alone : (length u ≡ 0 → ⊥) → length o ≡ 0 → true ≡ isOwn (textsOf 44 o) (plainText u)
-  own-alone n z = sym (own-filled n ∙ ap not (alone o z (plainText u) (plain-empty u good ∙ length-filled u n)))
-
-  pub own-sought : (length u ≡ 0 → ⊥) → (r : Bool) → r ≡ among (plainText u) (textsOf 44 o) → not r ≡ isOwn (textsOf 44 o) (plainText u)
-  own-sought n r e = ap not e ∙ sym (own-filled n)
-
--- nothing is among no others
-alone-is : (t : Bytes) → isOwn (textsOf 44 []) t ≡ filled t
-unfolding isOwn among any same splitText splitFrom plainText readText textFrom
-alone-is [] = refl
-alone-is (c ∷ t) = refl
-
-keep-same : (p q : Bytes → Bool) → ((t : Bytes) → p t ≡ q t) → (ts : List Bytes) → keep p ts ≡ keep q ts
-unfolding keep
-keep-same p q h [] = refl
-keep-same p q h (t ∷ ts) = ap (λ b. pick b (t ∷ keep p ts) (keep p ts)) (h t) ∙ ap (λ (l : List Bytes). pick (q t) (t ∷ l) l) (keep-same p q h ts)
-
-pub own-none : (ts : List Bytes) → keep (isOwn (textsOf 44 [])) ts ≡ keep filled ts
-own-none ts = keep-same (isOwn (textsOf 44 [])) filled alone-is ts
 
 -- ---- parts as they read
 
