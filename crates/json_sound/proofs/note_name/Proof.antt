@@ -3,6 +3,7 @@ use denote.Ref.{now}
 use mathlib.Core.Path.{sym, ap, _∙_}
 use mathlib.Core.Option.{Option}
 use lib.ListN.{take, drop}
+use lib.Seq.{getD-set-same}
 use Rattle.text.specs.Bytes.{Bytes}
 use Rattle.text.specs.Choice.{is-some}
 use Rattle.text.proofs.Places.{gives-as, at-next, at-bad, then-bad}
@@ -189,7 +190,7 @@ returns-5 c =
       λ ns k.
           let m = ap (λ (o : Option Bytes). meets s o ps) (sym (n .1)) ∙ sym (c .before .is-noted .ensures ns k) ∙ (c .if2 .left) in
           let y = names-noted s (n .0) (now (args .places)) (now (args .prints)) (args .count) _ _ ns (pre .1 .1 .0) (pre .1 .1 .1) k (n .1) (p ∙ ap (printOf 0) (n .1)) in
-          (a .0, n .0, a .1, sym z ∙ n .1, sym (meets-among s (n .0) _ fs ns k) ∙ m, y),
+          (a .0, n .0, a .1, sym z ∙ n .1, sym (meets-among s (n .0) _ fs ns k) ∙ m, y, ap (spelled s) (getD-set-same (now (args .places)) (args .count) from 0 (pre .1 .1 .0)) ∙ n .1),
       (omega (arith, w .0, w .1), h .within .1),
     )
 

@@ -1,0 +1,94 @@
+use native.Mathlib.Omega.{arith}
+use denote.Ref.{now}
+use Prim.Native.Nat.{_+_}
+use lib.ListN.{length}
+use Rattle.json_sound.proofs.Judging.{onward-up}
+use Rattle.json_open.proofs.Laws.{read-object, read-other}
+use borrow.Author.Needs.{needs}
+use Rattle.json_open.proofs.read_in.Statement.{statement}
+use Rattle.json_open.proofs.read_in.Tie as tie
+
+skip-space-requires : tie.Need-skip-space-requires
+skip-space-requires c κs = search needs
+
+look-requires : tie.Need-look-requires
+look-requires c κs = search needs
+
+add-sound-members : tie.Need-add-sound-members
+add-sound-members c = search needs
+
+sound-members-requires : tie.Need-sound-members-requires
+sound-members-requires c κs =
+    let pre = c .before .before .before .before .before .before .before .before .before .before .before .pre in
+    let l = c .before .before .before .before .look .ensures .1 in
+    (omega (arith, l, c .before .before .before .if1 .taken), (pre .0, (omega (arith, pre .1 .0), (pre .1 .1 .0, (pre .1 .1 .1 .0, pre .1 .1 .1 .1)))))
+
+verdict-on-requires : tie.Need-verdict-on-requires
+verdict-on-requires c κs = onward-up 0 (c .before .before .before .before .before .before .before .before .before .before .before .before .skip-space .result + 1) (length (now (c .before .before .before .before .before .before .before .before .before .before .before .before .before .before .before .before .before .before .args .s))) (c .before .before .before .before .before .before .sound-members .result) (omega arith) (c .before .before .before .before .before .before .sound-members .ensures .1 .0)
+
+answer-requires : tie.Need-answer-requires
+answer-requires c κs = search needs
+
+same-length : tie.Need-same-length
+same-length c = search needs
+
+same-length-2 : tie.Need-same-length-2
+same-length-2 c = search needs
+
+same-length-3 : tie.Need-same-length-3
+same-length-3 c = search needs
+
+returns : tie.Need-returns
+returns c =
+    let a = c .before .before .before .before .before .before .before .before .before .before .before .before .before .before .before .before .before .before .before .before .args in
+    let k = c .before .before .before .before .before .before .before .before .before .before .before .before .before .before .skip-space in
+    let l = c .before .before .before .before .before .before .before .before .before .before .before .before .before .look in
+    let m = c .before .before .before .before .before .before .before .before .sound-members in
+    let v = c .before .verdict-on in
+    let r = c .answer in
+    read-object (now (a .s)) (now (a .names)) (m .last .0) (k .result) (l .result) (k .ensures) (l .ensures .0) (v .result) (r .result) (c .before .before .before .before .before .before .before .before .before .before .before .before .if1 .taken) (m .result) (m .ensures .0) (m .ensures .1 .0) (m .ensures .1 .1) (v .ensures) (r .ensures)
+
+sound-value-requires : tie.Need-sound-value-requires
+sound-value-requires c κs = search needs
+
+verdict-on-requires-2 : tie.Need-verdict-on-requires-2
+verdict-on-requires-2 c κs = c .before .before .before .before .sound-value .ensures .1
+
+answer-requires-2 : tie.Need-answer-requires-2
+answer-requires-2 c κs = search needs
+
+same-length-4 : tie.Need-same-length-4
+same-length-4 c = search needs
+
+same-length-5 : tie.Need-same-length-5
+same-length-5 c = search needs
+
+returns-2 : tie.Need-returns-2
+returns-2 c =
+    let a = c .before .before .before .before .before .before .before .before .before .before .before .before .before .before .before .before .before .args in
+    let k = c .before .before .before .before .before .before .before .before .before .before .before .skip-space in
+    let l = c .before .before .before .before .before .before .before .before .before .before .look in
+    let v = c .before .verdict-on2 in
+    let r = c .answer2 in
+    read-other (now (a .s)) (now (a .names)) (now (a .slots)) (k .result) (l .result) (k .ensures) (l .ensures .0) (v .result) (r .result) (c .before .before .before .before .before .before .before .before .before .if1 .left) (v .ensures 16 (c .before .before .before .before .before .before .sound-value .ensures .0)) (r .ensures)
+
+pub read-in-spec : {M : Type 1} → statement M
+read-in-spec =
+    tie.close
+    (tie.spec
+    skip-space-requires
+    look-requires
+    add-sound-members
+    sound-members-requires
+    verdict-on-requires
+    answer-requires
+    same-length
+    same-length-2
+    same-length-3
+    returns
+    sound-value-requires
+    verdict-on-requires-2
+    answer-requires-2
+    same-length-4
+    same-length-5
+    returns-2)
