@@ -1,26 +1,24 @@
 -- Laws of the pass that judges the members of an object and indexes them, over plain values.
 use mathlib.Core.Path.{_≡_, refl, sym, ap, subst, _∙_}
-use mathlib.Core.Bool.{Bool, true, false}
+use mathlib.Core.Bool.{true}
 use mathlib.Core.List.{List, [], _∷_}
 use mathlib.Core.Option.{Option, none, some}
-use Prim.Native.Nat.{ℕ, zero, suc, _+_, _-_, _≤_, _<_}
+use Prim.Native.Nat.{ℕ, zero, suc, _+_, _<_}
 use native.Mathlib.Omega.{arith}
 use lib.ListN.{length, drop, getD}
-use lib.Dec.{eqb}
 use borrow.Author.Tests.{eq-eqb, ne-eqb}
 use Rattle.text.specs.declared.Read.{Read}
 use Rattle.text.specs.declared.Read.the-variants.{Next, Bad}
 use Rattle.text.specs.declared.Turn.the-variants.{Go, Stop}
-use Rattle.text.specs.Choice.{pick}
 use Rattle.text.specs.Bytes.{Bytes, is, parts}
-use Rattle.text.specs.Reader.{Got, got, under, on, first, loop}
+use Rattle.text.specs.Reader.{got, on, first}
 use Rattle.text.specs.Places.{byteAt, GivesT, Passes}
 use Rattle.text.proofs.Choices.{map-inv}
 use Rattle.text.proofs.Fine.{got-what, got-rest, under-inv}
 use Rattle.text.proofs.Places.{byBool, on-yes, on-no}
 use Rattle.json.specs.Grammar.{isSpace}
 use Rattle.json.specs.Tree.{Json, jobj, Members, mnil, mcons, Member, member, membersOf, asObject}
-use Rattle.json.specs.Syntax.{skip, name, sep, pair, pairs, value}
+use Rattle.json.specs.Syntax.{skip, name, sep, pairs, value}
 use Rattle.json.specs.Strings.{decode, decoded, decodedMembers}
 use Rattle.json.specs.Read.{reading}
 use Rattle.json_marks.proofs.Laws.{skip-to}
@@ -33,7 +31,7 @@ use Rattle.json_sound.specs.Noted.{NotedName, Notes}
 use Rattle.json_sound.proofs.Judging.{onward-up}
 use Rattle.json_sound.proofs.Values.{judges-object}
 use Rattle.json_sound.proofs.Walk.{ToMembers}
-use Rattle.json_index.specs.Index.{meant, jsonAt, placed, firstAt, Slot, noted, Clear, Indexed, IndexesFrom, IndexOf, Indexes}
+use Rattle.json_index.specs.Index.{meant, jsonAt, placed, firstAt, noted, Clear, IndexesFrom, IndexOf, Indexes}
 use Rattle.json_index.proofs.Names.{placed-le}
 use Rattle.json_index.proofs.Slots.{Going, going-first, going-last, going-on}
 use Rattle.json_index.proofs.Laws.{Here, pair-here, others-on, others-none, next-of, members-cons, members-nil, first-nil, nil-decoded, Todo}

@@ -1,5 +1,7 @@
 -- What the caller sees: the room of the card, then the order of 3 (bytes), 11 and the rest.
 use mathlib.Core.Path.{_≡_, refl, sym, ap, subst, _∙_}
+use mathlib.Core.Bool.{false}
+use mathlib.Core.List.{List, []}
 use Prim.Native.Nat.{ℕ, _-_, _≤_, _<_}
 use native.Mathlib.Omega.{arith}
 use lib.ListN.{length, take, length-take}
@@ -8,6 +10,7 @@ use Rattle.text.specs.Choice.{pick}
 use Rattle.text.specs.Bytes.{Bytes}
 use Rattle.json.specs.Tree.{Json}
 use Rattle.json.specs.Read.{Reading, tree, refused, reading}
+use Rattle.json_index.specs.Index.{Indexes}
 use Rattle.json_read.specs.Verdict.{verdict, verdictOf, number, InWords}
 use Rattle.json_read.specs.declared.Verdict.{Verdict}
 use Rattle.json_read.specs.declared.Verdict.the-variants.{Sound, Large, NotJson}
@@ -18,10 +21,14 @@ use Rattle.served.specs.declared.Outcome.the-variants.{Refused as Outcome-Refus
 use Rattle.served.specs.Served.{outcomeOf}
 use Rattle.served_put.specs.Lent.{fitLent, Serves}
 use Rattle.served_put.proofs.Serving.{serves-refused, serves-as}
+use Rattle.to_card_lines.specs.declared.Lines.the-variants.{Wrong}
+use Rattle.to_card_card.specs.Whole.{cardNames}
+use Rattle.to_card_card.proofs.Names.{card-other}
 use Rattle.json_to_card.specs.Inner.{Reads, inner, fit}
 use Rattle.json_to_card.specs.Making.{Makes}
 use Rattle.json_to_card.specs.declared.Made.{Made}
 use Rattle.json_to_card.specs.declared.Made.the-variants.{Card, Refused, Full}
+use Rattle.json_to_card.proofs.Making.{made-wrong}
 use Rattle.json_to_card.proofs.Inner.{too-long, the-rest, fit-large, fit-lent}
 
 -- ---- the result
@@ -84,6 +91,10 @@ module _ (s : Bytes) (r : Verdict) (said : r ≡ verdict 16 s) (words : InWords 
     pub seen : (out : Bytes) (o : Outcome) (after : Bytes) → Serves out (fit (length out) (inner (reading 16 s))) o after
         → (o ≡ outcomeOf (jsonToCard (length out) s)) × (after ≡ leftBy out (jsonToCard (length out) s))
     seen out o after v = let w = serves-as out _ _ o after (sym (the-rest (length out) s read-short)) v in (w .said, w .left)
+
+-- 12: no object
+pub read-not-object : (s : Bytes) (xs : List ℕ) → Reads s → length s ≤ jsonRoom → Indexes 15 s 0 cardNames xs false → (lent : ℕ) → jsonToCard lent s ≡ no 12 0
+read-not-object s xs reads short index lent = the-rest lent s short ∙ ap (fit lent) (made-wrong s [] Wrong [] reads (card-other s [] xs false index refl []) refl)
 
 pub seen-refused : (out : Bytes) (a : Answer) (n p : ℕ) → a ≡ no n p → (Outcome-Refused n p ≡ outcomeOf a) × (out ≡ leftBy out a)
 seen-refused out a n p e = let w = serves-refused out a n p e in (w .said, w .left)

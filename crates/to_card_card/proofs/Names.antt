@@ -7,7 +7,7 @@ use Prim.Native.Nat.{ℕ, zero, suc, _<_}
 use native.Mathlib.Omega.{arith}
 use lib.ListN.{length}
 use Rattle.text.specs.Choice.{chain}
-use Rattle.text.specs.Bytes.{Bytes, ascii, parts}
+use Rattle.text.specs.Bytes.{Bytes, parts}
 use Rattle.json.specs.Tree.{Json, jnull, jtrue, jfalse, jnum, jstr, jarr, jobj, Members, Member, membersOf, asObject}
 use Rattle.json.specs.Strings.{distinctNames}
 use Rattle.json_index.specs.Index.{Clear, Indexed, IndexOf, Indexes}
@@ -17,7 +17,7 @@ use Rattle.to_card_lines.specs.declared.Lines.{Lines}
 use Rattle.to_card_lines.specs.declared.Lines.the-variants.{Wrong}
 use Rattle.to_card_members.proofs.Others.{is-reserved}
 use Rattle.to_card_name.proofs.Whole.{clear-seven}
-use Rattle.to_card_card.specs.Whole.{Object, CardAs, PutsWhole, PutsCard}
+use Rattle.to_card_card.specs.Whole.{cardNames, Object, CardAs, PutsWhole, PutsCard}
 
 some-is : {A : Type 0} {a b : A} → some a ≡ some b → a ≡ b
 some-is h = cc
@@ -27,9 +27,9 @@ not-some h = let z : _≡_ {A = ℕ} 0 1 = cc in omega arith
 
 -- ---- the whole text
 
-pub reserved-names : length (parts 44 (ascii "@type,version,uid,kind,name,nicknames,emails,phones,links,notes,titles,organizations,vCardProps")) < 14
+pub reserved-names : length (parts 44 cardNames) < 14
 reserved-names =
-    let e : length (parts 44 (ascii "@type,version,uid,kind,name,nicknames,emails,phones,links,notes,titles,organizations,vCardProps")) ≡ 13 = ap length is-reserved in
+    let e : length (parts 44 cardNames) ≡ 13 = ap length is-reserved in
     omega arith
 
 pub clear-fourteen : Clear (0 ∷ 0 ∷ 0 ∷ 0 ∷ 0 ∷ 0 ∷ 0 ∷ 0 ∷ 0 ∷ 0 ∷ 0 ∷ 0 ∷ 0 ∷ 0 ∷ [])
@@ -42,10 +42,7 @@ clear-fourteen (suc (suc (suc (suc (suc zero))))) = refl
 clear-fourteen (suc (suc (suc (suc (suc (suc zero)))))) = refl
 clear-fourteen (suc (suc (suc (suc (suc (suc (suc i))))))) = clear-seven i
 
-module _ (s : Bytes) (room : Bytes) (xs : List ℕ) (b : Bool) (index : Indexes 15 s 0 (ascii "@type,version,uid,kind,name,nicknames,emails,phones,links,notes,titles,organizations,vCardProps") xs b) where
-  abbrev names : Bytes
-  names = ascii "@type,version,uid,kind,name,nicknames,emails,phones,links,notes,titles,organizations,vCardProps"
-
+module _ (s : Bytes) (room : Bytes) (xs : List ℕ) (b : Bool) (index : Indexes 15 s 0 cardNames xs b) where
   object-of : (v : Json) (ms : List Member) → asObject v ≡ some ms → (mm : Members) × (v ≡ jobj mm) × (ms ≡ membersOf mm)
   object-of jnull ms e = absurd (not-some e)
   object-of jtrue ms e = absurd (not-some e)
@@ -59,7 +56,7 @@ module _ (s : Bytes) (room : Bytes) (xs : List ℕ) (b : Bool) (index : Indexes 
   unfolding cardFromJson
   card-other e after v h d = subst (CardAs room Wrong after) (sym (ap (λ (o : Option (List Member)). chain o cardFromMembers) (by (asObject v) (index v h)))) refl
     where
-      by : (o : Option (List Member)) → IndexOf 15 s (parts 44 names) xs b o → o ≡ none
+      by : (o : Option (List Member)) → IndexOf 15 s (parts 44 cardNames) xs b o → o ≡ none
       by none w = refl
       by (some ms) w = let z : _≡_ {A = ℕ} 0 1 = cc in absurd (omega arith)
 
@@ -67,7 +64,7 @@ module _ (s : Bytes) (room : Bytes) (xs : List ℕ) (b : Bool) (index : Indexes 
   unfolding cardFromJson
   card-whole r after e puts v h d = by (asObject v) refl (index v h)
     where
-      by : (o : Option (List Member)) → asObject v ≡ o → IndexOf 15 s (parts 44 names) xs b o → CardAs room r after (cardFromJson v)
+      by : (o : Option (List Member)) → asObject v ≡ o → IndexOf 15 s (parts 44 cardNames) xs b o → CardAs room r after (cardFromJson v)
       by none g w = let z : _≡_ {A = ℕ} 0 1 = cc in absurd (omega arith)
       by (some ms) g w =
           let o = object-of v ms g in

@@ -6,7 +6,7 @@ use mathlib.Core.Option.{Option, none, some}
 use Prim.Native.Nat.{ℕ, min, _≤_}
 use lib.ListN.{length}
 use Rattle.text.specs.Choice.{is-some}
-use Rattle.text.specs.Bytes.{Bytes}
+use Rattle.text.specs.Bytes.{Bytes, ascii}
 use Rattle.json.specs.Tree.{Json, jobj, Members, membersOf}
 use Rattle.json.specs.Strings.{distinctNames}
 use Rattle.json_index.specs.Index.{jsonAt, Indexed}
@@ -22,6 +22,10 @@ use Rattle.to_card_lines.specs.Lines.{linesBytes, Part, PartAs}
 use Rattle.to_card_members.specs.Members.{membersPart}
 use Rattle.to_card_kept.specs.Kept.{Known, seenOf}
 use Rattle.to_card_sections.specs.Sections.{restParts, lastParts, bodyParts, sections}
+
+-- the names of a card's members that have their own slots, in the order of the slots
+abbrev pub cardNames : Bytes
+cardNames = ascii "@type,version,uid,kind,name,nicknames,emails,phones,links,notes,titles,organizations,vCardProps"
 
 -- 512 lines are 01's room for a card: 513 stands for every greater number
 abbrev pub few : ℕ → ℕ

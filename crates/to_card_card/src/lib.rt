@@ -1,6 +1,5 @@
 // The whole card from JSON that was read as sound: its sections one after the other, each lent the rest of the room.
 use card_maps::put_maps;
-use json_index::index_object;
 use line_pen::fill;
 use to_card_head::put_head;
 use to_card_kept::put_kept;
@@ -9,11 +8,13 @@ use to_card_members::put_members;
 use to_card_name::Named;
 use to_card_name::put_name;
 ghost use mathlib.Core.Path.{_≡_};
+ghost use mathlib.Core.Bool.{true};
 ghost use Prim.Native.Nat.{_≤_};
 ghost use lib.ListN.{length};
+ghost use Rattle.json_index.specs.Index.{Indexes};
 ghost use Rattle.to_card_lines.specs.Lines.{LinesIn};
-ghost use Rattle.to_card_kept.specs.Kept.{Lent, LentText};
-ghost use Rattle.to_card_card.specs.Whole.{few, FewIn, PutsOthers, PutsLast, PutsRest, PutsBody, PutsWhole, PutsCard};
+ghost use Rattle.to_card_kept.specs.Kept.{Lent};
+ghost use Rattle.to_card_card.specs.Whole.{cardNames, few, FewIn, PutsOthers, PutsLast, PutsRest, PutsBody, PutsCard};
 
 // 513 for every number over 512.
 fn up_to(n: usize) -> usize
@@ -136,8 +137,8 @@ fn put_body<'a, 'b, 'c, 'd, 'e, 'f, 'g>(
     Lines::All(bytes, lines, ok)
 }
 
-// BEGIN and the head, then these and END, by the slots of the top-level members.
-fn put_whole<'a, 'b, 'c, 'd, 'e, 'f, 'g>(
+// The card of a sound JSON text that is an object, by the slots of its members: 12, or as much of it as the room holds. BEGIN and the head, then these and END.
+pub fn put_card<'a, 'b, 'c, 'd, 'e, 'f, 'g>(
     out: &'a mut [u8],
     buffer: &'b mut [u8],
     b: &'c mut [u8],
@@ -148,9 +149,10 @@ fn put_whole<'a, 'b, 'c, 'd, 'e, 'f, 'g>(
 ) -> Lines
     requires { ⌜ length (now out) ≤ length (now buffer) ⌝ }
     requires { ⌜ Lent (now b) (now t) (now scratch) (now s) (now slots) ⌝ }
+    requires { ⌜ Indexes 15 (now s) 0 cardNames (now slots) true ⌝ }
     ensures { λ r. ⌜ FewIn (length (now (out .entry))) r ⌝ }
     ensures { λ r. ⌜ length (now (out .exit)) ≡ length (now (out .entry)) ⌝ }
-    ensures { λ r. ⌜ PutsWhole (now (s .entry)) (now (slots .entry)) (now (out .entry)) r (now (out .exit)) ⌝ }
+    ensures { λ r. ⌜ PutsCard (now (s .entry)) (now (out .entry)) r (now (out .exit)) ⌝ }
 {
     let card = slots[0];
     let version = slots[1];
@@ -168,32 +170,4 @@ fn put_whole<'a, 'b, 'c, 'd, 'e, 'f, 'g>(
     let lines = up_to(up_to(l) + k);
     let ok = c & d;
     Lines::All(bytes, lines, ok)
-}
-
-// The card of a sound JSON text: 12, or as much of it as the room holds.
-pub fn put_card<'a, 'b, 'c, 'd, 'e, 'f>(
-    out: &'a mut [u8],
-    buffer: &'b mut [u8],
-    b: &'c mut [u8],
-    t: &'d mut [usize],
-    scratch: &'e mut [u8],
-    s: &'f [u8],
-) -> Lines
-    requires { ⌜ length (now out) ≤ length (now buffer) ⌝ }
-    requires { ⌜ LentText (now b) (now t) (now scratch) (now s) ⌝ }
-    ensures { λ r. ⌜ FewIn (length (now (out .entry))) r ⌝ }
-    ensures { λ r. ⌜ length (now (out .exit)) ≡ length (now (out .entry)) ⌝ }
-    ensures { λ r. ⌜ PutsCard (now (s .entry)) (now (out .entry)) r (now (out .exit)) ⌝ }
-{
-    let mut slots = [0usize; 14];
-    if !index_object(
-        &mut slots,
-        s,
-        0,
-        15,
-        b"@type,version,uid,kind,name,nicknames,emails,phones,links,notes,titles,organizations,vCardProps",
-    ) {
-        return Lines::Wrong;
-    }
-    put_whole(out, buffer, b, t, scratch, s, &slots)
 }

@@ -1,7 +1,7 @@
 use native.Mathlib.Omega.{arith}
 use denote.Ref.{now}
 use mathlib.Core.Path.{ap, _∙_}
-use Rattle.text.specs.Bytes.{Bytes, parts}
+use Rattle.text.specs.Bytes.{parts}
 use Rattle.json_strings.specs.Spelled.{spelled}
 use Rattle.json_index.specs.Index.{noted}
 use Rattle.json_index.proofs.Names.{placed-le}

@@ -24,7 +24,11 @@ sound-members-requires c κs =
     (omega (arith, l, c .before .before .before .if1 .taken), (pre .0, (omega (arith, pre .1 .0), (pre .1 .1 .0, (pre .1 .1 .1 .0, pre .1 .1 .1 .1)))))
 
 verdict-on-requires : tie.Need-verdict-on-requires
-verdict-on-requires c κs = onward-up 0 (c .before .before .before .before .before .before .before .before .before .before .before .before .skip-space .result + 1) (length (now (c .before .before .before .before .before .before .before .before .before .before .before .before .before .before .before .before .before .before .args .s))) (c .before .before .before .before .before .before .sound-members .result) (omega arith) (c .before .before .before .before .before .before .sound-members .ensures .1 .0)
+verdict-on-requires c κs =
+    let sp = c .before .before .before .before .before .before .before .before .before .before .before .before .skip-space in
+    let a = c .before .before .before .before .before .before .before .before .before .before .before .before .before .before .before .before .before .before .args in
+    let m = c .before .before .before .before .before .before .sound-members in
+    onward-up 0 (sp .result + 1) (length (now (a .s))) (m .result) (omega arith) (m .ensures .1 .0)
 
 answer-requires : tie.Need-answer-requires
 answer-requires c κs = search needs

@@ -140,7 +140,11 @@ enum-known-e : tie.Need-enum-known-e Inv-loop μ-loop
 enum-known-e c = search needs
 
 separator-requires : tie.Need-separator-requires Inv-loop μ-loop
-separator-requires c κs = (onward-as (c .before .before .before .before .before .before .before .before .before .before .before .before .before .before .before .before .v .given .0 .0) (length (now (c .before .before .before .before .before .before .before .before .before .before .before .before .before .before .before .before .before .before .before .before .before .before .before .before .before .before .before .before .before .before .before .before .before .before .args .s))) (c .before .before .before .before .before .before .before .sound-value .ensures .1) (c .before .e .given .1) .1, omega arith)
+separator-requires c κs =
+    let v = c .before .before .before .before .before .before .before .before .before .before .before .before .before .before .before .before .v in
+    let a = c .before .before .before .before .before .before .before .before .before .before .before .before .before .before .before .before .before .before .before .before .before .before .before .before .before .before .before .before .before .before .before .before .before .before .args in
+    let val = c .before .before .before .before .before .before .before .sound-value in
+    (onward-as (v .given .0 .0) (length (now (a .s))) (val .ensures .1) (c .before .e .given .1) .1, omega arith)
 
 enum-known-j : tie.Need-enum-known-j Inv-loop μ-loop
 enum-known-j c = search needs
@@ -183,8 +187,9 @@ loop-again c =
     let m = loop .k + 1 in
     let l : m ≤ length ps = omega (arith, loop .inv .0, loop .inv .1, loop .inv .2, loop .inv .4, pre .0, pre .1 .0, pre .1 .1 .0, pre .1 .1 .1 .0, note .kept .1 .1 .0, note .kept .1 .1 .1 .0) in
     let l′ : m ≤ length fs = omega (arith, loop .inv .0, loop .inv .1, loop .inv .2, loop .inv .4, pre .0, pre .1 .0, pre .1 .1 .0, pre .1 .1 .1 .0, note .kept .1 .1 .0, note .kept .1 .1 .1 .0) in
-    let room : length (parts 44 (now (a .names))) < length (loop .slots) = omega (arith, c .before .before .before .before .before .before .before .before .before .before .before .before .before .before .before .before .before .before .before .before .before .before .before .before .before .before .before .before .before .before .before .before .before .before .before .before .before .before .pre .1 .1 .1 .1 .0, loop .inv .5) in
+    let room : length (parts 44 (now (a .names))) < length (loop .slots) = omega (arith, pre .1 .1 .1 .1 .0, loop .inv .5) in
     let same = take-put m (length ps - m) ps (val .last .1 .1 .1 .0) l in
+    let sp = c .before .before .before .before .before .before .before .before .before .before .before .before .before .before .before .before .before .before .before .before .before .before .before .before .before .before .before .before .before .before .before .before .skip-space in
     let same′ = take-put m (length fs - m) fs (val .last .1 .1 .1 .1 .0) l′ in (
       omega (arith, w .0, o .0, h .within .0, loop .inv .0),
       h .within .1,
@@ -192,7 +197,7 @@ loop-again c =
       members-on (a .depth) s (a .at) i (loop .places) (loop .prints) (loop .k) (loop .inv .3) ps fs (note .result) (note .ensures .0) _ (v .given .1) _ judged _ h _ _ same same′,
       same-len-mid m (length fs - m) fs (val .last .1 .1 .1 .1 .0) (val .kept .1 .1 .1 .1 .0) ∙ (note .kept .1 .1 .1 .0) ∙ (loop .inv .4),
       (mem .kept .0) ∙ (loop .inv .5),
-      member-on (a .depth) s (a .at) i (loop .places) (loop .prints) (loop .k) (loop .inv .3) ps fs (note .result) (note .ensures .0) _ (v .given .1) _ judged (c .before .before .before .before .before .before .before .before .before .before .before .before .before .before .before .before .before .before .before .before .before .before .before .before .before .before .before .before .before .before .before .before .skip-space .result) (now (a .names)) (loop .slots) (loop .inv .6) room (omega (arith, w .0)) _ (mem .ensures) _ h,
+      member-on (a .depth) s (a .at) i (loop .places) (loop .prints) (loop .k) (loop .inv .3) ps fs (note .result) (note .ensures .0) _ (v .given .1) _ judged (sp .result) (now (a .names)) (loop .slots) (loop .inv .6) room (omega (arith, w .0)) _ (mem .ensures) _ h,
     )
 
 enum-known-r : tie.Need-enum-known-r Inv-loop μ-loop
@@ -202,7 +207,10 @@ sound-requires : tie.Need-sound-requires Inv-loop μ-loop
 sound-requires c κs = search needs
 
 same-length : tie.Need-same-length Inv-loop μ-loop
-same-length c = (c .before .before .before .before .before .before .before .before .before .before .before .before .before .before .before .before .before .note-member .kept .0) ∙ (c .before .before .before .before .before .before .before .before .before .before .before .before .before .before .before .before .before .before .before .before .before .before .before .before .before .before .before .before .before .before .loop .inv .5)
+same-length c =
+    let mem = c .before .before .before .before .before .before .before .before .before .before .before .before .before .before .before .before .before .note-member in
+    let loop = c .before .before .before .before .before .before .before .before .before .before .before .before .before .before .before .before .before .before .before .before .before .before .before .before .before .before .before .before .before .before .loop in
+    (mem .kept .0) ∙ (loop .inv .5)
 
 same-length-2 : tie.Need-same-length-2 Inv-loop μ-loop
 same-length-2 c =
@@ -242,11 +250,15 @@ returns-2 c =
     let mem = c .before .before .before .before .before .before .before .before .before .before .before .before .before .before .before .before .before .note-member in
     let sound = c .sound in
     let h = turn-as (c .before .before .before .before .separator .ensures) (r .given .1) in
-    let room : length (parts 44 (now (a .names))) < length (loop .slots) = omega (arith, c .before .before .before .before .before .before .before .before .before .before .before .before .before .before .before .before .before .before .before .before .before .before .before .before .before .before .before .before .before .before .before .before .before .before .before .before .before .before .before .pre .1 .1 .1 .1 .0, loop .inv .5) in
+    let pre = c .before .before .before .before .before .before .before .before .before .before .before .before .before .before .before .before .before .before .before .before .before .before .before .before .before .before .before .before .before .before .before .before .before .before .before .before .before .before .before .pre in
+    let room : length (parts 44 (now (a .names))) < length (loop .slots) = omega (arith, pre .1 .1 .1 .1 .0, loop .inv .5) in
     let last = members-last (a .depth) s (a .at) i (loop .places) (loop .prints) (loop .k) (loop .inv .3) ps fs (note .result) (note .ensures .0) _ (v .given .1) _ judged _ h in
     let bounds = onward-sound (a .at) (c .before .before .before .before .before .before .e .given .0 .0) n (r .given .0 .0) (omega (arith, w .0, o .0, loop .inv .0)) (h .within) in
-    let all = member-last (a .depth) s (a .at) i (loop .places) (loop .prints) (loop .k) (loop .inv .3) ps fs (note .result) (note .ensures .0) _ (v .given .1) _ judged (c .before .before .before .before .before .before .before .before .before .before .before .before .before .before .before .before .before .before .before .before .before .before .before .before .before .before .before .before .before .before .before .before .before .skip-space .result) (now (a .names)) (loop .slots) (loop .inv .6) room (omega (arith, w .0)) (mem .last .0) (mem .ensures) _ h in
-    let indexed = pairs-some (a .depth) s (a .at) _ (c .before .before .before .before .before .before .before .before .before .before .before .before .before .before .before .before .before .before .before .before .before .before .before .before .before .before .before .before .before .before .before .before .before .skip-space .ensures) _ (c .before .before .before .before .before .before .before .before .before .before .before .before .before .before .before .before .before .before .before .before .before .before .before .before .before .before .before .before .before .before .before .before .look .ensures .0) (now (a .names)) (mem .last .0) (c .before .before .before .before .before .before .before .before .before .before .before .before .before .before .before .before .before .before .before .before .before .before .before .before .before .before .before .before .before .before .before .if1 .left) all in (
+    let sp = c .before .before .before .before .before .before .before .before .before .before .before .before .before .before .before .before .before .before .before .before .before .before .before .before .before .before .before .before .before .before .before .before .before .skip-space in
+    let all = member-last (a .depth) s (a .at) i (loop .places) (loop .prints) (loop .k) (loop .inv .3) ps fs (note .result) (note .ensures .0) _ (v .given .1) _ judged (sp .result) (now (a .names)) (loop .slots) (loop .inv .6) room (omega (arith, w .0)) (mem .last .0) (mem .ensures) _ h in
+    let look = c .before .before .before .before .before .before .before .before .before .before .before .before .before .before .before .before .before .before .before .before .before .before .before .before .before .before .before .before .before .before .before .before .look in
+    let if1 = c .before .before .before .before .before .before .before .before .before .before .before .before .before .before .before .before .before .before .before .before .before .before .before .before .before .before .before .before .before .before .before .if1 in
+    let indexed = pairs-some (a .depth) s (a .at) _ (sp .ensures) _ (look .ensures .0) (now (a .names)) (mem .last .0) (if1 .left) all in (
       judged-as s (pairs (value (a .depth)) (drop (a .at) s)) (soundMembers []) last (sym (sound .ensures)),
       (onward-as (a .at) n bounds (sym (sound .ensures)), indexed-as (a .depth) s (a .at) (now (a .names)) (mem .last .0) (sound .ensures) (indexed-sound (a .depth) s (a .at) (now (a .names)) (mem .last .0) (r .given .0 .0) indexed)),
     )
@@ -255,13 +267,20 @@ enum-known-e-2 : tie.Need-enum-known-e-2 Inv-loop μ-loop
 enum-known-e-2 c = search needs
 
 members-after-requires : tie.Need-members-after-requires Inv-loop μ-loop
-members-after-requires c κs = onward-as (c .before .before .before .before .before .before .before .before .before .before .before .before .before .before .before .before .v .given .0 .0) (length (now (c .before .before .before .before .before .before .before .before .before .before .before .before .before .before .before .before .before .before .before .before .before .before .before .before .before .before .before .before .before .before .before .before .before .before .args .s))) (c .before .before .before .before .before .before .before .sound-value .ensures .1) (c .before .e2 .given .1) .1
+members-after-requires c κs =
+    let v = c .before .before .before .before .before .before .before .before .before .before .before .before .before .before .before .before .v in
+    let a = c .before .before .before .before .before .before .before .before .before .before .before .before .before .before .before .before .before .before .before .before .before .before .before .before .before .before .before .before .before .before .before .before .before .before .args in
+    let val = c .before .before .before .before .before .before .before .sound-value in
+    onward-as (v .given .0 .0) (length (now (a .s))) (val .ensures .1) (c .before .e2 .given .1) .1
 
 unsound-requires : tie.Need-unsound-requires Inv-loop μ-loop
 unsound-requires c κs = search needs
 
 same-length-4 : tie.Need-same-length-4 Inv-loop μ-loop
-same-length-4 c = (c .before .before .before .before .before .before .before .before .before .before .before .before .before .before .note-member .kept .0) ∙ (c .before .before .before .before .before .before .before .before .before .before .before .before .before .before .before .before .before .before .before .before .before .before .before .before .before .before .before .loop .inv .5)
+same-length-4 c =
+    let mem = c .before .before .before .before .before .before .before .before .before .before .before .before .before .before .note-member in
+    let loop = c .before .before .before .before .before .before .before .before .before .before .before .before .before .before .before .before .before .before .before .before .before .before .before .before .before .before .before .loop in
+    (mem .kept .0) ∙ (loop .inv .5)
 
 same-length-5 : tie.Need-same-length-5 Inv-loop μ-loop
 same-length-5 c =
@@ -351,7 +370,11 @@ enum-known-v-2 : tie.Need-enum-known-v-2 Inv-loop μ-loop
 enum-known-v-2 c = search needs
 
 members-after-name-requires : tie.Need-members-after-name-requires Inv-loop μ-loop
-members-after-name-requires c κs = subst (NotesIn (c .before .before .before .before .before .before .before .before .before .before .loop .i) (length (now (c .before .before .before .before .before .before .before .before .before .before .before .before .before .before .before .before .before .before .before .args .s)))) (c .before .v2 .given .1) (c .before .before .before .before .before .before .before .note-name .ensures .1) .1
+members-after-name-requires c κs =
+    let loop = c .before .before .before .before .before .before .before .before .before .before .loop in
+    let a = c .before .before .before .before .before .before .before .before .before .before .before .before .before .before .before .before .before .before .before .args in
+    let note = c .before .before .before .before .before .before .before .note-name in
+    subst (NotesIn (loop .i) (length (now (a .s)))) (c .before .v2 .given .1) (note .ensures .1) .1
 
 unsound-requires-2 : tie.Need-unsound-requires-2 Inv-loop μ-loop
 unsound-requires-2 c κs = search needs

@@ -32,9 +32,9 @@ same-length-5 c = search needs
 
 returns : tie.Need-returns
 returns c =
-    let at-put-card = c .before .before .before .before .before .before .before .before .before .before .before .before in
-    let start = at-put-card .before .before .before .before .before .before .before .before .before .before .before .before in
-    made-wrong (now (start .args .json)) (now (start .args .result)) (at-put-card .put-card .result) (at-put-card .put-card .last .0) (start .pre .0) (at-put-card .put-card .ensures .1 .1) (c .enum-told .given .1)
+    let a = c .before .before .before .before .before .before .before .before .before .before .before .before .before .before .before .before .before .before .before .before .before .before .before .before .before .args in
+    let p = c .before .before .before .before .before .before .before .before .before .before .before .before .put-card in
+    made-wrong (now (a .json)) (now (a .result)) (p .result) (p .last .0) (c .before .before .before .before .before .before .before .before .before .before .before .before .before .before .before .before .before .before .before .before .before .before .before .before .before .pre .0) (p .ensures .1 .1) (c .enum-told .given .1)
 
 same-length-6 : tie.Need-same-length-6
 same-length-6 c = search needs
@@ -53,10 +53,9 @@ same-length-10 c = search needs
 
 returns-2 : tie.Need-returns-2
 returns-2 c =
-    let at-n = c .before .before in
-    let at-put-card = at-n .before .before .before .before .before .before .before .before .before .before .before .before in
-    let start = at-put-card .before .before .before .before .before .before .before .before .before .before .before .before in
-    made-uncarried (now (start .args .json)) (now (start .args .result)) (at-put-card .put-card .result) (at-put-card .put-card .last .0) (start .pre .0) (at-put-card .put-card .ensures .1 .1) _ _ _ (at-n .n .given .1) (not-true _ (c .if1 .taken))
+    let a = c .before .before .before .before .before .before .before .before .before .before .before .before .before .before .before .before .before .before .before .before .before .before .before .before .before .before .before .args in
+    let p = c .before .before .before .before .before .before .before .before .before .before .before .before .before .before .put-card in
+    made-uncarried (now (a .json)) (now (a .result)) (p .result) (p .last .0) (c .before .before .before .before .before .before .before .before .before .before .before .before .before .before .before .before .before .before .before .before .before .before .before .before .before .before .before .pre .0) (p .ensures .1 .1) _ _ _ (c .before .before .n .given .1) (not-true _ (c .if1 .taken))
 
 same-length-11 : tie.Need-same-length-11
 same-length-11 c = search needs
@@ -75,11 +74,9 @@ same-length-15 c = search needs
 
 returns-3 : tie.Need-returns-3
 returns-3 c =
-    let at-if1 = c .before in
-    let at-n = at-if1 .before .before in
-    let at-put-card = at-n .before .before .before .before .before .before .before .before .before .before .before .before in
-    let start = at-put-card .before .before .before .before .before .before .before .before .before .before .before .before in
-    made-many (now (start .args .json)) (now (start .args .result)) (at-put-card .put-card .result) (at-put-card .put-card .last .0) (start .pre .0) (at-put-card .put-card .ensures .1 .1) _ _ _ (at-n .n .given .1) (not-false _ (at-if1 .if1 .left)) (omega (arith, c .if2 .taken))
+    let a = c .before .before .before .before .before .before .before .before .before .before .before .before .before .before .before .before .before .before .before .before .before .before .before .before .before .before .before .before .args in
+    let p = c .before .before .before .before .before .before .before .before .before .before .before .before .before .before .before .put-card in
+    made-many (now (a .json)) (now (a .result)) (p .result) (p .last .0) (c .before .before .before .before .before .before .before .before .before .before .before .before .before .before .before .before .before .before .before .before .before .before .before .before .before .before .before .before .pre .0) (p .ensures .1 .1) _ _ _ (c .before .before .before .n .given .1) (not-false _ (c .before .if1 .left)) (omega (arith, c .if2 .taken))
 
 same-length-16 : tie.Need-same-length-16
 same-length-16 c = search needs
@@ -98,12 +95,9 @@ same-length-20 c = search needs
 
 returns-4 : tie.Need-returns-4
 returns-4 c =
-    let at-if2 = c .before in
-    let at-if1 = at-if2 .before in
-    let at-n = at-if1 .before .before in
-    let at-put-card = at-n .before .before .before .before .before .before .before .before .before .before .before .before in
-    let start = at-put-card .before .before .before .before .before .before .before .before .before .before .before .before in
-    made-full (now (start .args .json)) (now (start .args .result)) (at-put-card .put-card .result) (at-put-card .put-card .last .0) (start .pre .0) (at-put-card .put-card .ensures .1 .1) _ _ _ (at-n .n .given .1) (not-false _ (at-if1 .if1 .left)) (omega (arith, at-if2 .if2 .left)) (omega (arith, c .if3 .taken, at-put-card .put-card .ensures .1 .0))
+    let a = c .before .before .before .before .before .before .before .before .before .before .before .before .before .before .before .before .before .before .before .before .before .before .before .before .before .before .before .before .before .args in
+    let p = c .before .before .before .before .before .before .before .before .before .before .before .before .before .before .before .before .put-card in
+    made-full (now (a .json)) (now (a .result)) (p .result) (p .last .0) (c .before .before .before .before .before .before .before .before .before .before .before .before .before .before .before .before .before .before .before .before .before .before .before .before .before .before .before .before .before .pre .0) (p .ensures .1 .1) _ _ _ (c .before .before .before .before .n .given .1) (not-false _ (c .before .before .if1 .left)) (omega (arith, c .before .if2 .left)) (omega (arith, c .if3 .taken, p .ensures .1 .0))
 
 same-length-21 : tie.Need-same-length-21
 same-length-21 c = search needs
@@ -122,12 +116,9 @@ same-length-25 c = search needs
 
 returns-5 : tie.Need-returns-5
 returns-5 c =
-    let at-if2 = c .before in
-    let at-if1 = at-if2 .before in
-    let at-n = at-if1 .before .before in
-    let at-put-card = at-n .before .before .before .before .before .before .before .before .before .before .before .before in
-    let start = at-put-card .before .before .before .before .before .before .before .before .before .before .before .before in
-    made-card (now (start .args .json)) (now (start .args .result)) (at-put-card .put-card .result) (at-put-card .put-card .last .0) (start .pre .0) (at-put-card .put-card .ensures .1 .1) _ _ _ (at-n .n .given .1) (not-false _ (at-if1 .if1 .left)) (omega (arith, at-if2 .if2 .left)) (omega (arith, c .if3 .left, at-put-card .put-card .ensures .1 .0))
+    let a = c .before .before .before .before .before .before .before .before .before .before .before .before .before .before .before .before .before .before .before .before .before .before .before .before .before .before .before .before .before .args in
+    let p = c .before .before .before .before .before .before .before .before .before .before .before .before .before .before .before .before .put-card in
+    made-card (now (a .json)) (now (a .result)) (p .result) (p .last .0) (c .before .before .before .before .before .before .before .before .before .before .before .before .before .before .before .before .before .before .before .before .before .before .before .before .before .before .before .before .before .pre .0) (p .ensures .1 .1) _ _ _ (c .before .before .before .before .n .given .1) (not-false _ (c .before .before .if1 .left)) (omega (arith, c .before .if2 .left)) (omega (arith, c .if3 .left, p .ensures .1 .0))
 
 pub convert-spec : {M : Type 1} → statement M
 convert-spec =

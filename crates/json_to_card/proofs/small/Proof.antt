@@ -31,25 +31,25 @@ slice-aggregate-convert-4 c = search needs
 
 convert-requires : tie.Need-convert-requires
 convert-requires c κs =
-    let start = c .before .before .before .before .before .before .before in
-    (start .pre .0, (search needs, record { small = omega (arith, start .pre .1); buffer = simp (length-take, length-drop) (omega arith); table = search needs; text = search needs }))
+    let pre = c .before .before .before .before .before .before .before .before .pre in
+    (pre .0, (search needs, (record { all = record { small = omega (arith, pre .1 .0); buffer = simp (length-take, length-drop) (omega arith); table = search needs; text = search needs }; index = pre .1 .1 .0 }, pre .1 .1 .1)))
 
 enum-known-k : tie.Need-enum-known-k
 enum-known-k c = search needs
 
 returns : tie.Need-returns
 returns c =
-    let at-convert = c .before .before .before .before .before .before .before .before in
-    let start = at-convert .before .before .before .before .before .before .before .before in
-    of-refused (now (start .args .out)) (inner (reading 16 (now (start .args .json)))) _ (at-convert .convert .result) (at-convert .convert .last .0) (at-convert .convert .ensures) _ _ (c .before .k .given .1)
+    let a = c .before .before .before .before .before .before .before .before .before .before .before .before .before .before .before .before .before .args in
+    let v = c .before .before .before .before .before .before .before .before .convert in
+    of-refused (now (a .out)) (inner (reading 16 (now (a .json)))) _ (v .result) (v .last .0) (v .ensures) _ _ (c .before .k .given .1)
 
 enum-told : tie.Need-enum-told
 enum-told c = search needs
 
 large-requires : tie.Need-large-requires
 large-requires c κs =
-    let start = c .before .before .before .before .before .before .before .before .before .before .before .before .before .before .before .before in
-    (start .pre .0, omega (arith, start .pre .1))
+    let pre = c .before .before .before .before .before .before .before .before .before .before .before .before .before .before .before .before .before .pre in
+    (pre .0, (omega (arith, pre .1 .0), (pre .1 .1 .0, pre .1 .1 .1)))
 
 same-length : tie.Need-same-length
 same-length c = search needs
@@ -69,10 +69,9 @@ part-put-served-start c = search needs
 
 part-put-served-end : tie.Need-part-put-served-end
 part-put-served-end c =
-    let at-k2 = c .before .before .before in
-    let at-convert = at-k2 .before .before .before .before .before .before .before in
-    let start = at-convert .before .before .before .before .before .before .before .before in
-    card-fits (now (start .args .out)) (inner (reading 16 (now (start .args .json)))) _ (at-convert .convert .result) (at-convert .convert .last .0) (at-convert .convert .ensures) _ (at-k2 .k2 .given .1)
+    let a = c .before .before .before .before .before .before .before .before .before .before .before .before .before .before .before .before .before .before .before .args in
+    let v = c .before .before .before .before .before .before .before .before .before .before .convert in
+    card-fits (now (a .out)) (inner (reading 16 (now (a .json)))) _ (v .result) (v .last .0) (v .ensures) _ (c .before .before .before .k2 .given .1)
 
 put-served-requires : tie.Need-put-served-requires
 put-served-requires c κs = search needs
@@ -82,11 +81,10 @@ same-length-2 c = search needs
 
 returns-3 : tie.Need-returns-3
 returns-3 c =
-    let at-put-served = c .before .before in
-    let at-k2 = at-put-served .before .before .before .before .before in
-    let at-convert = at-k2 .before .before .before .before .before .before .before in
-    let start = at-convert .before .before .before .before .before .before .before .before in
-    of-card (now (start .args .out)) (inner (reading 16 (now (start .args .json)))) _ (at-convert .convert .result) (at-convert .convert .last .0) (at-convert .convert .ensures) _ (at-k2 .k2 .given .1) (at-put-served .put-served .result) _ (search needs) (at-put-served .put-served .ensures)
+    let a = c .before .before .before .before .before .before .before .before .before .before .before .before .before .before .before .before .before .before .before .before .before .before .before .args in
+    let v = c .before .before .before .before .before .before .before .before .before .before .before .before .before .before .convert in
+    let p = c .before .before .put-served in
+    of-card (now (a .out)) (inner (reading 16 (now (a .json)))) _ (v .result) (v .last .0) (v .ensures) _ (c .before .before .before .before .before .before .before .k2 .given .1) (p .result) _ (search needs) (p .ensures)
 
 pub small-spec : {M : Type 1} → statement M
 small-spec =

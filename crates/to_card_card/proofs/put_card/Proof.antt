@@ -1,89 +1,271 @@
 use denote.Ref.{now}
 use native.Mathlib.Omega.{arith}
-use mathlib.Core.Path.{refl}
+use mathlib.Core.Path.{refl, sym, ap, subst, _∙_}
+use mathlib.Core.Bool.{true, _&&_}
 use borrow.Author.Needs.{needs}
-use Rattle.text.proofs.Cases.{not-true, not-false}
-use Rattle.to_card_card.proofs.Names.{reserved-names, clear-fourteen, card-other, card-whole}
+use borrow.Rule.Slice.PartMut.{putMid}
+use Prim.Native.Nat.{ℕ, _+_, _-_, _≤_}
+use lib.ListN.{length}
+use Rattle.to_card_lines.proofs.Laws.{lines-in, part-length, part-in, fills-in, fills-length}
+use Rattle.to_card_lines.specs.declared.Lines.the-variants.{All}
+use Rattle.to_card_card.specs.Whole.{few, PutsWhole}
+use Rattle.to_card_card.proofs.Joining.{few-at}
+use Rattle.to_card_card.proofs.Names.{card-whole}
+use Rattle.to_card_card.proofs.Whole.{whole-first, whole-second, whole-all}
 use Rattle.to_card_card.proofs.put_card.Statement.{statement}
 use Rattle.to_card_card.proofs.put_card.Tie as tie
-use Rattle.to_card_card.proofs.put_card.Reads as reads
-use Rattle.to_card_card.proofs.put_card.Lts as lts
-use Rattle.json_index.proofs.index_object.Reads as index-object-reads
-use Rattle.to_card_card.proofs.put_whole.Reads as put-whole-reads
 
--- src/lib.rt:187:9
-slice-aggregate-index-object : tie.Need-slice-aggregate-index-object
-slice-aggregate-index-object c = search needs
+shared-slice-read-card : tie.Need-shared-slice-read-card
+shared-slice-read-card c = search needs
 
--- src/lib.rt:191:9
-slice-aggregate-index-object-2 : tie.Need-slice-aggregate-index-object-2
-slice-aggregate-index-object-2 c = search needs
+shared-slice-read-version : tie.Need-shared-slice-read-version
+shared-slice-read-version c = search needs
 
--- src/lib.rt:186:9
-index-object-requires : tie.Need-index-object-requires
-index-object-requires c κs = (omega arith, (reserved-names, clear-fourteen))
+shared-slice-read-uid : tie.Need-shared-slice-read-uid
+shared-slice-read-uid c = search needs
 
--- src/lib.rt:193:9
-returns : tie.Need-returns
-returns c =
-    let args = c .before .before .before .before .before .before .before .before .before .before .before .args in
-    let index-object = c .before .before .index-object in (
-      tt,
-      (refl, card-other (now (args .s)) (now (args .out)) (index-object .last .0) (index-object .result) (index-object .ensures) (not-true _ (c .if1 .taken)) _),
-    )
+shared-slice-read-kind : tie.Need-shared-slice-read-kind
+shared-slice-read-kind c = search needs
 
--- src/lib.rt:195:46
-slice-aggregate-put-whole : tie.Need-slice-aggregate-put-whole
-slice-aggregate-put-whole c = search needs
+put-head-requires : tie.Need-put-head-requires
+put-head-requires c κs = search needs
 
--- src/lib.rt:195:5
-put-whole-requires : tie.Need-put-whole-requires
-put-whole-requires c κs = search needs
+enum-known-n : tie.Need-enum-known-n
+enum-known-n c = search needs
 
--- src/lib.rt:171:1
+enum-told : tie.Need-enum-told
+enum-told c = search needs
+
 same-length : tie.Need-same-length
 same-length c = search needs
 
--- src/lib.rt:171:1
+returns : tie.Need-returns
+returns c =
+    let index = c .before .before .before .before .before .before .before .before .before .before .before .before .before .before .before .before .before .pre .1 .1 in
+    let args = c .before .before .before .before .before .before .before .before .before .before .before .before .before .before .before .before .before .args in
+    let put-head = c .before .before .before .before .put-head in (
+      tt,
+      (
+        put-head .ensures .1 .0,
+        card-whole (now (args .s)) (now (args .out)) (now (args .slots)) true index _ _ refl
+            (whole-first (now (args .s)) (now (args .slots)) (now (args .out)) (put-head .result) (put-head .last .0) (put-head .ensures .1 .1) (c .enum-told .given .1) (put-head .last .0)),
+      ),
+    )
+
+sub-put-body : tie.Need-sub-put-body
+sub-put-body c =
+    let put-head = c .before .before .before .before .before .put-head in
+    omega (arith, lines-in (put-head .ensures .0) (c .before .n .given .1), put-head .ensures .1 .0)
+
+part-put-body-start : tie.Need-part-put-body-start
+part-put-body-start c =
+    let put-head = c .before .before .before .before .before .put-head in
+    omega (arith, lines-in (put-head .ensures .0) (c .before .n .given .1), put-head .ensures .1 .0)
+
+part-put-body-end : tie.Need-part-put-body-end
+part-put-body-end c = search needs
+
+put-body-requires : tie.Need-put-body-requires
+put-body-requires c κs = search needs
+
+enum-known-m : tie.Need-enum-known-m
+enum-known-m c = search needs
+
+enum-told-2 : tie.Need-enum-told-2
+enum-told-2 c = search needs
+
 same-length-2 : tie.Need-same-length-2
 same-length-2 c = search needs
 
--- src/lib.rt:171:1
 same-length-3 : tie.Need-same-length-3
 same-length-3 c = search needs
 
--- src/lib.rt:171:1
 same-length-4 : tie.Need-same-length-4
 same-length-4 c = search needs
 
--- src/lib.rt:171:1
 same-length-5 : tie.Need-same-length-5
 same-length-5 c = search needs
 
--- src/lib.rt:171:1
+same-length-6 : tie.Need-same-length-6
+same-length-6 c = search needs
+
 returns-2 : tie.Need-returns-2
 returns-2 c =
-    let args = c .before .before .before .before .before .before .before .before .before .before .before .before .before .before .before .before .before .before .before .before .before .before .before .before .before .before .before .before .args in
-    let index-object = c .before .before .before .before .before .before .before .before .before .before .before .before .before .before .before .before .before .before .before .index-object in
-    let if1 = c .before .before .before .before .before .before .before .before .before .before .before .before .before .before .before .before .before .if1 in
-    let put-whole = c .before .before .before .before .before .before .before .before .before .before .put-whole in (
-      put-whole .ensures .0,
-      (put-whole .ensures .1 .0, card-whole (now (args .s)) (now (args .out)) (index-object .last .0) (index-object .result) (index-object .ensures) (put-whole .result) (put-whole .last .0) (not-false _ (if1 .left)) (put-whole .ensures .1 .1)),
+    let index = c .before .before .before .before .before .before .before .before .before .before .before .before .before .before .before .before .before .before .before .before .before .before .before .before .before .before .before .before .before .before .before .before .before .before .before .before .pre .1 .1 in
+    let args = c .before .before .before .before .before .before .before .before .before .before .before .before .before .before .before .before .before .before .before .before .before .before .before .before .before .before .before .before .before .before .before .before .before .before .before .before .args in
+    let put-head = c .before .before .before .before .before .before .before .before .before .before .before .before .before .before .before .before .before .before .before .before .before .before .before .put-head in
+    let n = c .before .before .before .before .before .before .before .before .before .before .before .before .before .before .before .before .before .before .before .n in
+    let put-body = c .before .before .before .before .before .before .before .before .before .before .before .before .put-body in
+    let s = now (args .s) in
+    let slots = now (args .slots) in
+    let out = now (args .out) in
+    let k = n .given .0 in
+    let inside : k .0 ≤ length (put-head .last .0) = omega (arith, lines-in (put-head .ensures .0) (n .given .1), put-head .ensures .1 .0) in
+    let as-long = part-length (k .0) (put-head .last .0) (put-body .last .0) inside (put-body .ensures .1 .0) in (
+      tt,
+      (
+        as-long ∙ put-head .ensures .1 .0,
+        card-whole s out slots true index _ _ refl
+            (whole-second s slots out (put-head .result) (put-head .last .0) (put-head .ensures .1 .1) (k .0) (k .1 .0) (k .1 .1 .0) (n .given .1)
+            (put-body .result) (put-body .last .0) (put-body .ensures .1 .1) (c .enum-told2 .given .1) _),
+      ),
+    )
+
+add-e : tie.Need-add-e
+add-e c =
+    let good = c .before .before .before .before .before .before .before .before .before .before .before .before .before .before .before .before .before .before .before .before .before .before .before .before .before .before .before .before .before .before .before .before .before .before .before .before .before .good in
+    let put-head = c .before .before .before .before .before .before .before .before .before .before .before .before .before .before .before .before .before .before .before .before .before .before .before .before .put-head in
+    let n = c .before .before .before .before .before .before .before .before .before .before .before .before .before .before .before .before .before .before .before .before .n in
+    let put-body = c .before .before .before .before .before .before .before .before .before .before .before .before .before .put-body in
+    let k = n .given .0 in
+    let inside : k .0 ≤ length (put-head .last .0) = omega (arith, lines-in (put-head .ensures .0) (n .given .1), put-head .ensures .1 .0) in
+    let both-in = part-in (k .0) (put-head .last .0) inside ((few-at (put-body .ensures .0) (c .before .m .given .1)) .0) in
+    record { fits = omega (arith, both-in, put-head .ensures .1 .0, good .0 .0) }
+
+sub-fill : tie.Need-sub-fill
+sub-fill c =
+    let put-head = c .before .before .before .before .before .before .before .before .before .before .before .before .before .before .before .before .before .before .before .before .before .before .before .before .put-head in
+    let n = c .before .before .before .before .before .before .before .before .before .before .before .before .before .before .before .before .before .before .before .before .n in
+    let put-body = c .before .before .before .before .before .before .before .before .before .before .before .before .before .put-body in
+    let k = n .given .0 in
+    let inside : k .0 ≤ length (put-head .last .0) = omega (arith, lines-in (put-head .ensures .0) (n .given .1), put-head .ensures .1 .0) in
+    let as-long = part-length (k .0) (put-head .last .0) (put-body .last .0) inside (put-body .ensures .1 .0) in
+    let both-in = part-in (k .0) (put-head .last .0) inside ((few-at (put-body .ensures .0) (c .before .m .given .1)) .0) in
+    omega (arith, both-in, as-long)
+
+part-fill-start : tie.Need-part-fill-start
+part-fill-start c =
+    let put-head = c .before .before .before .before .before .before .before .before .before .before .before .before .before .before .before .before .before .before .before .before .before .before .before .before .put-head in
+    let n = c .before .before .before .before .before .before .before .before .before .before .before .before .before .before .before .before .before .before .before .before .n in
+    let put-body = c .before .before .before .before .before .before .before .before .before .before .before .before .before .put-body in
+    let k = n .given .0 in
+    let inside : k .0 ≤ length (put-head .last .0) = omega (arith, lines-in (put-head .ensures .0) (n .given .1), put-head .ensures .1 .0) in
+    let as-long = part-length (k .0) (put-head .last .0) (put-body .last .0) inside (put-body .ensures .1 .0) in
+    let both-in = part-in (k .0) (put-head .last .0) inside ((few-at (put-body .ensures .0) (c .before .m .given .1)) .0) in
+    omega (arith, both-in, as-long)
+
+part-fill-end : tie.Need-part-fill-end
+part-fill-end c = search needs
+
+slice-aggregate-fill : tie.Need-slice-aggregate-fill
+slice-aggregate-fill c = search needs
+
+fill-requires : tie.Need-fill-requires
+fill-requires c κs = search needs
+
+add-bytes : tie.Need-add-bytes
+add-bytes c =
+    let good = c .before .before .before .before .before .before .before .before .before .before .before .before .before .before .before .before .before .before .before .before .before .before .before .before .before .before .before .before .before .before .before .before .before .before .before .before .before .before .before .before .before .before .good in
+    let put-head = c .before .before .before .before .before .before .before .before .before .before .before .before .before .before .before .before .before .before .before .before .before .before .before .before .before .before .before .before .before .put-head in
+    let n = c .before .before .before .before .before .before .before .before .before .before .before .before .before .before .before .before .before .before .before .before .before .before .before .before .before .n in
+    let put-body = c .before .before .before .before .before .before .before .before .before .before .before .before .before .before .before .before .before .before .put-body in
+    let m = c .before .before .before .before .before .before .m in
+    let k = n .given .0 in
+    let inside : k .0 ≤ length (put-head .last .0) = omega (arith, lines-in (put-head .ensures .0) (n .given .1), put-head .ensures .1 .0) in
+    let as-long = part-length (k .0) (put-head .last .0) (put-body .last .0) inside (put-body .ensures .1 .0) in
+    let both-in = part-in (k .0) (put-head .last .0) inside ((few-at (put-body .ensures .0) (m .given .1)) .0) in
+    let j = m .given .0 in
+    let written = putMid (k .0) (length (put-head .last .0) - k .0) (put-head .last .0) (put-body .last .0) in
+    let room : k .0 + j .0 ≤ length written = omega (arith, both-in, as-long) in
+    record { fits = omega (arith, part-in (k .0 + j .0) written room (fills-in (c .before .before .fill .ensures)), as-long, put-head .ensures .1 .0, good .0 .0) }
+
+up-to-requires : tie.Need-up-to-requires
+up-to-requires c κs = search needs
+
+add-up-to : tie.Need-add-up-to
+add-up-to c =
+    let put-body = c .before .before .before .before .before .before .before .before .before .before .before .before .before .before .before .before .before .before .before .put-body in
+    let m = c .before .before .before .before .before .before .before .m in
+    record { fits = omega (arith, c .up-to .ensures, (few-at (put-body .ensures .0) (m .given .1)) .1) }
+
+up-to-requires-2 : tie.Need-up-to-requires-2
+up-to-requires-2 c κs = search needs
+
+same-length-7 : tie.Need-same-length-7
+same-length-7 c = search needs
+
+same-length-8 : tie.Need-same-length-8
+same-length-8 c = search needs
+
+same-length-9 : tie.Need-same-length-9
+same-length-9 c = search needs
+
+same-length-10 : tie.Need-same-length-10
+same-length-10 c = search needs
+
+same-length-11 : tie.Need-same-length-11
+same-length-11 c = search needs
+
+returns-3 : tie.Need-returns-3
+returns-3 c =
+    let index = c .before .before .before .before .before .before .before .before .before .before .before .before .before .before .before .before .before .before .before .before .before .before .before .before .before .before .before .before .before .before .before .before .before .before .before .before .before .before .before .before .before .before .before .before .pre .1 .1 in
+    let args = c .before .before .before .before .before .before .before .before .before .before .before .before .before .before .before .before .before .before .before .before .before .before .before .before .before .before .before .before .before .before .before .before .before .before .before .before .before .before .before .before .before .before .before .before .args in
+    let put-head = c .before .before .before .before .before .before .before .before .before .before .before .before .before .before .before .before .before .before .before .before .before .before .before .before .before .before .before .before .before .before .before .put-head in
+    let n = c .before .before .before .before .before .before .before .before .before .before .before .before .before .before .before .before .before .before .before .before .before .before .before .before .before .before .before .n in
+    let put-body = c .before .before .before .before .before .before .before .before .before .before .before .before .before .before .before .before .before .before .before .before .put-body in
+    let m = c .before .before .before .before .before .before .before .before .m in
+    let fill = c .before .before .before .before .fill in
+    let counted = c .up-to2 .ensures ∙ ap (λ (k : ℕ). few (k + (m .given .0 .1 .0))) (c .before .up-to .ensures) in
+    let s = now (args .s) in
+    let slots = now (args .slots) in
+    let out = now (args .out) in
+    let k = n .given .0 in
+    let inside : k .0 ≤ length (put-head .last .0) = omega (arith, lines-in (put-head .ensures .0) (n .given .1), put-head .ensures .1 .0) in
+    let as-long = part-length (k .0) (put-head .last .0) (put-body .last .0) inside (put-body .ensures .1 .0) in
+    let both-in = part-in (k .0) (put-head .last .0) inside ((few-at (put-body .ensures .0) (m .given .1)) .0) in
+    let j = m .given .0 in
+    let written = putMid (k .0) (length (put-head .last .0) - k .0) (put-head .last .0) (put-body .last .0) in
+    let room : k .0 + j .0 ≤ length written = omega (arith, both-in, as-long) in
+    let ended = putMid (k .0 + j .0) (length written - (k .0 + j .0)) written (fill .last .0) in (
+      (omega (arith, part-in (k .0 + j .0) written room (fills-in (fill .ensures)), as-long, put-head .ensures .1 .0), omega (arith, c .up-to2 .ensures)),
+      (
+        part-length (k .0 + j .0) written (fill .last .0) room (fills-length (fill .ensures)) ∙ (as-long ∙ put-head .ensures .1 .0),
+        card-whole s out slots true index _ _ refl
+            (subst (λ (lines : ℕ). PutsWhole s slots out (All (k .0 + j .0 + fill .result) lines (k .1 .1 .0 && j .1 .1 .0)) ended) (sym counted)
+            (whole-all s slots out (put-head .result) (put-head .last .0) (put-head .ensures .1 .1) (k .0) (k .1 .0) (k .1 .1 .0) (n .given .1)
+            (put-body .result) (put-body .last .0) (put-body .ensures .1 .1) (j .0) (j .1 .0) (j .1 .1 .0) (m .given .1)
+            (fill .result) (fill .last .0) (fill .ensures))),
+      ),
     )
 
 pub put-card-spec : {M : Type 1} → statement M
 put-card-spec =
     tie.close
     (tie.spec
-    slice-aggregate-index-object
-    slice-aggregate-index-object-2
-    index-object-requires
-    returns
-    slice-aggregate-put-whole
-    put-whole-requires
+    shared-slice-read-card
+    shared-slice-read-version
+    shared-slice-read-uid
+    shared-slice-read-kind
+    put-head-requires
+    enum-known-n
+    enum-told
     same-length
+    returns
+    sub-put-body
+    part-put-body-start
+    part-put-body-end
+    put-body-requires
+    enum-known-m
+    enum-told-2
     same-length-2
     same-length-3
     same-length-4
     same-length-5
-    returns-2)
+    same-length-6
+    returns-2
+    add-e
+    sub-fill
+    part-fill-start
+    part-fill-end
+    slice-aggregate-fill
+    fill-requires
+    add-bytes
+    up-to-requires
+    add-up-to
+    up-to-requires-2
+    same-length-7
+    same-length-8
+    same-length-9
+    same-length-10
+    same-length-11
+    returns-3)
