@@ -76,7 +76,9 @@ returns-3 : tie.Need-returns-3
 returns-3 c =
     let a = c .before .before .before .before .before .before .before .before .before .before .before .before .before .before .before .before .before .before .before .before .before .before .before .before .before .before .before .before .args in
     let p = c .before .before .before .before .before .before .before .before .before .before .before .before .before .before .before .put-card in
-    made-many (now (a .json)) (now (a .result)) (p .result) (p .last .0) (c .before .before .before .before .before .before .before .before .before .before .before .before .before .before .before .before .before .before .before .before .before .before .before .before .before .before .before .before .pre .0) (p .ensures .1 .1) _ _ _ (c .before .before .before .n .given .1) (not-false _ (c .before .if1 .left)) (omega (arith, c .if2 .taken))
+    let pre = c .before .before .before .before .before .before .before .before .before .before .before .before .before .before .before .before .before .before .before .before .before .before .before .before .before .before .before .before .pre in
+    let n = c .before .before .before .n in
+    made-many (now (a .json)) (now (a .result)) (p .result) (p .last .0) (pre .0) (p .ensures .1 .1) _ _ _ (n .given .1) (not-false _ (c .before .if1 .left)) (omega (arith, c .if2 .taken))
 
 same-length-16 : tie.Need-same-length-16
 same-length-16 c = search needs
@@ -97,7 +99,9 @@ returns-4 : tie.Need-returns-4
 returns-4 c =
     let a = c .before .before .before .before .before .before .before .before .before .before .before .before .before .before .before .before .before .before .before .before .before .before .before .before .before .before .before .before .before .args in
     let p = c .before .before .before .before .before .before .before .before .before .before .before .before .before .before .before .before .put-card in
-    made-full (now (a .json)) (now (a .result)) (p .result) (p .last .0) (c .before .before .before .before .before .before .before .before .before .before .before .before .before .before .before .before .before .before .before .before .before .before .before .before .before .before .before .before .before .pre .0) (p .ensures .1 .1) _ _ _ (c .before .before .before .before .n .given .1) (not-false _ (c .before .before .if1 .left)) (omega (arith, c .before .if2 .left)) (omega (arith, c .if3 .taken, p .ensures .1 .0))
+    let pre = c .before .before .before .before .before .before .before .before .before .before .before .before .before .before .before .before .before .before .before .before .before .before .before .before .before .before .before .before .before .pre in
+    let n = c .before .before .before .before .n in
+    made-full (now (a .json)) (now (a .result)) (p .result) (p .last .0) (pre .0) (p .ensures .1 .1) _ _ _ (n .given .1) (not-false _ (c .before .before .if1 .left)) (omega (arith, c .before .if2 .left)) (omega (arith, c .if3 .taken, p .ensures .1 .0))
 
 same-length-21 : tie.Need-same-length-21
 same-length-21 c = search needs
@@ -118,7 +122,9 @@ returns-5 : tie.Need-returns-5
 returns-5 c =
     let a = c .before .before .before .before .before .before .before .before .before .before .before .before .before .before .before .before .before .before .before .before .before .before .before .before .before .before .before .before .before .args in
     let p = c .before .before .before .before .before .before .before .before .before .before .before .before .before .before .before .before .put-card in
-    made-card (now (a .json)) (now (a .result)) (p .result) (p .last .0) (c .before .before .before .before .before .before .before .before .before .before .before .before .before .before .before .before .before .before .before .before .before .before .before .before .before .before .before .before .before .pre .0) (p .ensures .1 .1) _ _ _ (c .before .before .before .before .n .given .1) (not-false _ (c .before .before .if1 .left)) (omega (arith, c .before .if2 .left)) (omega (arith, c .if3 .left, p .ensures .1 .0))
+    let pre = c .before .before .before .before .before .before .before .before .before .before .before .before .before .before .before .before .before .before .before .before .before .before .before .before .before .before .before .before .before .pre in
+    let n = c .before .before .before .before .n in
+    made-card (now (a .json)) (now (a .result)) (p .result) (p .last .0) (pre .0) (p .ensures .1 .1) _ _ _ (n .given .1) (not-false _ (c .before .before .if1 .left)) (omega (arith, c .before .if2 .left)) (omega (arith, c .if3 .left, p .ensures .1 .0))
 
 pub convert-spec : {M : Type 1} → statement M
 convert-spec =
