@@ -47,8 +47,8 @@ extern "C" {
 
 /* Card to JSON. The JSON is written to the front of `out`; its length is put behind `written` and 0 is answered. A refused card is answered with its number, its
  * place behind `place`, and every byte of `out` is as it was. The stem and the number make the UID of a card that has none. THYMEBARREL_JSON_BYTES of
- * output are always enough. `place` and `written` must not be null. A call took 36 KiB of
- * stack for a small card and 252 KiB for the largest one tried (docs/PERFORMANCE.md).
+ * output are always enough. `place` and `written` must not be null. A call took 16 KiB of
+ * stack for a small card and 270 KiB for the largest one tried (docs/PERFORMANCE.md).
  *
  *     size_t place, written;
  *     uint8_t number = thymebarrel_card_to_json((const uint8_t *)"reg", 3, 1, card, card_length, out, sizeof out, &place, &written);
@@ -57,7 +57,7 @@ extern "C" {
 uint8_t thymebarrel_card_to_json(const uint8_t *stem, size_t stem_length, size_t number, const uint8_t *card, size_t card_length, uint8_t *out,
                                  size_t out_length, size_t *place, size_t *written);
 
-/* JSON to card, likewise: the card is written to the front of `out`, and THYMEBARREL_CARD_BYTES of output are always enough. A call took up to 284 KiB of
+/* JSON to card, likewise: the card is written to the front of `out`, and THYMEBARREL_CARD_BYTES of output are always enough. A call took up to 348 KiB of
  * stack (docs/PERFORMANCE.md).
  *
  *     uint8_t number = thymebarrel_json_to_card(json, json_length, out, sizeof out, &place, &written);

@@ -56,7 +56,7 @@ fn listed(count: usize, one: impl Fn(usize) -> String) -> String {
     (0..count).map(one).collect::<Vec<_>>().join(",")
 }
 
-fn keyed(count: usize) -> Vec<u8> {
+pub fn keyed(count: usize) -> Vec<u8> {
     let entries = listed(count, |index| format!(r#""k{index}":{{"number":"1"}}"#));
     let kept = listed(count, |_| format!(r#"["tel",{{"prop-id":"k{}"}},"unknown","1"]"#, count - 1));
     card(&format!(r#""phones":{{{entries}}},"vCardProps":[{kept}]"#))
@@ -68,7 +68,7 @@ fn pointed(count: usize) -> Vec<u8> {
     card(&format!(r#"{members},"vCardProps":[{kept}]"#))
 }
 
-fn surnames(count: usize) -> Vec<u8> {
+pub fn surnames(count: usize) -> Vec<u8> {
     let kinds = ["surname", "surname2"];
     let components = listed(count, |index| format!(r#"{{"kind":"{}","value":"a{index}"}}"#, kinds[index % 2]));
     card(&format!(r#""name":{{"components":[{components}]}}"#))
@@ -98,7 +98,7 @@ fn lines(line: &str) -> Vec<u8> {
     format!("BEGIN:VCARD\r\nVERSION:4.0\r\nFN:a\r\n{line}\r\nEND:VCARD\r\n").into_bytes()
 }
 
-fn surname_values(count: usize) -> Vec<u8> {
+pub fn surname_values(count: usize) -> Vec<u8> {
     let (family, second) = (listed(count, |index| format!("a{index}")), listed(count, |index| format!("b{index}")));
     lines(&format!("N:{family};;;;;{second}"))
 }

@@ -3,6 +3,7 @@
 //! how far down the call went. The threads are POSIX's, since std's do not take
 //! memory for their stacks.
 
+use crate::growth;
 use crate::times::{grouped, json_of, ours_reads};
 use crate::workloads;
 use std::alloc::{alloc, dealloc, Layout};
@@ -113,6 +114,7 @@ fn print_cards() {
         ("ordinary card (12 lines)", workloads::ordinary()),
         ("509 lines with PROP-ID", workloads::prop_ids()),
         ("full card (512 lines, 32,768 bytes)", workloads::full()),
+        ("800 surnames and 800 second surnames", growth::surname_values(800)),
         ("JSPROP of depth 15 in 32,768 bytes", deep),
     ];
     head(["card to JSON", "a stream of it"]);
@@ -132,6 +134,8 @@ fn print_texts() {
         ("full card's JSON (512 lines)", json_of(&workloads::full_home())),
         ("JSON of depth 16 in 65,536 bytes", deep),
         ("vCardProps with JSPROP of depth 15", kept),
+        ("800 entries of a map, 800 kept lines", growth::keyed(800)),
+        ("800 components of a name", growth::surnames(800)),
         ("9,000 names in one object", workloads::names()),
     ];
     head(["JSON to card", "look-up"]);
