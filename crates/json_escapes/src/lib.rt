@@ -27,6 +27,16 @@ const LETTER_T: u16 = b't' as u16;
 
 const LETTER_U: u16 = b'u' as u16;
 
+const ZERO: u16 = b'0' as u16;
+
+const NINE: u16 = b'9' as u16;
+
+const CAPITAL_A: u16 = b'A' as u16;
+
+const CAPITAL_F: u16 = b'F' as u16;
+
+const LETTER_A: u16 = b'a' as u16;
+
 // A number that a part of an escape stands for, and where it ends.
 pub enum Value {
     Of(u32, usize),
@@ -36,13 +46,13 @@ pub enum Value {
 fn is_hex(b: u16) -> bool
     ensures { λ r. ⌜ r ≡ isHex b ⌝ }
 {
-    if in_range(b, 48, 57) {
+    if in_range(b, ZERO, NINE) {
         return true;
     }
-    if in_range(b, 65, 70) {
+    if in_range(b, CAPITAL_A, CAPITAL_F) {
         return true;
     }
-    in_range(b, 97, 102)
+    in_range(b, LETTER_A, LETTER_F)
 }
 
 // A byte that may follow a backslash, besides u.
@@ -77,10 +87,10 @@ fn hex_value(b: u16) -> u32
     requires { ⌜ isHex b ≡ true ⌝ }
     ensures { λ r. ⌜ (r ≡ hexVal b) × (r < 16) ⌝ }
 {
-    if in_range(b, 48, 57) {
-        return (b - 48) as u32;
+    if in_range(b, ZERO, NINE) {
+        return (b - ZERO) as u32;
     }
-    if in_range(b, 65, 70) {
+    if in_range(b, CAPITAL_A, CAPITAL_F) {
         return (b - 55) as u32;
     }
     (b - 87) as u32

@@ -20,10 +20,12 @@ const LETTER_E: u16 = b'e' as u16;
 
 const ZERO: u16 = b'0' as u16;
 
+const NINE: u16 = b'9' as u16;
+
 fn is_digit(b: u16) -> bool
     ensures { λ r. ⌜ r ≡ isDigit b ⌝ }
 {
-    in_range(b, 48, 57)
+    in_range(b, ZERO, NINE)
 }
 
 // The place after the digits at a place.

@@ -23,11 +23,23 @@ ghost use Rattle.json.specs.Syntax.{four, scalar, name, item, elements, pair, p
 ghost use Rattle.json_scan.specs.After.{elementsAfter, membersAfter, GivesAfterName};
 
 // Letters, as `look` gives them.
+const LETTER_A: u16 = b'a' as u16;
+
+const LETTER_E: u16 = b'e' as u16;
+
 const LETTER_F: u16 = b'f' as u16;
+
+const LETTER_L: u16 = b'l' as u16;
 
 const LETTER_N: u16 = b'n' as u16;
 
+const LETTER_R: u16 = b'r' as u16;
+
+const LETTER_S: u16 = b's' as u16;
+
 const LETTER_T: u16 = b't' as u16;
+
+const LETTER_U: u16 = b'u' as u16;
 
 // Four bytes. (The value that they spell plays no part in where they end.)
 fn four_end(s: &[u8], at: usize, a: u16, b: u16, c: u16, d: u16) -> Read
@@ -57,13 +69,13 @@ pub fn scalar_end(s: &[u8], at: usize) -> Read
         return string_end(s, at + 1);
     }
     if b == LETTER_T {
-        return four_end(s, at, 116, 114, 117, 101);
+        return four_end(s, at, LETTER_T, LETTER_R, LETTER_U, LETTER_E);
     }
     if b == LETTER_F {
-        return four_end(s, at + 1, 97, 108, 115, 101);
+        return four_end(s, at + 1, LETTER_A, LETTER_L, LETTER_S, LETTER_E);
     }
     if b == LETTER_N {
-        return four_end(s, at, 110, 117, 108, 108);
+        return four_end(s, at, LETTER_N, LETTER_U, LETTER_L, LETTER_L);
     }
     number_end(s, at)
 }

@@ -23,14 +23,21 @@ fn hex_digit(d: u8) -> u8
     requires { ⌜ d < 16 ⌝ }
     ensures { λ r. ⌜ r ≡ hexDigit d ⌝ }
 {
-    if d < 10 { 48 + d } else { 87 + d }
+    if d < 10 { b'0' + d } else { 87 + d }
 }
 
 // A byte by its number.
 fn put_code(out: &mut [u8], c: u8) -> Wrote
     ensures { λ r. ⌜ Puts (now (out .entry)) (coded c) r (now (out .exit)) ⌝ }
 {
-    let g = [92, 117, 48, 48, hex_digit(c / 16), hex_digit(c % 16)];
+    let g = [
+        b'\\',
+        b'u',
+        b'0',
+        b'0',
+        hex_digit(c / 16),
+        hex_digit(c % 16),
+    ];
     put_text(out, &g)
 }
 
@@ -225,12 +232,12 @@ pub fn put_number(out: &mut [u8], n: usize) -> Wrote
     ensures { λ r. ⌜ Puts (now (out .entry)) (decimal n) r (now (out .exit)) ⌝ }
 {
     if n < 10 {
-        return put_byte(out, 48 + n as u8);
+        return put_byte(out, b'0' + n as u8);
     }
     let Wrote::Bytes(a) = put_number(out, n / 10) else {
         return Wrote::Full;
     };
-    let Wrote::Bytes(b) = put_byte(&mut out[a..], 48 + (n % 10) as u8) else {
+    let Wrote::Bytes(b) = put_byte(&mut out[a..], b'0' + (n % 10) as u8) else {
         return Wrote::Full;
     };
     let ab = a + b;

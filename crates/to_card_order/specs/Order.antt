@@ -26,7 +26,7 @@ use Rattle.to_card_order.specs.declared.Kept.{Kept}
 
 -- the values that a digit names
 unfoldable pub valuesAt : List (List Bytes) → ℕ → List Bytes
-valuesAt ps c = pick (ltb c 48) [] (part ps (c - 48))
+valuesAt ps c = pick (ltb c (code "0")) [] (part ps (c - code "0"))
 
 abbrev pub placeText : ℕ → ℕ → List (List Bytes) → Bool → ℕ → Bytes
 placeText style mark ps b c = pick (eqb c (code ";")) (c ∷ []) (listFrom mark b (map (writtenIn style) (valuesAt ps c)))

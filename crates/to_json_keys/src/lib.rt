@@ -3,6 +3,7 @@ ghost use mathlib.Core.Path.{_≡_};
 ghost use mathlib.Core.List.{_∷_, []};
 ghost use Prim.Native.Nat.{_+_, _≤_, _<_};
 ghost use lib.ListN.{length};
+ghost use Rattle.text.specs.Bytes.{code};
 ghost use Rattle.output.specs.Put.{Puts};
 ghost use Rattle.convert.specs.Keys.{numbered};
 ghost use Rattle.to_json_keys.specs.Taken.{Spells, Numbers, Marks, NextFree, Nexts};
@@ -32,10 +33,10 @@ pub fn put_key(out: &mut [u8], prefix: &[u8], n: usize) -> Wrote
 
 // What a digit stands for.
 fn digit(b: u8) -> usize
-    requires { ⌜ 48 ≤ b ⌝ }
-    ensures { λ r. ⌜ r + 48 ≡ b ⌝ }
+    requires { ⌜ code "0" ≤ b ⌝ }
+    ensures { λ r. ⌜ r + code "0" ≡ b ⌝ }
 {
-    (b - 48) as usize
+    (b - b'0') as usize
 }
 
 // The number from 1 to 1024 that is spelled so, without a leading zero; else 0.
