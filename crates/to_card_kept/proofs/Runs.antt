@@ -11,9 +11,11 @@ use Rattle.name_index.specs.Groups.{Indexes}
 use Rattle.to_card_lines.specs.declared.Lines.{Lines}
 use Rattle.to_card_lines.specs.declared.Lines.the-variants.{All, Wrong}
 use Rattle.to_card_lines.specs.Lines.{LinesIn}
+use Rattle.to_card_kept.specs.declared.Tried.{Tried}
+use Rattle.to_card_kept.specs.declared.Tried.the-variants.{Line}
 use Rattle.to_card_kept.specs.declared.Run.{Run}
 use Rattle.to_card_kept.specs.declared.Run.the-variants.{Ended, More}
-use Rattle.to_card_kept.specs.Puts.{PutsFrom, LinesWithin, RunIn, beforeLines, PutsRun}
+use Rattle.to_card_kept.specs.Puts.{AskedOnce, PutsFrom, LinesWithin, RunIn, beforeLines, PutsRun}
 
 -- a slice of the first k rows
 pub index-taken : (s : Bytes) (slots places prints ends : List ℕ) (k : ℕ) → Indexes s slots places prints (take k ends) → Indexes s slots places prints (take (k - 0) (drop 0 ends))
@@ -32,11 +34,14 @@ module _ (room text most : ℕ) {x : Run} (h : RunIn room text most x) where
   pub ended-in : (r : Lines) → x ≡ Ended r → LinesIn room r
   ended-in r e = within-in room (text + 1) r (ended-within r e)
 
-  pub more-within : (n lines : ℕ) (ok : Bool) (j : ℕ) → x ≡ More n lines ok j → (n ≤ room) × (lines ≤ j) × (j ≤ text) × (lines ≡ most)
+  pub more-within : (n lines : ℕ) (ok : Bool) (j : ℕ) → x ≡ More n lines ok j → (n ≤ room) × (lines ≤ j) × (j ≤ text) × (most ≤ lines)
   more-within n lines ok j e = subst (RunIn room text most) e h
 
 pub all-within : (room most : ℕ) (n k : ℕ) (c : Bool) {r : Lines} → LinesWithin room most r → r ≡ All n k c → (n ≤ room) × (k ≤ most)
 all-within room most n k c h e = subst (LinesWithin room most) e h
+
+pub asked-once : {n e q : ℕ} {c : Bool} {r : Tried} → AskedOnce r → r ≡ Line n c e q → q ≤ 1
+asked-once h e = subst AskedOnce e h
 
 -- no run is longer than the text
 pub no-more : (room text : ℕ) {x : Run} → RunIn room text (text + 1) x → (n lines : ℕ) (ok : Bool) (j : ℕ) → x ≡ More n lines ok j → ⊥

@@ -23,6 +23,8 @@ use Rattle.card_entry.specs.declared.Entered.the-variants.{Line, Refused}
 use Rattle.to_card_lines.specs.declared.Lines.{Lines}
 use Rattle.to_card_lines.specs.declared.Lines.the-variants.{All, Wrong}
 use Rattle.to_card_lines.specs.Lines.{PartAs, partsOf}
+use Rattle.to_card_kept.specs.declared.Tried.{Tried}
+use Rattle.to_card_kept.specs.declared.Tried.the-variants.{Line as Tried·Line, Refused as Tried·Refused}
 use Rattle.to_card_kept.specs.declared.Run.{Run}
 use Rattle.to_card_kept.specs.declared.Run.the-variants.{Ended, More}
 use Rattle.to_card_kept.specs.Kept.{Known, seenOf, entryPart}
@@ -43,6 +45,16 @@ pub record EntryAt (s : Bytes) (at : ℕ) (j : Json) : Type 0 where
   pub stands : jsonAt 14 s at ≡ some j
   pub distinct : distinctNames j ≡ true
   pub room : size j + 5 ≤ length s
+
+-- what became of it, less how often the names of the card were asked for it
+abbrev pub asEntered : Tried → Entered
+asEntered (Tried·Line n c e q) = Line n c e
+asEntered Tried·Refused = Refused
+
+-- which is once at most
+abbrev pub AskedOnce : Tried → Type 0
+AskedOnce (Tried·Line n c e q) = q ≤ 1
+AskedOnce Tried·Refused = Unit {0}
 
 -- its line, less the place after the entry
 abbrev pub asLines : Entered → Lines
@@ -65,7 +77,7 @@ pub record EntriesAt (s : Bytes) (at : ℕ) (es : Elems) : Type 0 where
 abbrev pub PutsFrom : Bytes → List ℕ → ℕ → Bool → Bool → Bytes → Lines → Bytes → Type 0
 PutsFrom s slots at full parts room r after = (es : Elems) → EntriesAt s at es → ForKnown s slots full parts λ seen. PartAs room r after (partsOf (entryPart seen) (elemsOf es))
 
--- ---- entries up to a number of them
+-- ---- entries up to a number of questions
 
 -- what is written is in the room, and the lines are so many at most
 abbrev pub LinesWithin : ℕ → ℕ → Lines → Type 0
@@ -75,7 +87,7 @@ LinesWithin room most Wrong = Unit {0}
 -- each entry but the last has a comma after it, so that there are no more lines than bytes, and one
 abbrev pub RunIn : ℕ → ℕ → ℕ → Run → Type 0
 RunIn room text most (Ended r) = LinesWithin room (text + 1) r
-RunIn room text most (More n lines ok at) = (n ≤ room) × (lines ≤ at) × (at ≤ text) × (lines ≡ most)
+RunIn room text most (More n lines ok at) = (n ≤ room) × (lines ≤ at) × (at ≤ text) × (most ≤ lines)
 
 -- lines before others
 abbrev pub beforeLines : ℕ → ℕ → Bool → Lines → Lines

@@ -1,6 +1,6 @@
 // The entries of vCardProps of a JSON text as kept lines of a card. Each is decoded into a lent buffer and laid out as a line's table. The classifier of
 // card lines then judges it: an entry whose line would convert in its place is 12.
-use card_entry::Entered;
+use class_line::Class;
 use class_line::class_line;
 use json_marks::separator;
 use json_marks::skip_space;
@@ -25,7 +25,23 @@ ghost use Rattle.card_entry.specs.Rows.{EnteredIn};
 ghost use Rattle.to_card_lines.specs.Lines.{LinesIn};
 ghost use Rattle.name_index.specs.Groups.{Indexes};
 ghost use Rattle.to_card_kept.specs.Kept.{Lent, PutsKept};
-ghost use Rattle.to_card_kept.specs.Puts.{TellsKept, asLines, PutsEntry, PutsFrom, LinesWithin, RunIn, PutsRun};
+ghost use Rattle.to_card_kept.specs.Puts.{TellsKept, asEntered, asLines, AskedOnce, PutsEntry, PutsFrom, LinesWithin, RunIn, PutsRun};
+
+// Whether a line is kept, and how often the names of the card were asked for that: once at most.
+struct Judged {
+    kept: bool,
+    asked: usize,
+}
+
+// How often the names are asked for a line that is kept: one of the class of kept lines is so whatever they are.
+fn questions(class: Class) -> usize
+    ensures { λ r. ⌜ r ≤ 1 ⌝ }
+{
+    match class {
+        Class::Kept => 0,
+        _ => 1,
+    }
+}
 
 // Whether the line that the table holds is kept after all converted lines.
 fn is_kept_line<'a, 'b, 'c, 'd, 'e, 'f, 'g>(
@@ -39,17 +55,29 @@ fn is_kept_line<'a, 'b, 'c, 'd, 'e, 'f, 'g>(
     ends: &'g [usize],
     full: bool,
     parts: bool,
-) -> bool
+) -> Judged
     requires { ⌜ Sound (now b) (now t) × Room (now b) (now scratch) × (14 ≤ length (now slots)) ⌝ }
     requires { ⌜ Indexes (now s) (now slots) (now places) (now prints) (now ends) ⌝ }
-    ensures { λ r. ⌜ TellsKept (now (s .entry)) (now (slots .entry)) (now (b .entry)) (now (t .entry)) full parts r ⌝ }
+    ensures { λ r. ⌜ TellsKept (now (s .entry)) (now (slots .entry)) (now (b .entry)) (now (t .entry)) full parts (r .kept) ⌝ }
+    ensures { λ r. ⌜ r .asked ≤ 1 ⌝ }
 {
     let mut counts = [0usize; 8];
     let mut froms = [0usize; 8];
     let mut tos = [0usize; 8];
     scan_rows(&mut counts, &mut froms, &mut tos, b, t);
     let class = class_line(&counts, &froms, &tos, b, t, scratch, full, parts);
-    is_kept_class(s, slots, places, prints, ends, b, scratch, class)
+    let asked = questions(class);
+    let kept = is_kept_class(s, slots, places, prints, ends, b, scratch, class);
+    Judged {
+        kept: kept,
+        asked: asked,
+    }
+}
+
+// What became of an entry: its bytes, whether they carry it, the place after it, and how often the names of the card were asked.
+enum Tried {
+    Line(usize, bool, usize, usize),
+    Refused,
 }
 
 // An entry as a line: 12 where no kept line gives it in its place.
@@ -66,36 +94,39 @@ fn put_entry<'a, 'b, 'c, 'd, 'e, 'f, 'g, 'h>(
     at: usize,
     full: bool,
     parts: bool,
-) -> Entered
+) -> Tried
     requires { ⌜ Lent (now b) (now t) (now scratch) (now s) (now slots) ⌝ }
     requires { ⌜ Indexes (now s) (now slots) (now places) (now prints) (now ends) ⌝ }
     requires { ⌜ at ≤ length (now s) ⌝ }
-    ensures { λ r. ⌜ EnteredIn (now (s .entry)) at (length (now (out .entry))) r ⌝ }
+    ensures { λ r. ⌜ EnteredIn (now (s .entry)) at (length (now (out .entry))) (asEntered r) ⌝ }
     ensures { λ r. ⌜ length (now (out .exit)) ≡ length (now (out .entry)) ⌝ }
-    ensures { λ r. ⌜ PutsEntry (now (s .entry)) (now (slots .entry)) at full parts (now (out .entry)) (asLines r) (now (out .exit)) ⌝ }
+    ensures { λ r. ⌜ PutsEntry (now (s .entry)) (now (slots .entry)) at full parts (now (out .entry)) (asLines (asEntered r)) (now (out .exit)) ⌝ }
+    ensures { λ r. ⌜ AskedOnce r ⌝ }
 {
     let Held::Entry(end) = fill_kept(b, t, s, at) else {
-        return Entered::Refused;
+        return Tried::Refused;
     };
     if !is_sound(b, t) {
-        return Entered::Refused;
+        return Tried::Refused;
     }
-    if !is_kept_line(b, t, scratch, s, slots, places, prints, ends, full, parts) {
-        return Entered::Refused;
+    let judged = is_kept_line(b, t, scratch, s, slots, places, prints, ends, full, parts);
+    if !judged.kept {
+        return Tried::Refused;
     }
     let p = put_kept_line(out, b, t);
     let n = p.bytes;
     let ok = p.carried;
-    Entered::Line(n, ok, end)
+    let q = judged.asked;
+    Tried::Line(n, ok, end, q)
 }
 
-// How far entries were written: to their end, or so many of them, with the place of the next.
+// How far entries were written: to their end, or some of them, with the place of the next.
 enum Run {
     Ended(Lines),
     More(usize, usize, bool, usize),
 }
 
-// The entries from a place on, `most` of them at most.
+// The entries from a place on, until the names of the card were asked for `most` of them.
 fn put_run<'a, 'b, 'c, 'd, 'e, 'f, 'g, 'h>(
     out: &'a mut [u8],
     b: &'b mut [u8],
@@ -121,9 +152,10 @@ fn put_run<'a, 'b, 'c, 'd, 'e, 'f, 'g, 'h>(
     let mut i = at;
     let mut n = 0;
     let mut lines = 0;
+    let mut asked = 0;
     let mut ok = true;
     loop {
-        let Entered::Line(k, c, e) = put_entry(
+        let Tried::Line(k, c, e, q) = put_entry(
             &mut out[n..],
             b,
             t,
@@ -141,10 +173,11 @@ fn put_run<'a, 'b, 'c, 'd, 'e, 'f, 'g, 'h>(
         };
         n += k;
         lines += 1;
+        asked += q;
         ok = ok & c;
         match separator(s, e, RIGHT_BRACKET) {
             Turn::Go(j) => {
-                if lines == most {
+                if asked == most {
                     return Run::More(n, lines, ok, j);
                 }
                 i = j;
@@ -199,7 +232,7 @@ fn put_noted<'a, 'b, 'c, 'd, 'e, 'f>(
     }
 }
 
-// The entries from a place on. What the lines of the first sixteen ask is looked up by walks over the text: few cards have more of them.
+// The entries from a place on. The first sixteen questions are looked up by walks over the text: few cards have more of them, and most have none.
 fn put_from<'a, 'b, 'c, 'd, 'e, 'f>(
     out: &'a mut [u8],
     b: &'b mut [u8],

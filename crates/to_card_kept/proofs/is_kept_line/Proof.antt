@@ -32,10 +32,13 @@ class-line-requires c κs =
     let scan-rows = c .before .before .before .before .before .before .before .scan-rows in
     (record { wide = record { counts = search needs; froms = search needs; tos = search needs }; row = scan-rows .ensures; sound = pre .0 .0 }, pre .0 .1)
 
+questions-requires : tie.Need-questions-requires
+questions-requires c κs = tt
+
 is-kept-class-requires : tie.Need-is-kept-class-requires
 is-kept-class-requires c κs =
-    let pre = c .before .before .before .before .before .before .before .before .before .before .before .before .before .before .before .before .before .before .before .before .before .before .before .pre in
-    let class-line = c .before .before .before .class-line in
+    let pre = c .before .before .before .before .before .before .before .before .before .before .before .before .before .before .before .before .before .before .before .before .before .before .before .before .pre in
+    let class-line = c .before .before .before .before .class-line in
     ((omega (arith, pre .0 .2), omega (arith, pre .0 .1 .fits, class-line .kept .1 .1 .1 .1 .1 .0), class-line .ensures .within), pre .1)
 
 same-length : tie.Need-same-length
@@ -43,9 +46,9 @@ same-length c = search needs
 
 returns : tie.Need-returns
 returns c =
-    let class-line = c .before .before .before .before .before .before .class-line in
+    let class-line = c .before .before .before .before .before .before .before .class-line in
     let is-kept-class = c .before .before .is-kept-class in
-    tells-kept (is-kept-class .result) (class-line .ensures) (is-kept-class .ensures)
+    (tells-kept (is-kept-class .result) (class-line .ensures) (is-kept-class .ensures), c .before .before .before .before .questions .ensures)
 
 pub is-kept-line-spec : {M : Type 1} → statement M
 is-kept-line-spec =
@@ -59,6 +62,7 @@ is-kept-line-spec =
     slice-aggregate-class-line-2
     slice-aggregate-class-line-3
     class-line-requires
+    questions-requires
     is-kept-class-requires
     same-length
     returns)

@@ -118,7 +118,7 @@ add-t48 c =
     let put-noted = c .before .before .before .before .before .before .before .before .before .before .before .put-noted in
     let v = more-within (length (now (args .out))) (length (now (args .s))) 16 (put-run .ensures .0) _ _ _ _ (n .given .1) in
     let w = all-within _ _ _ _ _ (put-noted .ensures .0) (c .before .m .given .1) in
-    record { fits = omega (arith, v .3, w .1, pre .0 .all .small) }
+    record { fits = omega (arith, v .1, v .2, w .1, pre .0 .all .small) }
 
 same-length-5 : tie.Need-same-length-5
 same-length-5 c = search needs

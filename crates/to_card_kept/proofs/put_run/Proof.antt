@@ -9,19 +9,20 @@ use Rattle.text.proofs.Places.{turn-as}
 use Rattle.to_card_lines.proofs.Laws.{part-length, part-in}
 use Rattle.card_entry.proofs.Putting.{entered-in}
 use Rattle.to_card_kept.specs.Kept.{LentText}
-use Rattle.to_card_kept.specs.Puts.{asLines}
+use Rattle.to_card_kept.specs.Puts.{asEntered, asLines}
 use Rattle.to_card_kept.proofs.Entry.{lent-as}
+use Rattle.to_card_kept.proofs.Runs.{asked-once}
 use Rattle.to_card_kept.proofs.Loop.{Going, going-first, puts-wrong, going-on, puts-all, run-more}
 use Rattle.to_card_kept.proofs.put_run.Statement.{statement}
 use Rattle.to_card_kept.proofs.put_run.Tie as tie
 
 abbrev Inv-loop : tie.InvT-loop
-Inv-loop out₀ b₀ t₀ scratch₀ s slots places prints ends at full parts most i₀ n₀ lines₀ ok₀ out b t scratch i n lines ok =
+Inv-loop out₀ b₀ t₀ scratch₀ s slots places prints ends at full parts most i₀ n₀ lines₀ asked₀ ok₀ out b t scratch i n lines asked ok =
     (i ≤ length s) × (n ≤ length out) × (length out ≡ length out₀) × (lines ≤ i) × LentText b t scratch s × (length b ≡ length b₀) × (length t ≡ length t₀) × (length scratch ≡ length scratch₀)
-    × Going s slots at full parts out₀ i n lines ok out
+    × Going s slots at full parts out₀ i n lines ok out × (asked ≤ lines)
 
 abbrev μ-loop : tie.MeasureT-loop
-μ-loop out₀ b₀ t₀ scratch₀ s slots places prints ends at full parts most i₀ n₀ lines₀ ok₀ out b t scratch i n lines ok = length s - i
+μ-loop out₀ b₀ t₀ scratch₀ s slots places prints ends at full parts most i₀ n₀ lines₀ asked₀ ok₀ out b t scratch i n lines asked ok = length s - i
 
 loop-holds : tie.Need-loop-holds Inv-loop μ-loop
 loop-holds c =
@@ -36,6 +37,7 @@ loop-holds c =
       refl,
       refl,
       going-first (now (args .s)) (now (args .slots)) (args .at) (args .full) (args .parts) (now (args .out)),
+      omega arith,
     )
 
 sub-put-entry : tie.Need-sub-put-entry Inv-loop μ-loop
@@ -91,7 +93,7 @@ returns c =
       tt,
       (
         part-length (loop .n) (loop .out) (put-entry .last .0) (loop .inv .1) (put-entry .ensures .1 .0) ∙ (loop .inv .2),
-        puts-wrong (now (args .s)) (now (args .slots)) (args .at) (args .full) (args .parts) (now (args .out)) (loop .i) (loop .n) (loop .lines) (loop .ok) (loop .out) (loop .inv .8) (asLines (put-entry .result)) _ (put-entry .ensures .1 .1) _ (ap asLines (c .enum-told .given .1)),
+        puts-wrong (now (args .s)) (now (args .slots)) (args .at) (args .full) (args .parts) (now (args .out)) (loop .i) (loop .n) (loop .lines) (loop .ok) (loop .out) (loop .inv .8) (asLines (asEntered (put-entry .result))) _ (put-entry .ensures .1 .1 .0) _ (ap asLines (ap asEntered (c .enum-told .given .1))),
       ),
     )
 
@@ -101,7 +103,7 @@ add-n c =
     let good = c .before .before .before .before .before .before .before .before .before .before .before .before .before .before .before .before .before .before .before .before .before .before .before .before .before .before .good in
     let loop = c .before .before .before .before .before .before .before .before .before .before .before .before .before .before .before .before .loop in
     let put-entry = c .before .before .before .before .before .before .before .before .before .before .before .put-entry in
-    let e = entered-in (now (args .s)) (loop .i) (put-entry .ensures .0) (c .before .k .given .1) in
+    let e = entered-in (now (args .s)) (loop .i) (put-entry .ensures .0) (ap asEntered (c .before .k .given .1)) in
     record {
       fits = omega (
         arith,
@@ -116,12 +118,18 @@ add-lines c =
     let loop = c .before .before .before .before .before .before .before .before .before .before .before .before .before .before .before .before .loop in
     omega (arith, loop .inv .3, loop .inv .0)
 
+add-asked : tie.Need-add-asked Inv-loop μ-loop
+add-asked c =
+    let loop = c .before .before .before .before .before .before .before .before .before .before .before .before .before .before .before .before .loop in
+    let put-entry = c .before .before .before .before .before .before .before .before .before .before .before .put-entry in
+    record { fits = omega (arith, loop .inv .9, loop .inv .3, loop .inv .0, loop .inv .4 .small, asked-once (put-entry .ensures .1 .1 .1) (c .before .k .given .1)) }
+
 separator-requires : tie.Need-separator-requires Inv-loop μ-loop
 separator-requires c κs =
     let args = c .before .before .before .before .before .before .before .before .before .before .before .before .before .before .before .before .before .before .before .before .before .before .before .before .before .before .args in
     let loop = c .before .before .before .before .before .before .before .before .before .before .before .before .before .before .before .before .loop in
     let put-entry = c .before .before .before .before .before .before .before .before .before .before .before .put-entry in
-    let e = entered-in (now (args .s)) (loop .i) (put-entry .ensures .0) (c .before .k .given .1) in
+    let e = entered-in (now (args .s)) (loop .i) (put-entry .ensures .0) (ap asEntered (c .before .k .given .1)) in
     (e .1 .within, omega arith)
 
 enum-known-j : tie.Need-enum-known-j Inv-loop μ-loop
@@ -160,13 +168,13 @@ returns-2 c =
     let separator = c .before .before .before .before .separator in
     let j = c .before .before .j in
     let h = turn-as (separator .ensures) (j .given .1) in
-    let e = entered-in (now (args .s)) (loop .i) (put-entry .ensures .0) (k .given .1) in
+    let e = entered-in (now (args .s)) (loop .i) (put-entry .ensures .0) (ap asEntered (k .given .1)) in
     let l = part-length (loop .n) (loop .out) (put-entry .last .0) (loop .inv .1) (put-entry .ensures .1 .0) in (
-      (omega (arith, part-in (loop .n) (loop .out) (loop .inv .1) (e .0), loop .inv .2), omega (arith, loop .inv .3, h .within .0, e .1 .from), h .within .1, c .if1 .taken),
+      (omega (arith, part-in (loop .n) (loop .out) (loop .inv .1) (e .0), loop .inv .2), omega (arith, loop .inv .3, h .within .0, e .1 .from), h .within .1, omega (arith, c .if1 .taken, loop .inv .9, asked-once (put-entry .ensures .1 .1 .1) (k .given .1))),
       (
         l ∙ (loop .inv .2),
         run-more (now (args .s)) (now (args .slots)) (args .at) (args .full) (args .parts) (now (args .out)) _ _ _ _ _ (going-on (now (args .s)) (now (args .slots)) (args .at) (args .full) (args .parts) (now (args .out)) (loop .i) (loop .n) (loop .lines) (loop .ok) (loop .out) (loop .inv .8)
-            (asLines (put-entry .result)) _ (put-entry .ensures .1 .1) _ _ _ (ap asLines (k .given .1)) _ (e .1 .ends) _ h),
+            (asLines (asEntered (put-entry .result))) _ (put-entry .ensures .1 .1 .0) _ _ _ (ap asLines (ap asEntered (k .given .1))) _ (e .1 .ends) _ h),
       ),
     )
 
@@ -179,7 +187,7 @@ loop-less c =
     let separator = c .before .before .before .before .separator in
     let j = c .before .before .j in
     let h = turn-as (separator .ensures) (j .given .1) in
-    let e = entered-in (now (args .s)) (loop .i) (put-entry .ensures .0) (k .given .1) in
+    let e = entered-in (now (args .s)) (loop .i) (put-entry .ensures .0) (ap asEntered (k .given .1)) in
     omega (arith, h .within .0, h .within .1, e .1 .from)
 
 loop-again : tie.Need-loop-again Inv-loop μ-loop
@@ -191,7 +199,7 @@ loop-again c =
     let separator = c .before .before .before .before .separator in
     let j = c .before .before .j in
     let h = turn-as (separator .ensures) (j .given .1) in
-    let e = entered-in (now (args .s)) (loop .i) (put-entry .ensures .0) (k .given .1) in
+    let e = entered-in (now (args .s)) (loop .i) (put-entry .ensures .0) (ap asEntered (k .given .1)) in
     let l = part-length (loop .n) (loop .out) (put-entry .last .0) (loop .inv .1) (put-entry .ensures .1 .0) in (
       h .within .1,
       omega (arith, l, part-in (loop .n) (loop .out) (loop .inv .1) (e .0)),
@@ -201,7 +209,8 @@ loop-again c =
       put-entry .kept .1 .0 ∙ (loop .inv .5),
       put-entry .kept .1 .1 .0 ∙ (loop .inv .6),
       put-entry .kept .1 .1 .1 .0 ∙ (loop .inv .7),
-      going-on (now (args .s)) (now (args .slots)) (args .at) (args .full) (args .parts) (now (args .out)) (loop .i) (loop .n) (loop .lines) (loop .ok) (loop .out) (loop .inv .8) (asLines (put-entry .result)) _ (put-entry .ensures .1 .1) _ _ _ (ap asLines (k .given .1)) _ (e .1 .ends) _ h,
+      going-on (now (args .s)) (now (args .slots)) (args .at) (args .full) (args .parts) (now (args .out)) (loop .i) (loop .n) (loop .lines) (loop .ok) (loop .out) (loop .inv .8) (asLines (asEntered (put-entry .result))) _ (put-entry .ensures .1 .1 .0) _ _ _ (ap asLines (ap asEntered (k .given .1))) _ (e .1 .ends) _ h,
+      omega (arith, loop .inv .9, asked-once (put-entry .ensures .1 .1 .1) (k .given .1)),
     )
 
 enum-known-r : tie.Need-enum-known-r Inv-loop μ-loop
@@ -238,12 +247,12 @@ returns-3 c =
     let put-entry = c .before .before .before .before .before .before .before .before .before .before .before .before .before .before .before .put-entry in
     let k = c .before .before .before .before .before .k in
     let separator = c .before .before .before .separator in
-    let e = entered-in (now (args .s)) (loop .i) (put-entry .ensures .0) (k .given .1) in (
+    let e = entered-in (now (args .s)) (loop .i) (put-entry .ensures .0) (ap asEntered (k .given .1)) in (
       (omega (arith, part-in (loop .n) (loop .out) (loop .inv .1) (e .0), loop .inv .2), omega (arith, loop .inv .3, e .1 .from, e .1 .within)),
       (
         part-length (loop .n) (loop .out) (put-entry .last .0) (loop .inv .1) (put-entry .ensures .1 .0) ∙ (loop .inv .2),
         puts-all (now (args .s)) (now (args .slots)) (args .at) (args .full) (args .parts) (now (args .out)) (loop .i) (loop .n) (loop .lines)
-            (loop .ok) (loop .out) (loop .inv .8) (asLines (put-entry .result)) _ (put-entry .ensures .1 .1) _ _ _ (ap asLines (k .given .1)) _
+            (loop .ok) (loop .out) (loop .inv .8) (asLines (asEntered (put-entry .result))) _ (put-entry .ensures .1 .1 .0) _ _ _ (ap asLines (ap asEntered (k .given .1))) _
             (e .1 .ends) _ (turn-as (separator .ensures) (c .before .r .given .1)),
       ),
     )
@@ -268,6 +277,7 @@ put-run-spec =
     returns
     add-n
     add-lines
+    add-asked
     separator-requires
     enum-known-j
     same-length-5
