@@ -6,13 +6,11 @@ use Prim.Native.Nat.{ℕ, _<_}
 use native.Mathlib.Omega.{arith}
 use lib.ListN.{getD}
 use Rattle.text.specs.Bytes.{Bytes, lowered}
-use Rattle.convert.specs.Classify.{Seen, see, classify}
+use Rattle.convert.specs.Classify.{Seen}
 use Rattle.line_table.specs.Table.{part, lineIn, Holds}
-use Rattle.convert_entry.specs.Rows.{codeOf}
-use Rattle.table_entry.proofs.Spread.{class-held}
 use Rattle.class_names.specs.Names.{nameNumber}
 use Rattle.class_names.proofs.Numbers.{number-small}
-use Rattle.class_line.specs.Class.{numberOf, seenWith, Classes, Numbered}
+use Rattle.class_line.specs.Class.{Classes, Numbered}
 use Rattle.class_line.specs.declared.Class.{Class as Answer}
 
 -- ---- the number of its name
@@ -40,8 +38,3 @@ third n k e l z a b c d f =
 -- ---- the line that was read
 
 module _ {s t : List ℕ} {full parts : Bool} (r : Answer) (h : Holds s t) (c : Classes s t full parts r) (seen : Seen) (f : seen .full ≡ full) (p : seen .parts ≡ parts) where
-  pub class-of-line : codeOf (classify seen (h .line)) ≡ numberOf seen s r
-  class-of-line = sym (ap codeOf (class-held h seen)) ∙ c .code seen f p
-
-  pub seen-with-line : see seen (classify seen (h .line)) ≡ seenWith seen s r
-  seen-with-line = sym (ap (see seen) (class-held h seen)) ∙ c .sees seen f p

@@ -31,10 +31,6 @@ pub keys-given : (p : Bytes) (ks : List Bytes) → all given ks ≡ true → key
 unfolding keys
 keys-given p ks h = keys-same p (keep given ks) ks h
 
-pub keys-again : (p q : Bytes) (ids : List Bytes) → keys q (keys p ids) ≡ keys p ids
-unfolding keys
-keys-again p q ids = keys-given q (keysAfter p (keep given ids) ids) (keys-filled p (keep given ids) ids)
-
 -- ---- distinct
 
 -- a key that is used and not one of those to come is not made again

@@ -46,9 +46,6 @@ none-first i p (x ∷ xs) h = rw (or-left (p x) _ h) (none-first (suc i) p xs (o
 pub at-line-none : {A : Type 0} (n : ℕ) (p : A → Bool) (xs : List A) → atLine n p xs ≡ fine → any p xs ≡ false
 at-line-none n p xs e = first-none 1 p xs (given-none n (firstFrom 1 p xs) e)
 
-pub none-at-line : {A : Type 0} (n : ℕ) (p : A → Bool) (xs : List A) → any p xs ≡ false → atLine n p xs ≡ fine
-none-at-line n p xs h = rw (none-first 1 p xs h)
-
 -- ---- a result that fitted
 
 pub fitted-inv : (full lent : ℕ) (r b : Bytes) → fitted full lent r ≡ yes b → (ltb full (length r) ≡ false) × (ltb lent (length r) ≡ false) × (b ≡ r)

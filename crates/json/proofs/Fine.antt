@@ -9,12 +9,12 @@ use borrow.Author.Tests.{ltb-true, lt-leb}
 use Rattle.text.specs.Choice.{pick}
 use Rattle.text.specs.Bytes.{Bytes, is, between, isDigit}
 use Rattle.text.specs.Utf8.{Due, start, due, broken, lead, byRow}
-use Rattle.text.specs.Reader.{Got, more, last, one}
+use Rattle.text.specs.Reader.{Got, more, last}
 use Rattle.text.proofs.Places.{byBool}
 use Rattle.text.proofs.Fine.{Fine, fine-got, fine-bad, fine-weak, fine-under, fine-bind, fine-past, fine-on, fine-when, fine-loop, one-fine, some-fine}
 use Rattle.json.specs.Tree.{Json, jnull, jtrue, jfalse, jnum, jstr, jarr, jobj, enil, econs, mnil, mcons}
 use Rattle.json.specs.Grammar.{isSpace, isE, isHex, isShort}
-use Rattle.json.specs.Syntax.{skip, token, hexVal, hex, hex4, short, escape, isLead, tailBytes, following, push, character, characters, string, opt, digits, int, frac, sign, exp, number, four, scalar, sep, name, item, elements, pair, pairs, value, text}
+use Rattle.json.specs.Syntax.{skip, token, hexVal, hex, hex4, short, escape, isLead, tailBytes, following, push, character, characters, opt, digits, int, frac, sign, exp, number, four, scalar, sep, name, item, elements, pair, pairs, value}
 
 -- ---- 256 is no byte: it passes no test
 pub digit-256 : isDigit 256 ≡ false
@@ -113,10 +113,6 @@ character-fine =
 pub characters-fine : Fine 1 characters
 unfolding characters
 characters-fine = fine-loop character character-fine
-
-pub string-fine : Fine 1 string
-unfolding string
-string-fine = fine-bind (one-fine 34 refl) λ q. fine-weak characters-fine
 
 pub digits-fine : Fine 1 digits
 unfolding digits

@@ -1,12 +1,11 @@
 -- Members and elements as lists, and members by name.
 use mathlib.Core.Path.{_≡_, refl, ap}
 use mathlib.Core.Bool.{true, false}
-use mathlib.Core.List.{List, [], _∷_, _++_, map}
+use mathlib.Core.List.{List, [], _∷_, _++_}
 use mathlib.Core.Option.{Option, none, some}
-use Rattle.text.specs.Bytes.{Bytes, any, same, among}
-use Rattle.text.proofs.Cases.{byBool, or-left, or-right}
-use Rattle.text.proofs.Same.{same-swap}
-use Rattle.json.specs.Tree.{Json, Elems, enil, econs, Members, mnil, mcons, Member, member, nameOf, membersOf, elemsOf, fromMembers, fromElems, field}
+use Rattle.text.specs.Bytes.{Bytes, same}
+use Rattle.text.proofs.Cases.{byBool}
+use Rattle.json.specs.Tree.{Json, Elems, enil, econs, Members, mnil, mcons, Member, member, membersOf, elemsOf, fromMembers, fromElems, field}
 
 pub members-listed : (ms : List Member) → membersOf (fromMembers ms) ≡ ms
 unfolding membersOf fromMembers
@@ -51,9 +50,3 @@ field-here n m j ms e = rw e
 pub field-later : (n m : Bytes) (j : Json) (ms : List Member) → same m n ≡ false → field n (member m j ∷ ms) ≡ field n ms
 unfolding field
 field-later n m j ms e = rw e
-
--- a name that no member has
-pub field-absent : (n : Bytes) (ms : List Member) → among n (map nameOf ms) ≡ false → field n ms ≡ none
-unfolding field among any
-field-absent n [] h = refl
-field-absent n (member m j ∷ ms) h = rw (same-swap m n, or-left (same n m) _ h) (field-absent n ms (or-right (same n m) _ h))

@@ -1,20 +1,15 @@
 -- The type of a line as its parameter VALUE.
 use mathlib.Core.Path.{_≡_, refl, sym, ap, subst, _∙_}
-use mathlib.Core.Bool.{Bool, true, false, _&&_, not}
-use mathlib.Core.List.{List, [], _∷_, _++_, append-nil, append-assoc}
+use mathlib.Core.Bool.{Bool, true, false, _&&_}
+use mathlib.Core.List.{List, [], _∷_, _++_, append-nil}
 use mathlib.Core.Option.{Option, none, some, Option·map}
 use Prim.Native.Nat.{ℕ, _+_, _-_, _≤_, _<_}
 use native.Mathlib.Omega.{arith}
 use borrow.Author.Tests.{le-leb, lt-leb}
-use borrow.Rule.Slice.PartMut.{midOf, putMid}
 use lib.Dec.{leb}
 use lib.ListN.{length, take, drop, length-append}
 use Rattle.text.specs.Choice.{pick, chain, provided}
-use Rattle.text.specs.Bytes.{Bytes, ascii, empty, flat, same}
-use Rattle.text.proofs.Cases.{byBool}
-use Rattle.output.specs.declared.Wrote.{Wrote}
-use Rattle.output.specs.declared.Wrote.the-variants.{Bytes as Wrote-Bytes, Full}
-use Rattle.output.specs.Put.{Puts}
+use Rattle.text.specs.Bytes.{Bytes, ascii, flat}
 use Rattle.json.specs.Tree.{Json, asString}
 use Rattle.json_strings.specs.Spelled.{spelled, spells}
 use Rattle.json_index.specs.Index.{jsonAt}
@@ -24,12 +19,12 @@ use Rattle.convert.specs.FromJson.{isLowerWord}
 use Rattle.kept_strings.specs.declared.Rows.{Rows}
 use Rattle.kept_strings.specs.declared.Rows.the-variants.{More, Wrong}
 use Rattle.kept_strings.specs.Strings.{size, Grew, Table, capped, Added, AddAs, RowsIn, AddsValue}
-use Rattle.kept_strings.proofs.Putting.{grew, no-room, string-size}
-use Rattle.kept_strings.proofs.Values.{not-more, more-end, more-count, grew-then}
-use Rattle.kept_table.specs.Kept.{Stays, AddedParam, ParamAs}
+use Rattle.kept_strings.proofs.Putting.{grew, string-size}
+use Rattle.kept_strings.proofs.Values.{not-more, more-end, grew-then}
+use Rattle.kept_table.specs.Kept.{ParamAs}
 use Rattle.kept_table.proofs.Params.{part-is, param-table}
 use Rattle.kept_table.proofs.Members.{grew-stays}
-use Rattle.kept_entry.specs.Entry.{typedAs, PutsTyped, isUnknown, typeParam, typeFits, AddedType, TypeAs, PutsType}
+use Rattle.kept_entry.specs.Entry.{typedAs, PutsTyped, isUnknown, typeParam, typeFits, TypeAs, PutsType}
 use Rattle.kept_entry.proofs.Words.{string-there}
 
 abbrev word : Bytes
@@ -38,10 +33,6 @@ word = ascii "value"
 flat-one : (x : Bytes) → flat (x ∷ []) ≡ x
 unfolding flat
 flat-one x = append-nil x
-
--- what `put_value` answers, by whether one more fits
-typed-cap : (m : ℕ) (x : Bytes) → capped m (Option·map (λ y. y ∷ []) (some x)) ≡ provided (leb (m + 1) 64) (some (x ∷ []))
-typed-cap m x = refl
 
 module _ (b : Bytes) (n : ℕ) (t : List ℕ) (m : ℕ) (s : Bytes) (at : ℕ) (h : n ≤ length b) (c : Bytes) (a : ℕ) (g : Grew b n c a word) (r : Rows) (d : Bytes) (u : List ℕ) (adds : AddsValue c a t m n a s at r d u) where
   value-as : (e : ℕ) (v : Json) → jsonAt e s at ≡ some v → n + (5 + size v) ≤ length b → AddAs c a t m n a r d u (capped m (Option·map (λ y. y ∷ []) (asString v)))

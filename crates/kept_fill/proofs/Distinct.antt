@@ -3,20 +3,12 @@ use mathlib.Core.Path.{_≡_, refl, ap, subst}
 use mathlib.Core.Bool.{Bool, true}
 use mathlib.Core.List.{List, [], _∷_, map}
 use mathlib.Core.Option.{some}
-use Prim.Native.Nat.{ℕ}
 use Rattle.text.specs.Bytes.{Bytes, all, distinct, same}
 use Rattle.text.proofs.Cases.{byBool, and-left, and-right}
 use Rattle.text.proofs.Choices.{none-some, some-same}
 use Rattle.text.proofs.Lists.{all-head, all-tail, all-cons}
 use Rattle.json.specs.Tree.{Json, jnull, jtrue, jfalse, jnum, jstr, jarr, jobj, Elems, enil, econs, Members, mnil, mcons, Member, member, nameOf, valueOf, membersOf, elemsOf, field, asArray, asObject}
 use Rattle.json.specs.Strings.{names, distinctNames, distinctElems, distinctMembers}
-use Rattle.json.specs.Read.{reading, tree}
-use Rattle.json.proofs.Given.{reading-sound}
-use Rattle.json.proofs.Sound.{sound-names}
-
--- a text that reads gives such a tree
-pub reading-distinct : (d : ℕ) (s : Bytes) (j : Json) → reading d s ≡ tree j → distinctNames j ≡ true
-reading-distinct d s j e = sound-names j d (reading-sound d s j e)
 
 elems-all : (es : Elems) → distinctElems es ≡ true → all distinctNames (elemsOf es) ≡ true
 unfolding distinctElems elemsOf all

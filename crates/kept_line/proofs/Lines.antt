@@ -8,11 +8,11 @@ use borrow.Author.Tests.{ne-eqb}
 use borrow.Rule.Slice.PartMut.{midOf, putMid}
 use lib.ListN.{length, getD}
 use Rattle.text.specs.Choice.{pick}
-use Rattle.text.specs.Bytes.{Bytes, ascii, all, among, flat, same, uppered, between}
-use Rattle.text.proofs.Cases.{byBool, and-left, and-right, implied, beyond, tests}
+use Rattle.text.specs.Bytes.{Bytes, ascii, all, flat, same, uppered, between}
+use Rattle.text.proofs.Cases.{byBool, and-right, implied, beyond, tests}
 use Rattle.text.proofs.Lists.{all-append, all-imply}
 use Rattle.line.specs.Class.{isBare, isControl, isLowerName}
-use Rattle.line.specs.Grammar.{Param, param, paramName, paramValues, Line, fits}
+use Rattle.line.specs.Grammar.{Param, param, paramValues, Line}
 use Rattle.line.specs.Write.{writeValue, writeValues, writeParams, writeGroup, writeLine, fold, foldFrom}
 use Rattle.line_pen.specs.Pen.{Fills, Pens, columnFrom}
 use Rattle.line_pen.proofs.Filling.{then}
@@ -20,11 +20,10 @@ use Rattle.line_pen.proofs.Laws.{filled, fold-append}
 use Rattle.line_table.specs.Table.{part, lineIn}
 use Rattle.convert.specs.Model.{Kept}
 use Rattle.convert.specs.Value.{filled as is-filled}
-use Rattle.convert.specs.FromJson.{isLowerWord, keptAsLine, neverKept}
+use Rattle.convert.specs.FromJson.{isLowerWord, keptAsLine}
 use Rattle.convert.specs.Carry.{carriedRaw, carriedParam, carriedKept}
 use Rattle.card_pen.specs.Styles.{standsIn, allStandIn}
 use Rattle.kept_strings.specs.Strings.{runsIn}
-use Rattle.kept_table.specs.Kept.{keptForm}
 use Rattle.kept_entry.specs.Entry.{HoldsKept}
 use Rattle.to_card_lines.specs.Lines.{lineBytes}
 use Rattle.to_card_lines.proofs.Laws.{fills-as}
@@ -232,13 +231,6 @@ kept-carried k w =
 line-value : (k : Kept) → keptAsLine k .value ≡ k .value
 unfolding keptAsLine
 line-value k = refl
-
--- the type of an entry that has the form of a kept line
-pub type-formed : (k : Kept) → keptForm k ≡ true → isLowerWord (k .type) ≡ true
-unfolding keptForm
-type-formed k e =
-    and-right (isLowerWord (k .name) && not (among (k .name) neverKept)) _
-    (and-left _ (all (λ p. isLowerWord (paramName p) && not (same (paramName p) (ascii "value"))) (k .params)) (and-left _ (fits (keptAsLine k .params)) e))
 
 -- the line of the table, as a kept line
 module _ (b : Bytes) (t : List ℕ) where

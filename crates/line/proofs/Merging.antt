@@ -42,6 +42,3 @@ pub merged-settled : (ps : List Param) → Settled (merged ps)
 unfolding merged lacking
 merged-settled [] = tt
 merged-settled (param n vs ∷ ps) = (lowered-lowered n, none-left (lowered n) (merged ps), keep-settled (λ p. not (named (lowered n) p)) (merged ps) (merged-settled ps))
-
-pub merged-again : (ps : List Param) → merged (merged ps) ≡ merged ps
-merged-again ps = settled-merged (merged ps) (merged-settled ps)

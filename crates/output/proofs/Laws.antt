@@ -197,6 +197,3 @@ pub record Spot : Type 0 where
   pub at : ℕ
   pub out : Bytes
   pub so : Sofar room x at out
-
-abbrev pub spot : {room x out : Bytes} {at : ℕ} → Sofar room x at out → Spot
-spot {room} {x} {out} {at} s = record { room = room; x = x; at = at; out = out; so = s }

@@ -36,10 +36,6 @@ pub lower-lower : (c : ℕ) → lower (lower c) ≡ lower c
 unfolding lower between
 lower-lower c = byBelow (λ c. lower (lower c)) lower c 128 refl (λ l. ap lower (high-lower c l))
 
-pub upper-upper : (c : ℕ) → upper (upper c) ≡ upper c
-unfolding upper between
-upper-upper c = byBelow (λ c. upper (upper c)) upper c 128 refl (λ l. ap upper (high-upper c l))
-
 -- a test of bytes that the case of letters does not change
 pub upper-test : (p : ℕ → Bool) → map (λ c. p (upper c)) ((upTo 128)) ≡ map p (upTo 128) → (c : ℕ) → p (upper c) ≡ p c
 upper-test p e c = byBelow (λ c. p (upper c)) p c 128 e (λ l. ap p (high-upper c l))
@@ -63,11 +59,6 @@ pub lowered-lowered : (s : Bytes) → lowered (lowered s) ≡ lowered s
 unfolding lowered
 lowered-lowered [] = refl
 lowered-lowered (c ∷ s) = ap₂ _∷_ (lower-lower c) (lowered-lowered s)
-
-pub uppered-uppered : (s : Bytes) → uppered (uppered s) ≡ uppered s
-unfolding uppered
-uppered-uppered [] = refl
-uppered-uppered (c ∷ s) = ap₂ _∷_ (upper-upper c) (uppered-uppered s)
 
 pub lowered-append : (s t : Bytes) → lowered (s ++ t) ≡ lowered s ++ lowered t
 unfolding lowered

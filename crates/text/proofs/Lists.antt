@@ -2,7 +2,7 @@
 use mathlib.Core.Path.{_≡_, refl, ap, _∙_, sym}
 use mathlib.Core.Bool.{Bool, true, false, _&&_, _||_, not}
 use mathlib.Core.List.{List, [], _∷_, _++_, map, append-assoc}
-use mathlib.Core.Option.{Option, none, some}
+use mathlib.Core.Option.{Option, some}
 use Prim.Native.Nat.{suc, _≤_}
 use native.Mathlib.Omega.{arith}
 use lib.ListN.{length}
@@ -68,9 +68,6 @@ module _ {A : Type 0} (p : A → Bool) where
   unfolding keep all
   keep-passes [] = refl
   keep-passes (x ∷ xs) = byBool (p x) (λ e. rw (e, e, keep-passes xs)) (λ e. rw e (keep-passes xs))
-
-  pub keep-keep : (xs : List A) → keep p (keep p xs) ≡ keep p xs
-  keep-keep xs = keep-all (keep p xs) (keep-passes xs)
 
   pub keep-none : (xs : List A) → any p xs ≡ false → keep p xs ≡ []
   unfolding keep

@@ -137,17 +137,6 @@ module _ {B : Type 0} (f : Bytes → Got (Step B)) where
   takes-turns h zero = takes-bad 0
   takes-turns h (suc n) = takes-bind h (takes-after (turns f n) (takes-turns h n))
 
-  turns-less : Takes 1 f → (n : ℕ) (s : Bytes) (b : B) (w : Bytes) → turns f n s ≡ got b w → 1 + length w ≤ length s
-  unfolding turns
-  turns-less h zero s b w e = absurd (not-bad e)
-  turns-less h (suc n) s b w e =
-      let i = bind-inv (f s) (λ w t. after w t (turns f n)) e in
-      omega (arith, h .less s _ _ (i .2), takes-after (turns f n) (takes-turns (takes-less h) n) (i .0) .less (i .1) b w (i .3))
-
-  pub takes-loop : Takes 1 f → Takes 1 (loop f)
-  unfolding loop
-  takes-loop h = record { less = λ s b w e. turns-less h (suc (length s)) s b w e }
-
   pub takes-loop-none : Takes 0 f → Takes 0 (loop f)
   unfolding loop
   takes-loop-none h = record { less = λ s b w e. takes-turns h (suc (length s)) .less s b w e }

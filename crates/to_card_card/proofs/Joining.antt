@@ -2,7 +2,7 @@
 use mathlib.Core.Path.{_≡_, refl, sym, ap, subst, _∙_}
 use mathlib.Core.Bool.{Bool, _&&_}
 use mathlib.Core.Option.{Option, none, some}
-use Prim.Native.Nat.{ℕ, _+_, _-_, _≤_, _<_}
+use Prim.Native.Nat.{ℕ, _+_, _-_, _≤_}
 use native.Mathlib.Omega.{arith}
 use borrow.Rule.Slice.PartMut.{midOf, putMid}
 use lib.ListN.{length, length-append}
@@ -19,15 +19,6 @@ use Rattle.to_card_lines.proofs.Parts.{not-all}
 use Rattle.to_card_card.specs.Whole.{few, FewAs, FewIn}
 
 -- ---- a count up to 513
-
-pub few-in : (n : ℕ) → few n ≤ 513
-few-in n = omega arith
-
-pub few-small : (n : ℕ) → n ≤ 512 → n ≡ few n
-few-small n h = omega arith
-
-pub few-great : (n : ℕ) → 512 < n → 513 ≡ few n
-few-great n h = omega arith
 
 few-sum : (a b : ℕ) → few (few a + few b) ≡ few (a + b)
 few-sum a b = omega arith
