@@ -20,7 +20,7 @@ use Rattle.json.specs.Grammar.{isSpace}
 use Rattle.json.specs.Tree.{Json, jnull, jtrue, jfalse, jnum, jstr, jarr, jobj, Members, Member, member, membersOf, asObject}
 use Rattle.json.specs.Syntax.{sep, pair, value}
 use Rattle.json.specs.Strings.{decodedMembers}
-use Rattle.json_strings.specs.Spelled.{spelled}
+use Rattle.json_strings.specs.Decoded.{decodedAt}
 use Rattle.json_access.specs.declared.Kind.{Kind}
 use Rattle.json_access.specs.declared.Places.{Places}
 use Rattle.json_access.specs.Access.{TellsMember, TellsKind, kindOf}
@@ -112,8 +112,8 @@ module _ (s : Bytes) (at base : ℕ) (names : Bytes) (row₀ : List ℕ) (i : �
       let w = now-of (y .1) r told in
       flags-as row₀ after false (w .fails (flag-false base names ts p (w .key) (w .val) (is-true (w .val) (w .is-val) ∙ ne-eqb v 1 n))) refl
 
-  module _ (q : v ≡ 1) (k : ℕ) (kp : k ≡ placed (spelled s (r .name)) (parts 44 names)) (count : ℕ) (cn : count ≡ length (parts 44 names)) where
-    at-k : (x : Bytes) → spelled s (r .name) ≡ some x → placed (some x) (parts 44 names) ≡ k
+  module _ (q : v ≡ 1) (k : ℕ) (kp : k ≡ placed (decodedAt s (r .name)) (parts 44 names)) (count : ℕ) (cn : count ≡ length (parts 44 names)) where
+    at-k : (x : Bytes) → decodedAt s (r .name) ≡ some x → placed (some x) (parts 44 names) ≡ k
     at-k x e = sym (kp ∙ ap (λ (o : Option Bytes). placed o (parts 44 names)) e)
 
     pub flags-other : count ≤ k → (after : List ℕ) → FlagsFrom s at base names row₀ false after
@@ -124,7 +124,7 @@ module _ (s : Bytes) (at base : ℕ) (names : Bytes) (row₀ : List ℕ) (i : �
         flags-as row₀ after false (w .fails (flag-other base names ts p (w .key) (w .val) (is-true (w .val) (w .is-val) ∙ eq-eqb v 1 q) m)) refl
 
     module _ (l : k < count) where
-      is-one : (ts : List TypeName) → parts 44 names ≡ map jsonType ts → (x : Bytes) (j : Json) → spelled s (r .name) ≡ some x → jsonAt 12 s (r .start) ≡ some j → flagOf base ts (member x j) ≡ some (base + k)
+      is-one : (ts : List TypeName) → parts 44 names ≡ map jsonType ts → (x : Bytes) (j : Json) → decodedAt s (r .name) ≡ some x → jsonAt 12 s (r .start) ≡ some j → flagOf base ts (member x j) ≡ some (base + k)
       is-one ts p x j e g =
           let m : placed (some x) (parts 44 names) < length (parts 44 names) = omega (arith, at-k x e) in
           flag-one base names ts p x j (is-true j g ∙ eq-eqb v 1 q) m ∙ ap (λ (u : ℕ). some (base + u)) (at-k x e)

@@ -19,7 +19,7 @@ use Rattle.text.proofs.Choices.{none-some, some-same, map-inv}
 use Rattle.json.specs.Tree.{Json, jnull, jtrue, jfalse, jnum, jstr, jarr, jobj, Members, mnil, mcons, Member, member, membersOf}
 use Rattle.json.specs.Syntax.{skip, scalar, number, opt, int, digits, sep, pair, value}
 use Rattle.json.specs.Strings.{decode, decoded, decodedElems, decodedMembers}
-use Rattle.json_strings.specs.Spelled.{spelled}
+use Rattle.json_strings.specs.Decoded.{decodedAt}
 use Rattle.json_access.specs.declared.Kind.{Kind}
 use Rattle.json_access.specs.declared.Places.{Places}
 use Rattle.json_access.specs.Access.{TellsMember, TellsKind, kindOf}
@@ -94,7 +94,7 @@ far-first f d s us ms t i e h = record { units = us; rest = ms; is-units = e; is
 pub record Now {A : Type 0} (f : Member → Option A) (d : ℕ) (s : Bytes) (ms : List Member) (t : Bytes) (i : ℕ) (done : List A) (r : Places) : Type 0 where
   pub key : Bytes
   pub val : Json
-  pub is-key : spelled s (r .name) ≡ some key
+  pub is-key : decodedAt s (r .name) ≡ some key
   pub is-val : jsonAt d s (r .start) ≡ some val
   pub fails : f (member key val) ≡ none → each f ms ≡ none
   pub goes : (y : A) → f (member key val) ≡ some y → (j : ℕ) → GivesT s (r .end) (sep 125 zero suc (drop (r .end) s)) (Go j) → Far f d s ms t j (done ++ (y ∷ []))

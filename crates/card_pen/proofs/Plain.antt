@@ -21,7 +21,7 @@ use Rattle.json.specs.Strings.{before}
 use Rattle.json_escapes.specs.Units.{unit}
 use Rattle.json_escapes.specs.declared.Piece.the-variants.{Of}
 use Rattle.json_strings.specs.declared.Byte.the-variants.{One}
-use Rattle.json_strings.specs.Spelled.{spelled, left, weight, byteOf}
+use Rattle.json_strings.specs.Decoded.{decodedAt, left, weight, byteOf}
 use Rattle.json_strings.proofs.Laws.{left-none, raw-is}
 use Rattle.json_strings.proofs.NextByte.{one-left}
 use Rattle.line.specs.Class.{isControl}
@@ -70,7 +70,7 @@ module _ (style b : ℕ) (h : PlainByte b true) where
   stands = rw (no-control, ne-eqb b 34 (h .2)) (byBool (eqb style 0) (λ e. rw e) (λ e. rw e (byBool (eqb style 3) (λ f. rw f) (λ f. rw f))))
 
 module _ (s : Bytes) (i b : ℕ) (e : b ≡ byteAt s i) (h : PlainByte b true) where
-  read : spelled s i ≡ before (b ∷ []) (spelled s (i + 1))
+  read : decodedAt s i ≡ before (b ∷ []) (decodedAt s (i + 1))
   unfolding unit
   read =
       raw-is s i {r = Of b (i + 1)}

@@ -11,7 +11,7 @@ use Rattle.text.specs.Choice.{pick}
 use Rattle.text.specs.Bytes.{Bytes, ascii, any, all, empty, begins}
 use Rattle.text.proofs.Cases.{byBool}
 use Rattle.json.specs.Strings.{before}
-use Rattle.json_strings.specs.Spelled.{spelled}
+use Rattle.json_strings.specs.Decoded.{decodedAt}
 use Rattle.line.specs.Class.{isControl}
 use Rattle.line.specs.Text.{writeText}
 use Rattle.line_pen.specs.Pen.{Pens}
@@ -145,8 +145,8 @@ pub stands-parts : (s : Bytes) → allStandIn 2 s ≡ carriedText s
 unfolding allStandIn standsIn
 stands-parts s = stands-text s
 
-module _ (s : Bytes) (at : ℕ) {b : Bool} (is-b : b ≡ blankOf (spelled s at)) where
-  blank-is : (x : Bytes) → spelled s at ≡ some x → empty x ≡ b
+module _ (s : Bytes) (at : ℕ) {b : Bool} (is-b : b ≡ blankOf (decodedAt s at)) where
+  blank-is : (x : Bytes) → decodedAt s at ≡ some x → empty x ≡ b
   blank-is x e = sym (is-b ∙ ap blankOf e)
 
   pub unit-blank : {room : Bytes} {k : ℕ} → b ≡ true → UnitInks s at room k (record { bytes = 0; column = k; carried = true; filled = false }) room

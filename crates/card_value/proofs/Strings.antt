@@ -21,7 +21,7 @@ use Rattle.json.specs.Tree.{Json, jnull, jtrue, jfalse, jnum, jstr, jarr, jobj,
 use Rattle.json.specs.Syntax.{characters, number, four, scalar, elements, pairs, value}
 use Rattle.json.specs.Strings.{decode, decoded, decodedElems, decodedMembers}
 use Rattle.json_scan.proofs.First.{as-flat, as-scalar, as-array, as-object}
-use Rattle.json_strings.specs.Spelled.{spelled}
+use Rattle.json_strings.specs.Decoded.{decodedAt}
 use Rattle.json_strings.proofs.Laws.{spelled-is}
 use Rattle.text.proofs.Places.{on-yes}
 use Rattle.json_index.specs.Index.{jsonAt, Slot}

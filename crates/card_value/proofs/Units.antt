@@ -19,7 +19,7 @@ use Rattle.json.specs.Grammar.{isSpace}
 use Rattle.json.specs.Tree.{Json, Elems, elemsOf, Member, nameOf, field, asString, asArray, asObject}
 use Rattle.json.specs.Syntax.{sep, item, value}
 use Rattle.json.specs.Strings.{decodedElems}
-use Rattle.json_strings.specs.Spelled.{spelled}
+use Rattle.json_strings.specs.Decoded.{decodedAt}
 use Rattle.json_access.specs.declared.Part.{Part}
 use Rattle.json_access.specs.Access.{TellsElement}
 use Rattle.json_index.specs.Index.{jsonAt, firstAt, Slot, Clear, Indexed, IndexOf, Indexes}
@@ -172,14 +172,14 @@ module _ (s : Bytes) (at : ℕ) (room : Bytes) (column i n k : ℕ) (ok full : B
       by (some x) h = absurd (omega (arith, h .0))
 
   module _ (nz : q ≡ 0 → ⊥) (p : Inked) (last : Bytes) (ink : UnitInks s q (midOf n (length out - n) out) k p last) where
-    taken : (o : Option Bytes) → StringIs s q o → (x : Bytes) × (o ≡ some x) × (spelled s q ≡ some x)
+    taken : (o : Option Bytes) → StringIs s q o → (x : Bytes) × (o ≡ some x) × (decodedAt s q ≡ some x)
     taken none h = absurd (nz h)
     taken (some x) h = (x, refl, h .1)
 
     pens-on : Pens room column (g .bytes ++ ink .bytes) (record { bytes = n + p .bytes; column = p .column }) (putMid n (length out - n) out last)
     pens-on = pens-then (g .pens) (ink .pens)
 
-    so-far : (done : List Bytes) (x : Bytes) → spelled s q ≡ some x → g .bytes ≡ unitsPiece done → ok ≡ all unitCarried done → full ≡ any filled done
+    so-far : (done : List Bytes) (x : Bytes) → decodedAt s q ≡ some x → g .bytes ≡ unitsPiece done → ok ≡ all unitCarried done → full ≡ any filled done
         → (g .bytes ++ ink .bytes ≡ unitsPiece (done ++ (x ∷ []))) × ((ok && p .carried) ≡ all unitCarried (done ++ (x ∷ []))) × ((full || p .filled) ≡ any filled (done ++ (x ∷ [])))
     so-far done x e a b c = (
       ap (λ (l : Bytes). l ++ ink .bytes) a ∙ ap (λ (l : Bytes). unitsPiece done ++ l) (ink .is x e) ∙ units-more done x,

@@ -13,7 +13,7 @@ use Rattle.text.specs.Choice.{pick, with-some, is-some, chain, provided}
 use Rattle.text.specs.Bytes.{Bytes, ascii, is, any, all, empty, begins, flat, joined, keep}
 use Rattle.text.proofs.Cases.{byBool, not-both, not-true, not-false, and-left, and-right, or-left, or-right}
 use Rattle.json.specs.Tree.{Json, asString}
-use Rattle.json_strings.specs.Spelled.{spelled}
+use Rattle.json_strings.specs.Decoded.{decodedAt}
 use Rattle.json_index.specs.Index.{jsonAt, Slot}
 use Rattle.line.specs.Class.{isControl}
 use Rattle.line.specs.Text.{writeText}
@@ -100,7 +100,7 @@ module _ (s : Bytes) (slot : ℕ) (room : Bytes) (column : ℕ) (after : Bytes) 
         by none h = refl
         by (some x) h = absurd (omega (arith, h .0))
 
-    pub name-there : {p : Told} {b : Bool} → (q ≡ 0 → ⊥) → Inks s q (ascii ":") 2 room column p after → b ≡ blankOf (spelled s q) → TellsName s slot room column (Done (p .bytes) (p .column) (p .carried) (not b)) after
+    pub name-there : {p : Told} {b : Bool} → (q ≡ 0 → ⊥) → Inks s q (ascii ":") 2 room column p after → b ≡ blankOf (decodedAt s q) → TellsName s slot room column (Done (p .bytes) (p .column) (p .carried) (not b)) after
     name-there {p} {b} m i e = by-value (Done (p .bytes) (p .column) (p .carried) (not b)) by
       where
         by : (x : Option Bytes) → StringIs s q x → NameAs room column (Done (p .bytes) (p .column) (p .carried) (not b)) after x
@@ -288,13 +288,13 @@ module _ (s : Bytes) (content units form : ℕ) (room : Bytes) (column : ℕ) (a
         by none h = refl
         by (some x) h = absurd (omega (arith, h .0))
 
-    module _ (m : q ≡ 0 → ⊥) (tel : Bool) (is-tel : tel ≡ (eqb form 3 && telOf (spelled s q))) (p : Told) where
-      some-value : (x : Bytes) (lead : Bytes) (style : ℕ) → spelled s q ≡ some x → Inks s q lead style room column p after → lead ++ writtenIn style x ≡ valueIn form (x ∷ []) → allStandIn style x ≡ carriedIn form (x ∷ [])
+    module _ (m : q ≡ 0 → ⊥) (tel : Bool) (is-tel : tel ≡ (eqb form 3 && telOf (decodedAt s q))) (p : Told) where
+      some-value : (x : Bytes) (lead : Bytes) (style : ℕ) → decodedAt s q ≡ some x → Inks s q lead style room column p after → lead ++ writtenIn style x ≡ valueIn form (x ∷ []) → allStandIn style x ≡ carriedIn form (x ∷ [])
           → ValueAs form room column (Line (p .bytes) (p .carried)) after (some (x ∷ []))
       some-value x lead style e i a b =
           (p .bytes, ap (Line (p .bytes)) (i .carried ∙ ap (allStandIn style) (i .is x e) ∙ b), fills-of (pens-as (ap (λ (y : Bytes). lead ++ writtenIn style y) (i .is x e) ∙ a) (i .pens)))
 
-      tel-of : (x : Bytes) → spelled s q ≡ some x → (eqb form 3 && isTelUri x) ≡ tel
+      tel-of : (x : Bytes) → decodedAt s q ≡ some x → (eqb form 3 && isTelUri x) ≡ tel
       tel-of x e = sym (is-tel ∙ ap (λ (o : Option Bytes). eqb form 3 && telOf o) e)
 
       pub value-tel : tel ≡ true → Inks s q (ascii ";VALUE=uri:") 0 room column p after → TellsValue s content units form room column (Line (p .bytes) (p .carried)) after

@@ -13,7 +13,7 @@ use Rattle.text.specs.Reader.{got, loop}
 use Rattle.json.specs.Tree.{Json, Elems, elemsOf, asString, asArray}
 use Rattle.json.specs.Syntax.{item, value}
 use Rattle.json.specs.Strings.{decodedElems}
-use Rattle.json_strings.specs.Spelled.{spelled}
+use Rattle.json_strings.specs.Decoded.{decodedAt}
 use Rattle.json_index.specs.Index.{jsonAt, Slot}
 use Rattle.line.specs.Class.{isControl}
 use Rattle.line.specs.Text.{writeText}
@@ -43,7 +43,7 @@ formCode organization = 4
 
 abbrev pub StringIs : Bytes → ℕ → Option Bytes → Type 0
 StringIs s r none = r ≡ 0
-StringIs s r (some x) = (0 < r) × (spelled s r ≡ some x)
+StringIs s r (some x) = (0 < r) × (decodedAt s r ≡ some x)
 
 -- of whatever value stands at a place: the place of its first byte, where it is a string
 abbrev pub TellsString : Bytes → ℕ → ℕ → Type 0
@@ -87,7 +87,7 @@ penAs r = record { bytes = r .bytes; column = r .column }
 -- some bytes are written after the lead; they are those of the string, where it stands for bytes
 pub record Inks (s : Bytes) (at : ℕ) (lead : Bytes) (style : ℕ) (room : Bytes) (column : ℕ) (r : Told) (after : Bytes) : Type 0 where
   pub text : Bytes
-  pub is : (x : Bytes) → spelled s at ≡ some x → text ≡ x
+  pub is : (x : Bytes) → decodedAt s at ≡ some x → text ≡ x
   pub pens : Pens room column (lead ++ writtenIn style text) (penOf r) after
   pub carried : r .carried ≡ allStandIn style text
 
@@ -100,9 +100,9 @@ unitCarried x = pick (filled x) (carriedText x) true
 
 pub record UnitInks (s : Bytes) (at : ℕ) (room : Bytes) (column : ℕ) (r : Inked) (after : Bytes) : Type 0 where
   pub bytes : Bytes
-  pub is : (x : Bytes) → spelled s at ≡ some x → bytes ≡ unitPiece x
-  pub carried : (x : Bytes) → spelled s at ≡ some x → r .carried ≡ unitCarried x
-  pub filled : (x : Bytes) → spelled s at ≡ some x → r .filled ≡ filled x
+  pub is : (x : Bytes) → decodedAt s at ≡ some x → bytes ≡ unitPiece x
+  pub carried : (x : Bytes) → decodedAt s at ≡ some x → r .carried ≡ unitCarried x
+  pub filled : (x : Bytes) → decodedAt s at ≡ some x → r .filled ≡ filled x
   pub pens : Pens room column bytes (penAs r) after
 
 -- what is written is in the room

@@ -20,7 +20,7 @@ ghost use mathlib.Core.Bool.{_&&_};
 ghost use Prim.Native.Nat.{_≤_};
 ghost use lib.Dec.{eqb};
 ghost use lib.ListN.{length};
-ghost use Rattle.json_strings.specs.Spelled.{spelled};
+ghost use Rattle.json_strings.specs.Decoded.{decodedAt};
 ghost use Rattle.card_value.specs.Values.{TellsString, TellsText, TellsUnit, blankOf, telByte, onTel, telOf, Inks, UnitInks, InkIn, UnitsFrom, TellsUnits, TellsName, PutIn, TellsOrg, TellsValue};
 
 // How many bytes were written, the column after them, whether a line can carry them, and whether any string was filled.
@@ -90,7 +90,7 @@ fn unit_in(s: &[u8], at: usize) -> usize
 
 // Whether a string is empty.
 fn is_blank(s: &[u8], at: usize) -> bool
-    ensures { λ r. ⌜ r ≡ blankOf (spelled (now (s .entry)) at) ⌝ }
+    ensures { λ r. ⌜ r ≡ blankOf (decodedAt (now (s .entry)) at) ⌝ }
 {
     if at > s.len() {
         return false;
@@ -132,7 +132,7 @@ fn onward(k: usize) -> usize
 
 // Whether the string of a phone is written raw: it begins `tel:` and has no control but tab.
 fn is_tel(form: u8, s: &[u8], at: usize) -> bool
-    ensures { λ r. ⌜ r ≡ (eqb form 3 && telOf (spelled (now (s .entry)) at)) ⌝ }
+    ensures { λ r. ⌜ r ≡ (eqb form 3 && telOf (decodedAt (now (s .entry)) at)) ⌝ }
 {
     if form != 3 {
         return false;

@@ -21,7 +21,7 @@ use Rattle.json.proofs.AsSpelled.{number-spelled}
 use Rattle.json_marks.proofs.Laws.{skip-to}
 use Rattle.json_skip.specs.Skip.{quoted, Leaves}
 use Rattle.json_skip.proofs.Strings.{characters-leads}
-use Rattle.json_strings.specs.Spelled.{spelled}
+use Rattle.json_strings.specs.Decoded.{decodedAt}
 use Rattle.json_strings.proofs.Names.{name-string}
 use Rattle.json_access.specs.declared.Head.{Head}
 use Rattle.json_access.specs.Access.{placeOf, Stands, EndsAt, TellsHead, TellsMember}
@@ -74,8 +74,8 @@ module _ (s : Bytes) (at : ℕ) {r : Read} (g : Gives s at (token 34 (drop at s)
   unfolding name
   opened = as-next s at (token 34 (drop at s)) r g (bind-inv (token 34 (drop at s)) _ e .2)
 
-  pub name-is : spelled s q ≡ decode k
-  name-is = ap (spelled s) eq ∙ name-string s at k t e (placeOf r) opened
+  pub name-is : decodedAt s q ≡ decode k
+  name-is = ap (decodedAt s) eq ∙ name-string s at k t e (placeOf r) opened
 
   -- what is left after the colon
   after-colon : (z : ℕ) → Leaves s q (quoted false (drop q s)) z → (r′ : Read) → Gives s z (token 58 (drop z s)) r′ → t ≡ drop (placeOf r′) s

@@ -9,7 +9,7 @@ use Rattle.text.specs.Reader.{got}
 use Rattle.json.specs.Tree.{Json, jnull, jtrue, jfalse, jnum, jstr, jarr, jobj}
 use Rattle.json.specs.Syntax.{skip, name, value}
 use Rattle.json.specs.Strings.{decode}
-use Rattle.json_strings.specs.Spelled.{spelled}
+use Rattle.json_strings.specs.Decoded.{decodedAt}
 use Rattle.json_access.specs.declared.Part.{Part}
 use Rattle.json_access.specs.declared.Head.{Head}
 use Rattle.json_access.specs.declared.Places.{Places}
@@ -39,12 +39,12 @@ EndsAt d s at r = (j : Json) (u : Bytes) → value d (drop at s) ≡ got j u →
 
 -- if there is a member at a place, its name stands for what was read, and its value begins there
 abbrev pub TellsHead : Bytes → ℕ → Head → Type 0
-TellsHead s at r = (k t : Bytes) → name (drop at s) ≡ got k t → (spelled s (r .name) ≡ decode k) × (skip t ≡ drop (r .start) s)
+TellsHead s at r = (k t : Bytes) → name (drop at s) ≡ got k t → (decodedAt s (r .name) ≡ decode k) × (skip t ≡ drop (r .start) s)
 
 -- if there is a member at a place, its name stands for what was read, and its value stands there
 abbrev pub TellsMember : ℕ → Bytes → ℕ → Places → Type 0
 TellsMember d s at r = (k t : Bytes) → name (drop at s) ≡ got k t → (j : Json) (u : Bytes) → value d t ≡ got j u
-    → (spelled s (r .name) ≡ decode k) × Stands s t j u (r .start) (r .end)
+    → (decodedAt s (r .name) ≡ decode k) × Stands s t j u (r .start) (r .end)
 
 -- if there is a value at a place, it stands there
 abbrev pub TellsElement : ℕ → Bytes → ℕ → Part → Type 0

@@ -19,7 +19,7 @@ use Rattle.json.specs.Syntax.{characters}
 use Rattle.json.proofs.Fine.{space-256, below-256}
 use Rattle.json.proofs.Takes.{takes-characters}
 use Rattle.json.specs.Compact.{quoted}
-use Rattle.json_strings.specs.Spelled.{textAt}
+use Rattle.json_strings.specs.Decoded.{textAt}
 use Rattle.json_strings.proofs.Laws.{spelled-is}
 use Rattle.json_compact.specs.Squeezed.{inQuotes, piece, onward, squeezedIn, squeezed}
 

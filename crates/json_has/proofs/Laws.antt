@@ -17,7 +17,7 @@ use Rattle.json.specs.Grammar.{isSpace}
 use Rattle.json.specs.Tree.{Json, Members, mnil, mcons, Member, member, membersOf, asObject}
 use Rattle.json.specs.Syntax.{sep, pair, value}
 use Rattle.json.specs.Strings.{decodedMembers}
-use Rattle.json_strings.specs.Spelled.{spelled, spells}
+use Rattle.json_strings.specs.Decoded.{decodedAt, spells}
 use Rattle.json_access.specs.declared.Places.{Places}
 use Rattle.json_access.specs.declared.Kind.the-variants.{Null, True}
 use Rattle.json_access.specs.Access.{TellsMember}
@@ -42,7 +42,7 @@ Seeking d s at n i = (us ms : Members) (t : Bytes) → loop (pair (value d)) (dr
 pub seeking-first : (d : ℕ) (s : Bytes) (at : ℕ) (n : Bytes) → Seeking d s at n at
 seeking-first d s at n us ms t e f = (us, ms, e, f, refl)
 
-module _ (d : ℕ) (s : Bytes) (at : ℕ) (n : Bytes) (i : ℕ) (seeking : Seeking d s at n i) (r : Places) (told : TellsMember d s i r) (b : Bool) (is-b : b ≡ spells (spelled s (r .name)) n) where
+module _ (d : ℕ) (s : Bytes) (at : ℕ) (n : Bytes) (i : ℕ) (seeking : Seeking d s at n i) (r : Places) (told : TellsMember d s i r) (b : Bool) (is-b : b ≡ spells (decodedAt s (r .name)) n) where
   -- the member at i has the name or not
   step : (vs rs : Members) (z : Here d s i vs) (ws : Members) → mcons (z .key) (z .val) ws ≡ vs → decodedMembers vs ≡ some rs
       → (os : Members) × (decodedMembers ws ≡ some os) × (named n (membersOf rs) ≡ b || named n (membersOf os))

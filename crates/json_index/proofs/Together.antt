@@ -13,7 +13,7 @@ use Rattle.text.specs.Places.{byteAt}
 use Rattle.text.proofs.Cases.{byBool, between-true, beyond}
 use Rattle.text.proofs.Places.{byte-default}
 use Rattle.json.specs.Strings.{before}
-use Rattle.json_strings.specs.Spelled.{spelled, spells}
+use Rattle.json_strings.specs.Decoded.{decodedAt, spells}
 use Rattle.json_strings.proofs.Laws.{quote-at, bare-at, nothing-at}
 use Rattle.json_index.specs.declared.Tried.{Tried}
 use Rattle.json_index.specs.Index.{NameEnds, nameIn, RawByte, Together, Alike, Differs, Tries}
@@ -55,11 +55,11 @@ module _ (s : Bytes) (at : ℕ) (names : Bytes) (a i k : ℕ) (t : Together s at
     same = λ e p. t .same e (omega arith) ∙ one e p;
   }
     where
-      one : (e : ℕ) → k + 1 ≤ e → spells (spelled s i) (nameIn names k e) ≡ spells (spelled s (i + 1)) (nameIn names (k + 1) e)
+      one : (e : ℕ) → k + 1 ≤ e → spells (decodedAt s i) (nameIn names k e) ≡ spells (decodedAt s (i + 1)) (nameIn names (k + 1) e)
       one e p =
-          let x : spelled s i ≡ before (c ∷ []) (spelled s (i + 1)) = bare-at s i b is-b (λ z. r .2 (sym q ∙ z)) (λ z. r .3 (sym q ∙ z)) (omega (arith, r .0)) (omega (arith, r .1)) ∙ ap (λ (y : ℕ). before (y ∷ []) (spelled s (i + 1))) q in
+          let x : decodedAt s i ≡ before (c ∷ []) (decodedAt s (i + 1)) = bare-at s i b is-b (λ z. r .2 (sym q ∙ z)) (λ z. r .3 (sym q ∙ z)) (omega (arith, r .0)) (omega (arith, r .1)) ∙ ap (λ (y : ℕ). before (y ∷ []) (decodedAt s (i + 1))) q in
           let y : nameIn names k e ≡ c ∷ nameIn names (k + 1) e = front names k e in-names p ∙ ap (λ (z : ℕ). z ∷ nameIn names (k + 1) e) (sym is-c) in
-          ap (λ (o : Option Bytes). spells o (nameIn names k e)) x ∙ ap (spells (before (c ∷ []) (spelled s (i + 1)))) y ∙ spells-on c (spelled s (i + 1)) (nameIn names (k + 1) e)
+          ap (λ (o : Option Bytes). spells o (nameIn names k e)) x ∙ ap (spells (before (c ∷ []) (decodedAt s (i + 1)))) y ∙ spells-on c (decodedAt s (i + 1)) (nameIn names (k + 1) e)
 
 -- ---- by the byte at which the string stands
 
@@ -67,20 +67,20 @@ none-in : (names : Bytes) (a e : ℕ) → e ≡ a → nameIn names a e ≡ []
 none-in names a e q = let z : e - a ≡ 0 = omega arith in ap (λ (n : ℕ). take n (drop a names)) z
 
 module _ (s : Bytes) (at : ℕ) (names : Bytes) (a e : ℕ) where
-  pub part-past : length s ≤ at → spells (spelled s at) (nameIn names a e) ≡ false
+  pub part-past : length s ≤ at → spells (decodedAt s at) (nameIn names a e) ≡ false
   part-past l =
       let z : 256 ≡ byteAt s at = sym (List·getD-eq-default s 256 l) in
       ap (λ (o : Option Bytes). spells o (nameIn names a e)) (nothing-at s at 256 z (λ z. omega arith) (λ z. omega arith) (beyond 32 255 256 (omega arith)))
 
   module _ (b : ℕ) (is-b : b ≡ byteAt s at) where
-    part-first : (o : Option Bytes) → spelled s at ≡ o → a < length names → a < e → spells (spelled s at) (nameIn names a e) ≡ spells o (getD names a 0 ∷ nameIn names (a + 1) e)
+    part-first : (o : Option Bytes) → decodedAt s at ≡ o → a < length names → a < e → spells (decodedAt s at) (nameIn names a e) ≡ spells o (getD names a 0 ∷ nameIn names (a + 1) e)
     part-first o x inside full = ap (λ (y : Option Bytes). spells y (nameIn names a e)) x ∙ ap (spells o) (front names a e inside (omega arith))
 
-    part-none : b ≡ 34 → a < length names → a < e → spells (spelled s at) (nameIn names a e) ≡ false
+    part-none : b ≡ 34 → a < length names → a < e → spells (decodedAt s at) (nameIn names a e) ≡ false
     unfolding same
     part-none q inside full = part-first (some []) (quote-at s at b is-b q) inside full
 
-    pub part-quote : b ≡ 34 → a ≤ e → e ≤ length names → eqb e a ≡ spells (spelled s at) (nameIn names a e)
+    pub part-quote : b ≡ 34 → a ≤ e → e ≤ length names → eqb e a ≡ spells (decodedAt s at) (nameIn names a e)
     unfolding same
     part-quote q from within =
         byBool (eqb e a)
@@ -88,12 +88,12 @@ module _ (s : Bytes) (at : ℕ) (names : Bytes) (a e : ℕ) where
         (λ z. let m = eqb-false e a z in
         z ∙ sym (part-none q (omega arith) (omega arith)))
 
-    part-other : (b ≡ 34 → ⊥) → (b ≡ 92 → ⊥) → (getD names a 0 ≡ b → ⊥) → a < length names → a < e → spells (spelled s at) (nameIn names a e) ≡ false
+    part-other : (b ≡ 34 → ⊥) → (b ≡ 92 → ⊥) → (getD names a 0 ≡ b → ⊥) → a < length names → a < e → spells (decodedAt s at) (nameIn names a e) ≡ false
     part-other n m q inside full =
         byBool (between 32 255 b)
         (λ h.
         part-first _ (bare-at s at b is-b n m (between-true 32 255 b h .0) (omega (arith, between-true 32 255 b h .1))) inside full
-        ∙ spells-other b (getD names a 0) (spelled s (at + 1)) (nameIn names (a + 1) e) q)
+        ∙ spells-other b (getD names a 0) (decodedAt s (at + 1)) (nameIn names (a + 1) e) q)
         (λ h. part-first none (nothing-at s at b is-b n m h) inside full)
 
 -- ---- by the first bytes of the string and of the name

@@ -25,7 +25,7 @@ use Rattle.json.specs.Read.{Reading, tree, refused, readingOf, reading}
 use Rattle.json.specs.Lookup.{Span, spanOf, spans, given, found, isTree, room, lookUp}
 use Rattle.json.proofs.Fine.{name-fine, value-fine, sep-fine}
 use Rattle.json_marks.proofs.Laws.{skip-to}
-use Rattle.json_strings.specs.Spelled.{spelled, spells}
+use Rattle.json_strings.specs.Decoded.{decodedAt, spells}
 use Rattle.json_marks.proofs.Separators.{sep-adds, sep-go, sep-stop}
 use Rattle.json_scan.proofs.First.{as-object}
 use Rattle.json_read.specs.declared.Verdict.{Verdict}
@@ -89,7 +89,7 @@ matched k m q e = ap (λ (x : Option Bytes). spells x m) e ∙ go (decode k)
     go none = refl
     go (some y) = refl
 
-module _ (s : Bytes) (at : ℕ) (m : Bytes) (i : ℕ) (todo : Todo s at m i) (r : Places) (told : TellsMember 15 s i r) (b : Bool) (eb : b ≡ spells (spelled s (r .name)) m) where
+module _ (s : Bytes) (at : ℕ) (m : Bytes) (i : ℕ) (todo : Todo s at m i) (r : Places) (told : TellsMember 15 s i r) (b : Bool) (eb : b ≡ spells (decodedAt s (r .name)) m) where
   pub found-here : b ≡ true → r .start ≤ r .end → r .end ≤ length s → (ps : List Span) (t : Bytes) → loop (spanOf 15) (drop at s) ≡ got ps t
       → record { start = r .start; end = r .end } ≡ placeOf (found (length s) m ps)
   unfolding found

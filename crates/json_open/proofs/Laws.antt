@@ -23,7 +23,7 @@ use Rattle.json.specs.Strings.{decode, decoded, decodedMembers}
 use Rattle.json.specs.Read.{reading}
 use Rattle.json_marks.proofs.Laws.{skip-to}
 use Rattle.json_scan.proofs.First.{as-object}
-use Rattle.json_strings.specs.Spelled.{spelled}
+use Rattle.json_strings.specs.Decoded.{decodedAt}
 use Rattle.json_sound.specs.declared.Sounded.{Sounded}
 use Rattle.json_sound.specs.declared.Sounded.the-variants.{Sound as SoundTo, Unsound as UnsoundTo, Bad as BadAt}
 use Rattle.json_sound.specs.Sound.{isSound, soundMembers, soundly, unsoundly, Judged, Onward}
@@ -97,14 +97,14 @@ module _ (d : ℕ) (s : Bytes) (at : ℕ) (names : Bytes) (xs : List ℕ) (i : �
 module _ (d : ℕ) (s : Bytes) (at i : ℕ) (ps fs : List ℕ) (k : ℕ) (judging : ToMembers d s at i ps fs k) (after afters : List ℕ) (r : Sounded) (notes : Notes s i ps fs k r after afters)
     (v : ℕ) (is-v : r ≡ SoundTo v) (e : ℕ) (judged : Judged s (value d (drop v s)) isSound (SoundTo e))
     (from : ℕ) (names : Bytes) (xs : List ℕ) (todo : Todo d s from names xs i) (room : length (parts 44 names) < length xs) (not-0 : 0 < v)
-    (ys : List ℕ) (is-ys : ys ≡ noted xs (placed (spelled s (getD after k 0)) (parts 44 names)) v) where
+    (ys : List ℕ) (is-ys : ys ≡ noted xs (placed (decodedAt s (getD after k 0)) (parts 44 names)) v) where
   name-is : NotedName s i (judging .0) k after afters (SoundTo v)
   name-is = subst (NotedName s i (judging .0) k after afters) is-v (notes (judging .0) (judging .1))
 
-  in-slots : placed (spelled s (getD after k 0)) (parts 44 names) < length xs
-  in-slots = omega (arith, placed-le (spelled s (getD after k 0)) (parts 44 names), room)
+  in-slots : placed (decodedAt s (getD after k 0)) (parts 44 names) < length xs
+  in-slots = omega (arith, placed-le (decodedAt s (getD after k 0)) (parts 44 names), room)
 
-  is-placed : placed (spelled s (getD after k 0)) (parts 44 names) ≡ placed (some (name-is .1)) (parts 44 names)
+  is-placed : placed (decodedAt s (getD after k 0)) (parts 44 names) ≡ placed (some (name-is .1)) (parts 44 names)
   is-placed = ap (λ (o : Option Bytes). placed o (parts 44 names)) (name-is .6)
 
   pub member-on : (p : ℕ) → GivesT s e (sep 125 zero suc (drop e s)) (Go p) → Todo d s from names ys p

@@ -22,7 +22,7 @@ ghost use lib.ListN.{length, drop};
 ghost use Rattle.text.specs.Bytes.{code, parts};
 ghost use Rattle.json.specs.Syntax.{pairs, value};
 ghost use Rattle.json.specs.Read.{reading};
-ghost use Rattle.json_strings.specs.Spelled.{spelled};
+ghost use Rattle.json_strings.specs.Decoded.{decodedAt};
 ghost use Rattle.json_sound.specs.Sound.{soundMembers, Judged, Onward};
 ghost use Rattle.json_index.specs.Index.{placed, noted, Clear};
 ghost use Rattle.json_read.specs.Verdict.{verdictOf, verdict, InWords};
@@ -56,7 +56,7 @@ fn note_member<'a, 'b, 'c>(
     names: &'c [u8],
 )
     requires { ⌜ length (parts (code ",") (now names)) < length (now slots) ⌝ }
-    ensures { λ r. ⌜ now (slots .exit) ≡ noted (now (slots .entry)) (placed (spelled (now (s .entry)) name) (parts (code ",") (now (names .entry)))) value ⌝ }
+    ensures { λ r. ⌜ now (slots .exit) ≡ noted (now (slots .entry)) (placed (decodedAt (now (s .entry)) name) (parts (code ",") (now (names .entry)))) value ⌝ }
 {
     let k = which_name(s, name, names);
     if slots[k] == 0 {

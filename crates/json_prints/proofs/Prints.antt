@@ -20,7 +20,7 @@ use Rattle.json.specs.Strings.{before}
 use Rattle.json_strings.specs.declared.Byte.{Byte}
 use Rattle.json_strings.specs.declared.Byte.the-variants.{One}
 use Rattle.json_strings.proofs.NextByte.{is-one}
-use Rattle.json_strings.specs.Spelled.{spelled, left, byteOf, spells, agree}
+use Rattle.json_strings.specs.Decoded.{decodedAt, left, byteOf, spells, agree}
 use Rattle.json_prints.specs.Prints.{stir, printed, printOf, Told, Clear, Absent, meets, Names, Sought, SoughtKey}
 
 -- ---- one place after the other
@@ -48,13 +48,13 @@ taken : (ps : List ℕ) (n k : ℕ) → n ≤ length ps → k < n → k < length
 taken ps n k l h = simp length-take (omega arith)
 
 module _ (s : Bytes) (o : Option Bytes) (ps : List ℕ) (n : ℕ) (l : n ≤ length ps) where
-  meets-hit : (k : ℕ) → k < n → agree o (spelled s (getD ps k 0)) ≡ true → meets s o (take n ps) ≡ true
+  meets-hit : (k : ℕ) → k < n → agree o (decodedAt s (getD ps k 0)) ≡ true → meets s o (take n ps) ≡ true
   unfolding meets
-  meets-hit k h e = any-hit (λ p. agree o (spelled s p)) (take n ps) k (taken ps n k l h) (rw (getD-take n ps k 0 h) e)
+  meets-hit k h e = any-hit (λ p. agree o (decodedAt s p)) (take n ps) k (taken ps n k l h) (rw (getD-take n ps k 0 h) e)
 
-  meets-clear : ((k : ℕ) → k < n → agree o (spelled s (getD ps k 0)) ≡ false) → meets s o (take n ps) ≡ false
+  meets-clear : ((k : ℕ) → k < n → agree o (decodedAt s (getD ps k 0)) ≡ false) → meets s o (take n ps) ≡ false
   unfolding meets
-  meets-clear e = any-clear (λ p. agree o (spelled s p)) (take n ps) (λ k g. let z : k < length (take n ps) = g in let h : k < n = omega (arith, g, length-take n ps) in rw (getD-take n ps k 0 h) (e k h))
+  meets-clear e = any-clear (λ p. agree o (decodedAt s p)) (take n ps) (λ k g. let z : k < length (take n ps) = g in let h : k < n = omega (arith, g, length-take n ps) in rw (getD-take n ps k 0 h) (e k h))
 
 last-or : (i k : ℕ) → i < k + 1 → (i ≡ k) ⊎ (i < k)
 last-or i k m = eq-or-lt-of-le (omega (arith, m))
@@ -80,15 +80,15 @@ absent-more fs p from k false h =
     (λ e. subst (Absent fs p from (k + 1)) (sym e) (λ i l m q. ⊎-elim (λ z. not-both (eq-eqb (getD fs k 0) p (ap (λ (x : ℕ). getD fs x 0) (sym z) ∙ q)) e) (λ z. h i l z q) (last-or i k m)))
 
 module _ (s : Bytes) (o : Option Bytes) (ps fs : List ℕ) where
-  clear-more : (from k : ℕ) → Clear s o ps fs from k → (printOf 0 (spelled s (getD ps k 0)) ≡ getD fs k 0 → agree o (spelled s (getD ps k 0)) ≡ false) → Clear s o ps fs from (k + 1)
+  clear-more : (from k : ℕ) → Clear s o ps fs from k → (printOf 0 (decodedAt s (getD ps k 0)) ≡ getD fs k 0 → agree o (decodedAt s (getD ps k 0)) ≡ false) → Clear s o ps fs from (k + 1)
   clear-more from k h e i l m t =
-      ⊎-elim (λ z. let w : Told s ps fs k = subst (Told s ps fs) z t in ap (λ (x : ℕ). agree o (spelled s (getD ps x 0))) z ∙ e w) (λ z. h i l z t) (last-or i k m)
+      ⊎-elim (λ z. let w : Told s ps fs k = subst (Told s ps fs) z t in ap (λ (x : ℕ). agree o (decodedAt s (getD ps x 0))) z ∙ e w) (λ z. h i l z t) (last-or i k m)
 
   clear-join : (from k to : ℕ) → Clear s o ps fs from k → Clear s o ps fs k to → Clear s o ps fs from to
   clear-join from k to h g i l m t = byBool (ltb i k) (λ z. h i l (ltb-true i k z) t) (λ z. g i (ltb-false i k z) m t)
 
   pub clear-absent : (p from to : ℕ) → p ≡ printOf 0 o → Absent fs p from to false → Clear s o ps fs from to
-  clear-absent p from to e h k l m t = differing o (spelled s (getD ps k 0)) (λ w. h k l m (sym t ∙ w ∙ sym e))
+  clear-absent p from to e h k l m t = differing o (decodedAt s (getD ps k 0)) (λ w. h k l m (sym t ∙ w ∙ sym e))
 
 pub printed-on : (s : Bytes) (p k : ℕ) → k < length s → printed p (drop k s) ≡ printed (stir p (getD s k 0)) (drop (k + 1) s)
 unfolding printed
@@ -130,7 +130,7 @@ cons-head e = cc
 cons-tail : {A : Type 0} {x y : A} {xs ys : List A} → x ∷ xs ≡ y ∷ ys → xs ≡ ys
 cons-tail e = cc
 
-spelt-among : (s n : Bytes) (ps : List ℕ) (ns : List Bytes) → map (spelled s) ps ≡ map some ns → meets s (some n) ps ≡ among n ns
+spelt-among : (s n : Bytes) (ps : List ℕ) (ns : List Bytes) → map (decodedAt s) ps ≡ map some ns → meets s (some n) ps ≡ among n ns
 unfolding meets among any
 spelt-among s n [] [] e = refl
 spelt-among s n [] (m ∷ ns) e = let r : _≡_ {A = ℕ} 0 1 = cc in absurd (omega arith)
@@ -141,7 +141,7 @@ pub meets-among : (s n : Bytes) (ps fs : List ℕ) (ns : List Bytes) → Names s
 unfolding Names
 meets-among s n ps fs ns e = spelt-among s n ps ns (e .0)
 
-spelt-print : (s : Bytes) (ps : List ℕ) (ns : List Bytes) → map (spelled s) ps ≡ map some ns → map (λ p. printOf 0 (spelled s p)) ps ≡ map (printed 0) ns
+spelt-print : (s : Bytes) (ps : List ℕ) (ns : List Bytes) → map (decodedAt s) ps ≡ map some ns → map (λ p. printOf 0 (decodedAt s p)) ps ≡ map (printed 0) ns
 spelt-print s [] [] e = refl
 spelt-print s [] (m ∷ ns) e = let r : _≡_ {A = ℕ} 0 1 = cc in absurd (omega arith)
 spelt-print s (p ∷ ps) [] e = let r : _≡_ {A = ℕ} 0 1 = cc in absurd (omega arith)
@@ -151,12 +151,12 @@ spelt-print s (p ∷ ps) (m ∷ ns) e = rw (cons-head e, spelt-print s ps ns (co
 told-at : (s : Bytes) (ps fs : List ℕ) (n : ℕ) (ns : List Bytes) → n ≤ length ps → Names s (take n ps) (take n fs) ns → (k : ℕ) → k < n → Told s ps fs k
 unfolding Names
 told-at s ps fs n ns l e k h =
-    let f : ℕ → ℕ = λ p. printOf 0 (spelled s p) in
+    let f : ℕ → ℕ = λ p. printOf 0 (decodedAt s p) in
     ap f (sym (getD-take n ps k 0 h)) ∙ sym (map-at f (take n ps) k (taken ps n k l h))
     ∙ ap (λ (x : List ℕ). getD x k 0) (spelt-print s (take n ps) ns (e .0) ∙ e .1) ∙ getD-take n fs k 0 h
 
 module _ (s : Bytes) (o : Option Bytes) (ps fs : List ℕ) (n : ℕ) (l : n ≤ length ps) where
-  pub sought-yes : (k : ℕ) → k < n → agree o (spelled s (getD ps k 0)) ≡ true → Sought s o ps fs n true
+  pub sought-yes : (k : ℕ) → k < n → agree o (decodedAt s (getD ps k 0)) ≡ true → Sought s o ps fs n true
   sought-yes k h e = λ ns f. sym (meets-hit s o ps n l k h e)
 
   pub sought-no : (k : ℕ) → n ≤ k → Clear s o ps fs 0 k → Sought s o ps fs n false
@@ -166,11 +166,11 @@ module _ (s : Bytes) (o : Option Bytes) (ps fs : List ℕ) (n : ℕ) (l : n ≤ 
 next-taken : (ps : List ℕ) (k q : ℕ) → k < length ps → take (k + 1) (set ps k q) ≡ take k ps ++ (q ∷ [])
 next-taken ps k q l = ap (λ (i : ℕ). take i (set ps k q)) (add-one k) ∙ take-suc-set ps k q l
 
-pub names-noted : (s n : Bytes) (ps fs : List ℕ) (k q p : ℕ) (ns : List Bytes) → k < length ps → k < length fs → Names s (take k ps) (take k fs) ns → spelled s q ≡ some n → p ≡ printed 0 n
+pub names-noted : (s n : Bytes) (ps fs : List ℕ) (k q p : ℕ) (ns : List Bytes) → k < length ps → k < length fs → Names s (take k ps) (take k fs) ns → decodedAt s q ≡ some n → p ≡ printed 0 n
     → Names s (take (k + 1) (set ps k q)) (take (k + 1) (set fs k p)) (ns ++ (n ∷ []))
 unfolding Names
 names-noted s n ps fs k q p ns l m e h w = (
-  ap (map (spelled s)) (next-taken ps k q l) ∙ map-append (spelled s) (take k ps) (q ∷ []) ∙ rw (e .0, h) (sym (map-append some ns (n ∷ []))),
+  ap (map (decodedAt s)) (next-taken ps k q l) ∙ map-append (decodedAt s) (take k ps) (q ∷ []) ∙ rw (e .0, h) (sym (map-append some ns (n ∷ []))),
   map-append (printed 0) ns (n ∷ []) ∙ rw (e .1, w) (sym (next-taken fs k (printed 0 n) m)),
 )
 
@@ -186,7 +186,7 @@ pub absent-join : (fs : List ℕ) (p from k to : ℕ) → Absent fs p from k fal
 absent-join fs p from k to h g i l m = byBool (ltb i k) (λ z. h i l (ltb-true i k z)) (λ z. g i (ltb-false i k z) m)
 
 -- the string at k does not agree, and up to j no print is equal
-pub clear-on : (s : Bytes) (o : Option Bytes) (ps fs : List ℕ) (p k j : ℕ) → p ≡ printOf 0 o → agree o (spelled s (getD ps k 0)) ≡ false → Absent fs p (k + 1) j false → Clear s o ps fs 0 k → Clear s o ps fs 0 j
+pub clear-on : (s : Bytes) (o : Option Bytes) (ps fs : List ℕ) (p k j : ℕ) → p ≡ printOf 0 o → agree o (decodedAt s (getD ps k 0)) ≡ false → Absent fs p (k + 1) j false → Clear s o ps fs 0 k → Clear s o ps fs 0 j
 clear-on s o ps fs p k j is e a h = clear-join s o ps fs 0 (k + 1) j (clear-more s o ps fs 0 k h (λ t. e)) (clear-absent s o ps fs p (k + 1) j is a)
 
 -- ---- some bytes sought among the names noted
@@ -201,7 +201,7 @@ module _ (s key : Bytes) (ps fs : List ℕ) where
       let b : take (length ps) fs ≡ fs = take-all (length ps) fs (omega arith) in
       h ns (subst (λ (x : List ℕ). Names s x (take (length ps) fs) ns) (sym a) (subst (λ (x : List ℕ). Names s ps x ns) (sym b) e)) ∙ ap (meets s (some key)) a ∙ meets-among s key ps fs ns e
 
-  pub key-yes : length ps ≡ length fs → (k : ℕ) → k < length ps → agree (some key) (spelled s (getD ps k 0)) ≡ true → SoughtKey s key ps fs true
+  pub key-yes : length ps ≡ length fs → (k : ℕ) → k < length ps → agree (some key) (decodedAt s (getD ps k 0)) ≡ true → SoughtKey s key ps fs true
   key-yes l k h e = key-whole l (sought-yes s (some key) ps fs (length ps) (omega arith) k h e)
 
   pub key-no : length ps ≡ length fs → (k : ℕ) → length ps ≤ k → Clear s (some key) ps fs 0 k → SoughtKey s key ps fs false

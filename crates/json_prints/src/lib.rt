@@ -8,7 +8,7 @@ ghost use mathlib.Core.Path.{_≡_};
 ghost use mathlib.Core.Bool.{false};
 ghost use Prim.Native.Nat.{_+_, _*_, _≤_, _<_};
 ghost use lib.ListN.{length};
-ghost use Rattle.json_strings.specs.Spelled.{spelled};
+ghost use Rattle.json_strings.specs.Decoded.{decodedAt};
 ghost use Rattle.json_prints.specs.Prints.{stir, printed, printOf, Absent, Sought, SoughtKey};
 
 // A print with one byte more.
@@ -24,7 +24,7 @@ pub fn stirred(p: u32, b: u8) -> u32
 pub fn print_from(s: &[u8], at: usize, from: u32) -> u32
     requires { ⌜ at ≤ length (now s) ⌝ }
     requires { ⌜ from < 65536 ⌝ }
-    ensures { λ r. ⌜ r ≡ printOf from (spelled (now (s .entry)) at) ⌝ }
+    ensures { λ r. ⌜ r ≡ printOf from (decodedAt (now (s .entry)) at) ⌝ }
     ensures { λ r. ⌜ r ≤ 65536 ⌝ }
 {
     let mut i = at;
@@ -49,7 +49,7 @@ pub fn print_from(s: &[u8], at: usize, from: u32) -> u32
 
 // The print of the string at a place; 65536 where it stands for nothing.
 pub fn print_at(s: &[u8], at: usize) -> u32
-    ensures { λ r. ⌜ r ≡ printOf 0 (spelled (now (s .entry)) at) ⌝ }
+    ensures { λ r. ⌜ r ≡ printOf 0 (decodedAt (now (s .entry)) at) ⌝ }
     ensures { λ r. ⌜ r ≤ 65536 ⌝ }
 {
     if at > s.len() {
@@ -141,8 +141,8 @@ pub fn is_noted<'a, 'b>(
 ) -> bool
     requires { ⌜ count ≤ length (now places) ⌝ }
     requires { ⌜ count ≤ length (now prints) ⌝ }
-    requires { ⌜ p ≡ printOf 0 (spelled (now s) at) ⌝ }
-    ensures { λ r. ⌜ Sought (now (s .entry)) (spelled (now (s .entry)) at) (now (places .entry)) (now (prints .entry)) count r ⌝ }
+    requires { ⌜ p ≡ printOf 0 (decodedAt (now s) at) ⌝ }
+    ensures { λ r. ⌜ Sought (now (s .entry)) (decodedAt (now (s .entry)) at) (now (places .entry)) (now (prints .entry)) count r ⌝ }
 {
     let mut k = next_print(prints, p, 0, count);
     while k < count {
@@ -165,8 +165,8 @@ pub fn is_noted_wide<'a, 'b>(
 ) -> bool
     requires { ⌜ count ≤ length (now places) ⌝ }
     requires { ⌜ count ≤ length (now prints) ⌝ }
-    requires { ⌜ p ≡ printOf 0 (spelled (now s) at) ⌝ }
-    ensures { λ r. ⌜ Sought (now (s .entry)) (spelled (now (s .entry)) at) (now (places .entry)) (now (prints .entry)) count r ⌝ }
+    requires { ⌜ p ≡ printOf 0 (decodedAt (now s) at) ⌝ }
+    ensures { λ r. ⌜ Sought (now (s .entry)) (decodedAt (now (s .entry)) at) (now (places .entry)) (now (prints .entry)) count r ⌝ }
 {
     let mut k = next_print(prints, p, 0, count);
     while k < count {

@@ -16,7 +16,7 @@ use Rattle.output.specs.Put.{Rest}
 use Rattle.output.proofs.Laws.{split, start, byte, next, done}
 use Rattle.output.proofs.Rests.{rest-as, rest-next}
 use Rattle.json_strings.specs.declared.Byte.the-variants.{One}
-use Rattle.json_strings.specs.Spelled.{left, weight}
+use Rattle.json_strings.specs.Decoded.{left, weight}
 use Rattle.json_strings.specs.Bare.{BareByte, Copied}
 use Rattle.json_strings.proofs.Laws.{bare-at, left-raw}
 use Rattle.json_strings.proofs.NextByte.{one-left}

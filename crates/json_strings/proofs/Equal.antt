@@ -23,7 +23,7 @@ use Rattle.json_strings.specs.declared.Letter.the-variants.{Raw, Code, E
 use Rattle.json_strings.specs.declared.Byte.{Byte}
 use Rattle.json_strings.specs.declared.Byte.the-variants.{One}
 use Rattle.json_strings.proofs.NextByte.{is-one}
-use Rattle.json_strings.specs.Spelled.{spelled, letterOf, left, byteOf, spells, agree}
+use Rattle.json_strings.specs.Decoded.{decodedAt, letterOf, left, byteOf, spells, agree}
 use Rattle.json_strings.proofs.Laws.{quote-at, bare-at, nothing-at}
 
 paired-on : (p : Bytes) (x : Option Bytes) → is-some (before p x) ≡ is-some x
@@ -38,11 +38,11 @@ module _ (s : Bytes) {x : Option Bytes} {r : Letter} (q : x ≡ letterOf s r) wh
   pub letter-end : r ≡ End → is-some x ≡ true
   letter-end e = ap is-some (q ∙ ap (letterOf s) e)
 
-  pub letter-raw : {b j : ℕ} → r ≡ Raw b j → is-some x ≡ is-some (spelled s j)
-  letter-raw {b} {j} e = ap is-some (q ∙ ap (letterOf s) e) ∙ paired-on (b ∷ []) (spelled s j)
+  pub letter-raw : {b j : ℕ} → r ≡ Raw b j → is-some x ≡ is-some (decodedAt s j)
+  letter-raw {b} {j} e = ap is-some (q ∙ ap (letterOf s) e) ∙ paired-on (b ∷ []) (decodedAt s j)
 
-  pub letter-code : {v j : ℕ} → r ≡ Code v j → is-some x ≡ is-some (spelled s j)
-  letter-code {v} {j} e = ap is-some (q ∙ ap (letterOf s) e) ∙ paired-on (encode v) (spelled s j)
+  pub letter-code : {v j : ℕ} → r ≡ Code v j → is-some x ≡ is-some (decodedAt s j)
+  letter-code {v} {j} e = ap is-some (q ∙ ap (letterOf s) e) ∙ paired-on (encode v) (decodedAt s j)
 
 -- ---- with given bytes
 pub spells-end : (bs : Bytes) (k : ℕ) → k ≤ length bs → eqb k (length bs) ≡ spells (some []) (drop k bs)
@@ -68,39 +68,39 @@ spells-on bs k b (some y) l q = rw (drop-cons bs k 0 l, eq-eqb _ _ q, add-one k)
 
 -- ---- by the byte at a place, which is no backslash
 module _ (s : Bytes) (i b : ℕ) (e : b ≡ byteAt s i) (m : b ≡ 92 → ⊥) where
-  pub bare-paired : (b ≡ 34 → ⊥) → 32 ≤ b → b < 256 → is-some (spelled s i) ≡ is-some (spelled s (i + 1))
-  bare-paired n l h = ap is-some (bare-at s i b e n m l h) ∙ paired-on (b ∷ []) (spelled s (i + 1))
+  pub bare-paired : (b ≡ 34 → ⊥) → 32 ≤ b → b < 256 → is-some (decodedAt s i) ≡ is-some (decodedAt s (i + 1))
+  bare-paired n l h = ap is-some (bare-at s i b e n m l h) ∙ paired-on (b ∷ []) (decodedAt s (i + 1))
 
   module _ (bs : Bytes) (k : ℕ) where
-    as-spelled : {x : Option Bytes} → spelled s i ≡ x → spells (spelled s i) (drop k bs) ≡ spells x (drop k bs)
+    as-spelled : {x : Option Bytes} → decodedAt s i ≡ x → spells (decodedAt s i) (drop k bs) ≡ spells x (drop k bs)
     as-spelled q = ap (λ (x : Option Bytes). spells x (drop k bs)) q
 
     -- whatever the byte is, once the quote is dealt with
-    not-quote : (b ≡ 34 → ⊥) → ((x : Option Bytes) → spells (before (b ∷ []) x) (drop k bs) ≡ false) → spells (spelled s i) (drop k bs) ≡ false
+    not-quote : (b ≡ 34 → ⊥) → ((x : Option Bytes) → spells (before (b ∷ []) x) (drop k bs) ≡ false) → spells (decodedAt s i) (drop k bs) ≡ false
     not-quote n f =
-        byBool (between 32 255 b) (λ r. let w = between-true 32 255 b r in as-spelled (bare-at s i b e n m (w .0) (omega (arith, w .1))) ∙ f (spelled s (i + 1)))
+        byBool (between 32 255 b) (λ r. let w = between-true 32 255 b r in as-spelled (bare-at s i b e n m (w .0) (omega (arith, w .1))) ∙ f (decodedAt s (i + 1)))
         (λ r. as-spelled (nothing-at s i b e n m r))
 
-    pub quote-spells : k ≤ length bs → b ≡ 34 → spells (spelled s i) (drop k bs) ≡ eqb k (length bs)
+    pub quote-spells : k ≤ length bs → b ≡ 34 → spells (decodedAt s i) (drop k bs) ≡ eqb k (length bs)
     quote-spells l q = as-spelled (quote-at s i b e q) ∙ sym (spells-end bs k l)
 
-    pub bytes-end : k ≡ length bs → eqb b 34 ≡ spells (spelled s i) (drop k bs)
+    pub bytes-end : k ≡ length bs → eqb b 34 ≡ spells (decodedAt s i) (drop k bs)
     bytes-end q =
         byBool (eqb b 34) (λ h. h ∙ sym (quote-spells (omega arith) (eqb-true b 34 h) ∙ eq-eqb _ _ q))
         (λ h. h ∙ sym (not-quote (eqb-false b 34 h) (λ x. spells-short bs k b x q)))
 
     module _ (l : k < length bs) where
-      pub quote-early : b ≡ 34 → spells (spelled s i) (drop k bs) ≡ false
+      pub quote-early : b ≡ 34 → spells (decodedAt s i) (drop k bs) ≡ false
       quote-early q = quote-spells (omega arith) q ∙ ne-eqb k (length bs) (λ z. omega arith)
 
-      pub bare-other : (b ≡ getD bs k 0 → ⊥) → spells (spelled s i) (drop k bs) ≡ false
+      pub bare-other : (b ≡ getD bs k 0 → ⊥) → spells (decodedAt s i) (drop k bs) ≡ false
       bare-other n = byBool (eqb b 34) (λ h. quote-early (eqb-true b 34 h)) (λ h. not-quote (eqb-false b 34 h) (λ x. spells-other bs k b x l (λ z. n (sym z))))
 
-      pub control-spells : b < 32 → spells (spelled s i) (drop k bs) ≡ false
+      pub control-spells : b < 32 → spells (decodedAt s i) (drop k bs) ≡ false
       control-spells h = as-spelled (nothing-at s i b e (λ z. omega arith) m (below 32 255 b h))
 
-      pub bare-same : (b ≡ 34 → ⊥) → 32 ≤ b → b < 256 → b ≡ getD bs k 0 → spells (spelled s i) (drop k bs) ≡ spells (spelled s (i + 1)) (drop (k + 1) bs)
-      bare-same n h g q = as-spelled (bare-at s i b e n m h g) ∙ spells-on bs k b (spelled s (i + 1)) l (sym q)
+      pub bare-same : (b ≡ 34 → ⊥) → 32 ≤ b → b < 256 → b ≡ getD bs k 0 → spells (decodedAt s i) (drop k bs) ≡ spells (decodedAt s (i + 1)) (drop (k + 1) bs)
+      bare-same n h g q = as-spelled (bare-at s i b e n m h g) ∙ spells-on bs k b (decodedAt s (i + 1)) l (sym q)
 
 -- ---- with each other
 pub agree-none : (x : Option Bytes) → agree x none ≡ false

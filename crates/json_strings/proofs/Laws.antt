@@ -24,11 +24,11 @@ use Rattle.json_escapes.specs.declared.Piece.the-variants.{Of, End, Wrong}
 use Rattle.json_escapes.proofs.Characters.{unit-fine, units-same}
 use Rattle.json_strings.specs.declared.Letter.{Letter}
 use Rattle.json_strings.specs.declared.Letter.the-variants.{Raw, Code, End as LEnd, Alone as LAlone}
-use Rattle.json_strings.specs.Spelled.{told, spelled, LetterIn, heldIn, held, leadOf, restOf, left, weight}
+use Rattle.json_strings.specs.Decoded.{told, decodedAt, LetterIn, heldIn, held, leadOf, restOf, left, weight}
 
--- a string that the grammar reads is spelled by its units' decoding
-pub spelled-is : (s : Bytes) (at : ℕ) (us t : Bytes) → characters (drop at s) ≡ got us t → spelled s at ≡ decode us
-unfolding spelled decode
+-- a string that the grammar reads is decodedAt by its units' decoding
+pub spelled-is : (s : Bytes) (at : ℕ) (us t : Bytes) → characters (drop at s) ≡ got us t → decodedAt s at ≡ decode us
+unfolding decodedAt decode
 spelled-is s at us t e = ap (told 0) (units-same (drop at s) us t e)
 
 -- a place past the end stands for nothing
@@ -36,8 +36,8 @@ no-unit : unit [] ≡ bad []
 unfolding unit on between
 no-unit = refl
 
-pub spelled-past : (s : Bytes) (p : ℕ) → length s < p → spelled s p ≡ none
-unfolding spelled units
+pub spelled-past : (s : Bytes) (p : ℕ) → length s < p → decodedAt s p ≡ none
+unfolding decodedAt units
 spelled-past s p l = ap (λ (x : Bytes). told 0 (loop unit x)) (drop-of-length-le s {i = p} (omega arith)) ∙ ap (told 0) (loop-bad unit (unit-fine .less) [] [] no-unit)
 
 -- ---- one unit after the other
@@ -104,30 +104,30 @@ module _ (h : ℕ) (n : h ≡ 0 → ⊥) (u : ℕ) where
 
 -- ---- what a unit's reader told: the laws that the proofs of code cite
 module _ (s : Bytes) (at : ℕ) {r : Piece} (q : unit (drop at s) ≡ unitOf s r) where
-  pub wrong-is : {b : ℕ} → r ≡ Wrong b → spelled s at ≡ none
-  unfolding spelled
+  pub wrong-is : {b : ℕ} → r ≡ Wrong b → decodedAt s at ≡ none
+  unfolding decodedAt
   wrong-is {b} e = told-wrong 0 s at b (q ∙ ap (unitOf s) e)
 
-  pub end-is : {b : ℕ} → r ≡ End b → spelled s at ≡ some []
-  unfolding spelled decodeAfter
+  pub end-is : {b : ℕ} → r ≡ End b → decodedAt s at ≡ some []
+  unfolding decodedAt decodeAfter
   end-is {b} e = told-end 0 s at b (q ∙ ap (unitOf s) e)
 
   module _ (u b : ℕ) (e : r ≡ Of u b) where
-    pub raw-is : u < 256 → spelled s at ≡ before (u ∷ []) (spelled s b)
-    unfolding spelled
+    pub raw-is : u < 256 → decodedAt s at ≡ before (u ∷ []) (decodedAt s b)
+    unfolding decodedAt
     raw-is l = told-more 0 s at u b (q ∙ ap (unitOf s) e) ∙ raw-first u (units (drop b s)) l
 
     module _ (l : 256 ≤ u) where
-      pub high-is : isHigh (u - 256) ≡ true → spelled s at ≡ told (u - 256) (units (drop b s))
-      unfolding spelled
+      pub high-is : isHigh (u - 256) ≡ true → decodedAt s at ≡ told (u - 256) (units (drop b s))
+      unfolding decodedAt
       high-is h = told-more 0 s at u b (q ∙ ap (unitOf s) e) ∙ high-first u l (units (drop b s)) h
 
-      pub low-is : isHigh (u - 256) ≡ false → isLow (u - 256) ≡ true → spelled s at ≡ none
-      unfolding spelled
+      pub low-is : isHigh (u - 256) ≡ false → isLow (u - 256) ≡ true → decodedAt s at ≡ none
+      unfolding decodedAt
       low-is h k = told-more 0 s at u b (q ∙ ap (unitOf s) e) ∙ low-first u l (units (drop b s)) h k
 
-      pub code-is : isHigh (u - 256) ≡ false → isLow (u - 256) ≡ false → spelled s at ≡ before (encode (u - 256)) (spelled s b)
-      unfolding spelled
+      pub code-is : isHigh (u - 256) ≡ false → isLow (u - 256) ≡ false → decodedAt s at ≡ before (encode (u - 256)) (decodedAt s b)
+      unfolding decodedAt
       code-is h k = told-more 0 s at u b (q ∙ ap (unitOf s) e) ∙ code-first u l (units (drop b s)) h k
 
   module _ (h : ℕ) (n : h ≡ 0 → ⊥) where
@@ -144,13 +144,13 @@ module _ (s : Bytes) (at : ℕ) {r : Piece} (q : unit (drop at s) ≡ unitOf s r
       pub pair-other : 256 ≤ u → isLow (u - 256) ≡ false → told h (units (drop at s)) ≡ none
       pair-other l k = told-more h s at u b (q ∙ ap (unitOf s) e) ∙ no-low h n u (units (drop b s)) l k
 
-      pub pair-is : 256 ≤ u → isLow (u - 256) ≡ true → told h (units (drop at s)) ≡ before (encode (joinedPair h (u - 256))) (spelled s b)
-      unfolding spelled
+      pub pair-is : 256 ≤ u → isLow (u - 256) ≡ true → told h (units (drop at s)) ≡ before (encode (joinedPair h (u - 256))) (decodedAt s b)
+      unfolding decodedAt
       pair-is l k = told-more h s at u b (q ∙ ap (unitOf s) e) ∙ low-second h n u (units (drop b s)) l k
 
 -- ---- what stands at a place, by its byte
 module _ (s : Bytes) (i b : ℕ) (e : b ≡ byteAt s i) where
-  pub quote-at : b ≡ 34 → spelled s i ≡ some []
+  pub quote-at : b ≡ 34 → decodedAt s i ≡ some []
   unfolding unit
   quote-at h = end-is s i {r = End (i + 1)} (on-yes (is 34) s i b e _ _ (eq-eqb _ _ h)) {b = i + 1} refl
 
@@ -159,12 +159,12 @@ module _ (s : Bytes) (i b : ℕ) (e : b ≡ byteAt s i) where
     past-marks f g = on-no (is 34) s i b e _ _ (ne-eqb _ _ n) ∙ on-no (is 92) s i b e _ _ (ne-eqb _ _ m)
 
     -- a byte that stands for itself
-    pub bare-at : 32 ≤ b → b < 256 → spelled s i ≡ before (b ∷ []) (spelled s (i + 1))
+    pub bare-at : 32 ≤ b → b < 256 → decodedAt s i ≡ before (b ∷ []) (decodedAt s (i + 1))
     unfolding unit
     bare-at l h = raw-is s i {r = Of b (i + 1)} (past-marks _ _ ∙ on-yes (between 32 255) s i b e _ _ (in-between 32 255 b l (omega arith))) b (i + 1) refl h
 
     -- a control, or the end of the text
-    pub nothing-at : between 32 255 b ≡ false → spelled s i ≡ none
+    pub nothing-at : between 32 255 b ≡ false → decodedAt s i ≡ none
     unfolding unit
     nothing-at h = wrong-is s i {r = Wrong i} (past-marks _ _ ∙ on-no (between 32 255) s i b e _ _ h) {b = i} refl
 
@@ -242,24 +242,24 @@ before-both : (p q : Bytes) (x : Option Bytes) → before (p ++ q) x ≡ before 
 before-both p q none = refl
 before-both p q (some s) = ap some (append-assoc p q s)
 
-pub left-none : (s : Bytes) (at : ℕ) → left s at 0 ≡ spelled s at
+pub left-none : (s : Bytes) (at : ℕ) → left s at 0 ≡ decodedAt s at
 unfolding left heldIn
-left-none s at = before-nil (spelled s at)
+left-none s at = before-nil (decodedAt s at)
 
 module _ (s : Bytes) (at : ℕ) where
   pub left-held : (h : ℕ) → h < 4294967296 → (h ≡ 0 → ⊥) → (left s at h ≡ before (h % 256 ∷ []) (left s at (h / 256))) × (weight s at (h / 256) < weight s at h)
   unfolding left weight
   left-held h l n =
       let e = held-step h l n in
-      (ap (λ (t : Bytes). before t (spelled s at)) e ∙ before-both (h % 256 ∷ []) (held (h / 256)) (spelled s at), omega (arith, ap length e))
+      (ap (λ (t : Bytes). before t (decodedAt s at)) e ∙ before-both (h % 256 ∷ []) (held (h / 256)) (decodedAt s at), omega (arith, ap length e))
 
-  pub left-raw : (b e : ℕ) → spelled s at ≡ before (b ∷ []) (spelled s e) → left s at 0 ≡ before (b ∷ []) (left s e 0)
+  pub left-raw : (b e : ℕ) → decodedAt s at ≡ before (b ∷ []) (decodedAt s e) → left s at 0 ≡ before (b ∷ []) (left s e 0)
   left-raw b e q = left-none s at ∙ q ∙ ap (before (b ∷ [])) (sym (left-none s e))
 
-  pub left-code : (v e : ℕ) → spelled s at ≡ before (encode v) (spelled s e) → left s at 0 ≡ before (leadOf v ∷ []) (left s e (restOf v))
+  pub left-code : (v e : ℕ) → decodedAt s at ≡ before (encode v) (decodedAt s e) → left s at 0 ≡ before (leadOf v ∷ []) (left s e (restOf v))
   unfolding left
   left-code v e q =
-      left-none s at ∙ q ∙ ap (λ (t : Bytes). before t (spelled s e)) (encode-split v) ∙ before-both (leadOf v ∷ []) (held (restOf v)) (spelled s e)
+      left-none s at ∙ q ∙ ap (λ (t : Bytes). before t (decodedAt s e)) (encode-split v) ∙ before-both (leadOf v ∷ []) (held (restOf v)) (decodedAt s e)
 
   pub weight-falls : (e h k : ℕ) → at < e → e ≤ length s → weight s e k < weight s at h
   unfolding weight

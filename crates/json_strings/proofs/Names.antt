@@ -10,12 +10,12 @@ use Rattle.text.proofs.Places.{at-next}
 use Rattle.text.proofs.Fine.{got-rest, got-what, bind-inv}
 use Rattle.json.specs.Syntax.{token, characters, name}
 use Rattle.json.specs.Strings.{decode}
-use Rattle.json_strings.specs.Spelled.{spelled}
+use Rattle.json_strings.specs.Decoded.{decodedAt}
 use Rattle.json_strings.proofs.Laws.{spelled-is}
 
 module _ (s : Bytes) (at : ℕ) where
   -- its string, from after the first quote
-  pub name-string : (us t : Bytes) → name (drop at s) ≡ got us t → (q : ℕ) → Gives s at (token 34 (drop at s)) (Next q) → spelled s q ≡ decode us
+  pub name-string : (us t : Bytes) → name (drop at s) ≡ got us t → (q : ℕ) → Gives s at (token 34 (drop at s)) (Next q) → decodedAt s q ≡ decode us
   unfolding name
   name-string us t e q g =
       let a = at-next (token 34 (drop at s)) g in

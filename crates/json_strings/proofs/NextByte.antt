@@ -15,7 +15,7 @@ use Rattle.text.specs.Bytes.{Bytes}
 use Rattle.json.specs.Strings.{before}
 use Rattle.json_strings.specs.declared.Byte.{Byte}
 use Rattle.json_strings.specs.declared.Byte.the-variants.{One, End, Alone}
-use Rattle.json_strings.specs.Spelled.{spelled, textAt, left, byteOf, ByteIn}
+use Rattle.json_strings.specs.Decoded.{decodedAt, textAt, left, byteOf, ByteIn}
 use Rattle.json_strings.proofs.Laws.{left-none, spelled-past}
 
 -- once it is known which answer it was
@@ -48,28 +48,28 @@ module _ (s : Bytes) {x : Option Bytes} {r : Byte} (q : x ≡ byteOf s r) where
         by (some u) f q = (u, f, some-same (sym q))
 
 -- ---- what a string stands for, as bytes
-pub text-none : (s : Bytes) (at : ℕ) → is-some (spelled s at) ≡ false → textAt s at ≡ []
+pub text-none : (s : Bytes) (at : ℕ) → is-some (decodedAt s at) ≡ false → textAt s at ≡ []
 unfolding textAt
-text-none s at e = by (spelled s at) e
+text-none s at e = by (decodedAt s at) e
   where
     by : (x : Option Bytes) → is-some x ≡ false → with-some x (λ y. y) [] ≡ []
     by none e = refl
     by (some y) e = let r : _≡_ {A = ℕ} 0 1 = cc in absurd (omega arith)
 
-pub text-some : (s : Bytes) (at : ℕ) (x : Bytes) → spelled s at ≡ some x → textAt s at ≡ x
+pub text-some : (s : Bytes) (at : ℕ) (x : Bytes) → decodedAt s at ≡ some x → textAt s at ≡ x
 unfolding textAt
 text-some s at x e = ap (λ (y : Option Bytes). with-some y (λ z. z) []) e
 
-pub text-left : (s : Bytes) (at : ℕ) → is-some (spelled s at) ≡ true → left s at 0 ≡ some (textAt s at)
+pub text-left : (s : Bytes) (at : ℕ) → is-some (decodedAt s at) ≡ true → left s at 0 ≡ some (textAt s at)
 unfolding textAt
-text-left s at e = left-none s at ∙ by (spelled s at) e
+text-left s at e = left-none s at ∙ by (decodedAt s at) e
   where
     by : (x : Option Bytes) → is-some x ≡ true → x ≡ some (with-some x (λ y. y) [])
     by none e = let r : _≡_ {A = ℕ} 0 1 = cc in absurd (omega arith)
     by (some y) e = refl
 
 -- a string that stands for bytes begins within the text
-pub text-in : (s : Bytes) (at : ℕ) → is-some (spelled s at) ≡ true → at ≤ length s
+pub text-in : (s : Bytes) (at : ℕ) → is-some (decodedAt s at) ≡ true → at ≤ length s
 text-in s at e =
     byBool (ltb (length s) at) (λ p. let z : true ≡ false = sym e ∙ ap is-some (spelled-past s at (ltb-true (length s) at p)) in let r : _≡_ {A = ℕ} 0 1 = cc in absurd (omega arith))
     (λ p. ltb-false (length s) at p)

@@ -8,7 +8,7 @@ use Prim.Native.Nat.{ℕ, _+_, _≤_, _<_}
 use lib.ListN.{length}
 use Rattle.text.specs.Bytes.{Bytes}
 use Rattle.output.specs.Put.{Sofar}
-use Rattle.json_strings.specs.Spelled.{left}
+use Rattle.json_strings.specs.Decoded.{left}
 
 -- a byte that is said to stand for itself does so; of the others nothing is said: they are decoded, whatever they are
 abbrev pub BareByte : ℕ → Bool → Type 0

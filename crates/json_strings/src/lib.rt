@@ -14,7 +14,7 @@ ghost use Prim.Native.Nat.{ℕ, _+_, _≤_, _<_};
 ghost use lib.ListN.{length, take, drop, getD};
 ghost use Rattle.text.specs.Bytes.{Bytes, between};
 ghost use Rattle.text.specs.Choice.{is-some};
-ghost use Rattle.json_strings.specs.Spelled.{spelled, pairOf, letterOf, LetterIn, leadOf, restOf, left, byteOf, ByteIn, spells, agree, textAt};
+ghost use Rattle.json_strings.specs.Decoded.{decodedAt, pairOf, letterOf, LetterIn, leadOf, restOf, left, byteOf, ByteIn, spells, agree, textAt};
 ghost use mathlib.Core.List.{[], _++_};
 ghost use Rattle.output.specs.Put.{Puts, Sofar};
 ghost use Rattle.json_strings.specs.Bare.{BareByte, Copied};
@@ -59,7 +59,7 @@ fn pair_at(s: &[u8], high: u32, at: usize) -> Letter
 // The character at a place of a string.
 pub fn letter_at(s: &[u8], at: usize) -> Letter
     requires { ⌜ at ≤ length (now s) ⌝ }
-    ensures { λ r. ⌜ (spelled (now (s .entry)) at ≡ letterOf (now (s .entry)) r) × LetterIn at (length (now (s .entry))) r ⌝ }
+    ensures { λ r. ⌜ (decodedAt (now (s .entry)) at ≡ letterOf (now (s .entry)) r) × LetterIn at (length (now (s .entry))) r ⌝ }
 {
     match unit_at(s, at) {
         Piece::Wrong(b) => Letter::Alone,
@@ -134,7 +134,7 @@ pub fn next_byte(s: &[u8], at: usize, hold: u32) -> Byte
 fn bare_end(s: &[u8], at: usize) -> usize
     requires { ⌜ at ≤ length (now s) ⌝ }
     ensures { λ r. ⌜ (at ≤ r) × (r ≤ length (now (s .entry))) ⌝ }
-    ensures { λ r. ⌜ is-some (spelled (now (s .entry)) at) ≡ is-some (spelled (now (s .entry)) r) ⌝ }
+    ensures { λ r. ⌜ is-some (decodedAt (now (s .entry)) at) ≡ is-some (decodedAt (now (s .entry)) r) ⌝ }
 {
     let mut i = at;
     loop {
@@ -161,7 +161,7 @@ fn bare_end(s: &[u8], at: usize) -> usize
 
 // No surrogate stands alone.
 pub fn is_paired(s: &[u8], at: usize) -> bool
-    ensures { λ r. ⌜ r ≡ is-some (spelled (now (s .entry)) at) ⌝ }
+    ensures { λ r. ⌜ r ≡ is-some (decodedAt (now (s .entry)) at) ⌝ }
 {
     if at > s.len() {
         return false;
@@ -188,7 +188,7 @@ pub fn is_paired(s: &[u8], at: usize) -> bool
 
 // The string stands for these bytes. Bytes that stand for themselves are compared as they are.
 pub fn equals<'a, 'b>(s: &'a [u8], at: usize, bytes: &'b [u8]) -> bool
-    ensures { λ r. ⌜ r ≡ spells (spelled (now (s .entry)) at) (now (bytes .entry)) ⌝ }
+    ensures { λ r. ⌜ r ≡ spells (decodedAt (now (s .entry)) at) (now (bytes .entry)) ⌝ }
 {
     if at > s.len() {
         return false;
@@ -221,7 +221,7 @@ pub fn equals<'a, 'b>(s: &'a [u8], at: usize, bytes: &'b [u8]) -> bool
 fn equals_from<'a, 'b>(s: &'a [u8], at: usize, bytes: &'b [u8], from: usize) -> bool
     requires { ⌜ at ≤ length (now s) ⌝ }
     requires { ⌜ from ≤ length (now bytes) ⌝ }
-    ensures { λ r. ⌜ r ≡ spells (spelled (now (s .entry)) at) (drop from (now (bytes .entry))) ⌝ }
+    ensures { λ r. ⌜ r ≡ spells (decodedAt (now (s .entry)) at) (drop from (now (bytes .entry))) ⌝ }
 {
     let mut i = at;
     let mut h = 0;
@@ -263,7 +263,7 @@ fn ends(s: &[u8], at: usize, hold: u32) -> bool
 
 // Two strings stand for the same bytes.
 pub fn same_text(s: &[u8], a: usize, b: usize) -> bool
-    ensures { λ r. ⌜ r ≡ agree (spelled (now (s .entry)) a) (spelled (now (s .entry)) b) ⌝ }
+    ensures { λ r. ⌜ r ≡ agree (decodedAt (now (s .entry)) a) (decodedAt (now (s .entry)) b) ⌝ }
 {
     if a > s.len() {
         return false;

@@ -21,7 +21,7 @@ use Rattle.output.proofs.Laws.{split, said-bytes}
 use Rattle.output.proofs.Rests.{rest-as, rest-next, rest-stop}
 use Rattle.json.specs.Compact.{spelledAll}
 use Rattle.json_strings.specs.declared.Byte.the-variants.{One}
-use Rattle.json_strings.specs.Spelled.{left, byteOf}
+use Rattle.json_strings.specs.Decoded.{left, byteOf}
 use Rattle.json_strings.proofs.Laws.{bare-at, left-raw}
 use Rattle.json_strings.proofs.NextByte.{one-left}
 use Rattle.json_write.specs.Pieces.{bare, runAt}

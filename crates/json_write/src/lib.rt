@@ -17,7 +17,7 @@ ghost use Rattle.output.specs.Put.{Puts};
 ghost use Rattle.text.specs.Decimal.{decimal};
 ghost use Rattle.json.specs.Compact.{hexDigit, spelled, spelledAll, quoted};
 ghost use Rattle.json_write.specs.Pieces.{coded, bare, BareFor, runAt};
-ghost use Rattle.json_strings.specs.Spelled.{textAt};
+ghost use Rattle.json_strings.specs.Decoded.{textAt};
 
 fn hex_digit(d: u8) -> u8
     requires { ⌜ d < 16 ⌝ }

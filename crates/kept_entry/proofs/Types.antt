@@ -11,7 +11,7 @@ use lib.ListN.{length, take, drop, length-append}
 use Rattle.text.specs.Choice.{pick, chain, provided}
 use Rattle.text.specs.Bytes.{Bytes, ascii, flat}
 use Rattle.json.specs.Tree.{Json, asString}
-use Rattle.json_strings.specs.Spelled.{spelled, spells}
+use Rattle.json_strings.specs.Decoded.{decodedAt, spells}
 use Rattle.json_index.specs.Index.{jsonAt}
 use Rattle.card_value.specs.Values.{StringIs, TellsString}
 use Rattle.line.specs.Grammar.{Param, param}
@@ -92,16 +92,16 @@ module _ (b : Bytes) (n : ℕ) (t : List ℕ) (m c : ℕ) (s : Bytes) (at q : �
 
   module _ (z : q ≡ 0 → ⊥) where
     of-text : (r : Rows) (after : Bytes) (u : List ℕ) (d : ℕ) (v : Json) → jsonAt d s at ≡ some v
-        → ((x : Bytes) → asString v ≡ some x → spelled s q ≡ some x → TypeAs b n t m (n + (5 + size v)) r after u (provided (typeFits m c x) (some x)))
+        → ((x : Bytes) → asString v ≡ some x → decodedAt s q ≡ some x → TypeAs b n t m (n + (5 + size v)) r after u (provided (typeFits m c x) (some x)))
         → TypeAs b n t m (n + (5 + size v)) r after u (chain (asString v) λ x. provided (typeFits m c x) (some x))
     of-text r after u d v w f =
         let o = string-there s q (asString v) (told d v w) z in
         subst (λ (y : Option Bytes). TypeAs b n t m (n + (5 + size v)) r after u (chain y λ x. provided (typeFits m c x) (some x))) (sym (o .1)) (f (o .0) (o .1) (o .2))
 
-    unknown-is : (x : Bytes) (y : Bool) → spelled s q ≡ some x → spells (spelled s q) (ascii "unknown") ≡ y → isUnknown x ≡ y
+    unknown-is : (x : Bytes) (y : Bool) → decodedAt s q ≡ some x → spells (decodedAt s q) (ascii "unknown") ≡ y → isUnknown x ≡ y
     unknown-is x y e p = sym (ap (λ (o : Option Bytes). spells o (ascii "unknown")) e) ∙ p
 
-    module _ (p : spells (spelled s q) (ascii "unknown") ≡ true) where
+    module _ (p : spells (decodedAt s q) (ascii "unknown") ≡ true) where
       pub unknown-many : 32 < c → PutsType b n t m c s at Wrong b t
       unknown-many k d v w l = of-text Wrong b t d v w λ x e f.
           let g : typeFits m c x ≡ false = ap (λ (y : Bool). pick y (leb c 32) (leb (c + 1) 32 && (leb (m + 1) 64 && isLowerWord x))) (unknown-is x true f p) ∙ lt-leb _ _ k in
@@ -121,7 +121,7 @@ module _ (b : Bytes) (n : ℕ) (t : List ℕ) (m c : ℕ) (s : Bytes) (at q : �
             table = λ qs y. subst (λ (o : List Param). Table (take n b) t (m + length (typeParam x)) (qs ++ o)) (sym ps) (subst (Table (take n b) t (m + length (typeParam x))) (sym (append-nil qs)) (subst (λ (o : ℕ). Table (take n b) t o qs) ln y));
           })
 
-    module _ (p : spells (spelled s q) (ascii "unknown") ≡ false) where
+    module _ (p : spells (decodedAt s q) (ascii "unknown") ≡ false) where
       pub value-many : 32 ≤ c → PutsType b n t m c s at Wrong b t
       value-many k d v w l = of-text Wrong b t d v w λ x e f.
           let g : typeFits m c x ≡ false = ap (λ (y : Bool). pick y (leb c 32) (leb (c + 1) 32 && (leb (m + 1) 64 && isLowerWord x))) (unknown-is x false f p) ∙ ap (λ (y : Bool). y && (leb (m + 1) 64 && isLowerWord x)) (lt-leb (c + 1) 32 (omega arith)) in

@@ -12,7 +12,7 @@ use Rattle.text.specs.Choice.{pick, is-some, chain, provided}
 use Rattle.text.specs.Bytes.{Bytes, ascii, any, all, among, same, parts, onHead}
 use Rattle.text.proofs.Cases.{byBool, not-false}
 use Rattle.json.specs.Tree.{Json, jnull, Member, member, nameOf, asString}
-use Rattle.json_strings.specs.Spelled.{spelled, textAt}
+use Rattle.json_strings.specs.Decoded.{decodedAt, textAt}
 use Rattle.json_strings.proofs.NextByte.{text-some}
 use Rattle.json_index.specs.Index.{jsonAt, placed, firstAt}
 use Rattle.json_index.proofs.Fields.{first-other}
@@ -27,7 +27,7 @@ use Rattle.kept_table.proofs.Params.{part-is}
 use Rattle.kept_entry.specs.Entry.{PutsWord, lineName, PutsName}
 
 module _ (b : Bytes) (n : ℕ) (s : Bytes) (q : ℕ) (h : n ≤ length b) (r : To) (c : Bytes) (p : Puts b n (textAt s q) r c) where
-  put : (x : Bytes) → spelled s q ≡ some x → n + length x ≤ length b → PutAs b n r c (some x)
+  put : (x : Bytes) → decodedAt s q ≡ some x → n + length x ≤ length b → PutAs b n r c (some x)
   put x e l = put-as b n x r c l (subst (λ (z : Bytes). Puts b n z r c) (text-some s q x e) p)
 
   pub word-full : r ≡ Bad → PutsWord b n s q Bad c
@@ -37,7 +37,7 @@ module _ (b : Bytes) (n : ℕ) (s : Bytes) (q : ℕ) (h : n ≤ length b) (r : T
     pub word-in : Grew b n c i (textAt s q)
     word-in = subst (λ (y : To). Puts b n (textAt s q) y c) z p
 
-    grew : (x : Bytes) → spelled s q ≡ some x → n + length x ≤ length b → Grew b n c i x
+    grew : (x : Bytes) → decodedAt s q ≡ some x → n + length x ≤ length b → Grew b n c i x
     grew x e l = let o = put x e l in subst (λ (y : ℕ). Grew b n c y x) (end-is (sym (o .1) ∙ z)) (o .2)
 
     pub word-other : isLowerWord (take (i - n) (drop n c)) ≡ false → PutsWord b n s q Bad c
@@ -52,7 +52,7 @@ module _ (b : Bytes) (n : ℕ) (s : Bytes) (q : ℕ) (h : n ≤ length b) (r : T
 
 -- ---- the line's name
 
-pub string-there : (s : Bytes) (q : ℕ) (o : Option Bytes) → StringIs s q o → (q ≡ 0 → ⊥) → (x : Bytes) × (o ≡ some x) × (spelled s q ≡ some x)
+pub string-there : (s : Bytes) (q : ℕ) (o : Option Bytes) → StringIs s q o → (q ≡ 0 → ⊥) → (x : Bytes) × (o ≡ some x) × (decodedAt s q ≡ some x)
 string-there s q none h n = absurd (n h)
 string-there s q (some x) h n = (x, refl, h .1)
 
@@ -79,8 +79,8 @@ module _ (b : Bytes) (n : ℕ) (s : Bytes) (at q : ℕ) (told : TellsString s at
       by none h = refl
       by (some x) h = absurd (omega (arith, h .0, e))
 
-  module _ (z : q ≡ 0 → ⊥) (k : ℕ) (is-k : k ≡ placed (spelled s q) (parts 44 (ascii "begin,end,version,uid,kind"))) where
-    free : (x : Bytes) → spelled s q ≡ some x → not (among x neverKept) ≡ eqb k 5
+  module _ (z : q ≡ 0 → ⊥) (k : ℕ) (is-k : k ≡ placed (decodedAt s q) (parts 44 (ascii "begin,end,version,uid,kind"))) where
+    free : (x : Bytes) → decodedAt s q ≡ some x → not (among x neverKept) ≡ eqb k 5
     free x e = sym (ap (λ (y : ℕ). eqb y 5) (is-k ∙ ap (λ (o : Option Bytes). placed o (parts 44 (ascii "begin,end,version,uid,kind"))) e ∙ ap (placed (some x)) never-names) ∙ placed-none x neverKept)
 
     pub name-never : (k ≡ 5 → ⊥) → (after : Bytes) → PutsName b n s at Bad after

@@ -9,7 +9,7 @@ use lib.ListN.{length, take, getD, set}
 use Rattle.text.specs.Choice.{pick, with-some, chain, provided}
 use Rattle.text.specs.Bytes.{Bytes, ascii, among, same}
 use Rattle.json.specs.Tree.{Json, asString, asArray, asObject}
-use Rattle.json_strings.specs.Spelled.{spelled}
+use Rattle.json_strings.specs.Decoded.{decodedAt}
 use Rattle.json_index.specs.Index.{jsonAt, ValueEnds}
 use Rattle.line.specs.Grammar.{Param, param, valueCount}
 use Rattle.line_table.specs.Spread.{spreadLine, valued}
@@ -28,7 +28,7 @@ use Rattle.kept_entry.specs.declared.Four.the-variants.{At, Bad}
 -- ---- words
 
 abbrev pub PutsWord : Bytes → ℕ → Bytes → ℕ → To → Bytes → Type 0
-PutsWord b n s q r after = (x : Bytes) → spelled s q ≡ some x → n + length x ≤ length b → PutAs b n r after (provided (isLowerWord x) (some x))
+PutsWord b n s q r after = (x : Bytes) → decodedAt s q ≡ some x → n + length x ≤ length b → PutAs b n r after (provided (isLowerWord x) (some x))
 
 -- a line's name: in lower case, and one that a kept line can have
 abbrev pub lineName : Bytes → Option Bytes

@@ -17,7 +17,7 @@ use Rattle.json.specs.Tree.{Json, jnull, jtrue, jfalse, jnum, jstr, jarr, jobj,
 use Rattle.line.specs.Class.{isLowerName}
 use Rattle.convert.specs.FromJson.{isLowerWord}
 use Rattle.text.proofs.Choices.{none-some, some-same}
-use Rattle.json_strings.specs.Spelled.{spelled, textAt}
+use Rattle.json_strings.specs.Decoded.{decodedAt, textAt}
 use Rattle.json_strings.proofs.NextByte.{text-some}
 use Rattle.json_index.specs.Index.{jsonAt}
 use Rattle.card_value.specs.Values.{StringIs, TellsString}
@@ -79,7 +79,7 @@ string-size (jarr es) x e = none-some e
 string-size (jobj ms) x e = none-some e
 
 module _ (b : Bytes) (n : ℕ) (s : Bytes) (at q : ℕ) (told : TellsString s at q) where
-  pub string-of : (o : Option Bytes) → StringIs s q o → (q ≡ 0 → ⊥) → (x : Bytes) × (o ≡ some x) × (spelled s q ≡ some x)
+  pub string-of : (o : Option Bytes) → StringIs s q o → (q ≡ 0 → ⊥) → (x : Bytes) × (o ≡ some x) × (decodedAt s q ≡ some x)
   string-of none h n = absurd (n h)
   string-of (some x) h n = (x, refl, h .1)
 

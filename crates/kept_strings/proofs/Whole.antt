@@ -17,7 +17,7 @@ use Rattle.json.specs.Grammar.{isSpace}
 use Rattle.json.specs.Tree.{Json, jnull, jtrue, jfalse, jnum, jstr, jarr, jobj, Elems, enil, econs, elemsOf, asString}
 use Rattle.json.specs.Syntax.{sep, item, value}
 use Rattle.json.specs.Strings.{decoded, decodedElems}
-use Rattle.json_strings.specs.Spelled.{spelled, textAt}
+use Rattle.json_strings.specs.Decoded.{decodedAt, textAt}
 use Rattle.json_strings.proofs.NextByte.{text-some}
 use Rattle.json_access.specs.declared.Part.{Part}
 use Rattle.json_access.specs.declared.Kind.{Kind}
@@ -197,7 +197,7 @@ module _ (b : Bytes) (n : ℕ) (s : Bytes) (at q : ℕ) (told : TellsSole s at q
   group-none after none e = refl
   group-none after (some x) e = none-some (sym e)
 
-  of-sole : (v : Json) (o : Option Bytes) → soleIn v ≡ o → SoleIs s q o → (q ≡ 0 → ⊥) → (x : Bytes) × (soleIn v ≡ some x) × (spelled s q ≡ some x)
+  of-sole : (v : Json) (o : Option Bytes) → soleIn v ≡ o → SoleIs s q o → (q ≡ 0 → ⊥) → (x : Bytes) × (soleIn v ≡ some x) × (decodedAt s q ≡ some x)
   of-sole v none z h y = absurd (y h)
   of-sole v (some x) z h y = (x, z, h .1)
 

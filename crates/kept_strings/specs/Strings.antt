@@ -12,7 +12,7 @@ use Rattle.text.specs.Reader.{got, loop}
 use Rattle.json.specs.Tree.{Json, jnull, jtrue, jfalse, jnum, jstr, jarr, jobj, Elems, enil, econs, Members, mnil, mcons, elemsOf, asString}
 use Rattle.json.specs.Syntax.{item, value}
 use Rattle.json.specs.Strings.{decodedElems}
-use Rattle.json_strings.specs.Spelled.{spelled}
+use Rattle.json_strings.specs.Decoded.{decodedAt}
 use Rattle.json_index.specs.Index.{jsonAt}
 use Rattle.line.specs.Grammar.{Param, param, paramName, paramValues}
 use Rattle.line_table.specs.Spread.{spread}
@@ -158,7 +158,7 @@ soleIn v = chain (strings v) sole
 
 abbrev pub SoleIs : Bytes → ℕ → Option Bytes → Type 0
 SoleIs s r none = r ≡ 0
-SoleIs s r (some x) = (0 < r) × (spelled s r ≡ some x)
+SoleIs s r (some x) = (0 < r) × (decodedAt s r ≡ some x)
 
 abbrev pub TellsSole : Bytes → ℕ → ℕ → Type 0
 TellsSole s at r = (v : Json) → jsonAt 12 s at ≡ some v → SoleIs s r (soleIn v)

@@ -15,7 +15,7 @@ use text::look;
 ghost use mathlib.Core.Path.{_≡_};
 ghost use Prim.Native.Nat.{_≤_, _<_};
 ghost use lib.ListN.{length};
-ghost use Rattle.json_strings.specs.Spelled.{textAt};
+ghost use Rattle.json_strings.specs.Decoded.{textAt};
 ghost use Rattle.convert.specs.FromJson.{isLowerWord};
 ghost use Rattle.kept_strings.specs.Strings.{Puts, Within, PutsAt, Bounds, RowsIn, AddsValue, AddsFrom, AddsValues, TellsSole, PutsGroup};
 

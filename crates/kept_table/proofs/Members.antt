@@ -18,7 +18,7 @@ use Rattle.json.proofs.Listed.{listed-members}
 use Rattle.json.specs.Tree.{Json, jnull, jtrue, jfalse, jnum, jstr, jarr, jobj, fromMembers, Members, mnil, mcons, Member, member, membersOf, asObject}
 use Rattle.json.specs.Syntax.{sep, pair, value}
 use Rattle.json.specs.Strings.{decodedMembers}
-use Rattle.json_strings.specs.Spelled.{spelled, spells}
+use Rattle.json_strings.specs.Decoded.{decodedAt, spells}
 use Rattle.json_access.specs.declared.Places.{Places}
 use Rattle.json_access.specs.Access.{TellsMember}
 use Rattle.json_index.specs.Index.{jsonAt}
@@ -96,20 +96,20 @@ step-in {n} {room} {count} {f} {r} h e = subst (StepIn n room count) e h
 -- ---- one member
 
 module _ (b : Bytes) (t : List ℕ) (f : Filled) (s : Bytes) (q at : ℕ) where
-  is-group : (z : Sofar) (k : Bytes) (v : Json) → spelled s q ≡ some k → spells (spelled s q) (ascii "group") ≡ true → stepOf z k v ≡ groupStep (groupIn z) (paramsIn z) (groupOf v)
+  is-group : (z : Sofar) (k : Bytes) (v : Json) → decodedAt s q ≡ some k → spells (decodedAt s q) (ascii "group") ≡ true → stepOf z k v ≡ groupStep (groupIn z) (paramsIn z) (groupOf v)
   unfolding stepOf
   is-group z k v e y =
       ap (λ (x : Bool). pick x (groupStep (groupIn z) (paramsIn z) (groupOf v)) (paramStep (groupIn z) (paramsIn z) k (fitParam (valueCount (paramsIn z)) k v)))
       (sym (ap (λ (o : Option Bytes). spells o (ascii "group")) e) ∙ y)
 
-  is-param : (z : Sofar) (k : Bytes) (v : Json) → spelled s q ≡ some k → spells (spelled s q) (ascii "group") ≡ false
+  is-param : (z : Sofar) (k : Bytes) (v : Json) → decodedAt s q ≡ some k → spells (decodedAt s q) (ascii "group") ≡ false
       → stepOf z k v ≡ paramStep (groupIn z) (paramsIn z) k (fitParam (valueCount (paramsIn z)) k v)
   unfolding stepOf
   is-param z k v e y =
       ap (λ (x : Bool). pick x (groupStep (groupIn z) (paramsIn z) (groupOf v)) (paramStep (groupIn z) (paramsIn z) k (fitParam (valueCount (paramsIn z)) k v)))
       (sym (ap (λ (o : Option Bytes). spells o (ascii "group")) e) ∙ y)
 
-  module _ (y : spells (spelled s q) (ascii "group") ≡ true) where
+  module _ (y : spells (decodedAt s q) (ascii "group") ≡ true) where
     pub member-again : (f .to ≡ 0 → ⊥) → PutsMember b t f s q at Bad b t
     member-again n k v e w z h l =
         subst (StepAs b (f .end) (f .end + (length k + size v)) Bad b t) (sym (is-group z k v e y)) (by (groupIn z) (h .group))
@@ -165,8 +165,8 @@ module _ (b : Bytes) (t : List ℕ) (f : Filled) (s : Bytes) (q at : ℕ) where
                 short = omega (arith, gr .to, sole-size v g (gw .0));
               }
 
-  module _ (y : spells (spelled s q) (ascii "group") ≡ false) (r : Rows) (c : Bytes) (u : List ℕ) (puts : PutsParam b (f .end) t (f .rows) s q at r c u) where
-    as-param : (z : Sofar) → Has b t f z → (k : Bytes) (v : Json) → spelled s q ≡ some k → stepOf z k v ≡ paramStep (groupIn z) (paramsIn z) k (fitParam (f .rows) k v)
+  module _ (y : spells (decodedAt s q) (ascii "group") ≡ false) (r : Rows) (c : Bytes) (u : List ℕ) (puts : PutsParam b (f .end) t (f .rows) s q at r c u) where
+    as-param : (z : Sofar) → Has b t f z → (k : Bytes) (v : Json) → decodedAt s q ≡ some k → stepOf z k v ≡ paramStep (groupIn z) (paramsIn z) k (fitParam (f .rows) k v)
     as-param z h k v e = is-param z k v e y ∙ ap (λ (m : ℕ). paramStep (groupIn z) (paramsIn z) k (fitParam m k v)) (sym (h .few))
 
     pub member-wrong : r ≡ Wrong → PutsMember b t f s q at Bad c u

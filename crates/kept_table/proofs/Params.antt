@@ -14,7 +14,7 @@ use Rattle.text.proofs.Cases.{byBool, and-left, and-true}
 use Rattle.text.proofs.Same.{same-swap}
 use Rattle.text.proofs.Choices.{none-some, some-same, chain-inv, provided-inv}
 use Rattle.json.specs.Tree.{Json, jnull, jtrue, jfalse, jnum, jstr, jarr, jobj, elemsOf, asString}
-use Rattle.json_strings.specs.Spelled.{spelled, textAt, spells}
+use Rattle.json_strings.specs.Decoded.{decodedAt, textAt, spells}
 use Rattle.json_strings.proofs.NextByte.{text-some}
 use Rattle.json_index.specs.Index.{jsonAt}
 use Rattle.line.specs.Grammar.{Param, param}
@@ -106,7 +106,7 @@ param-table b n t m h c i k g f r′ d u ws ne a qs tb =
     subst (λ (y : Bytes). Table y u (m + length ws) (qs ++ (param k ws ∷ []))) (append-assoc (take n b) k (flat ws)) t5
 
 module _ (b : Bytes) (n : ℕ) (t : List ℕ) (m : ℕ) (s : Bytes) (q at : ℕ) (h : n ≤ length b) (r : To) (c : Bytes) (p : Puts b n (textAt s q) r c) where
-  name-put : (k : Bytes) (v : Json) → spelled s q ≡ some k → n + (length k + size v) ≤ length b → PutAs b n r c (some k)
+  name-put : (k : Bytes) (v : Json) → decodedAt s q ≡ some k → n + (length k + size v) ≤ length b → PutAs b n r c (some k)
   name-put k v e l = put-as b n k r c (omega arith) (subst (λ (z : Bytes). Puts b n z r c) (text-some s q k e) p)
 
   pub param-full : r ≡ Bad → PutsParam b n t m s q at Wrong c t
@@ -116,10 +116,10 @@ module _ (b : Bytes) (n : ℕ) (t : List ℕ) (m : ℕ) (s : Bytes) (q at : ℕ)
     pub name-in : Grew b n c i (textAt s q)
     name-in = subst (λ (y : To). Puts b n (textAt s q) y c) z p
 
-    name-grew : (k : Bytes) (v : Json) → spelled s q ≡ some k → n + (length k + size v) ≤ length b → Grew b n c i k
+    name-grew : (k : Bytes) (v : Json) → decodedAt s q ≡ some k → n + (length k + size v) ≤ length b → Grew b n c i k
     name-grew k v e l = let o = name-put k v e l in subst (λ (y : ℕ). Grew b n c y k) (end-is (sym (o .1) ∙ z)) (o .2)
 
-    word-is : (k : Bytes) (v : Json) → spelled s q ≡ some k → n + (length k + size v) ≤ length b → isLowerWord k ≡ isLowerWord (take (i - n) (drop n c))
+    word-is : (k : Bytes) (v : Json) → decodedAt s q ≡ some k → n + (length k + size v) ≤ length b → isLowerWord k ≡ isLowerWord (take (i - n) (drop n c))
     word-is k v e l = ap isLowerWord (sym (part-is b n c i k h (name-grew k v e l)))
 
     pub param-other : isLowerWord (take (i - n) (drop n c)) ≡ false → PutsParam b n t m s q at Wrong c t
@@ -127,7 +127,7 @@ module _ (b : Bytes) (n : ℕ) (t : List ℕ) (m : ℕ) (s : Bytes) (q at : ℕ)
         let g : goodName k ≡ false = ap (λ (x : Bool). x && not (same k (ascii "value"))) (word-is k v e l ∙ y) in
         subst (ParamAs b n t m Wrong c t k) (sym (fit-none m k v g)) refl
 
-    pub param-value : spells (spelled s q) (ascii "value") ≡ true → PutsParam b n t m s q at Wrong c t
+    pub param-value : spells (decodedAt s q) (ascii "value") ≡ true → PutsParam b n t m s q at Wrong c t
     param-value y k v e w l =
         let x : same k (ascii "value") ≡ true = same-swap k (ascii "value") ∙ sym (ap (λ (o : Option Bytes). spells o (ascii "value")) e) ∙ y in
         let g : goodName k ≡ false = ap (λ (y : Bool). isLowerWord k && not y) x ∙ and-false (isLowerWord k) in
@@ -137,8 +137,8 @@ module _ (b : Bytes) (n : ℕ) (t : List ℕ) (m : ℕ) (s : Bytes) (q at : ℕ)
         and-false true = refl
         and-false false = refl
 
-    module _ (y : isLowerWord (take (i - n) (drop n c)) ≡ true) (x : spells (spelled s q) (ascii "value") ≡ false) (r′ : Rows) (d : Bytes) (u : List ℕ) (adds : AddsValues c i t m n i s at r′ d u) where
-      good : (k : Bytes) (v : Json) → spelled s q ≡ some k → n + (length k + size v) ≤ length b → goodName k ≡ true
+    module _ (y : isLowerWord (take (i - n) (drop n c)) ≡ true) (x : spells (decodedAt s q) (ascii "value") ≡ false) (r′ : Rows) (d : Bytes) (u : List ℕ) (adds : AddsValues c i t m n i s at r′ d u) where
+      good : (k : Bytes) (v : Json) → decodedAt s q ≡ some k → n + (length k + size v) ≤ length b → goodName k ≡ true
       good k v e l =
           let f : same k (ascii "value") ≡ false = same-swap k (ascii "value") ∙ sym (ap (λ (o : Option Bytes). spells o (ascii "value")) e) ∙ x in
           and-true (word-is k v e l ∙ y) (ap not f)

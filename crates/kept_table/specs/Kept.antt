@@ -11,7 +11,7 @@ use Rattle.text.specs.Reader.{got, loop}
 use Rattle.json.specs.Tree.{Json, Members, Member, member, membersOf, asString, asObject}
 use Rattle.json.specs.Syntax.{pair, value}
 use Rattle.json.specs.Strings.{decodedMembers}
-use Rattle.json_strings.specs.Spelled.{spelled}
+use Rattle.json_strings.specs.Decoded.{decodedAt}
 use Rattle.json_index.specs.Index.{jsonAt}
 use Rattle.line.specs.Grammar.{Param, param, paramName, Line, valueCount, fits}
 use Rattle.line_table.specs.Spread.{spread, spreadLine, valued}
@@ -103,7 +103,7 @@ ParamAs b n t m r after u k none = r ≡ Wrong
 ParamAs b n t m r after u k (some ws) = AddedParam b n t m r after u k ws
 
 abbrev pub PutsParam : Bytes → ℕ → List ℕ → ℕ → Bytes → ℕ → ℕ → Rows → Bytes → List ℕ → Type 0
-PutsParam b n t m s q at r after u = (k : Bytes) (v : Json) → spelled s q ≡ some k → jsonAt 12 s at ≡ some v → n + (length k + size v) ≤ length b
+PutsParam b n t m s q at r after u = (k : Bytes) (v : Json) → decodedAt s q ≡ some k → jsonAt 12 s at ≡ some v → n + (length k + size v) ≤ length b
     → ParamAs b n t m r after u k (fitParam m k v)
 
 -- ---- all of them
@@ -125,7 +125,7 @@ StepAs b n most r after u none = r ≡ Bad
 StepAs b n most r after u (some z) = Stepped b n most r after u z
 
 abbrev pub PutsMember : Bytes → List ℕ → Filled → Bytes → ℕ → ℕ → Step → Bytes → List ℕ → Type 0
-PutsMember b t f s q at r after u = (k : Bytes) (v : Json) → spelled s q ≡ some k → jsonAt 12 s at ≡ some v → (z : Sofar) → Has b t f z → f .end + (length k + size v) ≤ length b
+PutsMember b t f s q at r after u = (k : Bytes) (v : Json) → decodedAt s q ≡ some k → jsonAt 12 s at ≡ some v → (z : Sofar) → Has b t f z → f .end + (length k + size v) ≤ length b
     → StepAs b (f .end) (f .end + (length k + size v)) r after u (stepOf z k v)
 
 abbrev pub noneYet : Sofar

@@ -16,7 +16,7 @@ use Rattle.json.specs.Grammar.{isSpace}
 use Rattle.json.specs.Tree.{Json, Members, mnil, mcons, Member, member, membersOf, nameOf, asObject}
 use Rattle.json.specs.Syntax.{sep, pair, value}
 use Rattle.json.specs.Strings.{decodedMembers}
-use Rattle.json_strings.specs.Spelled.{spelled}
+use Rattle.json_strings.specs.Decoded.{decodedAt}
 use Rattle.json_prints.specs.Prints.{printed, printOf, Names}
 use Rattle.json_prints.proofs.Prints.{names-noted, no-names}
 use Rattle.json_access.specs.declared.Places.{Places}
@@ -29,7 +29,7 @@ use Rattle.name_index.specs.Groups.{namesOf, NotesName, NotesAll, NotesF
 
 -- ---- one name
 
-pub name-noted : (s : Bytes) (at k : ℕ) (ps fs : List ℕ) (p : ℕ) → k < length ps → length ps ≡ length fs → p ≡ printOf 0 (spelled s at) → NotesName s at k ps fs true (set ps k at) (set fs k p)
+pub name-noted : (s : Bytes) (at k : ℕ) (ps fs : List ℕ) (p : ℕ) → k < length ps → length ps ≡ length fs → p ≡ printOf 0 (decodedAt s at) → NotesName s at k ps fs true (set ps k at) (set fs k p)
 name-noted s at k ps fs p l m e = (l, λ ns n h q. names-noted s n ps fs k at p ns l (omega (arith, m)) h q (e ∙ ap (printOf 0) q))
 
 pub noted-as : (s : Bytes) (at k : ℕ) (ps fs after afters : List ℕ) (r : Bool) → NotesName s at k ps fs r after afters → r ≡ true → NotesName s at k ps fs true after afters

@@ -12,7 +12,7 @@ use Rattle.text.specs.Reader.{got, loop}
 use Rattle.json.specs.Tree.{Json, Members, Member, membersOf, nameOf, asObject}
 use Rattle.json.specs.Syntax.{pair, value}
 use Rattle.json.specs.Strings.{decodedMembers}
-use Rattle.json_strings.specs.Spelled.{spelled}
+use Rattle.json_strings.specs.Decoded.{decodedAt}
 use Rattle.json_prints.specs.Prints.{Names}
 use Rattle.json_index.specs.Index.{jsonAt}
 use Rattle.name_index.specs.declared.Noted.{Noted}
@@ -45,7 +45,7 @@ HasName s slots i key r = (ns : List Bytes) → groupNames s slots i ≡ some ns
 -- one name more, in the row k after others
 abbrev pub NotesName : Bytes → ℕ → ℕ → List ℕ → List ℕ → Bool → List ℕ → List ℕ → Type 0
 NotesName s at k ps fs true after afters =
-    (k < length ps) × ((ns : List Bytes) (n : Bytes) → Names s (take k ps) (take k fs) ns → spelled s at ≡ some n → Names s (take (k + 1) after) (take (k + 1) afters) (ns ++ (n ∷ [])))
+    (k < length ps) × ((ns : List Bytes) (n : Bytes) → Names s (take k ps) (take k fs) ns → decodedAt s at ≡ some n → Names s (take (k + 1) after) (take (k + 1) afters) (ns ++ (n ∷ [])))
 NotesName s at k ps fs false after afters = Unit {0}
 
 abbrev pub NotedIn : ℕ → Noted → Type 0

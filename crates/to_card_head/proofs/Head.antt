@@ -15,7 +15,7 @@ use Rattle.json.specs.Tree.{Json, asString}
 use Rattle.line.specs.Grammar.{Line}
 use Rattle.line.specs.Class.{isLowerName}
 use Rattle.line.specs.Write.{width, breaks, fold, foldFrom, writeGroup, writeParams, writeLine}
-use Rattle.json_strings.specs.Spelled.{spelled}
+use Rattle.json_strings.specs.Decoded.{decodedAt}
 use Rattle.json_index.specs.Index.{jsonAt, Slot}
 use Rattle.line_pen.specs.Pen.{Fills}
 use Rattle.line_pen.proofs.Filling.{then}
@@ -93,7 +93,7 @@ none-of : (s : Bytes) (o : Option Bytes) → StringIs s 0 o → o ≡ none
 none-of s none h = refl
 none-of s (some x) h = absurd (omega (arith, h .0))
 
-some-of : (s : Bytes) (q : ℕ) (o : Option Bytes) → (q ≡ 0 → ⊥) → StringIs s q o → (x : Bytes) × (o ≡ some x) × (spelled s q ≡ some x)
+some-of : (s : Bytes) (q : ℕ) (o : Option Bytes) → (q ≡ 0 → ⊥) → StringIs s q o → (x : Bytes) × (o ≡ some x) × (decodedAt s q ≡ some x)
 some-of s q none n h = absurd (n h)
 some-of s q (some x) n h = (x, refl, h .1)
 

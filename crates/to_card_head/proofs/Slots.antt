@@ -10,7 +10,7 @@ use borrow.Author.Tests.{eq-eqb, ne-eqb, eqb-true}
 use Rattle.text.specs.Choice.{pick, with-some, is-some, chain, provided}
 use Rattle.text.specs.Bytes.{Bytes, same}
 use Rattle.json.specs.Tree.{Json, asString}
-use Rattle.json_strings.specs.Spelled.{spelled, spells}
+use Rattle.json_strings.specs.Decoded.{decodedAt, spells}
 use Rattle.json_index.specs.Index.{jsonAt, Slot}
 use Rattle.convert.specs.FromJson.{isText}
 use Rattle.card_value.specs.Values.{StringIs, TellsString}
@@ -38,7 +38,7 @@ module _ (p : Bytes → Bool) (s : Bytes) (at q : ℕ) (t : TellsString s at q) 
       by none h = refl
       by (some x) h = absurd (omega (arith, h .0))
 
-  module _ (n : q ≡ 0 → ⊥) (b : Bool) (told : (x : Bytes) → spelled s q ≡ some x → b ≡ p x) where
+  module _ (n : q ≡ 0 → ⊥) (b : Bool) (told : (x : Bytes) → decodedAt s q ≡ some x → b ≡ p x) where
     pub test-fails : b ≡ false → StringIs s 0 (chain (asString v) λ x. provided (p x) (some x))
     test-fails e = by (asString v) (t d v w)
       where
@@ -82,7 +82,7 @@ module _ (s : Bytes) (slot : ℕ) (bs : Bytes) where
         by none z = refl
         by (some x) z = absurd (omega (arith, z .0))
 
-    pub same-is : (q ≡ 0 → ⊥) → (r : Bool) → r ≡ spells (spelled s q) bs → TellsSame s slot bs r
+    pub same-is : (q ≡ 0 → ⊥) → (r : Bool) → r ≡ spells (decodedAt s q) bs → TellsSame s slot bs r
     same-is m r e o h = by-string o h r by
       where
         by : (x : Option Bytes) → StringIs s q x → r ≡ with-some x (same bs) false

@@ -13,7 +13,7 @@ use Rattle.line.specs.Class.{isLowerName}
 use Rattle.json.specs.Strings.{before}
 use Rattle.json_strings.specs.declared.Byte.{Byte}
 use Rattle.json_strings.specs.declared.Byte.the-variants.{One, End, Alone}
-use Rattle.json_strings.specs.Spelled.{spelled, left, byteOf}
+use Rattle.json_strings.specs.Decoded.{decodedAt, left, byteOf}
 use Rattle.json_strings.proofs.Laws.{left-none, spelled-past}
 use Rattle.json_strings.proofs.NextByte.{not-alone, none-left, one-left}
 use Rattle.text.proofs.Choices.{none-some}

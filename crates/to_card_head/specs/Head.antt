@@ -9,7 +9,7 @@ use Rattle.text.specs.Choice.{with-some, chain, provided}
 use Rattle.text.specs.Bytes.{Bytes, ascii}
 use Rattle.json.specs.Tree.{Json, asString}
 use Rattle.line.specs.Grammar.{Line}
-use Rattle.json_strings.specs.Spelled.{spelled}
+use Rattle.json_strings.specs.Decoded.{decodedAt}
 use Rattle.json_index.specs.Index.{jsonAt, Slot}
 use Rattle.line_pen.specs.Pen.{Fills}
 use Rattle.convert.specs.Value.{filled}
@@ -37,7 +37,7 @@ wordFrom true (some x) = Rattle.text.specs.Bytes.all Rattle.line.specs.Class.i
 
 -- whether the string at a place, where it stands for bytes, has any
 abbrev pub TellsFilled : Bytes → ℕ → Bool → Type 0
-TellsFilled s at r = (x : Bytes) → spelled s at ≡ some x → r ≡ filled x
+TellsFilled s at r = (x : Bytes) → decodedAt s at ≡ some x → r ≡ filled x
 
 -- `@type` and `version`
 abbrev pub TellsSame : Bytes → ℕ → Bytes → Bool → Type 0
@@ -70,7 +70,7 @@ headLines u k = startLines u ++ whereFilled k (property (ascii "kind") [] k)
 -- BEGIN and some lines are written; they are those of the uid, where it stands for bytes
 pub record Starts (s : Bytes) (uid : ℕ) (room : Bytes) (r : Penned) (after : Bytes) : Type 0 where
   pub text : Bytes
-  pub is : (x : Bytes) → spelled s uid ≡ some x → text ≡ x
+  pub is : (x : Bytes) → decodedAt s uid ≡ some x → text ≡ x
   pub fills : Fills room (begin ++ linesBytes (startLines text)) (r .bytes) after
   pub carried : r .carried ≡ carriedRaw text
 

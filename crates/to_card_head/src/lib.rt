@@ -9,7 +9,7 @@ use to_card_lines::Penned;
 use to_card_lines::put_string_line;
 ghost use mathlib.Core.Path.{_≡_};
 ghost use lib.ListN.{length};
-ghost use Rattle.json_strings.specs.Spelled.{spelled};
+ghost use Rattle.json_strings.specs.Decoded.{decodedAt};
 ghost use Rattle.line.specs.Class.{isLowerName};
 ghost use Rattle.to_card_lines.specs.Lines.{LinesIn};
 ghost use Rattle.to_card_head.specs.Head.{wordOf, TellsFilled, TellsSame, FilledIn, WordIn, Starts, PutsHead};
@@ -35,7 +35,7 @@ fn is_lower_name(c: u8) -> bool
 
 // Whether a string is a lower-case word: one or more of these bytes.
 pub fn is_word(s: &[u8], at: usize) -> bool
-    ensures { λ r. ⌜ r ≡ wordOf (spelled (now (s .entry)) at) ⌝ }
+    ensures { λ r. ⌜ r ≡ wordOf (decodedAt (now (s .entry)) at) ⌝ }
 {
     if at > s.len() {
         return false;

@@ -9,7 +9,7 @@ use Rattle.text.specs.Choice.{both}
 use Rattle.text.specs.Bytes.{Bytes, flat}
 use Rattle.line.specs.Grammar.{Line}
 use Rattle.line.specs.Write.{fold, foldFrom, writeLine}
-use Rattle.json_strings.specs.Spelled.{spelled}
+use Rattle.json_strings.specs.Decoded.{decodedAt}
 use Rattle.line_pen.specs.Pen.{Fills}
 use Rattle.card_pen.specs.Styles.{writtenIn, allStandIn}
 use Rattle.to_card_lines.specs.declared.Lines.{Lines}
@@ -41,7 +41,7 @@ LinesIn room Wrong = Unit {0}
 -- Some line is written, its end included, and whether a line can carry its string is told; where the string at the place stands for bytes, it is these.
 pub record StringLine (s : Bytes) (at style : ℕ) (head room : Bytes) (r : Penned) (after : Bytes) : Type 0 where
   pub text : Bytes
-  pub is : (x : Bytes) → spelled s at ≡ some x → text ≡ x
+  pub is : (x : Bytes) → decodedAt s at ≡ some x → text ≡ x
   pub fills : Fills room (foldFrom 0 (head ++ writtenIn style text) ++ (13 ∷ 10 ∷ [])) (r .bytes) after
   pub carried : r .carried ≡ allStandIn style text
 

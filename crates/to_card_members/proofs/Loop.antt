@@ -17,7 +17,7 @@ use Rattle.json.specs.Grammar.{isSpace}
 use Rattle.json.specs.Tree.{Json, Members, mnil, mcons, Member, member, membersOf, asObject}
 use Rattle.json.specs.Syntax.{sep, pair, value}
 use Rattle.json.specs.Strings.{decodedMembers}
-use Rattle.json_strings.specs.Spelled.{spelled}
+use Rattle.json_strings.specs.Decoded.{decodedAt}
 use Rattle.json_access.specs.declared.Places.{Places}
 use Rattle.json_access.specs.Access.{TellsMember, Inside}
 use Rattle.json_index.specs.Index.{jsonAt}

@@ -15,7 +15,7 @@ use Rattle.text.proofs.Same.{among-of}
 use Rattle.json.specs.Tree.{Json, jnull, Member, member, nameOf}
 use Rattle.json.specs.Compact.{compact}
 use Rattle.json_compact.specs.Squeezed.{squeezed}
-use Rattle.json_strings.specs.Spelled.{spelled}
+use Rattle.json_strings.specs.Decoded.{decodedAt}
 use Rattle.json_index.specs.Index.{placed, firstAt}
 use Rattle.json_index.proofs.Fields.{first-other}
 use Rattle.line.specs.Text.{writeText}
@@ -64,9 +64,9 @@ other-place n ns = by (eqb (placed (some n) ns) (length ns)) (among n ns) (first
     by false true e = refl
     by false false e = e
 
-module _ (s : Bytes) (name a e : ℕ) (room : Bytes) (k : ℕ) (names : Bytes) (names-are : parts 44 names ≡ reserved) (place : k ≡ placed (spelled s name) (parts 44 names)) where
-  where-is : (x : Bytes) → spelled s name ≡ some x → eqb k 13 ≡ not (among x reserved)
-  where-is x q = ap (λ (i : ℕ). eqb i 13) (place ∙ ap (λ (ns : List Bytes). placed (spelled s name) ns) names-are ∙ ap (λ (o : Option Bytes). placed o reserved) q) ∙ other-place x reserved
+module _ (s : Bytes) (name a e : ℕ) (room : Bytes) (k : ℕ) (names : Bytes) (names-are : parts 44 names ≡ reserved) (place : k ≡ placed (decodedAt s name) (parts 44 names)) where
+  where-is : (x : Bytes) → decodedAt s name ≡ some x → eqb k 13 ≡ not (among x reserved)
+  where-is x q = ap (λ (i : ℕ). eqb i 13) (place ∙ ap (λ (ns : List Bytes). placed (decodedAt s name) ns) names-are ∙ ap (λ (o : Option Bytes). placed o reserved) q) ∙ other-place x reserved
 
   pub other-said : (k ≡ 13 → ⊥) → PutsOther s name a e room (All 0 0 true) room
   unfolding otherPart
@@ -75,7 +75,7 @@ module _ (s : Bytes) (name a e : ℕ) (room : Bytes) (k : ℕ) (names : Bytes) (
       subst (PartAs room (All 0 0 true) room) (sym (ap (λ (b : Bool). pick b (some noLines) (provided (filled x) (some (memberPart (member x v))))) z)) (0, refl, fills-as (sym lines-none) (fills-none room))
 
   module _ (p : k ≡ 13) (b : Bool) (is-filled : TellsFilled s name b) where
-    other-is : (x : Bytes) (v : Json) → spelled s name ≡ some x → (c : Bool) → b ≡ c → otherPart (member x v) ≡ provided c (some (memberPart (member x v)))
+    other-is : (x : Bytes) (v : Json) → decodedAt s name ≡ some x → (c : Bool) → b ≡ c → otherPart (member x v) ≡ provided c (some (memberPart (member x v)))
     unfolding otherPart
     other-is x v q c r =
         let z : among x reserved ≡ false = not-true (among x reserved) (sym (where-is x q) ∙ eq-eqb k 13 p) in

@@ -14,7 +14,7 @@ use Rattle.text.proofs.Choices.{none-some}
 use Rattle.text.proofs.Lists.{all-not}
 use Rattle.json_strings.specs.declared.Byte.{Byte}
 use Rattle.json_strings.specs.declared.Byte.the-variants.{One, End, Alone}
-use Rattle.json_strings.specs.Spelled.{spelled, left, byteOf}
+use Rattle.json_strings.specs.Decoded.{decodedAt, left, byteOf}
 use Rattle.json_strings.proofs.Laws.{left-none}
 use Rattle.json_strings.proofs.NextByte.{not-alone, none-left, one-left}
 use Rattle.line.specs.Class.{isControl}
@@ -83,14 +83,14 @@ nothing-stands = refl
 -- what is written so far; where the string stands for bytes, what is still to come of them
 pub record Far (s : Bytes) (at : ℕ) (room : Bytes) (column n k : ℕ) (ok : Bool) (i h : ℕ) (out : Bytes) : Type 0 where
   pub done : Bytes
-  pub rest : (x : Bytes) → spelled s at ≡ some x → (todo : Bytes) × (left s i h ≡ some todo) × (x ≡ done ++ todo)
+  pub rest : (x : Bytes) → decodedAt s at ≡ some x → (todo : Bytes) × (left s i h ≡ some todo) × (x ≡ done ++ todo)
   pub pens : Pens room column (pointer done) (record { bytes = n; column = k }) out
   pub stands : ok ≡ allStandIn 3 done
 
 pub far-first : (s : Bytes) (at : ℕ) (room : Bytes) (column : ℕ) → Far s at room column 0 column true at 0 room
 far-first s at room column = record { done = []; rest = λ x e. (x, left-none s at ∙ e, refl); pens = pens-as (sym pointer-none) (pens-none room column); stands = sym nothing-stands }
 
-pub points-none : (s : Bytes) (at : ℕ) (room : Bytes) (column : ℕ) → spelled s at ≡ none → Points s at room column (record { bytes = 0; column = column; carried = true }) room
+pub points-none : (s : Bytes) (at : ℕ) (room : Bytes) (column : ℕ) → decodedAt s at ≡ none → Points s at room column (record { bytes = 0; column = column; carried = true }) room
 points-none s at room column e = record { text = []; is = λ x w. none-some (sym e ∙ w); pens = pens-as (sym pointer-none) (pens-none room column); carried = sym nothing-stands ∙ stands-param [] }
 
 module _ (s : Bytes) (at : ℕ) (room : Bytes) (column n k : ℕ) (ok : Bool) (i h : ℕ) (out : Bytes) (f : Far s at room column n k ok i h out) (r : Byte) (q : left s i h ≡ byteOf s r) where

@@ -33,7 +33,7 @@ use Rattle.line_pen.specs.Pen.{Fills, columnFrom}
 use Rattle.line_pen.proofs.Laws.{fold-append}
 use Rattle.convert.specs.Pointer.{pointer}
 use Rattle.to_card_lines.proofs.Laws.{fills-as}
-use Rattle.json_strings.specs.Spelled.{spelled}
+use Rattle.json_strings.specs.Decoded.{decodedAt}
 use Rattle.convert.specs.Carry.{carriedParam}
 use Rattle.to_card_members.specs.Members.{memberBytes, MemberLine}
 use Rattle.to_card_members.proofs.Pointers.{text-append}
@@ -129,7 +129,7 @@ compact-part d s t u j v a e l h st w q =
     value-tied d (take (e - a) (drop a s)) j [] x .so v q [] squeezed-nil
 
 -- the line through the buffer
-pub member-line : (s : Bytes) (name a e : ℕ) (room text : Bytes) → ((x : Bytes) → spelled s name ≡ some x → text ≡ x) → (ok : Bool) → ok ≡ carriedParam text → (buffer last : Bytes) (m : ℕ) → length room ≤ length buffer
+pub member-line : (s : Bytes) (name a e : ℕ) (room text : Bytes) → ((x : Bytes) → decodedAt s name ≡ some x → text ≡ x) → (ok : Bool) → ok ≡ carriedParam text → (buffer last : Bytes) (m : ℕ) → length room ≤ length buffer
     → Fills buffer (squeezed (take (e - a) (drop a s))) m last → (n : ℕ) (after : Bytes)
     → Fills room (foldFrom 0 (((ascii "JSPROP;JSPTR=\"" ++ pointer text) ++ ascii "\":") ++ writeText false (take (m - 0) (drop 0 last))) ++ (13 ∷ 10 ∷ [])) n after
     → MemberLine s name a e room (record { bytes = n; carried = ok }) after

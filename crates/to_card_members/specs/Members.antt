@@ -13,7 +13,7 @@ use Rattle.json.specs.Syntax.{pair, value}
 use Rattle.json.specs.Strings.{decodedMembers}
 use Rattle.json.specs.Compact.{compact}
 use Rattle.json_compact.specs.Squeezed.{squeezed}
-use Rattle.json_strings.specs.Spelled.{spelled}
+use Rattle.json_strings.specs.Decoded.{decodedAt}
 use Rattle.json_index.specs.Index.{jsonAt}
 use Rattle.line.specs.Text.{writeText}
 use Rattle.line.specs.Write.{foldFrom}
@@ -33,7 +33,7 @@ use Rattle.to_card_lines.specs.Lines.{Part, PartAs, noLines, partsOf}
 -- some pointer is written, and whether a parameter can carry the name is told; it is that of the string, where it stands for bytes
 pub record Points (s : Bytes) (at : ℕ) (room : Bytes) (column : ℕ) (r : Told) (after : Bytes) : Type 0 where
   pub text : Bytes
-  pub is : (x : Bytes) → spelled s at ≡ some x → text ≡ x
+  pub is : (x : Bytes) → decodedAt s at ≡ some x → text ≡ x
   pub pens : Pens room column (pointer text) (record { bytes = r .bytes; column = r .column }) after
   pub carried : r .carried ≡ carriedParam text
 
@@ -44,7 +44,7 @@ memberBytes k x = ((ascii "JSPROP;JSPTR=\"" ++ pointer k) ++ ascii "\":") ++ wri
 -- some JSPROP line is written; it is that of the name and of what stands from a to e, where the name stands for bytes
 pub record MemberLine (s : Bytes) (name a e : ℕ) (room : Bytes) (r : Penned) (after : Bytes) : Type 0 where
   pub text : Bytes
-  pub is : (x : Bytes) → spelled s name ≡ some x → text ≡ x
+  pub is : (x : Bytes) → decodedAt s name ≡ some x → text ≡ x
   pub fills : Fills room (foldFrom 0 (memberBytes text (squeezed (take (e - a) (drop a s)))) ++ (13 ∷ 10 ∷ [])) (r .bytes) after
   pub carried : r .carried ≡ carriedParam text
 
@@ -69,7 +69,7 @@ membersPart ms =
     (some (record { lines = map memberLine (otherMembers ms); carried = all (λ m. carriedParam (nameOf m)) (otherMembers ms) }))
 
 abbrev pub PutsOther : Bytes → ℕ → ℕ → ℕ → Bytes → Lines → Bytes → Type 0
-PutsOther s name a e room r after = (k : Bytes) (v : Json) → spelled s name ≡ some k → squeezed (take (e - a) (drop a s)) ≡ compact v
+PutsOther s name a e room r after = (k : Bytes) (v : Json) → decodedAt s name ≡ some k → squeezed (take (e - a) (drop a s)) ≡ compact v
     → PartAs room r after (otherPart (member k v))
 
 abbrev pub PutsFrom : Bytes → ℕ → Bytes → Lines → Bytes → Type 0

@@ -17,7 +17,7 @@ use Rattle.line_pen.specs.Pen.{Fills}
 use Rattle.line_pen.proofs.Filling.{then}
 use Rattle.card_pen.specs.Styles.{writtenIn, allStandIn}
 use Rattle.card_pen.proofs.Styles.{written-text, stands-text}
-use Rattle.json_strings.specs.Spelled.{spelled}
+use Rattle.json_strings.specs.Decoded.{decodedAt}
 use Rattle.convert.specs.Table.{nameRow}
 use Rattle.convert.specs.Model.{part, hasParts}
 use Rattle.convert.specs.Value.{writeName}
@@ -60,7 +60,7 @@ none-at : (s : Bytes) (q : ℕ) (f : Option Bytes) → q ≡ 0 → StringIs s q 
 none-at s q none e h = refl
 none-at s q (some x) e h = absurd (omega (arith, h .0))
 
-some-at : (s : Bytes) (q : ℕ) (f : Option Bytes) → (q ≡ 0 → ⊥) → StringIs s q f → (x : Bytes) × (f ≡ some x) × (spelled s q ≡ some x)
+some-at : (s : Bytes) (q : ℕ) (f : Option Bytes) → (q ≡ 0 → ⊥) → StringIs s q f → (x : Bytes) × (f ≡ some x) × (decodedAt s q ≡ some x)
 some-at s q none n h = absurd (n h)
 some-at s q (some x) n h = (x, refl, h .1)
 
@@ -76,7 +76,7 @@ carried-kinds : (cs : List Component) → carriedOrder 2 (byKind cs) (ascii "05;
 unfolding byKind
 carried-kinds cs = carried-order _ _ _ _ _ _ _
 
-full-line : (s : Bytes) (q : ℕ) (f : Option Bytes) (ps : List (List Bytes)) → (q ≡ 0 → ⊥) → StringIs s q f → (text : Bytes) → ((x : Bytes) → spelled s q ≡ some x → text ≡ x) → (ok : Bool) → ok ≡ allStandIn 1 text
+full-line : (s : Bytes) (q : ℕ) (f : Option Bytes) (ps : List (List Bytes)) → (q ≡ 0 → ⊥) → StringIs s q f → (text : Bytes) → ((x : Bytes) → decodedAt s q ≡ some x → text ≡ x) → (ok : Bool) → ok ≡ allStandIn 1 text
     → (foldFrom 0 (ascii "FN:" ++ writtenIn 1 text) ++ (13 ∷ 10 ∷ []) ≡ lineBytes (fnLine (record { full = f; parts = ps }))) × (ok ≡ with-some f carriedText true)
 full-line s q f ps n h text is ok e =
     let x = some-at s q f n h in

@@ -10,7 +10,7 @@ use lib.ListN.{take, getD}
 use Rattle.text.specs.Choice.{pick}
 use Rattle.text.specs.Bytes.{Bytes, all, any, among, same}
 use Rattle.text.proofs.Same.{among-none, among-append}
-use Rattle.json_strings.specs.Spelled.{spelled, agree}
+use Rattle.json_strings.specs.Decoded.{decodedAt, agree}
 use Rattle.convert.specs.Value.{filled}
 use Rattle.convert.specs.Carry.{apart}
 use Rattle.convert.specs.FromJson.{Component, component, ofKind}
@@ -36,22 +36,22 @@ one-among (a ∷ x) (b ∷ y) true h = or-false (eqb a b && same x y)
 -- ---- among the values of a kind
 
 -- one component more
-module _ (s : Bytes) (kind value k v : ℕ) (b c : Bool) (agrees : c ≡ eqb kind k && agree (spelled s value) (spelled s v)) where
-  more : (past : List Component) (x y : Bytes) → spelled s value ≡ some x → spelled s v ≡ some y → filled x ≡ true → b ≡ among x (valuesOf kind past) → (b || c) ≡ among x (valuesOf kind (past ++ (component k y ∷ [])))
+module _ (s : Bytes) (kind value k v : ℕ) (b c : Bool) (agrees : c ≡ eqb kind k && agree (decodedAt s value) (decodedAt s v)) where
+  more : (past : List Component) (x y : Bytes) → decodedAt s value ≡ some x → decodedAt s v ≡ some y → filled x ≡ true → b ≡ among x (valuesOf kind past) → (b || c) ≡ among x (valuesOf kind (past ++ (component k y ∷ [])))
   more past x y q w h z =
       let a : c ≡ among x (ofKind kind (component k y)) =
-      agrees ∙ ap (λ (o : Option Bytes). eqb kind k && agree o (spelled s v)) q ∙ ap (λ (o : Option Bytes). eqb kind k && agree (some x) o) w ∙ sym (one-among x y (eqb kind k) h) in
+      agrees ∙ ap (λ (o : Option Bytes). eqb kind k && agree o (decodedAt s v)) q ∙ ap (λ (o : Option Bytes). eqb kind k && agree (some x) o) w ∙ sym (one-among x y (eqb kind k) h) in
       ap (λ (t : Bool). t || c) z ∙ ap (λ (t : Bool). among x (valuesOf kind past) || t) a ∙ sym (among-append x (valuesOf kind past) (ofKind kind (component k y))) ∙ ap (among x) (sym (values-more kind past (component k y)))
 
 -- by the rows of the components: those before row i
 abbrev pub FindingTo : Bytes → ℕ → ℕ → ℕ → ℕ → Bool → Type 0
-FindingTo s at kind value i b = (cs : List Component) → Lists s at cs → (x : Bytes) → spelled s value ≡ some x → filled x ≡ true → b ≡ among x (valuesOf kind (take i cs))
+FindingTo s at kind value i b = (cs : List Component) → Lists s at cs → (x : Bytes) → decodedAt s value ≡ some x → filled x ≡ true → b ≡ among x (valuesOf kind (take i cs))
 
 pub finding-none : (s : Bytes) (at kind value : ℕ) → FindingTo s at kind value 0 false
 finding-none s at kind value cs l x q h = sym (ap (among x) (values-none kind) ∙ among-none x)
 
 module _ (s : Bytes) (at kind value : ℕ) (kinds values : List ℕ) (rows : ℕ) (le : rows ≤ 16) (given : RowsFrom s at kinds values rows) (i : ℕ) (b : Bool) (going : FindingTo s at kind value i b) where
-  pub finding-row : i < rows → (c : Bool) → c ≡ eqb kind (getD kinds i 0) && agree (spelled s value) (spelled s (getD values i 0)) → FindingTo s at kind value (i + 1) (b || c)
+  pub finding-row : i < rows → (c : Bool) → c ≡ eqb kind (getD kinds i 0) && agree (decodedAt s value) (decodedAt s (getD values i 0)) → FindingTo s at kind value (i + 1) (b || c)
   finding-row l c agrees cs y x q h =
       let g = given le cs y in
       let r = g .row i l in

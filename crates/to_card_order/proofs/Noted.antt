@@ -16,7 +16,7 @@ use Rattle.text.proofs.Choices.{none-some, some-same}
 use Rattle.text.proofs.Same.{among-none, among-append}
 use Rattle.json.specs.Tree.{elemsOf}
 use Rattle.json.specs.Syntax.{sep}
-use Rattle.json_strings.specs.Spelled.{spelled}
+use Rattle.json_strings.specs.Decoded.{decodedAt}
 use Rattle.json_prints.specs.Prints.{meets, printed, printOf, Names, Sought}
 use Rattle.json_prints.proofs.Prints.{printed-below, meets-among, names-noted, no-names}
 use Rattle.json_access.specs.declared.Part.{Part}
@@ -38,7 +38,7 @@ use Rattle.to_card_order.proofs.Apart.{apart-none, apart-one, and-false
 -- ---- the print of a value
 
 module _ (s : Bytes) (wanted : Bool) (value : ℕ) where
-  no-print : ((x : Bytes) → spelled s value ≡ some x → valueIf wanted x ≡ []) → PrintsValue s wanted value 65536
+  no-print : ((x : Bytes) → decodedAt s value ≡ some x → valueIf wanted x ≡ []) → PrintsValue s wanted value 65536
   no-print h = record { in-range = omega arith; print-is = λ n. absurd (n refl); value-is = λ n. absurd (n refl); value-none = λ e. h }
 
   pub prints-unwanted : wanted ≡ false → PrintsValue s wanted value 65536
@@ -48,7 +48,7 @@ module _ (s : Bytes) (wanted : Bool) (value : ℕ) where
     pub prints-empty : b ≡ false → PrintsValue s wanted value 65536
     prints-empty e = no-print (λ x q. ap (λ (f : Bool). pick (wanted && f) (x ∷ []) []) (sym (told x q) ∙ e) ∙ ap (λ (f : Bool). pick f (x ∷ []) []) (and-false wanted))
 
-    pub prints-one : wanted ≡ true → b ≡ true → (r : ℕ) → r ≡ printOf 0 (spelled s value) → r ≤ 65536 → PrintsValue s wanted value r
+    pub prints-one : wanted ≡ true → b ≡ true → (r : ℕ) → r ≡ printOf 0 (decodedAt s value) → r ≤ 65536 → PrintsValue s wanted value r
     prints-one w e r h l = record {
       in-range = l;
       print-is = λ n. h;
@@ -62,7 +62,7 @@ module _ (s : Bytes) (wanted : Bool) (value m : ℕ) (p : PrintsValue s wanted v
   pub meets-none : m ≡ 65536 → MeetsNoted s wanted value places prints n false
   meets-none e ws h x q = sym (ap (λ (vs : List Bytes). apart vs ws) (p .value-none e x q) ∙ apart-none ws)
 
-  pub meets-as : (m ≡ 65536 → ⊥) → (r : Bool) → Sought s (spelled s value) places prints n r → MeetsNoted s wanted value places prints n r
+  pub meets-as : (m ≡ 65536 → ⊥) → (r : Bool) → Sought s (decodedAt s value) places prints n r → MeetsNoted s wanted value places prints n r
   meets-as e r sought ws h x q =
       let a : r ≡ among x ws = sought ws h ∙ ap (λ (o : Option Bytes). meets s o (take n places)) q ∙ meets-among s x (take n places) (take n prints) ws h in
       ap not a ∙ apart-one x ws ∙ sym (ap (λ (vs : List Bytes). apart vs ws) (p .value-is e x q))
@@ -133,7 +133,7 @@ module _ (s : Bytes) (at one : ℕ) (wanted : Bool) (value m : ℕ) (p : PrintsV
   }
 
   module _ (e : m ≡ 65536 → ⊥) where
-    print-of : (x : Bytes) → spelled s value ≡ some x → m ≡ printed 0 x
+    print-of : (x : Bytes) → decodedAt s value ≡ some x → m ≡ printed 0 x
     print-of x q = p .print-is e ∙ ap (printOf 0) q
 
     pub notes-more : n < 2304 → 2304 ≤ length places → 2304 ≤ length prints
@@ -216,7 +216,7 @@ module _ (s : Bytes) (at one other i : ℕ) (places prints : List ℕ) (n : ℕ)
       none-some (sym (y .fails (found-none s f (componentOf (y .val)) (tells (y .val) (y .is-val)) e)) ∙ l .is)
 
   module _ (k v : ℕ) (e : f ≡ Of k v) (places′ prints′ : List ℕ) (t : Kept) (notes : NotesValue s at one (eqb other k) v places prints n places′ prints′ t) where
-    more : (cs : List Component) → Lists s at cs → (past : List Component) (x : Bytes) → spelled s v ≡ some x → Keeps s (valuesOf one cs) (valuesOf other past) places prints (record { count = n; ok = ok })
+    more : (cs : List Component) → Lists s at cs → (past : List Component) (x : Bytes) → decodedAt s v ≡ some x → Keeps s (valuesOf one cs) (valuesOf other past) places prints (record { count = n; ok = ok })
         → Keeps s (valuesOf one cs) (valuesOf other (past ++ (component k x ∷ []))) places′ prints′ (record { count = t .count; ok = ok && t .ok })
     more cs l past x q so =
         subst (λ (ws : List Bytes). Keeps s (valuesOf one cs) ws places′ prints′ (record { count = t .count; ok = ok && t .ok })) (sym (values-more other past (component k x)))

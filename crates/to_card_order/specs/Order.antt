@@ -9,7 +9,7 @@ use lib.Dec.{eqb, ltb}
 use lib.ListN.{length, take}
 use Rattle.text.specs.Choice.{pick}
 use Rattle.text.specs.Bytes.{Bytes, all, among, empty}
-use Rattle.json_strings.specs.Spelled.{spelled}
+use Rattle.json_strings.specs.Decoded.{decodedAt}
 use Rattle.json_prints.specs.Prints.{printOf, Names}
 use Rattle.line_pen.specs.Pen.{Pens}
 use Rattle.card_pen.specs.declared.Told.{Told}
@@ -66,10 +66,10 @@ pub record InksOrder (s : Bytes) (at : ℕ) (marks : List ℕ) (style mark : ℕ
 -- ---- values that two kinds share (13)
 
 abbrev pub FindsAmong : Bytes → ℕ → ℕ → ℕ → Bool → Type 0
-FindsAmong s at kind value r = (cs : List Component) → Lists s at cs → (x : Bytes) → spelled s value ≡ some x → filled x ≡ true → r ≡ among x (valuesOf kind cs)
+FindsAmong s at kind value r = (cs : List Component) → Lists s at cs → (x : Bytes) → decodedAt s value ≡ some x → filled x ≡ true → r ≡ among x (valuesOf kind cs)
 
 abbrev pub Clashes : Bytes → ℕ → Bool → ℕ → ℕ → Bool → Type 0
-Clashes s at wanted value kind r = (cs : List Component) → Lists s at cs → (x : Bytes) → spelled s value ≡ some x → not r ≡ apart (valueIf wanted x) (valuesOf kind cs)
+Clashes s at wanted value kind r = (cs : List Component) → Lists s at cs → (x : Bytes) → decodedAt s value ≡ some x → not r ≡ apart (valueIf wanted x) (valuesOf kind cs)
 
 abbrev pub TellsApart : Bytes → ℕ → ℕ → ℕ → Bool → Type 0
 TellsApart s at one other r = (cs : List Component) → Lists s at cs → r ≡ apart (valuesOf one cs) (valuesOf other cs)
@@ -79,16 +79,16 @@ TellsApart s at one other r = (cs : List Component) → Lists s at cs → r ≡ 
 -- the print of a value that is not empty and asked for, and no print of others
 pub record PrintsValue (s : Bytes) (wanted : Bool) (value r : ℕ) : Type 0 where
   pub in-range : r ≤ 65536
-  pub print-is : (r ≡ 65536 → ⊥) → r ≡ printOf 0 (spelled s value)
-  pub value-is : (r ≡ 65536 → ⊥) → (x : Bytes) → spelled s value ≡ some x → valueIf wanted x ≡ x ∷ []
-  pub value-none : r ≡ 65536 → (x : Bytes) → spelled s value ≡ some x → valueIf wanted x ≡ []
+  pub print-is : (r ≡ 65536 → ⊥) → r ≡ printOf 0 (decodedAt s value)
+  pub value-is : (r ≡ 65536 → ⊥) → (x : Bytes) → decodedAt s value ≡ some x → valueIf wanted x ≡ x ∷ []
+  pub value-none : r ≡ 65536 → (x : Bytes) → decodedAt s value ≡ some x → valueIf wanted x ≡ []
 
 -- the first n values noted stand for these
 abbrev pub Noted : Bytes → List ℕ → List ℕ → ℕ → List Bytes → Type 0
 Noted s places prints n ws = Names s (take n places) (take n prints) ws
 
 abbrev pub MeetsNoted : Bytes → Bool → ℕ → List ℕ → List ℕ → ℕ → Bool → Type 0
-MeetsNoted s wanted value places prints n r = (ws : List Bytes) → Noted s places prints n ws → (x : Bytes) → spelled s value ≡ some x → not r ≡ apart (valueIf wanted x) ws
+MeetsNoted s wanted value places prints n r = (ws : List Bytes) → Noted s places prints n ws → (x : Bytes) → decodedAt s value ≡ some x → not r ≡ apart (valueIf wanted x) ws
 
 abbrev pub ApartNoted : Bytes → ℕ → ℕ → List ℕ → List ℕ → ℕ → Bool → Type 0
 ApartNoted s at kind places prints n r = (cs : List Component) → Lists s at cs → (ws : List Bytes) → Noted s places prints n ws → r ≡ apart (valuesOf kind cs) ws
@@ -105,5 +105,5 @@ pub record NotesValue (s : Bytes) (at one : ℕ) (wanted : Bool) (value : ℕ) (
   pub few : r .count ≤ 2304
   pub long-places : length places′ ≡ length places
   pub long-prints : length prints′ ≡ length prints
-  pub says : (cs : List Component) → Lists s at cs → (ws : List Bytes) → Noted s places prints n ws → (x : Bytes) → spelled s value ≡ some x
+  pub says : (cs : List Component) → Lists s at cs → (ws : List Bytes) → Noted s places prints n ws → (x : Bytes) → decodedAt s value ≡ some x
       → Keeps s (valuesOf one cs) (ws ++ valueIf wanted x) places′ prints′ r

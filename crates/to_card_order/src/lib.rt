@@ -17,7 +17,7 @@ ghost use mathlib.Core.Path.{_≡_};
 ghost use mathlib.Core.Bool.{_&&_};
 ghost use Prim.Native.Nat.{_≤_};
 ghost use lib.ListN.{length};
-ghost use Rattle.json_strings.specs.Spelled.{spelled, agree};
+ghost use Rattle.json_strings.specs.Decoded.{decodedAt, agree};
 ghost use Rattle.to_card_parts.specs.Parts.{RowsFrom};
 ghost use Rattle.to_card_order.specs.Order.{InksPlace, InksOrder, FindsAmong, Clashes, TellsApart, PrintsValue, MeetsNoted, ApartNoted, NotesValue};
 
@@ -150,7 +150,7 @@ pub fn pen_order<'a, 'b, 'c, 'd, 'e, 'f>(
 
 // Whether two strings are the same, where that is asked.
 fn agrees(s: &[u8], wanted: bool, a: usize, b: usize) -> bool
-    ensures { λ r. ⌜ r ≡ wanted && agree (spelled (now (s .entry)) a) (spelled (now (s .entry)) b) ⌝ }
+    ensures { λ r. ⌜ r ≡ wanted && agree (decodedAt (now (s .entry)) a) (decodedAt (now (s .entry)) b) ⌝ }
 {
     if !wanted {
         return false;

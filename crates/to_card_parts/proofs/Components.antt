@@ -15,7 +15,7 @@ use Rattle.text.proofs.Cases.{byBool}
 use Rattle.text.proofs.Same.{same-swap}
 use Rattle.json.specs.Grammar.{isSpace}
 use Rattle.json.specs.Tree.{Json, Member, field, asString, asObject}
-use Rattle.json_strings.specs.Spelled.{spelled}
+use Rattle.json_strings.specs.Decoded.{decodedAt}
 use Rattle.json_index.specs.Index.{jsonAt, placed, firstAt, Slot, Clear, Indexed, IndexOf, Indexes}
 use Rattle.json_index.proofs.Fields.{first-field, first-other}
 use Rattle.convert.specs.Table.{position, componentKinds}
@@ -87,7 +87,7 @@ module _ (s : Bytes) (kind value : ℕ) where
   none-at q none e h = refl
   none-at q (some x) e h = absurd (omega (arith, h .0))
 
-  some-at : (q : ℕ) (o : Option Bytes) → (q ≡ 0 → ⊥) → StringIs s q o → (x : Bytes) × (o ≡ some x) × (spelled s q ≡ some x)
+  some-at : (q : ℕ) (o : Option Bytes) → (q ≡ 0 → ⊥) → StringIs s q o → (x : Bytes) × (o ≡ some x) × (decodedAt s q ≡ some x)
   some-at q none n h = absurd (n h)
   some-at q (some x) n h = (x, refl, h .1)
 
@@ -99,7 +99,7 @@ module _ (s : Bytes) (kind value : ℕ) where
     pub slots-no-kind : q ≡ 0 → TellsSlots s kind value Wrong
     slots-no-kind e = kind-less (λ o h. by-string o ∙ ap (λ (x : Option Bytes). chain x λ y. position (same y) componentKinds) (none-at q (stringFrom o) e (string-of kind q o h nk tq)))
 
-    module _ (nq : q ≡ 0 → ⊥) (k : ℕ) (names : Bytes) (names-are : parts 44 names ≡ componentKinds) (ek : k ≡ placed (spelled s q) (parts 44 names)) where
+    module _ (nq : q ≡ 0 → ⊥) (k : ℕ) (names : Bytes) (names-are : parts 44 names ≡ componentKinds) (ek : k ≡ placed (decodedAt s q) (parts 44 names)) where
       kind-is : (o : Option Json) → Slot 12 s kind o → kindFrom o ≡ pick (ltb k 7) (some k) none
       kind-is o h =
           let x = some-at q (stringFrom o) nq (string-of kind q o h nk tq) in

@@ -21,7 +21,7 @@ use Rattle.text.proofs.Choices.{none-some, some-same}
 use Rattle.json.specs.Tree.{Json, Elems, elemsOf}
 use Rattle.json.specs.Syntax.{sep, item, value}
 use Rattle.json.specs.Strings.{decodedElems}
-use Rattle.json_strings.specs.Spelled.{spelled}
+use Rattle.json_strings.specs.Decoded.{decodedAt}
 use Rattle.json_access.specs.declared.Part.{Part}
 use Rattle.json_access.specs.Access.{TellsElement}
 use Rattle.json_index.specs.Index.{jsonAt, Clear}
@@ -53,12 +53,12 @@ pub found-none : (s : Bytes) (r : Found) (o : Option Component) → ComponentIs 
 found-none s r none h e = refl
 found-none s r (some (component k x)) h e = absurd (not-of (sym e ∙ h .1))
 
-pub found-some : (s : Bytes) (r : Found) (o : Option Component) → ComponentIs s r o → (k v : ℕ) → r ≡ Of k v → (x : Bytes) × (o ≡ some (component k x)) × (spelled s v ≡ some x)
+pub found-some : (s : Bytes) (r : Found) (o : Option Component) → ComponentIs s r o → (k v : ℕ) → r ≡ Of k v → (x : Bytes) × (o ≡ some (component k x)) × (decodedAt s v ≡ some x)
 found-some s r none h k v e = absurd (not-of (sym h ∙ e))
 found-some s r (some (component l x)) h k v e =
     let a : l ≡ k = of-kind (sym (h .1) ∙ e) in
     let b : h .0 ≡ v = of-place (sym (h .1) ∙ e) in
-    (x, ap (λ (i : ℕ). some (component i x)) a, ap (spelled s) (sym b) ∙ h .2)
+    (x, ap (λ (i : ℕ). some (component i x)) a, ap (decodedAt s) (sym b) ∙ h .2)
 
 pub kind-in : {k v : ℕ} (r : Found) → KindIn r → r ≡ Of k v → k < 7
 kind-in {k} {v} r h e = subst KindIn e h
@@ -169,7 +169,7 @@ module _ (s : Bytes) (at style mark kind : ℕ) (begun : Bool) (room : Bytes) (c
   }
 
   module _ (k v : ℕ) (e : f ≡ Of k v) (w : Inked) (last : Bytes) (one : InksOne s v style mark (eqb kind k) b (midOf n (length out - n) out) c w last) where
-    more : (past : List Component) (x : Bytes) → spelled s v ≡ some x → Says style mark begun (valuesOf kind past) (going .text) b ok
+    more : (past : List Component) (x : Bytes) → decodedAt s v ≡ some x → Says style mark begun (valuesOf kind past) (going .text) b ok
         → Says style mark begun (valuesOf kind (past ++ (component k x ∷ []))) (going .text ++ one .text) (w .begun) (ok && w .carried)
     more past x q y = says-as (sym (values-more kind past (component k x))) (says-then style mark begun (valuesOf kind past) (ofKind kind (component k x)) y (one .says x q))
 

@@ -19,7 +19,7 @@ use Rattle.text.specs.Places.{GivesT}
 use Rattle.text.proofs.Choices.{some-same}
 use Rattle.json.specs.Tree.{elemsOf}
 use Rattle.json.specs.Syntax.{sep}
-use Rattle.json_strings.specs.Spelled.{spelled}
+use Rattle.json_strings.specs.Decoded.{decodedAt}
 use Rattle.json_access.specs.declared.Part.{Part}
 use Rattle.json_access.specs.Access.{TellsElement}
 use Rattle.line_pen.specs.Pen.{Pens}
@@ -65,19 +65,19 @@ take-all (x ∷ cs) (suc i) l = ap (λ (t : List Component). x ∷ t) (take-all 
 rows-none : (s : Bytes) (kinds values : List ℕ) → Rows s kinds values 0 []
 rows-none s kinds values = record { count = refl; row = λ i l. absurd (omega arith) }
 
-module _ (s : Bytes) (kinds values : List ℕ) (n : ℕ) (cs : List Component) (k v : ℕ) (x : Bytes) (l : n < length kinds) (m : n < length values) (q : spelled s v ≡ some x) (h : Rows s kinds values n cs) where
+module _ (s : Bytes) (kinds values : List ℕ) (n : ℕ) (cs : List Component) (k v : ℕ) (x : Bytes) (l : n < length kinds) (m : n < length values) (q : decodedAt s v ≡ some x) (h : Rows s kinds values n cs) where
   abbrev Is : ℕ → Type 0
-  Is i = (y : Bytes) × (getD (cs ++ (component k x ∷ [])) i nobody ≡ component (getD (set kinds n k) i 0) y) × (spelled s (getD (set values n v) i 0) ≡ some y)
+  Is i = (y : Bytes) × (getD (cs ++ (component k x ∷ [])) i nobody ≡ component (getD (set kinds n k) i 0) y) × (decodedAt s (getD (set values n v) i 0) ≡ some y)
 
   last-row : Is n
-  last-row = (x, at-end cs (component k x) n (h .count) ∙ ap (λ (j : ℕ). component j x) (sym (getD-set-same kinds n k 0 l)), ap (spelled s) (getD-set-same values n v 0 m) ∙ q)
+  last-row = (x, at-end cs (component k x) n (h .count) ∙ ap (λ (j : ℕ). component j x) (sym (getD-set-same kinds n k 0 l)), ap (decodedAt s) (getD-set-same values n v 0 m) ∙ q)
 
   earlier : (i : ℕ) → i < n → Is i
   earlier i w =
       let z : (i ≡ n → ⊥) = λ e. omega arith in
       let r = h .row i w in
       let a = before-end cs (component k x) i (omega (arith, h .count)) ∙ r .1 ∙ ap (λ (j : ℕ). component j (r .0)) (sym (getD-set-other kinds n i k 0 z)) in
-      (r .0, a, ap (spelled s) (getD-set-other values n i v 0 z) ∙ r .2)
+      (r .0, a, ap (decodedAt s) (getD-set-other values n i v 0 z) ∙ r .2)
 
   rows-on : Rows s (set kinds n k) (set values n v) (n + 1) (cs ++ (component k x ∷ []))
   rows-on = record {
@@ -95,7 +95,7 @@ listing-first s at kinds values le cs l = ([], far-first componentOf 13 s (l .un
 
 module _ (s : Bytes) (at i : ℕ) (kinds values : List ℕ) (n : ℕ) (going : Listing s at i kinds values n) (r : Part) (told : TellsElement 13 s i r) (f : Found) (tells : TellsComponent s (r .start) f)
     (k v : ℕ) (e : f ≡ Of k v) (l : 16 ≤ length kinds) (m : 16 ≤ length values) (kinds′ values′ : List ℕ) (n′ : ℕ) (adds : AddsRow kinds values n k v kinds′ values′ n′) where
-  more-rows : n′ ≤ 16 → (past : List Component) (x : Bytes) → spelled s v ≡ some x → Rows s kinds values n past → Rows s kinds′ values′ n′ (past ++ (component k x ∷ []))
+  more-rows : n′ ≤ 16 → (past : List Component) (x : Bytes) → decodedAt s v ≡ some x → Rows s kinds values n past → Rows s kinds′ values′ n′ (past ++ (component k x ∷ []))
   more-rows le past x q h =
       let a = adds .added le in
       let cs = past ++ (component k x ∷ []) in

@@ -10,7 +10,7 @@ use lib.ListN.{length}
 use Rattle.text.specs.Choice.{pick}
 use Rattle.text.specs.Bytes.{Bytes, all, empty, flat}
 use Rattle.text.proofs.Lists.{map-both, flat-append}
-use Rattle.json_strings.specs.Spelled.{spelled}
+use Rattle.json_strings.specs.Decoded.{decodedAt}
 use Rattle.line_pen.specs.declared.Pen.{Pen}
 use Rattle.line_pen.specs.Pen.{Pens}
 use Rattle.line_pen.proofs.Laws.{pens-none, pens-then}
@@ -115,7 +115,7 @@ module _ (s : Bytes) (at style mark : ℕ) (wanted begun : Bool) (room : Bytes) 
     }
 
     module _ (is-wanted : wanted ≡ true) (is-filled : b ≡ true) where
-      value-is : (x : Bytes) → spelled s at ≡ some x → x ∷ [] ≡ valueIf wanted x
+      value-is : (x : Bytes) → decodedAt s at ≡ some x → x ∷ [] ≡ valueIf wanted x
       value-is x w = sym (ap (λ (f : Bool). pick (f && filled x) (x ∷ []) []) is-wanted ∙ ap (λ (f : Bool). pick f (x ∷ []) []) (sym (told x w) ∙ is-filled))
 
       pub one-first : begun ≡ false → (t : Told) (after : Bytes) → Writes s at style room column t after

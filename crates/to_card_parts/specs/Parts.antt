@@ -12,7 +12,7 @@ use Rattle.text.specs.Reader.{got, loop}
 use Rattle.json.specs.Tree.{Json, Elems, elemsOf, asString, asArray}
 use Rattle.json.specs.Syntax.{item, value}
 use Rattle.json.specs.Strings.{decodedElems}
-use Rattle.json_strings.specs.Spelled.{spelled}
+use Rattle.json_strings.specs.Decoded.{decodedAt}
 use Rattle.json_index.specs.Index.{jsonAt, Slot}
 use Rattle.line_pen.specs.Pen.{Pens}
 use Rattle.card_pen.specs.Styles.{writtenIn, allStandIn}
@@ -40,7 +40,7 @@ KindIn Wrong = Unit {0}
 -- its kind, and the place of its value
 abbrev pub ComponentIs : Bytes → Found → Option Component → Type 0
 ComponentIs s r none = r ≡ Wrong
-ComponentIs s r (some (component k x)) = (p : ℕ) × (r ≡ Of k p) × (spelled s p ≡ some x)
+ComponentIs s r (some (component k x)) = (p : ℕ) × (r ≡ Of k p) × (decodedAt s p ≡ some x)
 
 abbrev pub TellsSlots : Bytes → ℕ → ℕ → Found → Type 0
 TellsSlots s kind value r = (o o′ : Option Json) → Slot 12 s kind o → Slot 12 s value o′ → ComponentIs s r (both component (kindFrom o) (stringFrom o′))
@@ -93,7 +93,7 @@ Marked m cs = (i : ℕ) → i < 7 → eqb (getD m i 0) 0 ≡ empty (valuesOf i c
 
 pub record Marks (s : Bytes) (at kind : ℕ) (m after : List ℕ) : Type 0 where
   pub long : length after ≡ length m
-  pub is : (x : Bytes) → spelled s at ≡ some x → after ≡ pick (filled x) (set m kind 1) m
+  pub is : (x : Bytes) → decodedAt s at ≡ some x → after ≡ pick (filled x) (set m kind 1) m
 
 abbrev pub CheckedAs : List ℕ → ℕ → Option (List Component) → Type 0
 CheckedAs m r none = r ≡ 0
@@ -124,7 +124,7 @@ valueIf wanted x = pick (wanted && filled x) (x ∷ []) []
 pub record InksOne (s : Bytes) (at style mark : ℕ) (wanted begun : Bool) (room : Bytes) (column : ℕ) (r : Inked) (after : Bytes) : Type 0 where
   pub text : Bytes
   pub pens : Pens room column text (record { bytes = r .bytes; column = r .column }) after
-  pub says : (x : Bytes) → spelled s at ≡ some x → Says style mark begun (valueIf wanted x) text (r .begun) (r .carried)
+  pub says : (x : Bytes) → decodedAt s at ≡ some x → Says style mark begun (valueIf wanted x) text (r .begun) (r .carried)
 
 -- some bytes are written; where components stand there, the values of that kind
 pub record InksKind (s : Bytes) (at style mark kind : ℕ) (begun : Bool) (room : Bytes) (column : ℕ) (r : Inked) (after : Bytes) : Type 0 where
@@ -136,7 +136,7 @@ pub record InksKind (s : Bytes) (at style mark kind : ℕ) (begun : Bool) (room 
 
 pub record Rows (s : Bytes) (kinds values : List ℕ) (n : ℕ) (cs : List Component) : Type 0 where
   pub count : length cs ≡ n
-  pub row : (i : ℕ) → i < n → (x : Bytes) × (getD cs i (component 0 []) ≡ component (getD kinds i 0) x) × (spelled s (getD values i 0) ≡ some x)
+  pub row : (i : ℕ) → i < n → (x : Bytes) × (getD cs i (component 0 []) ≡ component (getD kinds i 0) x) × (decodedAt s (getD values i 0) ≡ some x)
 
 -- n rows, where n is not over 16, are the components that stand there
 abbrev pub RowsFrom : Bytes → ℕ → List ℕ → List ℕ → ℕ → Type 0

@@ -29,7 +29,7 @@ use Rattle.card_lines.specs.Classified.{Classified}
 use Rattle.home.proofs.Classes.{Fact}
 use Rattle.home.proofs.NormalCardParts.{name-read}
 use Rattle.text.proofs.Choices.{none-some, some-same}
-use Rattle.to_json_name.specs.Name.{NamesGood, fullOf, partsOf, nameBytes}
+use Rattle.to_json_name.specs.Name.{NamesSound, fullOf, partsOf, nameBytes}
 use Rattle.to_json_sections.specs.Sections.{FirstOf, fullIn, partsIn, nameIn}
 use Rattle.to_json_sections.proofs.Lines.{entry-low, fact-of}
 use Rattle.to_json_sections.proofs.Firsts.{none-there, first-there}
@@ -129,7 +129,7 @@ module _ {scratch starts codes : List ℕ} {n : ℕ} {cs : List Classed} (h : Cl
       record { is = ap (λ o. with-some o (λ ps. ps) noParts) y ∙ sym z; there = sym (ap hasParts z ∙ name-read v (t .0) y .1); good = λ x. ap is-some y }
 
   module _ {i k : ℕ} (f : FirstOf codes n 21 i) (p : FirstOf codes n 22 k) {s u : Bytes} (fv nv : Bytes) (a : s ≡ lineAt scratch starts i) (b : ValueOf s fv) (c : u ≡ lineAt scratch starts k) (d : ValueOf u nv) where
-    pub names-good : NamesGood (ltb i n) fv (ltb k n) nv
+    pub names-good : NamesSound (ltb i n) fv (ltb k n) nv
     names-good = record { text = full-told f fv a b (ltb i n) refl .good; name = parts-told p nv c d (ltb k n) refl .good }
 
     pub name-is : nameBytes (ltb i n) fv (ltb k n) nv ≡ nameIn cs

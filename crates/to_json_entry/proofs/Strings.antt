@@ -19,7 +19,7 @@ use Rattle.convert.specs.ToJson.{contentJson}
 use Rattle.convert_entry.specs.Rows.{formNumber, typeNumber}
 use Rattle.convert_put.specs.Pieces.{contentPiece, valuePiece, inside}
 use Rattle.convert_put.proofs.Entries.{string-bytes}
-use Rattle.to_json_entry.specs.Entry.{stringPiece, orgPiece, stringsPiece, StringsGood}
+use Rattle.to_json_entry.specs.Entry.{stringPiece, orgPiece, stringsPiece, StringsSound}
 use Rattle.to_json_entry.proofs.Fields.{rawOf, TextOf, text-of, content-of}
 use Rattle.to_json_entry.proofs.Org.{OrgOf, org-of}
 
@@ -54,7 +54,7 @@ plain-strings f n type v ts kind i l r k e =
     }
 
 plain-good : (f : Form) (type v : Bytes) (ts : List Bytes) (kind : ℕ) → formNumber f < 4 → kind ≡ typeNumber type → readAs f type v ≡ some ts
-    → StringsGood (formNumber f) (rawOf (formNumber f) kind) v
+    → StringsSound (formNumber f) (rawOf (formNumber f) kind) v
 plain-good f type v ts kind l k e = record { org = λ z. absurd (omega (arith, z, l)); plain = λ z. text-of f type v ts kind l k e .good }
 
 -- ---- ORG
@@ -79,7 +79,7 @@ org-strings n type v ts kind i r e =
     let o = org-of n i r v (splitText 59 v) (q .parts) refl (q .read) (q .some-filled) in
     record { c = o .c; cs = o .cs; is = ap (contentJson organization n) (sym (q .is)) ∙ o .is; bytes = o .bytes }
 
-org-good : (type v : Bytes) (ts : List Bytes) (kind : ℕ) → readAs organization type v ≡ some ts → StringsGood 4 (rawOf 4 kind) v
+org-good : (type v : Bytes) (ts : List Bytes) (kind : ℕ) → readAs organization type v ≡ some ts → StringsSound 4 (rawOf 4 kind) v
 org-good type v ts kind e = record { org = λ z. ap is-some (org-read type v ts e .read); plain = λ z. absurd (z refl) }
 
 -- ---- by the form
@@ -91,7 +91,7 @@ strings-of uri n type v ts kind i r k e = plain-strings uri n type v ts kind i (
 strings-of phone n type v ts kind i r k e = plain-strings phone n type v ts kind i (omega arith) r k e
 strings-of organization n type v ts kind i r k e = org-strings n type v ts kind i r e
 
-pub good-of : (f : Form) (type v : Bytes) (ts : List Bytes) (kind : ℕ) → kind ≡ typeNumber type → readAs f type v ≡ some ts → StringsGood (formNumber f) (rawOf (formNumber f) kind) v
+pub good-of : (f : Form) (type v : Bytes) (ts : List Bytes) (kind : ℕ) → kind ≡ typeNumber type → readAs f type v ≡ some ts → StringsSound (formNumber f) (rawOf (formNumber f) kind) v
 good-of text type v ts kind k e = plain-good text type v ts kind (omega arith) k e
 good-of single type v ts kind k e = plain-good single type v ts kind (omega arith) k e
 good-of uri type v ts kind k e = plain-good uri type v ts kind (omega arith) k e

@@ -28,7 +28,7 @@ use Rattle.convert_entry.proofs.Named.{prefs}
 use Rattle.convert_entry.proofs.Tests.{first-pref}
 use Rattle.convert_put.specs.Pieces.{contentPiece, entryPieces, memberBytes, before}
 use Rattle.convert_put.proofs.Entries.{entry-bytes}
-use Rattle.to_json_entry.specs.Entry.{keyed, RowPieces, stringsPiece, StringsGood}
+use Rattle.to_json_entry.specs.Entry.{keyed, RowPieces, stringsPiece, StringsSound}
 use Rattle.to_json_entry.proofs.Fields.{Fields, fields, marked-types, rawOf, pref-none, pref-first}
 use Rattle.to_json_entry.proofs.Strings.{RowContent, StringsOf, strings-of, good-of}
 
@@ -65,7 +65,7 @@ module _ (s : Bytes) (t : List ℕ) {i types form : ℕ} (seen : Seen) (w : Slot
   unfolding lineIn
   strings-are kind c k = rw (is .form) at (strings-of (w .map .form) (w .map .content) (valueType ps) v (flat (e .parts)) kind i c k (of-line .texts))
 
-  pub strings-good : (kind : ℕ) → kind ≡ typeNumber (valueType ps) → StringsGood form (rawOf form kind) v
+  pub strings-good : (kind : ℕ) → kind ≡ typeNumber (valueType ps) → StringsSound form (rawOf form kind) v
   unfolding lineIn
   strings-good kind k = rw (is .form) at (good-of (w .map .form) (valueType ps) v (flat (e .parts)) kind k (of-line .texts))
 

@@ -83,6 +83,6 @@ unfoldable pub stringsPiece : ℕ → ℕ → Bool → Bytes → Bytes
 stringsPiece i form raw v = pick (eqb form 4) (orgPiece i (splitText (code ";") v)) (stringPiece i raw v)
 
 -- the value has no bad escape where it is TEXT
-pub record StringsGood (form : ℕ) (raw : Bool) (v : Bytes) : Type 0 where
+pub record StringsSound (form : ℕ) (raw : Bool) (v : Bytes) : Type 0 where
   pub org : form ≡ 4 → Readable 59 v
   pub plain : (form ≡ 4 → ⊥) → is-some (readText (pick raw [] v)) ≡ true

@@ -13,7 +13,7 @@ ghost use Rattle.convert_values.specs.Values.{textsOf, Readable};
 ghost use Rattle.output.specs.Put.{Puts};
 ghost use Rattle.line_table.specs.Table.{Sound};
 ghost use Rattle.convert_put.specs.Pieces.{entryPieces};
-ghost use Rattle.to_json_entry.specs.Entry.{MapLine, PutsEntry, KindOfLine, stringPiece, orgName, unitsPiece, unitsAfter, orgPiece, stringsPiece, StringsGood};
+ghost use Rattle.to_json_entry.specs.Entry.{MapLine, PutsEntry, KindOfLine, stringPiece, orgName, unitsPiece, unitsAfter, orgPiece, stringsPiece, StringsSound};
 use convert_entry::value_kind;
 use convert_put::put_content;
 use convert_put::put_flags;
@@ -112,7 +112,7 @@ fn put_org(out: &mut [u8], i: usize, v: &[u8]) -> Wrote
 
 // The strings of an entry, by the row's form.
 fn put_strings(out: &mut [u8], i: usize, form: usize, raw: bool, v: &[u8]) -> Wrote
-    requires { ⌜ StringsGood form raw (now v) ⌝ }
+    requires { ⌜ StringsSound form raw (now v) ⌝ }
     ensures { λ r. ⌜ Puts (now (out .entry)) (stringsPiece i form raw (now (v .entry))) r (now (out .exit)) ⌝ }
 {
     if form == 4 {
@@ -133,7 +133,7 @@ fn put_entry(
     row: &[u8],
     p: &[u8],
 ) -> Wrote
-    requires { ⌜ (9 ≤ length (now row)) × StringsGood form raw (now v) ⌝ }
+    requires { ⌜ (9 ≤ length (now row)) × StringsSound form raw (now v) ⌝ }
     ensures { λ r. ⌜ Puts (now (out .entry)) (entryPieces (now (key .entry)) kind (stringsPiece i form raw (now (v .entry))) (now (row .entry)) (now (p .entry))) r (now (out .exit)) ⌝ }
 {
     let Wrote::Bytes(a1) = put_name(out, key) else {

@@ -32,7 +32,7 @@ use Rattle.convert_put.proofs.Compact.{quoted-append, inside-append, inside-obj
 use Rattle.to_json_items.specs.Items.{lead, opening, listed, elems}
 use Rattle.convert_values.proofs.Texts.{plain-is}
 use Rattle.to_json_items.proofs.Arrays.{elems-append, array-bytes, Item, all-items, listed-some}
-use Rattle.to_json_name.specs.Name.{valuesOf, componentsFrom, NameGood, fullPiece, partsPiece, NamesGood, fullOf, partsOf, nameBytes}
+use Rattle.to_json_name.specs.Name.{valuesOf, componentsFrom, NameSound, fullPiece, partsPiece, NamesSound, fullOf, partsOf, nameBytes}
 use Rattle.to_json_name.proofs.Parts.{Seven, name-seven}
 
 -- ---- one component
@@ -117,7 +117,7 @@ some-of : {A : Type 0} (o : Option A) → is-some o ≡ true → (a : A) × (o �
 some-of (some a) e = (a, refl)
 some-of none e = absurd (let z : _≡_ {A = ℕ} 0 1 = cc in omega arith)
 
-pub good-name : (v : Bytes) → is-some (readName v) ≡ true → NameGood v
+pub good-name : (v : Bytes) → is-some (readName v) ≡ true → NameSound v
 good-name v e = let q = some-of (readName v) e in name-seven v (q .0) (q .1) .good
 
 -- ---- the loop over the parts
@@ -196,7 +196,7 @@ four : (a b c d : Bytes) → a ++ ((b ++ c) ++ d) ≡ flat (a ∷ b ∷ c ∷ d 
 unfolding flat
 four a b c d = simp (append-nil, append-assoc)
 
-pub name-some : (full : Bool) (fv : Bytes) (parts : Bool) (nv : Bytes) → NamesGood full fv parts nv → full || parts ≡ true
+pub name-some : (full : Bool) (fv : Bytes) (parts : Bool) (nv : Bytes) → NamesSound full fv parts nv → full || parts ≡ true
     → flat (ascii ",\"name\":{" ∷ fullPiece full fv ∷ partsPiece full parts nv ∷ (125 ∷ []) ∷ []) ≡ nameBytes full fv parts nv
 unfolding nameBytes nameJson
 name-some full fv parts nv g e =

@@ -23,7 +23,7 @@ use Rattle.convert_values.specs.Values.{textsOf, Readable}
 use Rattle.to_json_items.specs.Items.{isOwn}
 use Rattle.convert_values.proofs.Texts.{each-plain, nothing-readable}
 use Rattle.to_json_items.proofs.Own.{own-none}
-use Rattle.to_json_name.specs.Name.{partOf, PartFrom, otherPart, othersOf, valuesOf, NameGood}
+use Rattle.to_json_name.specs.Name.{partOf, PartFrom, otherPart, othersOf, valuesOf, NameSound}
 
 -- ---- where part k begins
 
@@ -90,7 +90,7 @@ module _ (v : Bytes) (at j e : ℕ) (h : Passing v at j) (p : PartEnds 59 v at e
 pub slice-is : (v : Bytes) (k a b : ℕ) → PartFrom v k a → PartEnds 59 v a b → take (b - a) (drop a v) ≡ partOf v k
 slice-is v k a b f p = sym (ap (headOr []) (p .parts)) ∙ f .is
 
-pub slice-good : (v : Bytes) (k a b : ℕ) → NameGood v → PartFrom v k a → PartEnds 59 v a b → Readable 44 (take (b - a) (drop a v))
+pub slice-good : (v : Bytes) (k a b : ℕ) → NameSound v → PartFrom v k a → PartEnds 59 v a b → Readable 44 (take (b - a) (drop a v))
 slice-good v k a b g f p = ap (λ u. is-some (each readText (splitText 44 u))) (slice-is v k a b f p) ∙ g .readable k
 
 pub other-family : (k : ℕ) → k ≡ 0 → 5 ≡ otherPart k
@@ -174,7 +174,7 @@ own-values os (t ∷ ts) =
 
 pub record Seven (v : Bytes) (ps : List (List Bytes)) : Type 0 where
   pub is : ps ≡ valuesOf v 0 ∷ valuesOf v 1 ∷ valuesOf v 2 ∷ valuesOf v 3 ∷ valuesOf v 4 ∷ valuesOf v 5 ∷ valuesOf v 6 ∷ []
-  pub good : NameGood v
+  pub good : NameSound v
 
 module _ (v : Bytes) (qs : List (List Bytes)) (r : each partValues (splitText 59 v) ≡ some qs) where
   reads : (k : ℕ) → part qs k ≡ filledOf (partOf v k)

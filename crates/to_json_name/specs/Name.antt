@@ -48,7 +48,7 @@ componentsFrom zero v k begun = []
 componentsFrom (suc n) v k begun = listed k begun (valuesOf v k) ++ componentsFrom n v (suc k) (begun || not (empty (valuesOf v k)))
 
 -- no part has a bad escape
-pub record NameGood (v : Bytes) : Type 0 where
+pub record NameSound (v : Bytes) : Type 0 where
   pub readable : (k : ℕ) → Readable 44 (partOf v k)
 
 -- ---- the member
@@ -61,7 +61,7 @@ partsPiece full parts v =
     pick parts (flat (pick full (ascii ",\"components\":") (ascii "\"components\":") ∷ flat ((code "[" ∷ []) ∷ componentsFrom 7 v 0 false ∷ (code "]" ∷ []) ∷ []) ∷ [])) []
 
 -- FN's value is TEXT and N's value is a name, where they are given
-pub record NamesGood (full : Bool) (fv : Bytes) (parts : Bool) (nv : Bytes) : Type 0 where
+pub record NamesSound (full : Bool) (fv : Bytes) (parts : Bool) (nv : Bytes) : Type 0 where
   pub text : full ≡ true → is-some (readText fv) ≡ true
   pub name : parts ≡ true → is-some (readName nv) ≡ true
 

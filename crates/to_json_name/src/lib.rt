@@ -12,7 +12,7 @@ ghost use Rattle.output.specs.Put.{Puts};
 ghost use Rattle.line_text.specs.Read.{plainText};
 ghost use Rattle.line_text.specs.Split.{PartEnds};
 ghost use Rattle.to_json_items.specs.Items.{listed};
-ghost use Rattle.to_json_name.specs.Name.{PartFrom, otherPart, valuesOf, componentsFrom, NameGood, fullPiece, partsPiece, NamesGood, nameBytes};
+ghost use Rattle.to_json_name.specs.Name.{PartFrom, otherPart, valuesOf, componentsFrom, NameSound, fullPiece, partsPiece, NamesSound, nameBytes};
 use convert_put::put_plain;
 use line_text::part_end;
 use output::Wrote;
@@ -52,7 +52,7 @@ fn other_part(k: usize) -> usize
 
 // The components of part k, which stands from a to b.
 fn put_part(out: &mut [u8], v: &[u8], k: usize, a: usize, b: usize, begun: bool) -> Wrote
-    requires { ⌜ NameGood (now v) × PartFrom (now v) k a × PartEnds (code ";") (now v) a b ⌝ }
+    requires { ⌜ NameSound (now v) × PartFrom (now v) k a × PartEnds (code ";") (now v) a b ⌝ }
     ensures { λ r. ⌜ Puts (now (out .entry)) (listed k begun (valuesOf (now (v .entry)) k)) r (now (out .exit)) ⌝ }
 {
     let q = other_part(k);
@@ -76,7 +76,7 @@ fn part_after(v: &[u8], e: usize) -> usize
 
 // The components of all seven parts.
 fn put_parts(out: &mut [u8], v: &[u8]) -> Wrote
-    requires { ⌜ NameGood (now v) ⌝ }
+    requires { ⌜ NameSound (now v) ⌝ }
     ensures { λ r. ⌜ Puts (now (out .entry)) (componentsFrom 7 (now (v .entry)) 0 false) r (now (out .exit)) ⌝ }
 {
     let mut at = 0;
@@ -98,7 +98,7 @@ fn put_parts(out: &mut [u8], v: &[u8]) -> Wrote
 
 // N's value as the array of components.
 pub fn put_components(out: &mut [u8], v: &[u8]) -> Wrote
-    requires { ⌜ NameGood (now v) ⌝ }
+    requires { ⌜ NameSound (now v) ⌝ }
     ensures { λ r. ⌜ Puts (now (out .entry)) (flat (ascii "[" ∷ componentsFrom 7 (now (v .entry)) 0 false ∷ ascii "]" ∷ [])) r (now (out .exit)) ⌝ }
 {
     let Wrote::Bytes(a) = put_byte(out, b'[') else {
@@ -149,7 +149,7 @@ fn put_parts_head(out: &mut [u8], full: bool) -> Wrote
 }
 
 fn put_parts_member(out: &mut [u8], full: bool, v: &[u8]) -> Wrote
-    requires { ⌜ NameGood (now v) ⌝ }
+    requires { ⌜ NameSound (now v) ⌝ }
     ensures { λ r. ⌜ Puts (now (out .entry)) (flat (pick full (ascii ",\"components\":") (ascii "\"components\":") ∷ flat (ascii "[" ∷ componentsFrom 7 (now (v .entry)) 0 false ∷ ascii "]" ∷ []) ∷ [])) r (now (out .exit)) ⌝ }
 {
     let Wrote::Bytes(a) = put_parts_head(out, full) else {
@@ -163,7 +163,7 @@ fn put_parts_member(out: &mut [u8], full: bool, v: &[u8]) -> Wrote
 }
 
 fn put_parts_if(out: &mut [u8], full: bool, parts: bool, v: &[u8]) -> Wrote
-    requires { ⌜ (parts ≡ true → NameGood (now v)) ⌝ }
+    requires { ⌜ (parts ≡ true → NameSound (now v)) ⌝ }
     ensures { λ r. ⌜ Puts (now (out .entry)) (partsPiece full parts (now (v .entry))) r (now (out .exit)) ⌝ }
 {
     if parts {
@@ -173,7 +173,7 @@ fn put_parts_if(out: &mut [u8], full: bool, parts: bool, v: &[u8]) -> Wrote
 }
 
 fn put_name_member(out: &mut [u8], full: bool, fv: &[u8], parts: bool, nv: &[u8]) -> Wrote
-    requires { ⌜ NamesGood full (now fv) parts (now nv) ⌝ }
+    requires { ⌜ NamesSound full (now fv) parts (now nv) ⌝ }
     ensures { λ r. ⌜ Puts (now (out .entry)) (flat (ascii ",\"name\":{" ∷ fullPiece full (now (fv .entry)) ∷ partsPiece full parts (now (nv .entry)) ∷ ascii "}" ∷ [])) r (now (out .exit)) ⌝ }
 {
     let Wrote::Bytes(a) = put_text(out, b",\"name\":{") else {
@@ -196,7 +196,7 @@ fn put_name_member(out: &mut [u8], full: bool, fv: &[u8], parts: bool, nv: &[u8]
 
 // The member `name`, from the value of the FN line that converts, if any, and that of the N line, if any.
 pub fn put_name(out: &mut [u8], full: bool, fv: &[u8], parts: bool, nv: &[u8]) -> Wrote
-    requires { ⌜ NamesGood full (now fv) parts (now nv) ⌝ }
+    requires { ⌜ NamesSound full (now fv) parts (now nv) ⌝ }
     ensures { λ r. ⌜ Puts (now (out .entry)) (nameBytes full (now (fv .entry)) parts (now (nv .entry))) r (now (out .exit)) ⌝ }
 {
     if full | parts {

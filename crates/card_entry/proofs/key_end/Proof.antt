@@ -8,7 +8,7 @@ use lib.ListN.{length, getD}
 use Rattle.text.proofs.Cases.{not-true, not-false}
 use Rattle.line.specs.Class.{isKey}
 use Rattle.json_index.proofs.Together.{byte-same}
-use Rattle.json_strings.specs.Spelled.{spelled}
+use Rattle.json_strings.specs.Decoded.{decodedAt}
 use Rattle.card_entry.specs.Rows.{keyOf, keyFrom}
 use Rattle.card_entry.proofs.Keys.{key-here, key-byte, no-key-end}
 use Rattle.card_entry.proofs.key_end.Statement.{statement}
@@ -18,7 +18,7 @@ use Rattle.card_entry.proofs.key_end.Lts as lts
 use Rattle.card_entry.proofs.is_key.Reads as is-key-reads
 
 abbrev Inv-loop : tie.InvT-loop
-Inv-loop s at i₀ i = (at ≤ i) × (i ≤ length s) × (keyOf (spelled s at) ≡ keyFrom (i - at) (spelled s i))
+Inv-loop s at i₀ i = (at ≤ i) × (i ≤ length s) × (keyOf (decodedAt s at) ≡ keyFrom (i - at) (decodedAt s i))
 
 abbrev μ-loop : tie.MeasureT-loop
 μ-loop s at i₀ i = length s - i
@@ -56,7 +56,7 @@ loop-again c =
     let next : i - at + 1 ≡ i + 1 - at = omega (arith, loop .inv .0) in (
       omega (arith, loop .inv .0),
       omega (arith, l),
-      loop .inv .2 ∙ key-byte s i (getD s i 0) (i - at) (byte-same s i l) on ∙ ap (λ (k : ℕ). keyFrom k (spelled s (i + 1))) next,
+      loop .inv .2 ∙ key-byte s i (getD s i 0) (i - at) (byte-same s i l) on ∙ ap (λ (k : ℕ). keyFrom k (decodedAt s (i + 1))) next,
     )
 
 returns-2 : tie.Need-returns-2 Inv-loop μ-loop

@@ -5,7 +5,7 @@ use denote.Ref.{now}
 use mathlib.Core.Path.{_≡_, sym, ap, _∙_}
 use Prim.Native.Nat.{_≤_}
 use lib.ListN.{length}
-use Rattle.json_strings.specs.Spelled.{spelled, left, weight}
+use Rattle.json_strings.specs.Decoded.{decodedAt, left, weight}
 use Rattle.json_strings.proofs.Laws.{left-none}
 use Rattle.json_strings.proofs.NextByte.{byte-in, is-alone, is-end, is-one}
 use Rattle.card_entry.specs.Rows.{keyOf, keyFrom}
@@ -18,7 +18,7 @@ use Rattle.card_entry.proofs.is_key.Reads as is-key-reads
 use Rattle.json_strings.proofs.next_byte.Reads as next-byte-reads
 
 abbrev Inv-loop : tie.InvT-loop
-Inv-loop s at i₀ h₀ k₀ i h k = (i ≤ length s) × (k ≤ 255) × (keyOf (spelled s at) ≡ keyFrom k (left s i h))
+Inv-loop s at i₀ h₀ k₀ i h k = (i ≤ length s) × (k ≤ 255) × (keyOf (decodedAt s at) ≡ keyFrom k (left s i h))
 
 abbrev μ-loop : tie.MeasureT-loop
 μ-loop s at i₀ h₀ k₀ i h k = weight s i h

@@ -1,7 +1,7 @@
 use Rattle.card_value.proofs.Pieces.{blank-none, blank-end, blank-one}
 use Rattle.json_strings.proofs.NextByte.{is-alone, is-end, is-one}
 use Rattle.json_strings.proofs.Laws.{left-none, spelled-past}
-use Rattle.json_strings.specs.Spelled.{left}
+use Rattle.json_strings.specs.Decoded.{left}
 use mathlib.Core.Path.{sym, _∙_}
 use denote.Ref.{now}
 use borrow.Author.Needs.{needs}

@@ -2,7 +2,7 @@ use Rattle.card_value.proofs.Pieces.{telSeen, tel-first, tel-end, tel-b
 use Rattle.card_value.specs.Values.{telOf}
 use Rattle.json_strings.proofs.NextByte.{byte-in, is-alone, is-end, is-one}
 use Rattle.json_strings.proofs.Laws.{left-none, spelled-past}
-use Rattle.json_strings.specs.Spelled.{spelled, left, weight}
+use Rattle.json_strings.specs.Decoded.{decodedAt, left, weight}
 use Rattle.text.proofs.Cases.{not-true, not-false}
 use borrow.Author.Tests.{eq-eqb, ne-eqb}
 use lib.ListN.{length}
@@ -19,7 +19,7 @@ use Rattle.card_value.proofs.onward.Reads as onward-reads
 use Rattle.json_strings.proofs.next_byte.Reads as next-byte-reads
 
 abbrev Inv-loop : tie.InvT-loop
-Inv-loop form s at i₀ h₀ k₀ i h k = (i ≤ length s) × (telOf (spelled s at) ≡ telSeen k (left s i h))
+Inv-loop form s at i₀ h₀ k₀ i h k = (i ≤ length s) × (telOf (decodedAt s at) ≡ telSeen k (left s i h))
 
 abbrev μ-loop : tie.MeasureT-loop
 μ-loop form s at i₀ h₀ k₀ i h k = weight s i h

@@ -2,7 +2,7 @@ use native.Mathlib.Omega.{arith}
 use denote.Ref.{now}
 use mathlib.Core.Path.{ap, _∙_}
 use Rattle.text.specs.Bytes.{parts}
-use Rattle.json_strings.specs.Spelled.{spelled}
+use Rattle.json_strings.specs.Decoded.{decodedAt}
 use Rattle.json_index.specs.Index.{noted}
 use Rattle.json_index.proofs.Names.{placed-le}
 use Rattle.json_index.proofs.Slots.{noted-free, noted-taken}
@@ -15,19 +15,19 @@ which-name-requires c κs = search needs
 
 mul-if1 : tie.Need-mul-if1
 mul-if1 c =
-    omega (arith, placed-le (spelled (now (c .before .before .before .before .args .s)) (c .before .before .before .before .args .name)) (parts 44 (now (c .before .before .before .before .args .names))), c .which-name .ensures, c .before .before .before .before .pre)
+    omega (arith, placed-le (decodedAt (now (c .before .before .before .before .args .s)) (c .before .before .before .before .args .name)) (parts 44 (now (c .before .before .before .before .args .names))), c .which-name .ensures, c .before .before .before .before .pre)
 
 slice-read-if1 : tie.Need-slice-read-if1
 slice-read-if1 c =
-    omega (arith, placed-le (spelled (now (c .before .before .before .before .before .args .s)) (c .before .before .before .before .before .args .name)) (parts 44 (now (c .before .before .before .before .before .args .names))), c .before .which-name .ensures, c .before .before .before .before .before .pre)
+    omega (arith, placed-le (decodedAt (now (c .before .before .before .before .before .args .s)) (c .before .before .before .before .before .args .name)) (parts 44 (now (c .before .before .before .before .before .args .names))), c .before .which-name .ensures, c .before .before .before .before .before .pre)
 
 mul-slots : tie.Need-mul-slots
 mul-slots c =
-    omega (arith, placed-le (spelled (now (c .before .before .before .before .before .before .args .s)) (c .before .before .before .before .before .before .args .name)) (parts 44 (now (c .before .before .before .before .before .before .args .names))), c .before .before .which-name .ensures, c .before .before .before .before .before .before .pre)
+    omega (arith, placed-le (decodedAt (now (c .before .before .before .before .before .before .args .s)) (c .before .before .before .before .before .before .args .name)) (parts 44 (now (c .before .before .before .before .before .before .args .names))), c .before .before .which-name .ensures, c .before .before .before .before .before .before .pre)
 
 slice-write-slots : tie.Need-slice-write-slots
 slice-write-slots c =
-    omega (arith, placed-le (spelled (now (c .before .before .before .before .before .before .args .s)) (c .before .before .before .before .before .before .args .name)) (parts 44 (now (c .before .before .before .before .before .before .args .names))), c .before .before .which-name .ensures, c .before .before .before .before .before .before .pre)
+    omega (arith, placed-le (decodedAt (now (c .before .before .before .before .before .before .args .s)) (c .before .before .before .before .before .before .args .name)) (parts 44 (now (c .before .before .before .before .before .before .args .names))), c .before .before .which-name .ensures, c .before .before .before .before .before .before .pre)
 
 same-length : tie.Need-same-length
 same-length c = search needs

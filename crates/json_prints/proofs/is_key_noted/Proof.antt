@@ -5,7 +5,7 @@ use mathlib.Core.Bool.{true, false}
 use mathlib.Core.Option.{some}
 use Prim.Native.Nat.{ℕ, _≤_, _-_}
 use lib.ListN.{getD}
-use Rattle.json_strings.specs.Spelled.{spelled, spells}
+use Rattle.json_strings.specs.Decoded.{decodedAt, spells}
 use Rattle.json_prints.specs.Prints.{Clear}
 use Rattle.json_prints.proofs.Prints.{clear-absent, agree-spells, clear-on, key-yes, key-no}
 use borrow.Author.Needs.{needs}
@@ -52,8 +52,8 @@ returns c =
     let s = now (args .s) in
     let key = now (args .key) in
     let ps = now (args .places) in
-    let x = spelled s (getD ps (loop .k) 0) in
-    let w : spells x key ≡ true = sym (ap (λ (i : ℕ). spells (spelled s i) key) (c .before .before .wide .ensures)) ∙ sym (c .before .equals .ensures) ∙ (c .if1 .taken) in
+    let x = decodedAt s (getD ps (loop .k) 0) in
+    let w : spells x key ≡ true = sym (ap (λ (i : ℕ). spells (decodedAt s i) key) (c .before .before .wide .ensures)) ∙ sym (c .before .equals .ensures) ∙ (c .if1 .taken) in
     key-yes s key ps (now (args .prints)) pre (loop .k) (omega (arith, c .before .before .before .before .loop-test .taken, pre)) (agree-spells key x ∙ w)
 
 add-next-print : tie.Need-add-next-print Inv-loop μ-loop
@@ -73,8 +73,8 @@ loop-again c =
     let s = now (args .s) in
     let key = now (args .key) in
     let ps = now (args .places) in
-    let x = spelled s (getD ps (loop .k) 0) in
-    let w : spells x key ≡ false = sym (ap (λ (i : ℕ). spells (spelled s i) key) (c .before .before .before .wide .ensures)) ∙ sym (c .before .before .equals .ensures) ∙
+    let x = decodedAt s (getD ps (loop .k) 0) in
+    let w : spells x key ≡ false = sym (ap (λ (i : ℕ). spells (decodedAt s i) key) (c .before .before .before .wide .ensures)) ∙ sym (c .before .before .equals .ensures) ∙
     (c .before .if1 .left) in (
       c .next-print2 .ensures .1,
       clear-on s (some key) ps (now (args .prints)) (print-of .result) (loop .k) (c .next-print2 .result) (print-of .ensures)

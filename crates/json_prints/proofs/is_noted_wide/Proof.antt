@@ -2,7 +2,7 @@ use native.Mathlib.Omega.{arith}
 use denote.Ref.{now}
 use mathlib.Core.Path.{sym, _∙_}
 use Prim.Native.Nat.{_≤_, _-_}
-use Rattle.json_strings.specs.Spelled.{spelled}
+use Rattle.json_strings.specs.Decoded.{decodedAt}
 use Rattle.json_prints.specs.Prints.{Clear}
 use Rattle.json_prints.proofs.Prints.{clear-absent, clear-on, sought-yes, sought-no}
 use borrow.Author.Needs.{needs}
@@ -10,7 +10,7 @@ use Rattle.json_prints.proofs.is_noted_wide.Statement.{statement}
 use Rattle.json_prints.proofs.is_noted_wide.Tie as tie
 
 abbrev Inv-loop : tie.InvT-loop
-Inv-loop s at p places prints count k₀ k = (k ≤ count) × Clear s (spelled s at) places prints 0 k
+Inv-loop s at p places prints count k₀ k = (k ≤ count) × Clear s (decodedAt s at) places prints 0 k
 
 abbrev μ-loop : tie.MeasureT-loop
 μ-loop s at p places prints count k₀ k = count - k
@@ -23,7 +23,7 @@ loop-holds c =
     let args = c .before .before .before .before .args in
     let s = now (args .s) in (
       c .next-print .ensures .1,
-      clear-absent s (spelled s (args .at)) (now (args .places)) (now (args .prints)) (args .p) 0 (c .next-print .result)
+      clear-absent s (decodedAt s (args .at)) (now (args .places)) (now (args .prints)) (args .p) 0 (c .next-print .result)
           (c .before .before .before .before .pre .1 .1) (c .next-print .ensures .2),
     )
 
@@ -42,7 +42,7 @@ returns c =
     let pre = c .before .before .before .before .before .before .before .before .before .pre in
     let s = now (args .s) in
     let k = c .before .before .before .before .loop .k in
-    sought-yes s (spelled s (args .at)) (now (args .places)) (now (args .prints)) (args .count) (pre .0) k (c .before .before .before .loop-test .taken)
+    sought-yes s (decodedAt s (args .at)) (now (args .places)) (now (args .prints)) (args .count) (pre .0) k (c .before .before .before .loop-test .taken)
     (sym (c .before .same-text .ensures) ∙ (c .if1 .taken))
 
 add-next-print : tie.Need-add-next-print Inv-loop μ-loop
@@ -61,7 +61,7 @@ loop-again c =
     let loop = c .before .before .before .before .before .loop in
     let s = now (args .s) in (
       c .next-print2 .ensures .1,
-      clear-on s (spelled s (args .at)) (now (args .places)) (now (args .prints)) (args .p) (loop .k) (c .next-print2 .result) (pre .1 .1)
+      clear-on s (decodedAt s (args .at)) (now (args .places)) (now (args .prints)) (args .p) (loop .k) (c .next-print2 .result) (pre .1 .1)
           (sym (c .before .before .same-text .ensures) ∙ (c .before .if1 .left)) (c .next-print2 .ensures .2) (loop .inv .1),
     )
 
@@ -69,7 +69,7 @@ returns-2 : tie.Need-returns-2 Inv-loop μ-loop
 returns-2 c =
     let args = c .before .before .before .before .before .before .args in
     let s = now (args .s) in
-    sought-no s (spelled s (args .at)) (now (args .places)) (now (args .prints)) (args .count) (c .before .before .before .before .before .before .pre .0)
+    sought-no s (decodedAt s (args .at)) (now (args .places)) (now (args .prints)) (args .count) (c .before .before .before .before .before .before .pre .0)
     (c .before .loop .k) (omega (arith, c .loop-test .left)) (c .before .loop .inv .1)
 
 pub is-noted-wide-spec : {M : Type 1} → statement M

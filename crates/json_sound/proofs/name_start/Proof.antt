@@ -6,7 +6,7 @@ use Prim.Native.Nat.{ℕ, _≤_, _<_, _-_, _+_}
 use lib.ListN.{length}
 use borrow.Author.Tests.{not-false}
 use Rattle.json_chars.specs.Strings.{ToEnd}
-use Rattle.json_strings.specs.Spelled.{spelled}
+use Rattle.json_strings.specs.Decoded.{decodedAt}
 use Rattle.json_prints.specs.Prints.{printOf}
 use Rattle.json_prints.proofs.Prints.{print-byte}
 use Rattle.json_sound.proofs.Plain.{raw-as, raw-below, raw-at, end-on}
@@ -14,7 +14,7 @@ use Rattle.json_sound.proofs.name_start.Statement.{statement}
 use Rattle.json_sound.proofs.name_start.Tie as tie
 
 abbrev Inv-loop : tie.InvT-loop
-Inv-loop s at i₀ p₀ i p = (at ≤ i) × (i ≤ length s) × (p < 65536) × (printOf 0 (spelled s at) ≡ printOf p (spelled s i)) × ToEnd s at i
+Inv-loop s at i₀ p₀ i p = (at ≤ i) × (i ≤ length s) × (p < 65536) × (printOf 0 (decodedAt s at) ≡ printOf p (decodedAt s i)) × ToEnd s at i
 
 abbrev μ-loop : tie.MeasureT-loop
 μ-loop s at i₀ p₀ i p = length s - i
@@ -55,7 +55,7 @@ loop-again c =
       omega (arith, c .before .before .before .before .loop .inv .0),
       l,
       c .stirred .ensures .1,
-      c .before .before .before .before .loop .inv .3 ∙ ap (printOf p) (raw-at s i b e h) ∙ print-byte p b (spelled s (i + 1)) ∙ ap (λ (x : ℕ). printOf x (spelled s (i + 1))) (sym (c .stirred .ensures .0)),
+      c .before .before .before .before .loop .inv .3 ∙ ap (printOf p) (raw-at s i b e h) ∙ print-byte p b (decodedAt s (i + 1)) ∙ ap (λ (x : ℕ). printOf x (decodedAt s (i + 1))) (sym (c .stirred .ensures .0)),
       λ r x. c .before .before .before .before .loop .inv .4 r (end-on s i b e h l r x),
     )
 

@@ -10,7 +10,7 @@ use Rattle.text.proofs.Places.{gives-as, at-next, at-bad, then-bad}
 use Rattle.json.specs.Syntax.{name}
 use Rattle.json.specs.Strings.{decode}
 use Rattle.json_prints.specs.Prints.{meets, printOf}
-use Rattle.json_strings.specs.Spelled.{spelled}
+use Rattle.json_strings.specs.Decoded.{decodedAt}
 use Rattle.json_strings.proofs.Names.{name-string}
 use Rattle.json_prints.proofs.Prints.{no-print, a-print, meets-among, names-noted}
 use Rattle.json_sound.proofs.Names.{name-takes, not-paired, already}
@@ -64,7 +64,7 @@ returns c =
     let z = name-string s at (a .0) _ (a .1) from g in
     let w = name-takes s at (pre .0) _ _ g h in
     let p = c .before .print-rest .ensures .0 ∙ sym (name-start .ensures .3) in (
-      λ ns k. (a .0, a .1, not-paired (decode (a .0)) ns (ap is-some (sym z) ∙ no-print (spelled s from) (sym p ∙ (c .if1 .taken)))),
+      λ ns k. (a .0, a .1, not-paired (decode (a .0)) ns (ap is-some (sym z) ∙ no-print (decodedAt s from) (sym p ∙ (c .if1 .taken)))),
       (omega (arith, w .0, w .1), h .within .1),
     )
 
@@ -190,7 +190,7 @@ returns-5 c =
       λ ns k.
           let m = ap (λ (o : Option Bytes). meets s o ps) (sym (n .1)) ∙ sym (c .before .is-noted .ensures ns k) ∙ (c .if2 .left) in
           let y = names-noted s (n .0) (now (args .places)) (now (args .prints)) (args .count) _ _ ns (pre .1 .1 .0) (pre .1 .1 .1) k (n .1) (p ∙ ap (printOf 0) (n .1)) in
-          (a .0, n .0, a .1, sym z ∙ n .1, sym (meets-among s (n .0) _ fs ns k) ∙ m, y, ap (spelled s) (getD-set-same (now (args .places)) (args .count) from 0 (pre .1 .1 .0)) ∙ n .1),
+          (a .0, n .0, a .1, sym z ∙ n .1, sym (meets-among s (n .0) _ fs ns k) ∙ m, y, ap (decodedAt s) (getD-set-same (now (args .places)) (args .count) from 0 (pre .1 .1 .0)) ∙ n .1),
       (omega (arith, w .0, w .1), h .within .1),
     )
 

@@ -5,13 +5,13 @@ use mathlib.Core.Path.{_≡_, refl, _∙_}
 use Prim.Native.Nat.{_-_, _≤_}
 use lib.ListN.{length}
 use Rattle.text.specs.Choice.{is-some}
-use Rattle.json_strings.specs.Spelled.{spelled}
+use Rattle.json_strings.specs.Decoded.{decodedAt}
 use Rattle.json_strings.proofs.Equal.{bare-paired}
 use Rattle.json_strings.proofs.bare_end.Statement.{statement}
 use Rattle.json_strings.proofs.bare_end.Tie as tie
 
 abbrev Inv-loop : tie.InvT-loop
-Inv-loop s at i₀ i = (at ≤ i) × (i ≤ length s) × (is-some (spelled s at) ≡ is-some (spelled s i))
+Inv-loop s at i₀ i = (at ≤ i) × (i ≤ length s) × (is-some (decodedAt s at) ≡ is-some (decodedAt s i))
 
 abbrev μ-loop : tie.MeasureT-loop
 μ-loop s at i₀ i = length s - i

@@ -11,7 +11,7 @@ use lib.ListN.{length}
 use Rattle.output.specs.Put.{Rest}
 use Rattle.output.proofs.Laws.{start, done, puts-as}
 use Rattle.output.proofs.Rests.{rest-all, rest-as, rest-byte, rest-no-byte, rest-done, rest-same, rest-in, rest-fit}
-use Rattle.json_strings.specs.Spelled.{textAt, left, weight}
+use Rattle.json_strings.specs.Decoded.{textAt, left, weight}
 use Rattle.json_strings.proofs.NextByte.{byte-in, not-alone, none-left, one-left, text-none, text-left, text-in}
 use Rattle.json_strings.proofs.Bare.{copied-rest, weight-on}
 use Rattle.json_strings.proofs.decode_into.Statement.{statement}

@@ -3,7 +3,7 @@ use mathlib.Core.Path.{sym, ap}
 use mathlib.Core.List.{[]}
 use mathlib.Core.Option.{some}
 use Rattle.text.specs.Bytes.{same}
-use Rattle.json_strings.specs.Spelled.{agree}
+use Rattle.json_strings.specs.Decoded.{agree}
 use Rattle.json_strings.proofs.NextByte.{is-alone, is-end}
 use Rattle.json_strings.proofs.Equal.{ends-one}
 use borrow.Author.Needs.{needs}

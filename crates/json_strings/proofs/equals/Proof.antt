@@ -6,14 +6,14 @@ use mathlib.Core.Option.{Option}
 use Prim.Native.Nat.{_-_, _≤_}
 use lib.ListN.{length, drop}
 use Rattle.text.specs.Bytes.{Bytes}
-use Rattle.json_strings.specs.Spelled.{spelled, spells}
+use Rattle.json_strings.specs.Decoded.{decodedAt, spells}
 use Rattle.json_strings.proofs.Laws.{spelled-past}
 use Rattle.json_strings.proofs.Equal.{bytes-end, quote-early, bare-other, control-spells, bare-same}
 use Rattle.json_strings.proofs.equals.Statement.{statement}
 use Rattle.json_strings.proofs.equals.Tie as tie
 
 abbrev Inv-loop : tie.InvT-loop
-Inv-loop s at bytes i₀ k₀ i k = (i ≤ length s) × (k ≤ length bytes) × (spells (spelled s at) bytes ≡ spells (spelled s i) (drop k bytes))
+Inv-loop s at bytes i₀ k₀ i k = (i ≤ length s) × (k ≤ length bytes) × (spells (decodedAt s at) bytes ≡ spells (decodedAt s i) (drop k bytes))
 
 abbrev μ-loop : tie.MeasureT-loop
 μ-loop s at bytes i₀ k₀ i k = length s - i

@@ -6,7 +6,7 @@ use mathlib.Core.Option.{Option}
 use Prim.Native.Nat.{_≤_}
 use lib.ListN.{length, drop}
 use Rattle.text.specs.Bytes.{Bytes}
-use Rattle.json_strings.specs.Spelled.{spelled, left, weight, spells}
+use Rattle.json_strings.specs.Decoded.{decodedAt, left, weight, spells}
 use Rattle.json_strings.proofs.Laws.{left-none, spelled-past}
 use Rattle.json_strings.proofs.NextByte.{byte-in, is-alone, is-end}
 use Rattle.json_strings.proofs.Equal.{spells-end, one-short, one-other, one-same}
@@ -14,7 +14,7 @@ use Rattle.json_strings.proofs.equals_from.Statement.{statement}
 use Rattle.json_strings.proofs.equals_from.Tie as tie
 
 abbrev Inv-loop : tie.InvT-loop
-Inv-loop s at bytes from i₀ h₀ k₀ i h k = (i ≤ length s) × (k ≤ length bytes) × (spells (spelled s at) (drop from bytes) ≡ spells (left s i h) (drop k bytes))
+Inv-loop s at bytes from i₀ h₀ k₀ i h k = (i ≤ length s) × (k ≤ length bytes) × (spells (decodedAt s at) (drop from bytes) ≡ spells (left s i h) (drop k bytes))
 
 abbrev μ-loop : tie.MeasureT-loop
 μ-loop s at bytes from i₀ h₀ k₀ i h k = weight s i h

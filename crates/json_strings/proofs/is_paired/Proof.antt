@@ -5,14 +5,14 @@ use mathlib.Core.Path.{_≡_, refl, sym, ap, _∙_}
 use Prim.Native.Nat.{_-_, _≤_}
 use lib.ListN.{length}
 use Rattle.text.specs.Choice.{is-some}
-use Rattle.json_strings.specs.Spelled.{spelled}
+use Rattle.json_strings.specs.Decoded.{decodedAt}
 use Rattle.json_strings.proofs.Laws.{spelled-past, letter-in}
 use Rattle.json_strings.proofs.Equal.{letter-alone, letter-end, letter-raw, letter-code}
 use Rattle.json_strings.proofs.is_paired.Statement.{statement}
 use Rattle.json_strings.proofs.is_paired.Tie as tie
 
 abbrev Inv-loop : tie.InvT-loop
-Inv-loop s at i₀ i = (i ≤ length s) × (is-some (spelled s at) ≡ is-some (spelled s i))
+Inv-loop s at i₀ i = (i ≤ length s) × (is-some (decodedAt s at) ≡ is-some (decodedAt s i))
 
 abbrev μ-loop : tie.MeasureT-loop
 μ-loop s at i₀ i = length s - i

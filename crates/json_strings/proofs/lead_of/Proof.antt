@@ -1,5 +1,5 @@
 use borrow.Author.Tests.{lt-ltb, le-ltb}
-use Rattle.json_strings.specs.Spelled.{leadOf}
+use Rattle.json_strings.specs.Decoded.{leadOf}
 use borrow.Author.Needs.{needs}
 use Rattle.json_strings.proofs.lead_of.Statement.{statement}
 use Rattle.json_strings.proofs.lead_of.Tie as tie

@@ -3,7 +3,7 @@ use denote.Ref.{now}
 use mathlib.Core.Path.{ap, _∙_}
 use lib.ListN.{length}
 use Rattle.json.specs.Strings.{before}
-use Rattle.json_strings.specs.Spelled.{left, letterOf}
+use Rattle.json_strings.specs.Decoded.{left, letterOf}
 use Rattle.json_strings.proofs.Laws.{letter-in, left-none, left-held, left-raw, left-code, weight-falls}
 use borrow.Author.Needs.{needs}
 use Rattle.json_strings.proofs.next_byte.Statement.{statement}

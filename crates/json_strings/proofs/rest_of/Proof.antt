@@ -1,5 +1,5 @@
 use borrow.Author.Tests.{lt-ltb, le-ltb}
-use Rattle.json_strings.specs.Spelled.{restOf}
+use Rattle.json_strings.specs.Decoded.{restOf}
 use borrow.Author.Needs.{needs}
 use Rattle.json_strings.proofs.rest_of.Statement.{statement}
 use Rattle.json_strings.proofs.rest_of.Tie as tie

@@ -6,7 +6,7 @@ use mathlib.Core.Option.{Option}
 use Prim.Native.Nat.{_≤_}
 use lib.ListN.{length}
 use Rattle.text.specs.Bytes.{Bytes}
-use Rattle.json_strings.specs.Spelled.{spelled, left, weight, agree}
+use Rattle.json_strings.specs.Decoded.{decodedAt, left, weight, agree}
 use Rattle.json_strings.proofs.Laws.{left-none, spelled-past}
 use Rattle.json_strings.proofs.NextByte.{byte-in, is-alone, is-end}
 use Rattle.json_strings.proofs.Equal.{agree-none, agree-ends, both-other, both-same}
@@ -14,20 +14,20 @@ use Rattle.json_strings.proofs.same_text.Statement.{statement}
 use Rattle.json_strings.proofs.same_text.Tie as tie
 
 abbrev Inv-loop : tie.InvT-loop
-Inv-loop s a b i₀ g₀ j₀ h₀ i g j h = (i ≤ length s) × (j ≤ length s) × (agree (spelled s a) (spelled s b) ≡ agree (left s i g) (left s j h))
+Inv-loop s a b i₀ g₀ j₀ h₀ i g j h = (i ≤ length s) × (j ≤ length s) × (agree (decodedAt s a) (decodedAt s b) ≡ agree (left s i g) (left s j h))
 
 abbrev μ-loop : tie.MeasureT-loop
 μ-loop s a b i₀ g₀ j₀ h₀ i g j h = weight s i g
 
 returns : tie.Need-returns Inv-loop μ-loop
-returns c = sym (ap (λ (x : Option Bytes). agree x (spelled (now (c .before .before .args .s)) (c .before .before .args .b))) (spelled-past (now (c .before .before .args .s)) (c .before .before .args .a) (c .if1 .taken)))
+returns c = sym (ap (λ (x : Option Bytes). agree x (decodedAt (now (c .before .before .args .s)) (c .before .before .args .b))) (spelled-past (now (c .before .before .args .s)) (c .before .before .args .a) (c .if1 .taken)))
 
 returns-2 : tie.Need-returns-2 Inv-loop μ-loop
 returns-2 c =
     let args = c .before .before .before .args in
     sym
-    (ap (agree (spelled (now (args .s)) (args .a))) (spelled-past (now (args .s)) (args .b) (c .if2 .taken)) ∙ agree-none
-    (spelled (now (args .s)) (args .a)))
+    (ap (agree (decodedAt (now (args .s)) (args .a))) (spelled-past (now (args .s)) (args .b) (c .if2 .taken)) ∙ agree-none
+    (decodedAt (now (args .s)) (args .a)))
 
 loop-holds : tie.Need-loop-holds Inv-loop μ-loop
 loop-holds c = (omega (arith, c .before .if1 .left), omega (arith, c .if2 .left), rw (left-none (now (c .before .before .before .args .s)) (c .before .before .before .args .a), left-none (now (c .before .before .before .args .s)) (c .before .before .before .args .b)))

@@ -4,7 +4,7 @@ use mathlib.Core.Path.{_≡_, refl, sym, ap, _∙_}
 use borrow.Author.Tests.{not-true, not-false}
 use Rattle.text.specs.Bytes.{ascii}
 use Rattle.text.proofs.Places.{turn-as}
-use Rattle.json_strings.specs.Spelled.{textAt}
+use Rattle.json_strings.specs.Decoded.{textAt}
 use Rattle.kept_strings.proofs.Putting.{puts-long, part-same, grew, no-room}
 use Rattle.kept_strings.proofs.Values.{rows-in}
 use Rattle.kept_table.proofs.Params.{rows-lower}

@@ -5,7 +5,7 @@ use mathlib.Core.Path.{_≡_, sym, ap, _∙_}
 use Prim.Native.Nat.{_≤_}
 use lib.ListN.{length}
 use Rattle.text.proofs.Cases.{not-true, not-false}
-use Rattle.json_strings.specs.Spelled.{spelled, left, weight}
+use Rattle.json_strings.specs.Decoded.{decodedAt, left, weight}
 use Rattle.json_strings.proofs.Laws.{left-none, spelled-past}
 use Rattle.json_strings.proofs.NextByte.{byte-in, is-alone, is-end, is-one}
 use Rattle.to_card_head.specs.Head.{wordOf, wordFrom}
@@ -18,7 +18,7 @@ use Rattle.json_strings.proofs.next_byte.Reads as next-byte-reads
 use Rattle.to_card_head.proofs.is_lower_name.Reads as is-lower-name-reads
 
 abbrev Inv-loop : tie.InvT-loop
-Inv-loop s at i₀ h₀ begun₀ i h begun = (i ≤ length s) × (wordOf (spelled s at) ≡ wordFrom begun (left s i h))
+Inv-loop s at i₀ h₀ begun₀ i h begun = (i ≤ length s) × (wordOf (decodedAt s at) ≡ wordFrom begun (left s i h))
 
 abbrev μ-loop : tie.MeasureT-loop
 μ-loop s at i₀ h₀ begun₀ i h begun = weight s i h

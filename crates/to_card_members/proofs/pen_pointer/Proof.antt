@@ -4,7 +4,7 @@ use native.Mathlib.Nat.{le-refl}
 use denote.Ref.{now}
 use Prim.Native.Nat.{_≤_}
 use lib.ListN.{length}
-use Rattle.json_strings.specs.Spelled.{weight}
+use Rattle.json_strings.specs.Decoded.{weight}
 use Rattle.json_strings.proofs.Laws.{spelled-past}
 use Rattle.json_strings.proofs.NextByte.{byte-in}
 use Rattle.line_pen.proofs.Laws.{pens-in, pens-length, pens-then}

@@ -22,19 +22,19 @@ told h (got us t) = decodeAfter h us
 told h (bad t) = none
 
 -- the bytes that the string from a place on stands for
-unfoldable pub spelled : Bytes → ℕ → Option Bytes
-spelled s at = told 0 (units (drop at s))
+unfoldable pub decodedAt : Bytes → ℕ → Option Bytes
+decodedAt s at = told 0 (units (drop at s))
 
 -- the same as bytes: no bytes where it stands for nothing
 unfoldable pub textAt : Bytes → ℕ → Bytes
-textAt s at = with-some (spelled s at) (λ x. x) []
+textAt s at = with-some (decodedAt s at) (λ x. x) []
 
 abbrev pub pairOf : ℕ → Bytes → ℕ → Option Bytes
 pairOf high s at = told high (units (drop at s))
 
 abbrev pub letterOf : Bytes → Letter → Option Bytes
-letterOf s (Raw b e) = before (b ∷ []) (spelled s e)
-letterOf s (Code v e) = before (encode v) (spelled s e)
+letterOf s (Raw b e) = before (b ∷ []) (decodedAt s e)
+letterOf s (Code v e) = before (encode v) (decodedAt s e)
 letterOf s LEnd = some []
 letterOf s LAlone = none
 
@@ -65,7 +65,7 @@ restOf v =
 
 -- what is still to come: held bytes, then the string from a place on
 unfoldable pub left : Bytes → ℕ → ℕ → Option Bytes
-left s at h = before (held h) (spelled s at)
+left s at h = before (held h) (decodedAt s at)
 
 -- how much that is at most: it falls with each byte
 unfoldable pub weight : Bytes → ℕ → ℕ → ℕ
