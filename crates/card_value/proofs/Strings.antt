@@ -22,7 +22,7 @@ use Rattle.json.specs.Syntax.{characters, number, four, scalar, elements, pairs
 use Rattle.json.specs.Strings.{decode, decoded, decodedElems, decodedMembers}
 use Rattle.json_scan.proofs.First.{as-flat, as-scalar, as-array, as-object}
 use Rattle.json_strings.specs.Decoded.{decodedAt}
-use Rattle.json_strings.proofs.Laws.{spelled-is}
+use Rattle.json_strings.proofs.Laws.{decoded-is}
 use Rattle.text.proofs.Places.{on-yes}
 use Rattle.json_index.specs.Index.{jsonAt, Slot}
 use Rattle.json_index.proofs.Objects.{at-inv}
@@ -116,7 +116,7 @@ module _ (s : Bytes) (at i b : ℕ) (h : Passes isSpace s at i) (e : b ≡ byteA
       let m : (b ≡ 123 → ⊥) = λ z. omega arith in
       let x = under-inv jstr (characters (drop (i + 1) s)) (sym (as-scalar s i b e at h d n m ∙ on-yes (is 34) s i b e _ _ (eq-eqb _ _ q)) ∙ u .2) in
       let y = is-string (u .0) v (u .3) (x .0) (x .2) in
-      string-is (i + 1) v (some (y .0)) (ap asString (sym (y .2))) (omega arith, spelled-is s (i + 1) (x .0) (u .1) (x .1) ∙ y .1)
+      string-is (i + 1) v (some (y .0)) (ap asString (sym (y .2))) (omega arith, decoded-is s (i + 1) (x .0) (u .1) (x .1) ∙ y .1)
 
   pub no-string-here : (b ≡ 34 → ⊥) → TellsString s at 0
   no-string-here n d v w =

@@ -20,7 +20,7 @@ use Rattle.json.proofs.Fine.{space-256, below-256}
 use Rattle.json.proofs.Takes.{takes-characters}
 use Rattle.json.specs.Compact.{quoted}
 use Rattle.json_strings.specs.Decoded.{textAt}
-use Rattle.json_strings.proofs.Laws.{spelled-is}
+use Rattle.json_strings.proofs.Laws.{decoded-is}
 use Rattle.json_compact.specs.Squeezed.{inQuotes, piece, onward, squeezedIn, squeezed}
 
 takes-piece : Takes 1 piece
@@ -103,7 +103,7 @@ module _ (s : Bytes) (i b : ℕ) (e : b ≡ byteAt s i) (w t : Bytes) (p : piece
     unfolding piece textAt
     piece-string k =
         let j = under-inv (λ us. inQuotes (decode us)) (characters (drop (i + 1) s)) (sym (on-no isSpace s i b e _ _ h ∙ on-yes (is 34) s i b e _ _ k) ∙ p) in
-        ap inQuotes (spelled-is s (i + 1) (j .0) t (j .1)) ∙ j .2
+        ap inQuotes (decoded-is s (i + 1) (j .0) t (j .1)) ∙ j .2
 
     pub piece-byte : is 34 b ≡ false → b ∷ [] ≡ w
     unfolding piece

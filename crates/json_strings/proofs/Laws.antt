@@ -27,18 +27,18 @@ use Rattle.json_strings.specs.declared.Letter.the-variants.{Raw, Code, E
 use Rattle.json_strings.specs.Decoded.{told, decodedAt, LetterIn, heldIn, held, leadOf, restOf, left, weight}
 
 -- a string that the grammar reads is decodedAt by its units' decoding
-pub spelled-is : (s : Bytes) (at : ℕ) (us t : Bytes) → characters (drop at s) ≡ got us t → decodedAt s at ≡ decode us
+pub decoded-is : (s : Bytes) (at : ℕ) (us t : Bytes) → characters (drop at s) ≡ got us t → decodedAt s at ≡ decode us
 unfolding decodedAt decode
-spelled-is s at us t e = ap (told 0) (units-same (drop at s) us t e)
+decoded-is s at us t e = ap (told 0) (units-same (drop at s) us t e)
 
 -- a place past the end stands for nothing
 no-unit : unit [] ≡ bad []
 unfolding unit on between
 no-unit = refl
 
-pub spelled-past : (s : Bytes) (p : ℕ) → length s < p → decodedAt s p ≡ none
+pub decoded-past : (s : Bytes) (p : ℕ) → length s < p → decodedAt s p ≡ none
 unfolding decodedAt units
-spelled-past s p l = ap (λ (x : Bytes). told 0 (loop unit x)) (drop-of-length-le s {i = p} (omega arith)) ∙ ap (told 0) (loop-bad unit (unit-fine .less) [] [] no-unit)
+decoded-past s p l = ap (λ (x : Bytes). told 0 (loop unit x)) (drop-of-length-le s {i = p} (omega arith)) ∙ ap (told 0) (loop-bad unit (unit-fine .less) [] [] no-unit)
 
 -- ---- one unit after the other
 module _ (h : ℕ) (s : Bytes) (at : ℕ) where

@@ -11,7 +11,7 @@ use Rattle.text.proofs.Fine.{got-rest, got-what, bind-inv}
 use Rattle.json.specs.Syntax.{token, characters, name}
 use Rattle.json.specs.Strings.{decode}
 use Rattle.json_strings.specs.Decoded.{decodedAt}
-use Rattle.json_strings.proofs.Laws.{spelled-is}
+use Rattle.json_strings.proofs.Laws.{decoded-is}
 
 module _ (s : Bytes) (at : ℕ) where
   -- its string, from after the first quote
@@ -24,7 +24,7 @@ module _ (s : Bytes) (at : ℕ) where
       let k = bind-inv (token 58 (j .1)) _ (j .3) in
       let w : i .1 ≡ drop q s = got-rest (sym (i .2) ∙ a .1) in
       let z : j .0 ≡ us = got-what (k .3) in
-      spelled-is s q us (j .1) (ap characters (sym w) ∙ (j .2) ∙ ap (λ (x : Bytes). got x (j .1)) z)
+      decoded-is s q us (j .1) (ap characters (sym w) ∙ (j .2) ∙ ap (λ (x : Bytes). got x (j .1)) z)
 
   -- what follows its colon
   pub name-rest : (us t : Bytes) → name (drop at s) ≡ got us t → (v : ℕ) → Gives s at (name (drop at s)) (Next v) → t ≡ drop v s

@@ -16,7 +16,7 @@ use Rattle.json.specs.Strings.{before}
 use Rattle.json_strings.specs.declared.Byte.{Byte}
 use Rattle.json_strings.specs.declared.Byte.the-variants.{One, End, Alone}
 use Rattle.json_strings.specs.Decoded.{decodedAt, textAt, left, byteOf, ByteIn}
-use Rattle.json_strings.proofs.Laws.{left-none, spelled-past}
+use Rattle.json_strings.proofs.Laws.{left-none, decoded-past}
 
 -- once it is known which answer it was
 pub byte-in : (s : Bytes) (at h : ℕ) {r q : Byte} → ByteIn s at h r → r ≡ q → ByteIn s at h q
@@ -71,5 +71,5 @@ text-left s at e = left-none s at ∙ by (decodedAt s at) e
 -- a string that stands for bytes begins within the text
 pub text-in : (s : Bytes) (at : ℕ) → is-some (decodedAt s at) ≡ true → at ≤ length s
 text-in s at e =
-    byBool (ltb (length s) at) (λ p. let z : true ≡ false = sym e ∙ ap is-some (spelled-past s at (ltb-true (length s) at p)) in let r : _≡_ {A = ℕ} 0 1 = cc in absurd (omega arith))
+    byBool (ltb (length s) at) (λ p. let z : true ≡ false = sym e ∙ ap is-some (decoded-past s at (ltb-true (length s) at p)) in let r : _≡_ {A = ℕ} 0 1 = cc in absurd (omega arith))
     (λ p. ltb-false (length s) at p)

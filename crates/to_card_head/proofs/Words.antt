@@ -14,7 +14,7 @@ use Rattle.json.specs.Strings.{before}
 use Rattle.json_strings.specs.declared.Byte.{Byte}
 use Rattle.json_strings.specs.declared.Byte.the-variants.{One, End, Alone}
 use Rattle.json_strings.specs.Decoded.{decodedAt, left, byteOf}
-use Rattle.json_strings.proofs.Laws.{left-none, spelled-past}
+use Rattle.json_strings.proofs.Laws.{left-none, decoded-past}
 use Rattle.json_strings.proofs.NextByte.{not-alone, none-left, one-left}
 use Rattle.text.proofs.Choices.{none-some}
 use Rattle.convert.specs.Value.{filled}
@@ -73,7 +73,7 @@ word-on false b (some x) e = rw e
 -- ---- whether a string has any byte
 
 pub filled-past : (s : Bytes) (at : ℕ) → Prim.Native.Nat._<_ (lib.ListN.length s) at → TellsFilled s at false
-filled-past s at h x e = none-some (sym (spelled-past s at h) ∙ e)
+filled-past s at h x e = none-some (sym (decoded-past s at h) ∙ e)
 
 module _ (s : Bytes) (at : ℕ) (r : Byte) (q : left s at 0 ≡ byteOf s r) where
   pub filled-alone : r ≡ Alone → TellsFilled s at false

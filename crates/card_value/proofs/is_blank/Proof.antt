@@ -1,6 +1,6 @@
 use Rattle.card_value.proofs.Pieces.{blank-none, blank-end, blank-one}
 use Rattle.json_strings.proofs.NextByte.{is-alone, is-end, is-one}
-use Rattle.json_strings.proofs.Laws.{left-none, spelled-past}
+use Rattle.json_strings.proofs.Laws.{left-none, decoded-past}
 use Rattle.json_strings.specs.Decoded.{left}
 use mathlib.Core.Path.{sym, _∙_}
 use denote.Ref.{now}
@@ -13,7 +13,7 @@ use Rattle.json_strings.proofs.next_byte.Reads as next-byte-reads
 
 -- src/lib.rt:88:9
 returns : tie.Need-returns
-returns c = blank-none _ (spelled-past (now (c .before .before .args .s)) (c .before .before .args .at) (c .if1 .taken))
+returns c = blank-none _ (decoded-past (now (c .before .before .args .s)) (c .before .before .args .at) (c .if1 .taken))
 
 -- src/lib.rt:90:11
 next-byte-requires : tie.Need-next-byte-requires

@@ -1,7 +1,7 @@
 use Rattle.card_value.proofs.Pieces.{telSeen, tel-first, tel-end, tel-bad, tel-more, no-form, the-form}
 use Rattle.card_value.specs.Values.{telOf}
 use Rattle.json_strings.proofs.NextByte.{byte-in, is-alone, is-end, is-one}
-use Rattle.json_strings.proofs.Laws.{left-none, spelled-past}
+use Rattle.json_strings.proofs.Laws.{left-none, decoded-past}
 use Rattle.json_strings.specs.Decoded.{decodedAt, left, weight}
 use Rattle.text.proofs.Cases.{not-true, not-false}
 use borrow.Author.Tests.{eq-eqb, ne-eqb}
@@ -30,7 +30,7 @@ returns c = no-form _ (ne-eqb _ _ (c .if1 .taken))
 
 -- src/lib.rt:133:9
 returns-2 : tie.Need-returns-2 Inv-loop μ-loop
-returns-2 c = the-form (eq-eqb _ _ (c .before .if1 .left)) (sym (ap telOf (spelled-past (now (c .before .before .before .args .s)) (c .before .before .before .args .at) (c .if2 .taken))))
+returns-2 c = the-form (eq-eqb _ _ (c .before .if1 .left)) (sym (ap telOf (decoded-past (now (c .before .before .before .args .s)) (c .before .before .before .args .at) (c .if2 .taken))))
 
 -- src/lib.rt:138:5
 loop-holds : tie.Need-loop-holds Inv-loop μ-loop

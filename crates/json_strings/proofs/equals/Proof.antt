@@ -7,7 +7,7 @@ use Prim.Native.Nat.{_-_, _≤_}
 use lib.ListN.{length, drop}
 use Rattle.text.specs.Bytes.{Bytes}
 use Rattle.json_strings.specs.Decoded.{decodedAt, spells}
-use Rattle.json_strings.proofs.Laws.{spelled-past}
+use Rattle.json_strings.proofs.Laws.{decoded-past}
 use Rattle.json_strings.proofs.Equal.{bytes-end, quote-early, bare-other, control-spells, bare-same}
 use Rattle.json_strings.proofs.equals.Statement.{statement}
 use Rattle.json_strings.proofs.equals.Tie as tie
@@ -19,7 +19,7 @@ abbrev μ-loop : tie.MeasureT-loop
 μ-loop s at bytes i₀ k₀ i k = length s - i
 
 returns : tie.Need-returns Inv-loop μ-loop
-returns c = sym (ap (λ (x : Option Bytes). spells x (now (c .before .before .before .args .bytes))) (spelled-past (now (c .before .before .before .args .s)) (c .before .before .before .args .at) (c .if1 .taken)))
+returns c = sym (ap (λ (x : Option Bytes). spells x (now (c .before .before .before .args .bytes))) (decoded-past (now (c .before .before .before .args .s)) (c .before .before .before .args .at) (c .if1 .taken)))
 
 loop-holds : tie.Need-loop-holds Inv-loop μ-loop
 loop-holds c = (omega (arith, c .if1 .left), search needs, refl)

@@ -7,7 +7,7 @@ use Prim.Native.Nat.{_≤_}
 use lib.ListN.{length, drop}
 use Rattle.text.specs.Bytes.{Bytes}
 use Rattle.json_strings.specs.Decoded.{decodedAt, left, weight, spells}
-use Rattle.json_strings.proofs.Laws.{left-none, spelled-past}
+use Rattle.json_strings.proofs.Laws.{left-none, decoded-past}
 use Rattle.json_strings.proofs.NextByte.{byte-in, is-alone, is-end}
 use Rattle.json_strings.proofs.Equal.{spells-end, one-short, one-other, one-same}
 use Rattle.json_strings.proofs.equals_from.Statement.{statement}

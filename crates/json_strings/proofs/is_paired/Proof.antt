@@ -6,7 +6,7 @@ use Prim.Native.Nat.{_-_, _≤_}
 use lib.ListN.{length}
 use Rattle.text.specs.Choice.{is-some}
 use Rattle.json_strings.specs.Decoded.{decodedAt}
-use Rattle.json_strings.proofs.Laws.{spelled-past, letter-in}
+use Rattle.json_strings.proofs.Laws.{decoded-past, letter-in}
 use Rattle.json_strings.proofs.Equal.{letter-alone, letter-end, letter-raw, letter-code}
 use Rattle.json_strings.proofs.is_paired.Statement.{statement}
 use Rattle.json_strings.proofs.is_paired.Tie as tie
@@ -18,7 +18,7 @@ abbrev μ-loop : tie.MeasureT-loop
 μ-loop s at i₀ i = length s - i
 
 returns : tie.Need-returns Inv-loop μ-loop
-returns c = sym (ap is-some (spelled-past (now (c .before .before .args .s)) (c .before .before .args .at) (c .if1 .taken)))
+returns c = sym (ap is-some (decoded-past (now (c .before .before .args .s)) (c .before .before .args .at) (c .if1 .taken)))
 
 loop-holds : tie.Need-loop-holds Inv-loop μ-loop
 loop-holds c = (omega (arith, c .if1 .left), refl)

@@ -7,7 +7,7 @@ use Prim.Native.Nat.{_≤_}
 use lib.ListN.{length}
 use Rattle.text.specs.Bytes.{Bytes}
 use Rattle.json_strings.specs.Decoded.{decodedAt, left, weight, agree}
-use Rattle.json_strings.proofs.Laws.{left-none, spelled-past}
+use Rattle.json_strings.proofs.Laws.{left-none, decoded-past}
 use Rattle.json_strings.proofs.NextByte.{byte-in, is-alone, is-end}
 use Rattle.json_strings.proofs.Equal.{agree-none, agree-ends, both-other, both-same}
 use Rattle.json_strings.proofs.same_text.Statement.{statement}
@@ -20,13 +20,13 @@ abbrev μ-loop : tie.MeasureT-loop
 μ-loop s a b i₀ g₀ j₀ h₀ i g j h = weight s i g
 
 returns : tie.Need-returns Inv-loop μ-loop
-returns c = sym (ap (λ (x : Option Bytes). agree x (decodedAt (now (c .before .before .args .s)) (c .before .before .args .b))) (spelled-past (now (c .before .before .args .s)) (c .before .before .args .a) (c .if1 .taken)))
+returns c = sym (ap (λ (x : Option Bytes). agree x (decodedAt (now (c .before .before .args .s)) (c .before .before .args .b))) (decoded-past (now (c .before .before .args .s)) (c .before .before .args .a) (c .if1 .taken)))
 
 returns-2 : tie.Need-returns-2 Inv-loop μ-loop
 returns-2 c =
     let args = c .before .before .before .args in
     sym
-    (ap (agree (decodedAt (now (args .s)) (args .a))) (spelled-past (now (args .s)) (args .b) (c .if2 .taken)) ∙ agree-none
+    (ap (agree (decodedAt (now (args .s)) (args .a))) (decoded-past (now (args .s)) (args .b) (c .if2 .taken)) ∙ agree-none
     (decodedAt (now (args .s)) (args .a)))
 
 loop-holds : tie.Need-loop-holds Inv-loop μ-loop

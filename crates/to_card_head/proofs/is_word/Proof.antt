@@ -6,7 +6,7 @@ use Prim.Native.Nat.{_≤_}
 use lib.ListN.{length}
 use Rattle.text.proofs.Cases.{not-true, not-false}
 use Rattle.json_strings.specs.Decoded.{decodedAt, left, weight}
-use Rattle.json_strings.proofs.Laws.{left-none, spelled-past}
+use Rattle.json_strings.proofs.Laws.{left-none, decoded-past}
 use Rattle.json_strings.proofs.NextByte.{byte-in, is-alone, is-end, is-one}
 use Rattle.to_card_head.specs.Head.{wordOf, wordFrom}
 use Rattle.to_card_head.proofs.Words.{word-first, word-end, word-bad, word-on}
@@ -24,7 +24,7 @@ abbrev μ-loop : tie.MeasureT-loop
 μ-loop s at i₀ h₀ begun₀ i h begun = weight s i h
 
 returns : tie.Need-returns Inv-loop μ-loop
-returns c = sym (ap wordOf (spelled-past (now (c .before .before .args .s)) (c .before .before .args .at) (c .if1 .taken)))
+returns c = sym (ap wordOf (decoded-past (now (c .before .before .args .s)) (c .before .before .args .at) (c .if1 .taken)))
 
 loop-holds : tie.Need-loop-holds Inv-loop μ-loop
 loop-holds c = (c .if1 .left, word-first _ _ (left-none (now (c .before .before .args .s)) (c .before .before .args .at)))

@@ -5,7 +5,7 @@ use denote.Ref.{now}
 use Prim.Native.Nat.{_≤_}
 use lib.ListN.{length}
 use Rattle.json_strings.specs.Decoded.{weight}
-use Rattle.json_strings.proofs.Laws.{spelled-past}
+use Rattle.json_strings.proofs.Laws.{decoded-past}
 use Rattle.json_strings.proofs.NextByte.{byte-in}
 use Rattle.line_pen.proofs.Laws.{pens-in, pens-length, pens-then}
 use Rattle.to_card_members.proofs.Pointers.{Far, far-first, points-none, far-alone, far-end, far-one}
@@ -24,7 +24,7 @@ abbrev μ-loop : tie.MeasureT-loop
 μ-loop out₀ column s at n₀ k₀ ok₀ i₀ h₀ out n k ok i h = weight s i h
 
 returns : tie.Need-returns Inv-loop μ-loop
-returns c = points-none (now (c .before .before .before .args .s)) (c .before .before .before .args .at) _ (c .before .before .before .args .column) (spelled-past (now (c .before .before .before .args .s)) (c .before .before .before .args .at) (c .if1 .taken))
+returns c = points-none (now (c .before .before .before .args .s)) (c .before .before .before .args .at) _ (c .before .before .before .args .column) (decoded-past (now (c .before .before .before .args .s)) (c .before .before .before .args .at) (c .if1 .taken))
 
 loop-holds : tie.Need-loop-holds Inv-loop μ-loop
 loop-holds c = (c .if1 .left, far-first (now (c .before .before .before .args .s)) (c .before .before .before .args .at) (now (c .before .before .before .args .out)) (c .before .before .before .args .column))
