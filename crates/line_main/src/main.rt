@@ -1,8 +1,7 @@
 // Writes a few parameters. Then reads each card that an argument names as the line library does, and writes what it finds:
-// each good line folded anew, what some of its parameters hold, and its value as TEXT.
+// each good line folded anew, and its value as TEXT.
 use libc::STDOUT_FILENO;
 use line_frame::Frame;
-use line_params::FirstValue;
 use line_scan::Parsed;
 use line_unfold::Unfolded;
 use named_file::read_named;
@@ -28,26 +27,6 @@ fn say_line(line: &[u8]) {
         return;
     };
     send(&out, m);
-}
-
-// How many values the parameters of that name have, and the first of them.
-fn say_values(line: &[u8], at: usize, name: &[u8]) {
-    if at > line.len() {
-        return;
-    }
-    if !line_params::has_param(line, at, name) {
-        return;
-    }
-    let n = line_params::count_values(line, at, name);
-    say(b"  ");
-    io::print_decimal(STDOUT_FILENO, n as u64);
-    say(b" of ");
-    say(name);
-    if let FirstValue::At(a, b) = line_params::first_value(line, at, name) {
-        say(b": ");
-        say(&line[a..b]);
-    }
-    say(b"\n");
 }
 
 // The TEXT of the first n bytes written, where that takes more.
@@ -100,9 +79,6 @@ fn tell(line: &[u8], number: usize) {
         Parsed::Line(head) => {
             say(b" ");
             say_line(line);
-            say_values(line, head.end, b"value");
-            say_values(line, head.end, b"type");
-            say_values(line, head.end, b"p");
             say_text(line, head.value);
         }
         Parsed::Bad => {
