@@ -111,7 +111,12 @@ pub fn put_maps<'a, 'b, 'c>(out: &'a mut [u8], s: &'b [u8], slots: &'c [usize]) 
     let mut ok = true;
     while k < 7 {
         let i = k + 5;
-        let Lines::All(m, l, c) = put_nth(&mut out[n..], s, k, slots[i]) else {
+        let Lines::All {
+            bytes: m,
+            lines: l,
+            carries: c,
+        } = put_nth(&mut out[n..], s, k, slots[i])
+        else {
             return Lines::Wrong;
         };
         n += m;
@@ -119,5 +124,9 @@ pub fn put_maps<'a, 'b, 'c>(out: &'a mut [u8], s: &'b [u8], slots: &'c [usize]) 
         ok = ok & c;
         k += 1;
     }
-    Lines::All(n, lines, ok)
+    Lines::All {
+        bytes: n,
+        lines,
+        carries: ok,
+    }
 }

@@ -57,7 +57,7 @@ fn lines_of(scratch: &mut [u8], starts: &mut [usize], most: usize, card: &[u8]) 
     requires { ⌜ (length (now card) ≤ length (now scratch)) × (most < length (now starts)) × (most ≤ lineRoom) ⌝ }
     ensures { λ r. ⌜ Lays most (now (card .entry)) r (now (scratch .exit)) (now (starts .exit)) ⌝ }
 {
-    let Frame::Body(a, b) = frame_of(card) else {
+    let Frame::Body { start: a, end: b } = frame_of(card) else {
         return Lines::NotOne;
     };
     let Unfolded::Lines(n) = unfold(scratch, starts, most, &card[a..b]) else {

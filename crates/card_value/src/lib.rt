@@ -44,7 +44,7 @@ pub enum Ink {
 
 // How many bytes of the line were written, and whether a line can carry the strings; or 12.
 pub enum Put {
-    Line(usize, bool),
+    Line { bytes: usize, carries: bool },
     Refused,
 }
 
@@ -98,7 +98,11 @@ fn is_blank(s: &[u8], at: usize) -> bool
     match next_byte(s, at, 0) {
         Byte::Alone => false,
         Byte::End => true,
-        Byte::One(b, j, g) => false,
+        Byte::One {
+            byte: b,
+            next: j,
+            held: g,
+        } => false,
     }
 }
 
@@ -151,7 +155,11 @@ fn is_tel(form: u8, s: &[u8], at: usize) -> bool
             Byte::End => {
                 return k >= 4;
             }
-            Byte::One(b, j, g) => {
+            Byte::One {
+                byte: b,
+                next: j,
+                held: g,
+            } => {
                 if !fits_tel(k, b) {
                     return false;
                 }
@@ -354,7 +362,10 @@ fn put_organization<'a, 'b>(
         return Put::Refused;
     }
     let t = n + m;
-    Put::Line(t, ok & all)
+    Put::Line {
+        bytes: t,
+        carries: ok & all,
+    }
 }
 
 // The strings of an entry by its slots, after the line's other parameters: VALUE where it is needed, the colon, and the value.
@@ -381,16 +392,25 @@ pub fn put_value<'a, 'b>(
         let t = pen_text(out, column, b";VALUE=uri:", 0, s, q);
         let n = t.bytes;
         let ok = t.carried;
-        return Put::Line(n, ok);
+        return Put::Line {
+            bytes: n,
+            carries: ok,
+        };
     }
     if form == 2 {
         let t = pen_text(out, column, b":", 0, s, q);
         let n = t.bytes;
         let ok = t.carried;
-        return Put::Line(n, ok);
+        return Put::Line {
+            bytes: n,
+            carries: ok,
+        };
     }
     let t = pen_text(out, column, b":", 1, s, q);
     let n = t.bytes;
     let ok = t.carried;
-    Put::Line(n, ok)
+    Put::Line {
+        bytes: n,
+        carries: ok,
+    }
 }

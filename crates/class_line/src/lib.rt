@@ -63,7 +63,7 @@ fn map_class(
         Key::Free => {
             return Class::Entry { map: i };
         }
-        Key::At(a, b) => {
+        Key::At { start: a, end: b } => {
             return Class::Keyed {
                 map: i,
                 start: a,

@@ -32,7 +32,7 @@ fn next_is(s: &[u8], at: usize, c: u8) -> usize
     ensures { λ r. ⌜ NextIs (now (s .entry)) at c r ⌝ }
 {
     match next_char(s, at) {
-        Char::Byte(d, e) => next_if(c == d, e),
+        Char::Byte { byte: d, next: e } => next_if(c == d, e),
         Char::Bad => 0,
         Char::End => 0,
     }
@@ -47,7 +47,7 @@ fn same_text(a: &[u8], b: &[u8]) -> bool
     let mut j = 0;
     loop {
         match next_char(a, i) {
-            Char::Byte(c, e) => {
+            Char::Byte { byte: c, next: e } => {
                 let f = next_is(b, j, c);
                 if f == 0 {
                     return false;
@@ -92,7 +92,7 @@ fn print_text(u: &[u8]) -> u16
     let mut i = 0;
     loop {
         match next_char(u, i) {
-            Char::Byte(c, e) => {
+            Char::Byte { byte: c, next: e } => {
                 p = stirred(p, c);
                 i = e;
             }

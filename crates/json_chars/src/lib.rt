@@ -56,7 +56,7 @@ fn next_character(s: &[u8], at: usize) -> Turn
     }
     if b == BACKSLASH {
         return match escape_at(s, at + 1) {
-            Value::Of(_, e) => Turn::Go(e),
+            Value::Of { next: e, .. } => Turn::Go(e),
             Value::Wrong(x) => Turn::Stop(Read::Bad(x)),
         };
     }

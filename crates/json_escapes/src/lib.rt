@@ -39,7 +39,7 @@ const LETTER_A: u16 = b'a' as u16;
 
 // A number that a part of an escape stands for, and where it ends.
 pub enum Value {
-    Of(u32, usize),
+    Of { number: u32, next: usize },
     Wrong(usize),
 }
 
@@ -126,7 +126,10 @@ fn digit_at(s: &[u8], at: usize) -> Value
 {
     let b = look(s, at);
     if is_hex(b) {
-        return Value::Of(hex_value(b), at + 1);
+        return Value::Of {
+            number: hex_value(b),
+            next: at + 1,
+        };
     }
     Value::Wrong(at)
 }
@@ -138,13 +141,16 @@ fn code_at(s: &[u8], at: usize) -> Value
 {
     match digit_at(s, at) {
         Value::Wrong(x) => Value::Wrong(x),
-        Value::Of(a, i) => match digit_at(s, i) {
+        Value::Of { number: a, next: i } => match digit_at(s, i) {
             Value::Wrong(x) => Value::Wrong(x),
-            Value::Of(b, j) => match digit_at(s, j) {
+            Value::Of { number: b, next: j } => match digit_at(s, j) {
                 Value::Wrong(x) => Value::Wrong(x),
-                Value::Of(c, k) => match digit_at(s, k) {
+                Value::Of { number: c, next: k } => match digit_at(s, k) {
                     Value::Wrong(x) => Value::Wrong(x),
-                    Value::Of(d, e) => Value::Of(a * 4096 + b * 256 + c * 16 + d, e),
+                    Value::Of { number: d, next: e } => Value::Of {
+                        number: a * 4096 + b * 256 + c * 16 + d,
+                        next: e,
+                    },
                 },
             },
         },
@@ -160,18 +166,24 @@ pub fn escape_at(s: &[u8], at: usize) -> Value
     if b == LETTER_U {
         return match code_at(s, at + 1) {
             Value::Wrong(x) => Value::Wrong(x),
-            Value::Of(v, e) => Value::Of(256 + v, e),
+            Value::Of { number: v, next: e } => Value::Of {
+                number: 256 + v,
+                next: e,
+            },
         };
     }
     if is_short(b) {
-        return Value::Of(short_of(b), at + 1);
+        return Value::Of {
+            number: short_of(b),
+            next: at + 1,
+        };
     }
     Value::Wrong(at)
 }
 
 // A unit of a string and where the next one starts: a byte, or 256 + v for \uXXXX; the end of the string; or neither.
 pub enum Piece {
-    Of(u32, usize),
+    Of { unit: u32, next: usize },
     End(usize),
     Wrong(usize),
 }
@@ -194,11 +206,14 @@ pub fn unit_at(s: &[u8], at: usize) -> Piece
     if b == BACKSLASH {
         return match escape_at(s, at + 1) {
             Value::Wrong(x) => Piece::Wrong(x),
-            Value::Of(u, e) => Piece::Of(u, e),
+            Value::Of { number: u, next: e } => Piece::Of { unit: u, next: e },
         };
     }
     if in_range(b, 32, 255) {
-        return Piece::Of(b as u32, at + 1);
+        return Piece::Of {
+            unit: b as u32,
+            next: at + 1,
+        };
     }
     Piece::Wrong(at)
 }

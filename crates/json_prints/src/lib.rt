@@ -38,7 +38,11 @@ pub fn print_from(s: &[u8], at: usize, from: u32) -> u32
             Byte::End => {
                 return p;
             }
-            Byte::One(b, j, g) => {
+            Byte::One {
+                byte: b,
+                next: j,
+                held: g,
+            } => {
                 p = stirred(p, b);
                 i = j;
                 h = g;

@@ -21,15 +21,15 @@ ghost use Rattle.json_strings.specs.Bare.{BareByte, Copied};
 
 // A character of a string: a byte as it stands there, or a code point; the end; or a surrogate alone (or no string).
 pub enum Letter {
-    Raw(u8, usize),
-    Code(u32, usize),
+    Raw { byte: u8, next: usize },
+    Code { point: u32, next: usize },
     End,
     Alone,
 }
 
 // A decoded byte, and from where the others come: a place, and bytes that are held (the first in the lowest eight bits).
 pub enum Byte {
-    One(u8, usize, u32),
+    One { byte: u8, next: usize, held: u32 },
     End,
     Alone,
 }
@@ -43,13 +43,16 @@ fn pair_at(s: &[u8], high: u32, at: usize) -> Letter
     match unit_at(s, at) {
         Piece::Wrong(b) => Letter::Alone,
         Piece::End(e) => Letter::Alone,
-        Piece::Of(u, e) => {
+        Piece::Of { unit: u, next: e } => {
             if u < 256 {
                 return Letter::Alone;
             }
             let low = u - 256;
             if within(low, 0xdc00, 0xdfff) {
-                return Letter::Code(0x10000 + (high - 0xd800) * 0x400 + (low - 0xdc00), e);
+                return Letter::Code {
+                    point: 0x10000 + (high - 0xd800) * 0x400 + (low - 0xdc00),
+                    next: e,
+                };
             }
             Letter::Alone
         }
@@ -64,9 +67,12 @@ pub fn letter_at(s: &[u8], at: usize) -> Letter
     match unit_at(s, at) {
         Piece::Wrong(b) => Letter::Alone,
         Piece::End(e) => Letter::End,
-        Piece::Of(u, e) => {
+        Piece::Of { unit: u, next: e } => {
             if u < 256 {
-                return Letter::Raw(u as u8, e);
+                return Letter::Raw {
+                    byte: u as u8,
+                    next: e,
+                };
             }
             let v = u - 256;
             if within(v, 0xd800, 0xdbff) {
@@ -75,7 +81,7 @@ pub fn letter_at(s: &[u8], at: usize) -> Letter
             if within(v, 0xdc00, 0xdfff) {
                 return Letter::Alone;
             }
-            Letter::Code(v, e)
+            Letter::Code { point: v, next: e }
         }
     }
 }
@@ -120,13 +126,25 @@ pub fn next_byte(s: &[u8], at: usize, hold: u32) -> Byte
     ensures { λ r. ⌜ (left (now (s .entry)) at hold ≡ byteOf (now (s .entry)) r) × ByteIn (now (s .entry)) at hold r ⌝ }
 {
     if hold != 0 {
-        return Byte::One((hold % 256) as u8, at, hold / 256);
+        return Byte::One {
+            byte: (hold % 256) as u8,
+            next: at,
+            held: hold / 256,
+        };
     }
     match letter_at(s, at) {
         Letter::End => Byte::End,
         Letter::Alone => Byte::Alone,
-        Letter::Raw(b, e) => Byte::One(b, e, 0),
-        Letter::Code(v, e) => Byte::One(lead_of(v), e, rest_of(v)),
+        Letter::Raw { byte: b, next: e } => Byte::One {
+            byte: b,
+            next: e,
+            held: 0,
+        },
+        Letter::Code { point: v, next: e } => Byte::One {
+            byte: lead_of(v),
+            next: e,
+            held: rest_of(v),
+        },
     }
 }
 
@@ -176,10 +194,10 @@ pub fn is_paired(s: &[u8], at: usize) -> bool
             Letter::End => {
                 return true;
             }
-            Letter::Raw(b, j) => {
+            Letter::Raw { byte: b, next: j } => {
                 i = j;
             }
-            Letter::Code(v, j) => {
+            Letter::Code { point: v, next: j } => {
                 i = j;
             }
         }
@@ -234,7 +252,11 @@ fn equals_from<'a, 'b>(s: &'a [u8], at: usize, bytes: &'b [u8], from: usize) -> 
             Byte::End => {
                 return k == bytes.len();
             }
-            Byte::One(b, j, g) => {
+            Byte::One {
+                byte: b,
+                next: j,
+                held: g,
+            } => {
                 if k == bytes.len() {
                     return false;
                 }
@@ -257,7 +279,11 @@ fn ends(s: &[u8], at: usize, hold: u32) -> bool
     match next_byte(s, at, hold) {
         Byte::Alone => false,
         Byte::End => true,
-        Byte::One(b, j, g) => false,
+        Byte::One {
+            byte: b,
+            next: j,
+            held: g,
+        } => false,
     }
 }
 
@@ -283,14 +309,22 @@ pub fn same_text(s: &[u8], a: usize, b: usize) -> bool
             Byte::End => {
                 return ends(s, j, h);
             }
-            Byte::One(x, k, u) => match next_byte(s, j, h) {
+            Byte::One {
+                byte: x,
+                next: k,
+                held: u,
+            } => match next_byte(s, j, h) {
                 Byte::Alone => {
                     return false;
                 }
                 Byte::End => {
                     return false;
                 }
-                Byte::One(y, l, v) => {
+                Byte::One {
+                    byte: y,
+                    next: l,
+                    held: v,
+                } => {
                     if x != y {
                         return false;
                     }
@@ -412,7 +446,11 @@ pub fn decode_into<'a, 'b>(out: &'a mut [u8], s: &'b [u8], at: usize) -> Wrote
             Byte::End => {
                 return Wrote::Bytes(k);
             }
-            Byte::One(b, j, g) => {
+            Byte::One {
+                byte: b,
+                next: j,
+                held: g,
+            } => {
                 if k >= out.len() {
                     return Wrote::Full;
                 }

@@ -43,7 +43,12 @@ fn convert<'a, 'b, 'c, 'd, 'e, 'f, 'g>(
     requires { ⌜ Indexes 15 (now json) 0 cardNames (now slots) true ⌝ }
     ensures { λ r. ⌜ Makes (inner (reading 16 (now (json .entry)))) (now (result .entry)) r (now (result .exit)) ⌝ }
 {
-    let Lines::All(n, k, ok) = put_card(result, buffer, b, t, scratch, json, slots) else {
+    let Lines::All {
+        bytes: n,
+        lines: k,
+        carries: ok,
+    } = put_card(result, buffer, b, t, scratch, json, slots)
+    else {
         return Made::Refused {
             number: 12,
             place: 0,

@@ -278,7 +278,11 @@ pub fn put_respelled(out: &mut [u8], s: &[u8], from: usize) -> Wrote
             Byte::End => {
                 return Wrote::Bytes(at);
             }
-            Byte::One(b, j, g) => {
+            Byte::One {
+                byte: b,
+                next: j,
+                held: g,
+            } => {
                 let Wrote::Bytes(n) = put_byte_spelled(&mut out[at..], b) else {
                     return Wrote::Full;
                 };

@@ -153,7 +153,7 @@ fn end_from(s: &[u8], at: usize) -> End
 
 // Where the lines between BEGIN and END stand.
 pub enum Frame {
-    Body(usize, usize),
+    Body { start: usize, end: usize },
     NotOne,
 }
 
@@ -173,5 +173,5 @@ pub fn frame_of(s: &[u8]) -> Frame
     let End::At(stop) = end_from(s, start) else {
         return Frame::NotOne;
     };
-    Frame::Body(start, stop)
+    Frame::Body { start, end: stop }
 }

@@ -122,7 +122,7 @@ fn card(s: &[u8]) {
         return;
     }
     match line_frame::frame_of(s) {
-        Frame::Body(a, b) => {
+        Frame::Body { start: a, end: b } => {
             if b <= s.len() {
                 if a <= b {
                     body(&s[a..b]);

@@ -18,7 +18,11 @@ use text::look;
 
 // A parameter value: where its bytes begin and end, quotes left out, and the place after it.
 pub enum Value {
-    At(usize, usize, usize),
+    At {
+        start: usize,
+        end: usize,
+        next: usize,
+    },
     Bad,
 }
 
@@ -30,17 +34,25 @@ pub fn value_at(s: &[u8], at: usize) -> Value
         let a = at + 1;
         let e = run_end(s, a, Class::Quotable);
         if look(s, e) == QUOTE {
-            return Value::At(a, e, e + 1);
+            return Value::At {
+                start: a,
+                end: e,
+                next: e + 1,
+            };
         }
         return Value::Bad;
     }
     let e = run_end(s, at, Class::Bare);
-    Value::At(at, e, e)
+    Value::At {
+        start: at,
+        end: e,
+        next: e,
+    }
 }
 
 // The values of a parameter: the place after them, and how many there are.
 pub enum Values {
-    Upto(usize, usize),
+    Upto { next: usize, count: usize },
     Bad,
 }
 
@@ -51,12 +63,12 @@ pub fn values_at(s: &[u8], at: usize) -> Values
     let mut i = at;
     let mut n = 0;
     loop {
-        let Value::At(_, _, next) = value_at(s, i) else {
+        let Value::At { next, .. } = value_at(s, i) else {
             return Values::Bad;
         };
         n += 1;
         if look(s, next) != COMMA {
-            return Values::Upto(next, n);
+            return Values::Upto { next, count: n };
         }
         i = next + 1;
     }
@@ -64,7 +76,11 @@ pub fn values_at(s: &[u8], at: usize) -> Values
 
 // A parameter: where its name ends, the place after it, and how many values it has. They begin after the `=` that follows the name.
 pub enum Param {
-    At(usize, usize, usize),
+    At {
+        name_end: usize,
+        next: usize,
+        count: usize,
+    },
     Bad,
 }
 
@@ -79,15 +95,23 @@ pub fn param_at(s: &[u8], at: usize) -> Param
     if look(s, e) != EQUALS {
         return Param::Bad;
     }
-    let Values::Upto(next, n) = values_at(s, e + 1) else {
+    let Values::Upto { next, count: n } = values_at(s, e + 1) else {
         return Param::Bad;
     };
-    Param::At(e, next, n)
+    Param::At {
+        name_end: e,
+        next,
+        count: n,
+    }
 }
 
 // The parameters of a line: where its value begins, and how many parameters and values there are.
 pub enum Params {
-    Upto(usize, usize, usize),
+    Upto {
+        value: usize,
+        params: usize,
+        values: usize,
+    },
     Bad,
 }
 
@@ -101,12 +125,16 @@ pub fn params_at(s: &[u8], at: usize) -> Params
     loop {
         let b = look(s, i);
         if b == COLON {
-            return Params::Upto(i + 1, n, m);
+            return Params::Upto {
+                value: i + 1,
+                params: n,
+                values: m,
+            };
         }
         if b != SEMICOLON {
             return Params::Bad;
         }
-        let Param::At(_, next, k) = param_at(s, i + 1) else {
+        let Param::At { next, count: k, .. } = param_at(s, i + 1) else {
             return Params::Bad;
         };
         n += 1;
@@ -143,7 +171,12 @@ fn rest_of_line(s: &[u8], group: usize, name: usize, end: usize) -> Parsed
     requires { ⌜ (name ≤ end) × (end ≤ length (now s)) ⌝ }
     ensures { λ r. ⌜ RestAt (now (s .entry)) group name end r ⌝ }
 {
-    let Params::Upto(value, n, m) = params_at(s, end) else {
+    let Params::Upto {
+        value,
+        params: n,
+        values: m,
+    } = params_at(s, end)
+    else {
         return Parsed::Bad;
     };
     if n > 32 {

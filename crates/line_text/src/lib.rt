@@ -14,7 +14,7 @@ use output::put_text;
 
 // What stands at a place of a TEXT: a byte and where the next stands, or a bad escape, or nothing more.
 pub enum Char {
-    Byte(u8, usize),
+    Byte { byte: u8, next: usize },
     Bad,
     End,
 }
@@ -29,19 +29,19 @@ fn escaped_char(s: &[u8], at: usize) -> Char
     let c = s[at];
     let e = at + 1;
     if c == b'\\' {
-        return Char::Byte(c, e);
+        return Char::Byte { byte: c, next: e };
     }
     if c == b',' {
-        return Char::Byte(c, e);
+        return Char::Byte { byte: c, next: e };
     }
     if c == b';' {
-        return Char::Byte(c, e);
+        return Char::Byte { byte: c, next: e };
     }
     if c == b'n' {
-        return Char::Byte(10, e);
+        return Char::Byte { byte: 10, next: e };
     }
     if c == b'N' {
-        return Char::Byte(10, e);
+        return Char::Byte { byte: 10, next: e };
     }
     Char::Bad
 }
@@ -57,7 +57,7 @@ pub fn next_char(s: &[u8], at: usize) -> Char
     if c == b'\\' {
         return escaped_char(s, e);
     }
-    Char::Byte(c, e)
+    Char::Byte { byte: c, next: e }
 }
 
 // Where the bytes from `at` on that are no backslash end, byte by byte.
@@ -123,7 +123,7 @@ pub fn is_text(s: &[u8]) -> bool
     loop {
         let j = plain_end(s, i);
         match next_char(s, j) {
-            Char::Byte(_, e) => {
+            Char::Byte { next: e, .. } => {
                 i = e;
             }
             Char::Bad => {
@@ -157,7 +157,7 @@ pub fn read_text(out: &mut [u8], s: &[u8]) -> Wrote
         };
         at += n;
         match next_char(s, j) {
-            Char::Byte(c, e) => {
+            Char::Byte { byte: c, next: e } => {
                 if at >= out.len() {
                     return Wrote::Full;
                 }

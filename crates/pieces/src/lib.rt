@@ -42,7 +42,7 @@ pub extern "C" fn pieces_unfold(out: &mut [u8], starts: &mut [usize], card: &[u8
     if starts.len() < 513 {
         return 0;
     }
-    let Frame::Body(a, b) = frame_of(card) else {
+    let Frame::Body { start: a, end: b } = frame_of(card) else {
         return 0;
     };
     if b > card.len() {

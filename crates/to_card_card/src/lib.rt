@@ -40,7 +40,11 @@ fn put_others<'a, 'b, 'c, 'd>(
     ensures { λ r. ⌜ PutsOthers (now (s .entry)) (now (slots .entry)) (now (out .entry)) r (now (out .exit)) ⌝ }
 {
     if slots[13] == 0 {
-        return Lines::All(0, 0, true);
+        return Lines::All {
+            bytes: 0,
+            lines: 0,
+            carries: true,
+        };
     }
     put_members(out, buffer, s)
 }
@@ -63,16 +67,30 @@ fn put_last<'a, 'b, 'c, 'd, 'e, 'f, 'g>(
     ensures { λ r. ⌜ length (now (out .exit)) ≡ length (now (out .entry)) ⌝ }
     ensures { λ r. ⌜ PutsLast (now (s .entry)) (now (slots .entry)) full parts (now (out .entry)) r (now (out .exit)) ⌝ }
 {
-    let Lines::All(n, l, c) = put_others(out, buffer, s, slots) else {
+    let Lines::All {
+        bytes: n,
+        lines: l,
+        carries: c,
+    } = put_others(out, buffer, s, slots)
+    else {
         return Lines::Wrong;
     };
-    let Lines::All(m, k, d) = put_kept(&mut out[n..], b, t, scratch, s, slots, full, parts) else {
+    let Lines::All {
+        bytes: m,
+        lines: k,
+        carries: d,
+    } = put_kept(&mut out[n..], b, t, scratch, s, slots, full, parts)
+    else {
         return Lines::Wrong;
     };
     let bytes = n + m;
     let lines = up_to(up_to(l) + up_to(k));
     let ok = c & d;
-    Lines::All(bytes, lines, ok)
+    Lines::All {
+        bytes,
+        lines,
+        carries: ok,
+    }
 }
 
 // The maps, then these.
@@ -93,17 +111,30 @@ fn put_rest<'a, 'b, 'c, 'd, 'e, 'f, 'g>(
     ensures { λ r. ⌜ length (now (out .exit)) ≡ length (now (out .entry)) ⌝ }
     ensures { λ r. ⌜ PutsRest (now (s .entry)) (now (slots .entry)) full parts (now (out .entry)) r (now (out .exit)) ⌝ }
 {
-    let Lines::All(n, l, c) = put_maps(out, s, slots) else {
+    let Lines::All {
+        bytes: n,
+        lines: l,
+        carries: c,
+    } = put_maps(out, s, slots)
+    else {
         return Lines::Wrong;
     };
-    let Lines::All(m, k, d) = put_last(&mut out[n..], buffer, b, t, scratch, s, slots, full, parts)
+    let Lines::All {
+        bytes: m,
+        lines: k,
+        carries: d,
+    } = put_last(&mut out[n..], buffer, b, t, scratch, s, slots, full, parts)
     else {
         return Lines::Wrong;
     };
     let bytes = n + m;
     let lines = up_to(up_to(l) + k);
     let ok = c & d;
-    Lines::All(bytes, lines, ok)
+    Lines::All {
+        bytes,
+        lines,
+        carries: ok,
+    }
 }
 
 // The name, then these. Two lines of a name are FN and N.
@@ -123,18 +154,32 @@ fn put_body<'a, 'b, 'c, 'd, 'e, 'f, 'g>(
     ensures { λ r. ⌜ PutsBody (now (s .entry)) (now (slots .entry)) (now (out .entry)) r (now (out .exit)) ⌝ }
 {
     let name = slots[4];
-    let Named::All(n, l, c, full) = put_name(out, s, name) else {
+    let Named::All {
+        bytes: n,
+        lines: l,
+        carries: c,
+        full,
+    } = put_name(out, s, name)
+    else {
         return Lines::Wrong;
     };
     let parts = l == 2;
-    let Lines::All(m, k, d) = put_rest(&mut out[n..], buffer, b, t, scratch, s, slots, full, parts)
+    let Lines::All {
+        bytes: m,
+        lines: k,
+        carries: d,
+    } = put_rest(&mut out[n..], buffer, b, t, scratch, s, slots, full, parts)
     else {
         return Lines::Wrong;
     };
     let bytes = n + m;
     let lines = up_to(up_to(l) + k);
     let ok = c & d;
-    Lines::All(bytes, lines, ok)
+    Lines::All {
+        bytes,
+        lines,
+        carries: ok,
+    }
 }
 
 // The card of a sound JSON text that is an object, by the slots of its members: 12, or as much of it as the room holds. BEGIN and the head, then these and END.
@@ -158,10 +203,20 @@ pub fn put_card<'a, 'b, 'c, 'd, 'e, 'f, 'g>(
     let version = slots[1];
     let uid = slots[2];
     let kind = slots[3];
-    let Lines::All(n, l, c) = put_head(out, s, card, version, uid, kind) else {
+    let Lines::All {
+        bytes: n,
+        lines: l,
+        carries: c,
+    } = put_head(out, s, card, version, uid, kind)
+    else {
         return Lines::Wrong;
     };
-    let Lines::All(m, k, d) = put_body(&mut out[n..], buffer, b, t, scratch, s, slots) else {
+    let Lines::All {
+        bytes: m,
+        lines: k,
+        carries: d,
+    } = put_body(&mut out[n..], buffer, b, t, scratch, s, slots)
+    else {
         return Lines::Wrong;
     };
     let e = n + m;
@@ -169,5 +224,9 @@ pub fn put_card<'a, 'b, 'c, 'd, 'e, 'f, 'g>(
     let bytes = e + z;
     let lines = up_to(up_to(l) + k);
     let ok = c & d;
-    Lines::All(bytes, lines, ok)
+    Lines::All {
+        bytes,
+        lines,
+        carries: ok,
+    }
 }

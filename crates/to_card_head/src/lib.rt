@@ -51,7 +51,11 @@ pub fn is_word(s: &[u8], at: usize) -> bool
             Byte::End => {
                 return begun;
             }
-            Byte::One(b, j, g) => {
+            Byte::One {
+                byte: b,
+                next: j,
+                held: g,
+            } => {
                 if !is_lower_name(b) {
                     return false;
                 }
@@ -73,7 +77,11 @@ pub fn is_filled(s: &[u8], at: usize) -> bool
     match next_byte(s, at, 0) {
         Byte::Alone => false,
         Byte::End => false,
-        Byte::One(b, j, g) => true,
+        Byte::One {
+            byte: b,
+            next: j,
+            held: g,
+        } => true,
     }
 }
 
@@ -163,7 +171,11 @@ pub fn put_head<'a, 'b>(
         let p = put_start(out, s, u);
         let n = p.bytes;
         let ok = p.carried;
-        return Lines::All(n, 2, ok);
+        return Lines::All {
+            bytes: n,
+            lines: 2,
+            carries: ok,
+        };
     }
     let k = word_in(s, kind);
     if k == 0 {
@@ -174,5 +186,9 @@ pub fn put_head<'a, 'b>(
     let ok = p.carried;
     let q = put_string_line(&mut out[n..], b"KIND:", 0, s, k);
     let m = n + q.bytes;
-    Lines::All(m, 3, ok)
+    Lines::All {
+        bytes: m,
+        lines: 3,
+        carries: ok,
+    }
 }

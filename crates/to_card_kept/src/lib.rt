@@ -76,7 +76,12 @@ fn is_kept_line<'a, 'b, 'c, 'd, 'e, 'f, 'g>(
 
 // What became of an entry: its bytes, whether they carry it, the place after it, and how often the names of the card were asked.
 enum Tried {
-    Line(usize, bool, usize, usize),
+    Line {
+        bytes: usize,
+        carries: bool,
+        next: usize,
+        asked: usize,
+    },
     Refused,
 }
 
@@ -117,13 +122,23 @@ fn put_entry<'a, 'b, 'c, 'd, 'e, 'f, 'g, 'h>(
     let n = p.bytes;
     let ok = p.carried;
     let q = judged.asked;
-    Tried::Line(n, ok, end, q)
+    Tried::Line {
+        bytes: n,
+        carries: ok,
+        next: end,
+        asked: q,
+    }
 }
 
 // How far entries were written: to their end, or some of them, with the place of the next.
 enum Run {
     Ended(Lines),
-    More(usize, usize, bool, usize),
+    More {
+        bytes: usize,
+        lines: usize,
+        carries: bool,
+        next: usize,
+    },
 }
 
 // The entries from a place on, until the names of the card were asked for `most` of them.
@@ -155,7 +170,12 @@ fn put_run<'a, 'b, 'c, 'd, 'e, 'f, 'g, 'h>(
     let mut asked = 0;
     let mut ok = true;
     loop {
-        let Tried::Line(k, c, e, q) = put_entry(
+        let Tried::Line {
+            bytes: k,
+            carries: c,
+            next: e,
+            asked: q,
+        } = put_entry(
             &mut out[n..],
             b,
             t,
@@ -168,7 +188,8 @@ fn put_run<'a, 'b, 'c, 'd, 'e, 'f, 'g, 'h>(
             i,
             full,
             parts,
-        ) else {
+        )
+        else {
             return Run::Ended(Lines::Wrong);
         };
         n += k;
@@ -178,12 +199,21 @@ fn put_run<'a, 'b, 'c, 'd, 'e, 'f, 'g, 'h>(
         match separator(s, e, RIGHT_BRACKET) {
             Turn::Go(j) => {
                 if asked == most {
-                    return Run::More(n, lines, ok, j);
+                    return Run::More {
+                        bytes: n,
+                        lines,
+                        carries: ok,
+                        next: j,
+                    };
                 }
                 i = j;
             }
             Turn::Stop(r) => {
-                return Run::Ended(Lines::All(n, lines, ok));
+                return Run::Ended(Lines::All {
+                    bytes: n,
+                    lines,
+                    carries: ok,
+                });
             }
         }
     }
@@ -228,7 +258,12 @@ fn put_noted<'a, 'b, 'c, 'd, 'e, 'f>(
         most,
     ) {
         Run::Ended(r) => r,
-        Run::More(n, lines, ok, j) => Lines::Wrong,
+        Run::More {
+            bytes: n,
+            lines,
+            carries: ok,
+            next: j,
+        } => Lines::Wrong,
     }
 }
 
@@ -267,21 +302,25 @@ fn put_from<'a, 'b, 'c, 'd, 'e, 'f>(
         16,
     ) {
         Run::Ended(r) => r,
-        Run::More(n, lines, ok, j) => {
-            let Lines::All(m, l, c) = put_noted(
-                &mut out[n..],
-                b,
-                t,
-                scratch,
-                s,
-                slots,
-                j,
-                full,
-                parts,
-            ) else {
+        Run::More {
+            bytes: n,
+            lines,
+            carries: ok,
+            next: j,
+        } => {
+            let Lines::All {
+                bytes: m,
+                lines: l,
+                carries: c,
+            } = put_noted(&mut out[n..], b, t, scratch, s, slots, j, full, parts)
+            else {
                 return Lines::Wrong;
             };
-            Lines::All(n + m, lines + l, ok & c)
+            Lines::All {
+                bytes: n + m,
+                lines: lines + l,
+                carries: ok & c,
+            }
         }
     }
 }
@@ -304,7 +343,11 @@ pub fn put_kept<'a, 'b, 'c, 'd, 'e, 'f>(
 {
     let at = slots[12];
     if at == 0 {
-        return Lines::All(0, 0, true);
+        return Lines::All {
+            bytes: 0,
+            lines: 0,
+            carries: true,
+        };
     }
     if at > s.len() {
         return Lines::Wrong;
@@ -315,7 +358,11 @@ pub fn put_kept<'a, 'b, 'c, 'd, 'e, 'f>(
     }
     let j = skip_space(s, i + 1);
     if look(s, j) == RIGHT_BRACKET {
-        return Lines::All(0, 0, true);
+        return Lines::All {
+            bytes: 0,
+            lines: 0,
+            carries: true,
+        };
     }
     put_from(out, b, t, scratch, s, slots, j, full, parts)
 }

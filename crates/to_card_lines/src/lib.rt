@@ -6,7 +6,11 @@ ghost use Rattle.to_card_lines.specs.Lines.{StringLine};
 
 // How many bytes were written, how many lines, and whether lines can carry what they say (13 otherwise); or 12.
 pub enum Lines {
-    All(usize, usize, bool),
+    All {
+        bytes: usize,
+        lines: usize,
+        carries: bool,
+    },
     Wrong,
 }
 

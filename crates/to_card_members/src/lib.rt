@@ -78,7 +78,11 @@ fn pen_pointer<'a, 'b>(out: &'a mut [u8], column: usize, s: &'b [u8], at: usize)
                     carried: ok,
                 };
             }
-            Byte::One(b, j, g) => {
+            Byte::One {
+                byte: b,
+                next: j,
+                held: g,
+            } => {
                 let p = pen_pointed(&mut out[n..], k, b);
                 n += p.bytes;
                 k = p.column;
@@ -177,7 +181,11 @@ fn put_other<'a, 'b, 'c>(
         b"@type,version,uid,kind,name,nicknames,emails,phones,links,notes,titles,organizations,vCardProps",
     );
     if k != 13 {
-        return Lines::All(0, 0, true);
+        return Lines::All {
+            bytes: 0,
+            lines: 0,
+            carries: true,
+        };
     }
     if !is_filled(s, name) {
         return Lines::Wrong;
@@ -185,7 +193,11 @@ fn put_other<'a, 'b, 'c>(
     let p = put_member(out, buffer, s, name, a, e);
     let n = p.bytes;
     let ok = p.carried;
-    Lines::All(n, 1, ok)
+    Lines::All {
+        bytes: n,
+        lines: 1,
+        carries: ok,
+    }
 }
 
 // The members from a place on.
@@ -205,7 +217,12 @@ fn put_from<'a, 'b, 'c>(out: &'a mut [u8], buffer: &'b mut [u8], s: &'c [u8], at
         let q = m.name;
         let a = m.start;
         let e = m.end;
-        let Lines::All(k, l, c) = put_other(&mut out[n..], buffer, s, q, a, e) else {
+        let Lines::All {
+            bytes: k,
+            lines: l,
+            carries: c,
+        } = put_other(&mut out[n..], buffer, s, q, a, e)
+        else {
             return Lines::Wrong;
         };
         n += k;
@@ -216,7 +233,11 @@ fn put_from<'a, 'b, 'c>(out: &'a mut [u8], buffer: &'b mut [u8], s: &'c [u8], at
                 i = j;
             }
             Turn::Stop(r) => {
-                return Lines::All(n, lines, ok);
+                return Lines::All {
+                    bytes: n,
+                    lines,
+                    carries: ok,
+                };
             }
         }
     }
@@ -235,7 +256,11 @@ pub fn put_members<'a, 'b, 'c>(out: &'a mut [u8], buffer: &'b mut [u8], s: &'c [
     }
     let j = skip_space(s, i + 1);
     if look(s, j) == RIGHT_BRACE {
-        return Lines::All(0, 0, true);
+        return Lines::All {
+            bytes: 0,
+            lines: 0,
+            carries: true,
+        };
     }
     put_from(out, buffer, s, j)
 }

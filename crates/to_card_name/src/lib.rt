@@ -30,14 +30,19 @@ pub enum Full {
 
 // The components: where the first stands, and how many rows they have; there are none; or 12.
 pub enum Listed {
-    At(usize, usize),
+    At { first: usize, rows: usize },
     Nothing,
     Wrong,
 }
 
 // How many bytes and lines of a name were written, whether lines can carry what they say, and whether it says a full name; or 12.
 pub enum Named {
-    All(usize, usize, bool, bool),
+    All {
+        bytes: usize,
+        lines: usize,
+        carries: bool,
+        full: bool,
+    },
     Wrong,
 }
 
@@ -109,7 +114,7 @@ fn list_components<'a, 'b, 'c, 'd>(
             if n == 0 {
                 return Listed::Wrong;
             }
-            Listed::At(j, n)
+            Listed::At { first: j, rows: n }
         }
     }
 }
@@ -297,12 +302,20 @@ fn put_alone<'a, 'b>(out: &'a mut [u8], s: &'b [u8], full: usize) -> Lines
 {
     if full == 0 {
         let n = fill(out, b"FN;DERIVED=TRUE:\r\n");
-        return Lines::All(n, 1, true);
+        return Lines::All {
+            bytes: n,
+            lines: 1,
+            carries: true,
+        };
     }
     let p = put_string_line(out, b"FN:", 1, s, full);
     let n = p.bytes;
     let ok = p.carried;
-    Lines::All(n, 1, ok)
+    Lines::All {
+        bytes: n,
+        lines: 1,
+        carries: ok,
+    }
 }
 
 // The lines of a name with components.
@@ -331,7 +344,11 @@ fn put_both<'a, 'b, 'c, 'd, 'e>(
     let m = n + t.bytes;
     let k = 1 + t.lines;
     let ok = p.carried & t.carried;
-    Lines::All(m, k, ok)
+    Lines::All {
+        bytes: m,
+        lines: k,
+        carries: ok,
+    }
 }
 
 // The lines of a name whose full name stands at a place (0: it has none), by the slot of its components.
@@ -346,7 +363,7 @@ fn put_list<'a, 'b>(out: &'a mut [u8], s: &'b [u8], full: usize, components: usi
     match list_components(&mut marks, &mut kinds, &mut values, s, components) {
         Listed::Wrong => Lines::Wrong,
         Listed::Nothing => put_alone(out, s, full),
-        Listed::At(j, n) => put_both(out, s, full, j, &marks, &kinds, &values, n),
+        Listed::At { first: j, rows: n } => put_both(out, s, full, j, &marks, &kinds, &values, n),
     }
 }
 
@@ -387,10 +404,20 @@ pub fn put_name<'a, 'b>(out: &'a mut [u8], s: &'b [u8], slot: usize) -> Named
     ensures { λ r. ⌜ SaysFull (now (s .entry)) slot r ⌝ }
 {
     if slot == 0 {
-        let Lines::All(n, l, ok) = put_alone(out, s, 0) else {
+        let Lines::All {
+            bytes: n,
+            lines: l,
+            carries: ok,
+        } = put_alone(out, s, 0)
+        else {
             return Named::Wrong;
         };
-        return Named::All(n, l, ok, false);
+        return Named::All {
+            bytes: n,
+            lines: l,
+            carries: ok,
+            full: false,
+        };
     }
     if slot > s.len() {
         return Named::Wrong;
@@ -403,8 +430,18 @@ pub fn put_name<'a, 'b>(out: &'a mut [u8], s: &'b [u8], slot: usize) -> Named
     let b = slots[1];
     let c = slots[2];
     let d = slots[3];
-    let Lines::All(n, l, ok) = put_slots(out, s, a, b, c, d) else {
+    let Lines::All {
+        bytes: n,
+        lines: l,
+        carries: ok,
+    } = put_slots(out, s, a, b, c, d)
+    else {
         return Named::Wrong;
     };
-    Named::All(n, l, ok, a != 0)
+    Named::All {
+        bytes: n,
+        lines: l,
+        carries: ok,
+        full: a != 0,
+    }
 }

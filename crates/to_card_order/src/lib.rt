@@ -267,7 +267,7 @@ fn none_met<'a, 'b>(
         let p = element_at(s, i, 13);
         let a = p.start;
         let e = p.end;
-        let Found::Of(k, v) = component_at(s, a) else {
+        let Found::Of { kind: k, value: v } = component_at(s, a) else {
             return ok;
         };
         ok = ok & !is_met(s, kind == k, v, places, prints, count);
@@ -347,7 +347,7 @@ fn note_apart<'a, 'b>(
         let p = element_at(s, i, 13);
         let a = p.start;
         let e = p.end;
-        let Found::Of(k, v) = component_at(s, a) else {
+        let Found::Of { kind: k, value: v } = component_at(s, a) else {
             return ok;
         };
         let t = note_value(places, prints, n, s, at, one, other == k, v);

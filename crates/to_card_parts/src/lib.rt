@@ -20,7 +20,7 @@ ghost use Rattle.to_card_parts.specs.Parts.{KindIn, TellsSlots, TellsCom
 
 // A component: the place of its kind among the kinds, and the place of its value; or 12.
 pub enum Found {
-    Of(usize, usize),
+    Of { kind: usize, value: usize },
     Wrong,
 }
 
@@ -66,7 +66,7 @@ fn component_of(s: &[u8], kind: usize, value: usize) -> Found
     if v == 0 {
         return Found::Wrong;
     }
-    Found::Of(k, v)
+    Found::Of { kind: k, value: v }
 }
 
 // The component at a place.
@@ -159,7 +159,7 @@ pub fn list_rows<'a, 'b, 'c, 'd>(
         let p = element_at(s, i, 13);
         let a = p.start;
         let e = p.end;
-        let Found::Of(k, v) = component_at(s, a) else {
+        let Found::Of { kind: k, value: v } = component_at(s, a) else {
             return 0;
         };
         mark_kind(marks, s, k, v);
@@ -253,7 +253,7 @@ pub fn pen_kind<'a, 'b>(
         let p = element_at(s, i, 13);
         let a = p.start;
         let e = p.end;
-        let Found::Of(k, v) = component_at(s, a) else {
+        let Found::Of { kind: k, value: v } = component_at(s, a) else {
             return Inked {
                 bytes: n,
                 column: c,
