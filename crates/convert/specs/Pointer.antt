@@ -21,7 +21,7 @@ pointedFrom false (c ∷ s) =
     let plain : Option Bytes = push c (pointedFrom false s) in
     let no-tilde : Option Bytes = pick (eqb c (code "/")) none plain in
     pick (eqb c (code "~")) tilde no-tilde
-pointedFrom true (c ∷ s) = pick (eqb c (code "0")) (push 126 (pointedFrom false s)) (pick (eqb c (code "1")) (push 47 (pointedFrom false s)) none)
+pointedFrom true (c ∷ s) = pick (eqb c (code "0")) (push (code "~") (pointedFrom false s)) (pick (eqb c (code "1")) (push (code "/") (pointedFrom false s)) none)
 
 -- the name of the member that a pointer points at
 unfoldable pub pointed : Bytes → Option Bytes

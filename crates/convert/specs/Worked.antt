@@ -15,7 +15,7 @@ use Rattle.convert.specs.NormalJson.{normalJson}
 
 -- a byte of a text, written: `|` is LF, `^` is CR, `'` is a double quote
 unfoldable pub spelt : ℕ → Bytes
-spelt c = pick (eqb c 124) (10 ∷ []) (pick (eqb c 94) (13 ∷ []) (pick (eqb c 39) (code "\"" ∷ []) (encode c)))
+spelt c = pick (eqb c (code "|")) (10 ∷ []) (pick (eqb c (code "^")) (13 ∷ []) (pick (eqb c (code "'")) (code "\"" ∷ []) (encode c)))
 
 unfoldable pub text : String → Bytes
 text []ˢ = []

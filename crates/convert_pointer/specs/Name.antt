@@ -2,6 +2,7 @@
 use mathlib.Core.Path.{_≡_}
 use mathlib.Core.Bool.{true, false}
 use mathlib.Core.List.{[]}
+use Prim.Native.Char.{code}
 use Prim.Native.Nat.{ℕ, _+_}
 use lib.Dec.{eqb}
 use lib.ListN.{getD}
@@ -18,7 +19,7 @@ Pointing p = is-some (pointedFrom false p) ≡ true
 
 -- the byte that stands at i, and where the next begins
 unfoldable pub pointerByte : Bytes → ℕ → ℕ
-pointerByte p i = pick (eqb (getD p i 0) 126) (pick (eqb (getD p (i + 1) 0) 49) 47 126) (getD p i 0)
+pointerByte p i = pick (eqb (getD p i 0) (code "~")) (pick (eqb (getD p (i + 1) 0) (code "1")) (code "/") (code "~")) (getD p i 0)
 
 unfoldable pub pointerNext : Bytes → ℕ → ℕ
-pointerNext p i = pick (eqb (getD p i 0) 126) (i + 2) (i + 1)
+pointerNext p i = pick (eqb (getD p i 0) (code "~")) (i + 2) (i + 1)

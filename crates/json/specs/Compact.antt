@@ -10,7 +10,7 @@ use Rattle.json.specs.Tree.{Json, jnull, jtrue, jfalse, jnum, jstr, jarr
 
 -- lower-case hex
 abbrev pub hexDigit : ℕ → ℕ
-hexDigit d = pick (ltb d 10) (48 + d) (87 + d)
+hexDigit d = pick (ltb d 10) (code "0" + d) (87 + d)
 
 -- one byte in a string: `"`, `\`, controls and DEL are escaped, \b \t \n \f \r where they can be
 unfoldable pub spelled : ℕ → Bytes

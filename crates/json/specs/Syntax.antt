@@ -23,7 +23,7 @@ token b s = one b (skip s)
 -- ---- strings
 
 unfoldable pub hexVal : ℕ → ℕ
-hexVal c = pick (isDigit c) (c - 48) (pick (between (code "A") (code "F") c) (c - 55) (c - 87))
+hexVal c = pick (isDigit c) (c - code "0") (pick (between (code "A") (code "F") c) (c - 55) (c - 87))
 
 unfoldable pub hex : Bytes → Got ℕ
 hex = on isHex (λ c t. got (hexVal c) t) bad

@@ -84,5 +84,5 @@ stringsPiece i form raw v = pick (eqb form 4) (orgPiece i (splitText (code ";") 
 
 -- the value has no bad escape where it is TEXT
 pub record StringsSound (form : ℕ) (raw : Bool) (v : Bytes) : Type 0 where
-  pub org : form ≡ 4 → Readable 59 v
+  pub org : form ≡ 4 → Readable (code ";") v
   pub plain : (form ≡ 4 → ⊥) → is-some (readText (pick raw [] v)) ≡ true

@@ -40,7 +40,7 @@ othersOf v k = pick (eqb (otherPart k) 7) [] (partOf v (otherPart k))
 
 -- the values of part k that are its own
 unfoldable pub valuesOf : Bytes → ℕ → List Bytes
-valuesOf v k = keep (isOwn (textsOf 44 (othersOf v k))) (textsOf 44 (partOf v k))
+valuesOf v k = keep (isOwn (textsOf (code ",") (othersOf v k))) (textsOf (code ",") (partOf v k))
 
 -- the components of n parts from part k on
 unfoldable pub componentsFrom : ℕ → Bytes → ℕ → Bool → Bytes
@@ -49,7 +49,7 @@ componentsFrom (suc n) v k begun = listed k begun (valuesOf v k) ++ componentsFr
 
 -- no part has a bad escape
 pub record NameSound (v : Bytes) : Type 0 where
-  pub readable : (k : ℕ) → Readable 44 (partOf v k)
+  pub readable : (k : ℕ) → Readable (code ",") (partOf v k)
 
 -- ---- the member
 
