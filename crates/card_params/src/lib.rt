@@ -30,7 +30,7 @@ pub enum Pref {
 }
 
 // What a value is, as a number: 1 true, 3 a number, 5 an array.
-pub fn kind_code(k: Kind) -> usize
+fn kind_code(k: Kind) -> usize
     ensures { λ r. ⌜ r ≡ codeOf k ⌝ }
 {
     match k {

@@ -26,7 +26,7 @@ use served::Outcome;
 use to_json_card::put_card;
 
 // The JSON, whole in a scratch, to the lent output: 14 where it is longer, and then no byte is written.
-pub fn finish(out: &mut [u8], text: &[u8]) -> Outcome
+fn finish(out: &mut [u8], text: &[u8]) -> Outcome
     requires { ⌜ length (now text) ≤ jsonRoom ⌝ }
     ensures { λ r. ⌜ Serves (now (out .entry)) (yes (now (text .entry))) r (now (out .exit)) ⌝ }
 {

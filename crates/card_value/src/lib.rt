@@ -63,7 +63,7 @@ pub fn string_in(s: &[u8], at: usize) -> usize
 }
 
 // The same for the value in a slot; 0 also where the slot is empty.
-pub fn text_in(s: &[u8], slot: usize) -> usize
+fn text_in(s: &[u8], slot: usize) -> usize
     ensures { λ r. ⌜ TellsText (now (s .entry)) slot r ⌝ }
 {
     if slot == 0 {

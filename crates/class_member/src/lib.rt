@@ -34,7 +34,7 @@ fn points_on(tilde: bool, c: u8) -> bool
 }
 
 // One part of a pointer (RFC 6901), not empty.
-pub fn is_pointer(p: &[u8]) -> bool
+fn is_pointer(p: &[u8]) -> bool
     ensures { λ r. ⌜ r ≡ is-some (pointed (now (p .entry))) ⌝ }
 {
     if p.len() == 0 {

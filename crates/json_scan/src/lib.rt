@@ -81,7 +81,7 @@ pub fn scalar_end(s: &[u8], at: usize) -> Read
 }
 
 // A member's name, with the colon.
-pub fn name_end(s: &[u8], at: usize) -> Read
+fn name_end(s: &[u8], at: usize) -> Read
     requires { ⌜ at ≤ length (now s) ⌝ }
     ensures { λ r. ⌜ Gives (now (s .entry)) at (name (drop at (now (s .entry)))) r ⌝ }
 {
@@ -170,7 +170,7 @@ fn object_end(s: &[u8], at: usize, depth: usize) -> Read
 }
 
 // White space and a value, with `depth` arrays and objects at most around what is inside it.
-pub fn value_end(s: &[u8], at: usize, depth: usize) -> Read
+fn value_end(s: &[u8], at: usize, depth: usize) -> Read
     requires { ⌜ at ≤ length (now s) ⌝ }
     ensures { λ r. ⌜ Gives (now (s .entry)) at (value depth (drop at (now (s .entry)))) r ⌝ }
 {

@@ -60,7 +60,7 @@ fn pair_at(s: &[u8], high: u32, at: usize) -> Letter
 }
 
 // The character at a place of a string.
-pub fn letter_at(s: &[u8], at: usize) -> Letter
+fn letter_at(s: &[u8], at: usize) -> Letter
     requires { ⌜ at ≤ length (now s) ⌝ }
     ensures { λ r. ⌜ (decodedAt (now (s .entry)) at ≡ letterOf (now (s .entry)) r) × LetterIn at (length (now (s .entry))) r ⌝ }
 {

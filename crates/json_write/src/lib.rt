@@ -256,7 +256,7 @@ fn put_run(out: &mut [u8], s: &[u8], at: usize, hold: u32) -> Wrote
 
 // The string from a place on (after its first quote), without its quotes and spelled anew. Nothing is written where it stands for nothing, as
 // in `json_strings`.
-pub fn put_respelled(out: &mut [u8], s: &[u8], from: usize) -> Wrote
+fn put_respelled(out: &mut [u8], s: &[u8], from: usize) -> Wrote
     ensures { λ r. ⌜ Puts (now (out .entry)) (spelledAll (textAt (now (s .entry)) from)) r (now (out .exit)) ⌝ }
 {
     if !is_paired(s, from) {

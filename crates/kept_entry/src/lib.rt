@@ -109,7 +109,7 @@ pub fn four_at(s: &[u8], at: usize) -> Four
 }
 
 // VALUE: its name, then the type.
-pub fn put_typed<'a, 'b, 'c>(
+fn put_typed<'a, 'b, 'c>(
     b: &'a mut [u8],
     n: usize,
     t: &'b mut [usize],

@@ -14,7 +14,7 @@ use output::Wrote;
 
 // Whether an entry of the map i has the key. The slots are those of the top-level members, by the list of reserved names: the first map's is the sixth.
 // What is noted of the names is in `places`, `prints` and `ends`.
-pub fn id_used<'a, 'b, 'c, 'd, 'e>(
+fn id_used<'a, 'b, 'c, 'd, 'e>(
     s: &'a [u8],
     slots: &'b [usize],
     places: &'c [u16],
@@ -31,7 +31,7 @@ pub fn id_used<'a, 'b, 'c, 'd, 'e>(
 }
 
 // Whether the card has the member that the pointer points at. The scratch is for its name.
-pub fn pointer_used<'a, 'b, 'c, 'd, 'e, 'f>(
+fn pointer_used<'a, 'b, 'c, 'd, 'e, 'f>(
     s: &'a [u8],
     slots: &'b [usize],
     places: &'c [u16],

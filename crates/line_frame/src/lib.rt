@@ -110,13 +110,13 @@ pub fn next_line(s: &[u8], at: usize) -> Line
     Line { end, next: lf }
 }
 
-pub fn is_begin(line: &[u8]) -> bool
+fn is_begin(line: &[u8]) -> bool
     ensures { λ r. ⌜ r ≡ isBegin (now (line .entry)) ⌝ }
 {
     is_named(line, b"begin:vcard")
 }
 
-pub fn is_end(line: &[u8]) -> bool
+fn is_end(line: &[u8]) -> bool
     ensures { λ r. ⌜ r ≡ isEnd (now (line .entry)) ⌝ }
 {
     is_named(line, b"end:vcard")

@@ -56,7 +56,7 @@ pub enum Values {
     Bad,
 }
 
-pub fn values_at(s: &[u8], at: usize) -> Values
+fn values_at(s: &[u8], at: usize) -> Values
     requires { ⌜ at ≤ length (now s) ⌝ }
     ensures { λ r. ⌜ ValuesAt (now (s .entry)) at r ⌝ }
 {
@@ -115,7 +115,7 @@ pub enum Params {
     Bad,
 }
 
-pub fn params_at(s: &[u8], at: usize) -> Params
+fn params_at(s: &[u8], at: usize) -> Params
     requires { ⌜ at ≤ length (now s) ⌝ }
     ensures { λ r. ⌜ ParamsAt (now (s .entry)) at r ⌝ }
 {

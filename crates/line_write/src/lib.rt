@@ -33,7 +33,7 @@ fn put_quoted(out: &mut [u8], v: &[u8]) -> Wrote
 }
 
 // A parameter value: in quotes where it is not bare, and always where `always` says so (JSPTR).
-pub fn put_value(out: &mut [u8], v: &[u8], always: bool) -> Wrote
+fn put_value(out: &mut [u8], v: &[u8], always: bool) -> Wrote
     ensures { λ r. ⌜ Puts (now (out .entry)) (writeValue always (now (v .entry)) []) r (now (out .exit)) ⌝ }
 {
     if always {
@@ -46,7 +46,7 @@ pub fn put_value(out: &mut [u8], v: &[u8], always: bool) -> Wrote
 }
 
 // A name in upper case.
-pub fn put_upper(out: &mut [u8], name: &[u8]) -> Wrote
+fn put_upper(out: &mut [u8], name: &[u8]) -> Wrote
     ensures { λ r. ⌜ Puts (now (out .entry)) (uppered (now (name .entry))) r (now (out .exit)) ⌝ }
 {
     let mut i = 0;
@@ -61,7 +61,7 @@ pub fn put_upper(out: &mut [u8], name: &[u8]) -> Wrote
 }
 
 // `;NAME=`
-pub fn put_param_name(out: &mut [u8], name: &[u8]) -> Wrote
+fn put_param_name(out: &mut [u8], name: &[u8]) -> Wrote
     ensures { λ r. ⌜ Puts (now (out .entry)) (flat (ascii ";" ∷ uppered (now (name .entry)) ∷ ascii "=" ∷ [])) r (now (out .exit)) ⌝ }
 {
     let Wrote::Bytes(a) = put_byte(out, b';') else {
@@ -155,7 +155,7 @@ fn put_piece(out: &mut [u8], folded: bool, c: u8) -> Wrote
 }
 
 // A line, folded at 75 bytes at the latest whole character.
-pub fn put_folded(out: &mut [u8], s: &[u8]) -> Wrote
+fn put_folded(out: &mut [u8], s: &[u8]) -> Wrote
     ensures { λ r. ⌜ Puts (now (out .entry)) (fold (now (s .entry))) r (now (out .exit)) ⌝ }
 {
     let mut at = 0;

@@ -34,7 +34,7 @@ fn is_lower_name(c: u8) -> bool
 }
 
 // Whether a string is a lower-case word: one or more of these bytes.
-pub fn is_word(s: &[u8], at: usize) -> bool
+fn is_word(s: &[u8], at: usize) -> bool
     ensures { λ r. ⌜ r ≡ wordOf (decodedAt (now (s .entry)) at) ⌝ }
 {
     if at > s.len() {

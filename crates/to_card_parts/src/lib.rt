@@ -231,7 +231,7 @@ fn pen_value<'a, 'b>(
 }
 
 // The values of one kind, of the components from a place on.
-pub fn pen_kind<'a, 'b>(
+fn pen_kind<'a, 'b>(
     out: &'a mut [u8],
     column: usize,
     style: u8,

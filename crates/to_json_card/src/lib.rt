@@ -32,7 +32,7 @@ fn value_of<'a, 'b>(t: &'b mut [usize], s: &'a [u8]) -> &'a [u8]
 }
 
 // The name, from the first FN and the first N that convert.
-pub fn put_name_of(
+fn put_name_of(
     out: &mut [u8],
     t: &mut [usize],
     scratch: &[u8],
@@ -73,7 +73,7 @@ fn put_member_turn(out: &mut [u8], t: &mut [usize], text: &mut [u8], s: &[u8]) -
 }
 
 // The members of JSPROP, in the order of their lines.
-pub fn put_members(
+fn put_members(
     out: &mut [u8],
     t: &mut [usize],
     text: &mut [u8],

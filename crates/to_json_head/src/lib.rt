@@ -14,7 +14,7 @@ use output::put_text;
 use table_kept::put_lower;
 
 // A made uid: the stem, a hyphen, the card's number.
-pub fn put_made_uid(out: &mut [u8], stem: &[u8], number: usize) -> Wrote
+fn put_made_uid(out: &mut [u8], stem: &[u8], number: usize) -> Wrote
     ensures { λ r. ⌜ Puts (now (out .entry)) (quoted (madeUid (now (stem .entry)) number) []) r (now (out .exit)) ⌝ }
 {
     let Wrote::Bytes(a) = put_byte(out, b'"') else {
@@ -40,7 +40,7 @@ pub fn put_made_uid(out: &mut [u8], stem: &[u8], number: usize) -> Wrote
 }
 
 // The value of UID as it stands, or a made one.
-pub fn put_uid(out: &mut [u8], given: bool, uid: &[u8], stem: &[u8], number: usize) -> Wrote
+fn put_uid(out: &mut [u8], given: bool, uid: &[u8], stem: &[u8], number: usize) -> Wrote
     ensures { λ r. ⌜ Puts (now (out .entry)) (quoted (uidOf given (now (uid .entry)) (now (stem .entry)) number) []) r (now (out .exit)) ⌝ }
 {
     if given {

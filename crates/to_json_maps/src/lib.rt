@@ -332,7 +332,7 @@ fn put_entries(
 }
 
 // The member of the map i.
-pub fn put_map(
+fn put_map(
     out: &mut [u8],
     t: &mut [usize],
     scratch: &[u8],

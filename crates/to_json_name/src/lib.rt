@@ -97,7 +97,7 @@ fn put_parts(out: &mut [u8], v: &[u8]) -> Wrote
 }
 
 // N's value as the array of components.
-pub fn put_components(out: &mut [u8], v: &[u8]) -> Wrote
+fn put_components(out: &mut [u8], v: &[u8]) -> Wrote
     requires { ⌜ NameSound (now v) ⌝ }
     ensures { λ r. ⌜ Puts (now (out .entry)) (flat (ascii "[" ∷ componentsFrom 7 (now (v .entry)) 0 false ∷ ascii "]" ∷ [])) r (now (out .exit)) ⌝ }
 {
