@@ -182,8 +182,19 @@ no-names s ps fs = (refl, refl)
 pub absent-next : (fs : List ℕ) (p from k : ℕ) → Absent fs p from k false → (getD fs k 0 ≡ p → ⊥) → Absent fs p from (k + 1) false
 absent-next fs p from k h n = absent-as fs p from (k + 1) (absent-more fs p from k false h) (ne-eqb (getD fs k 0) p n)
 
+-- two parts of a row that meet, or have some in common
+pub absent-over : (fs : List ℕ) (p from j k to : ℕ) → j ≤ k → Absent fs p from k false → Absent fs p j to false → Absent fs p from to false
+absent-over fs p from j k to w h g i l m = byBool (ltb i k) (λ z. h i l (ltb-true i k z)) (λ z. g i (omega (arith, ltb-false i k z, w)) m)
+
 pub absent-join : (fs : List ℕ) (p from k to : ℕ) → Absent fs p from k false → Absent fs p k to false → Absent fs p from to false
-absent-join fs p from k to h g i l m = byBool (ltb i k) (λ z. h i l (ltb-true i k z)) (λ z. g i (ltb-false i k z) m)
+absent-join fs p from k to = absent-over fs p from k k to (omega arith)
+
+-- one search of a row after another
+abbrev pub Reached : List ℕ → ℕ → ℕ → ℕ → ℕ → Type 0
+Reached fs p from to r = (from ≤ r) × (r ≤ to) × Absent fs p from r false
+
+pub reach-on : (fs : List ℕ) (p from to a b : ℕ) → Reached fs p from to a → Reached fs p a to b → Reached fs p from to b
+reach-on fs p from to a b h g = (omega (arith, h .0, g .0), g .1, absent-join fs p from a b (h .2) (g .2))
 
 -- the string at k does not agree, and up to j no print is equal
 pub clear-on : (s : Bytes) (o : Option Bytes) (ps fs : List ℕ) (p k j : ℕ) → p ≡ printOf 0 o → agree o (decodedAt s (getD ps k 0)) ≡ false → Absent fs p (k + 1) j false → Clear s o ps fs 0 k → Clear s o ps fs 0 j

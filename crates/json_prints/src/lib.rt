@@ -91,15 +91,30 @@ pub fn any_print(prints: &[u16], p: u16, from: usize, to: usize) -> bool
     found
 }
 
+// Past the blocks of so many prints that have not this one. The caller writes their length out, so that the loop over a block is laid out without a jump.
+fn past_blocks(prints: &[u16], p: u16, from: usize, to: usize, size: usize) -> usize
+    requires { ⌜ from ≤ to ⌝ }
+    requires { ⌜ to ≤ length (now prints) ⌝ }
+    requires { ⌜ 0 < size ⌝ }
+    ensures { λ r. ⌜ (from ≤ r) × (r ≤ to) × Absent (now (prints .entry)) p from r false ⌝ }
+{
+    let mut k = from;
+    while to - k >= size {
+        let e = k + size;
+        if any_print(prints, p, k, e) {
+            return k;
+        }
+        k = e;
+    }
+    k
+}
+
 // The first place of a print from a place on, before another; that other where it is not there.
 fn print_in(prints: &[u16], p: u16, from: usize, to: usize) -> usize
     requires { ⌜ from ≤ to ⌝ }
     requires { ⌜ to ≤ length (now prints) ⌝ }
     ensures { λ r. ⌜ (from ≤ r) × (r ≤ to) × Absent (now (prints .entry)) p from r false ⌝ }
 {
-    if !any_print(prints, p, from, to) {
-        return to;
-    }
     let mut k = from;
     while k < to {
         if prints[k] == p {
@@ -110,22 +125,33 @@ fn print_in(prints: &[u16], p: u16, from: usize, to: usize) -> usize
     k
 }
 
-// The same in a long row, block by block. Blocks of one length: the loop over the prints of one is laid out without a jump.
+// The same in a long row, block by block. The last sixteen are a block again, so that no print is left over to be looked at alone.
+fn print_in_row(prints: &[u16], p: u16, from: usize, to: usize) -> usize
+    requires { ⌜ from + 16 ≤ to ⌝ }
+    requires { ⌜ to ≤ length (now prints) ⌝ }
+    ensures { λ r. ⌜ (from ≤ r) × (r ≤ to) × Absent (now (prints .entry)) p from r false ⌝ }
+{
+    let a = past_blocks(prints, p, from, to, 256);
+    let b = past_blocks(prints, p, a, to, 64);
+    let c = past_blocks(prints, p, b, to, 16);
+    if to - c < 16 {
+        if !any_print(prints, p, to - 16, to) {
+            return to;
+        }
+    }
+    print_in(prints, p, c, to)
+}
+
+// The first place of a print from a place on, before another; that other where it is not there. Most rows are short.
 pub fn next_print(prints: &[u16], p: u16, from: usize, to: usize) -> usize
     requires { ⌜ from ≤ to ⌝ }
     requires { ⌜ to ≤ length (now prints) ⌝ }
     ensures { λ r. ⌜ (from ≤ r) × (r ≤ to) × Absent (now (prints .entry)) p from r false ⌝ }
 {
-    let mut k = from;
-    while to - k > 256 {
-        let e = k + 256;
-        let j = print_in(prints, p, k, e);
-        if j < e {
-            return j;
-        }
-        k = e;
+    if to - from < 16 {
+        return print_in(prints, p, from, to);
     }
-    print_in(prints, p, k, to)
+    print_in_row(prints, p, from, to)
 }
 
 fn wide(place: u16) -> usize

@@ -1,11 +1,10 @@
+use borrow.Author.Needs.{needs}
 use native.Mathlib.Omega.{arith}
 use denote.Ref.{now}
 use mathlib.Core.Bool.{false}
 use Prim.Native.Nat.{_≤_, _-_}
-use borrow.Author.Tests.{not-true}
 use Rattle.json_prints.specs.Prints.{Absent}
-use Rattle.json_prints.proofs.Prints.{absent-as, absent-none, absent-next}
-use borrow.Author.Needs.{needs}
+use Rattle.json_prints.proofs.Prints.{absent-none, absent-next}
 use Rattle.json_prints.proofs.print_in.Statement.{statement}
 use Rattle.json_prints.proofs.print_in.Tie as tie
 
@@ -15,29 +14,17 @@ Inv-loop prints p from to k₀ k = (from ≤ k) × (k ≤ to) × Absent prints p
 abbrev μ-loop : tie.MeasureT-loop
 μ-loop prints p from to k₀ k = to - k
 
-any-print-requires : tie.Need-any-print-requires Inv-loop μ-loop
-any-print-requires c κs = search needs
+loop-holds : tie.Need-loop-holds Inv-loop μ-loop
+loop-holds c = (search needs, search needs, absent-none (now (c .args .prints)) (c .args .p) (c .args .from))
+
+mul-if1 : tie.Need-mul-if1 Inv-loop μ-loop
+mul-if1 c = search needs
+
+shared-slice-read-if1 : tie.Need-shared-slice-read-if1 Inv-loop μ-loop
+shared-slice-read-if1 c = search needs
 
 returns : tie.Need-returns Inv-loop μ-loop
-returns c =
-    let args = c .before .before .before .args in (
-      omega (arith, c .before .before .before .pre .0),
-      omega arith,
-      absent-as (now (args .prints)) (args .p) (args .from) (args .to) (c .before .any-print .ensures)
-          (not-true (c .before .any-print .result) (c .if1 .taken)),
-    )
-
-loop-holds : tie.Need-loop-holds Inv-loop μ-loop
-loop-holds c = (search needs, search needs, absent-none (now (c .before .before .before .args .prints)) (c .before .before .before .args .p) (c .before .before .before .args .from))
-
-mul-if2 : tie.Need-mul-if2 Inv-loop μ-loop
-mul-if2 c = search needs
-
-shared-slice-read-if2 : tie.Need-shared-slice-read-if2 Inv-loop μ-loop
-shared-slice-read-if2 c = search needs
-
-returns-2 : tie.Need-returns-2 Inv-loop μ-loop
-returns-2 c = c .before .before .before .loop .inv
+returns c = c .before .before .before .loop .inv
 
 add-k : tie.Need-add-k Inv-loop μ-loop
 add-k c = search needs
@@ -47,16 +34,15 @@ loop-less c = search needs
 
 loop-again : tie.Need-loop-again Inv-loop μ-loop
 loop-again c =
-    let args = c .before .before .before .before .before .before .before .args in
+    let args = c .before .before .before .before .args in
     let loop = c .before .before .before .loop in (
       omega (arith, loop .inv .0),
       omega (arith, c .before .before .loop-test .taken),
-      absent-next (now (args .prints)) (args .p) (args .from) (loop .k) (loop .inv .2)
-          (c .if2 .left),
+      absent-next (now (args .prints)) (args .p) (args .from) (loop .k) (loop .inv .2) (c .if1 .left),
     )
 
-returns-3 : tie.Need-returns-3 Inv-loop μ-loop
-returns-3 c = c .before .loop .inv
+returns-2 : tie.Need-returns-2 Inv-loop μ-loop
+returns-2 c = c .before .loop .inv
 
 pub print-in-spec : {M : Type 1} → statement M
 print-in-spec =
@@ -64,13 +50,11 @@ print-in-spec =
     (tie.spec
     Inv-loop
     μ-loop
-    any-print-requires
-    returns
     loop-holds
-    mul-if2
-    shared-slice-read-if2
-    returns-2
+    mul-if1
+    shared-slice-read-if1
+    returns
     add-k
     loop-less
     loop-again
-    returns-3)
+    returns-2)
