@@ -1,31 +1,28 @@
 // Reads each JSON text that an argument names, and writes it in its compact form. Of an object or an array then each member or element:
 // its name and its kind, a string decoded and written again, a number as it stands in the text.
 use json_access::Kind;
-use json_access::element_at;
 use json_access::kind_at;
-use json_access::member_at;
 use json_compact::put_compact;
 use json_marks::mark;
-use json_marks::separator;
-use json_marks::skip_space;
 use json_read::Verdict;
 use json_read::read;
+use json_skip::skip_value;
 use json_strings::decode_into;
+use json_walk::Element;
+use json_walk::Member;
+use json_walk::first_element;
+use json_walk::first_member;
+use json_walk::next_element;
+use json_walk::next_member;
 use json_write::put_member;
 use json_write::put_number;
 use json_write::put_string;
 use libc::STDOUT_FILENO;
 use named_file::read_named;
 use output::Wrote;
-use text::LEFT_BRACE;
-use text::LEFT_BRACKET;
 use text::QUOTE;
-use text::RIGHT_BRACE;
-use text::RIGHT_BRACKET;
 use text::Read;
-use text::Turn;
-use text::look;
-ghost use Prim.Native.Nat.{_≤_, _<_};
+ghost use Prim.Native.Nat.{_≤_};
 ghost use lib.ListN.{length};
 
 fn say(text: &[u8]) {
@@ -107,87 +104,33 @@ fn say_value(s: &[u8], start: usize, end: usize)
     say(b"\n");
 }
 
-// The member at a place. Answers where it ends.
-fn say_member(s: &[u8], at: usize) -> usize
-    requires { ⌜ at ≤ length (now s) ⌝ }
-    ensures { λ r. ⌜ at ≤ r ⌝ }
-    ensures { λ r. ⌜ r ≤ length (now (s .entry)) ⌝ }
-{
-    let m = member_at(s, at, 15);
-    let q = m.name;
-    let a = m.start;
-    let e = m.end;
-    say(b"  ");
-    say_string(s, q);
-    say(b" ");
-    say_value(s, a, e);
-    e
-}
-
-// The element at a place. Answers where it ends.
-fn say_element(s: &[u8], at: usize) -> usize
-    requires { ⌜ at ≤ length (now s) ⌝ }
-    ensures { λ r. ⌜ at ≤ r ⌝ }
-    ensures { λ r. ⌜ r ≤ length (now (s .entry)) ⌝ }
-{
-    let m = element_at(s, at, 15);
-    let a = m.start;
-    let e = m.end;
-    say(b"  ");
-    say_value(s, a, e);
-    e
-}
-
-// A part of what the bracket `close` closes.
-fn say_part(s: &[u8], at: usize, close: u16) -> usize
-    requires { ⌜ at ≤ length (now s) ⌝ }
-    ensures { λ r. ⌜ at ≤ r ⌝ }
-    ensures { λ r. ⌜ r ≤ length (now (s .entry)) ⌝ }
-{
-    if close == RIGHT_BRACE {
-        return say_member(s, at);
-    }
-    say_element(s, at)
-}
-
-// All of them, from the first one's place on.
-fn say_parts(s: &[u8], at: usize, close: u16)
-    requires { ⌜ at ≤ length (now s) ⌝ }
-    requires { ⌜ close < 256 ⌝ }
-{
-    let mut i = at;
+// The members of the text, where it is an object.
+fn say_members(s: &[u8]) {
+    let mut m = first_member(s, 0);
     loop {
-        let e = say_part(s, i, close);
-        match separator(s, e, close) {
-            Turn::Go(j) => {
-                i = j;
-            }
-            Turn::Stop(r) => {
-                return;
-            }
-        }
+        let Member::At { name: q, start: a } = m else {
+            return;
+        };
+        let e = skip_value(s, a);
+        say(b"  ");
+        say_string(s, q);
+        say(b" ");
+        say_value(s, a, e);
+        m = next_member(s, e);
     }
 }
 
-// The same from the place after the opening bracket on, where there may be none.
-fn say_inside(s: &[u8], at: usize, close: u16)
-    requires { ⌜ at ≤ length (now s) ⌝ }
-    requires { ⌜ close < 256 ⌝ }
-{
-    let i = skip_space(s, at);
-    if look(s, i) != close {
-        say_parts(s, i, close);
-    }
-}
-
-fn say_all(s: &[u8]) {
-    let i = skip_space(s, 0);
-    let b = look(s, i);
-    if b == LEFT_BRACE {
-        say_inside(s, i + 1, RIGHT_BRACE);
-    }
-    if b == LEFT_BRACKET {
-        say_inside(s, i + 1, RIGHT_BRACKET);
+// Its elements, where it is an array.
+fn say_elements(s: &[u8]) {
+    let mut m = first_element(s, 0);
+    loop {
+        let Element::At { start: a } = m else {
+            return;
+        };
+        let e = skip_value(s, a);
+        say(b"  ");
+        say_value(s, a, e);
+        m = next_element(s, e);
     }
 }
 
@@ -218,7 +161,8 @@ fn show(file: &[u8], s: &[u8]) {
     };
     send(&out, m);
     say(b"\n");
-    say_all(s);
+    say_members(s);
+    say_elements(s);
     say(b"{");
     say_named(b"file", file);
     say(b",\"bytes\":");

@@ -4,14 +4,10 @@ use mathlib.Core.Bool.{Bool, false}
 use mathlib.Core.List.{List, map}
 use mathlib.Core.Option.{some}
 use Prim.Native.Nat.{ℕ, suc}
-use lib.ListN.{drop}
 use Rattle.text.specs.Choice.{with-some}
 use Rattle.text.specs.Bytes.{Bytes, among}
-use Rattle.text.specs.Reader.{got, loop}
-use Rattle.json.specs.Tree.{Json, Members, Member, membersOf, nameOf, asObject}
-use Rattle.json.specs.Syntax.{pair, value}
-use Rattle.json.specs.Strings.{decodedMembers}
-use Rattle.json_index.specs.Index.{jsonAt}
+use Rattle.json.specs.Tree.{Json, Member, nameOf, asObject}
+use Rattle.json_walk.specs.Walk.{jsonAt}
 
 -- a member has that name
 abbrev pub named : Bytes → List Member → Bool
@@ -20,11 +16,6 @@ named n ms = among n (map nameOf ms)
 -- the value is an object with such a member
 abbrev pub hasName : Bytes → Json → Bool
 hasName n v = with-some (asObject v) (named n) false
-
--- if members stand from a place on: whether one of them has the name
-abbrev pub HasFrom : ℕ → Bytes → ℕ → Bytes → Bool → Type 0
-HasFrom d s at n r = (us ms : Members) (t : Bytes) → loop (pair (value d)) (drop at s) ≡ got us t → decodedMembers us ≡ some ms
-    → r ≡ named n (membersOf ms)
 
 -- of whatever value stands at a place
 abbrev pub HasMember : ℕ → Bytes → ℕ → Bytes → Bool → Type 0

@@ -1,5 +1,5 @@
 -- Laws of the look-up, over plain values.
-use mathlib.Core.Path.{_≡_, refl, sym, ap, _∙_}
+use mathlib.Core.Path.{_≡_, refl, sym, ap, subst, _∙_}
 use mathlib.Core.Bool.{Bool, true, false}
 use mathlib.Core.Logic.{_⊎_, ⊎-elim}
 use mathlib.Core.List.{List, [], _∷_}
@@ -10,16 +10,15 @@ use lib.ListN.{length, take, drop, length-drop, take-append-drop}
 use lib.Dec.{leb}
 use borrow.Author.Tests.{eq-eqb, ne-eqb}
 use Rattle.text.specs.declared.Read.{Read}
-use Rattle.text.specs.declared.Turn.the-variants.{Go, Stop}
+use Rattle.text.specs.declared.Turn.the-variants.{Stop}
 use Rattle.text.specs.Choice.{with-some}
 use Rattle.text.specs.Bytes.{Bytes, is, same}
-use Rattle.text.specs.Reader.{Got, got, bad, bind, under, on, when, Step, more, last, after, loop}
-use Rattle.text.specs.Places.{byteAt, GivesT, Passes}
+use Rattle.text.specs.Reader.{Got, got, bad, bind, first, on, when, Step, more, last, after, loop}
+use Rattle.text.specs.Places.{byteAt, GivesT}
 use Rattle.text.proofs.Places.{byBool, on-yes, on-no}
 use Rattle.text.proofs.Fine.{Takes, got-what, bind-inv, under-inv, loop-more, loop-split}
-use Rattle.json.specs.Grammar.{isSpace}
 use Rattle.json.specs.Tree.{Json, jobj}
-use Rattle.json.specs.Syntax.{skip, name, sep, pair, pairs, value, text}
+use Rattle.json.specs.Syntax.{skip, name, sep, pair, value, text}
 use Rattle.json.specs.Strings.{decode}
 use Rattle.json.specs.Read.{Reading, tree, refused, readingOf, reading}
 use Rattle.json.specs.Lookup.{Span, spanOf, spans, given, found, isTree, room, lookUp}
@@ -27,15 +26,19 @@ use Rattle.json.proofs.Fine.{name-fine, value-fine, sep-fine}
 use Rattle.json_marks.proofs.Laws.{skip-to}
 use Rattle.json_strings.specs.Decoded.{decodedAt, spells}
 use Rattle.json_marks.proofs.Separators.{sep-adds, sep-go, sep-stop}
-use Rattle.json_scan.proofs.First.{as-object}
 use Rattle.json_read.specs.declared.Verdict.{Verdict}
 use Rattle.json_read.specs.declared.Verdict.the-variants.{Sound, Large, NotJson}
 use Rattle.json_read.specs.Verdict.{verdictOf, verdict}
-use Rattle.json_access.specs.declared.Places.{Places}
-use Rattle.json_access.specs.Access.{TellsMember}
+use Rattle.json_access.specs.Access.{EndsAt, TellsHead}
+use Rattle.json_walk.specs.declared.Member.{Member}
+use Rattle.json_walk.specs.declared.Member.the-variants.{At, End, NoObject}
+use Rattle.json_walk.specs.Walk.{Opens, NoneOpens, GoesOn, FirstReads, NextReads}
+use Rattle.json_walk.proofs.Laws.{Over}
+use Rattle.json_walk.proofs.Steps.{value-from}
+use Rattle.json_walk.proofs.Values.{some-object}
 use Rattle.json_access.specs.declared.Part.{Part}
 use Rattle.json_lookup.proofs.Spans.{spanAt, span-turn, spanned}
-use Rattle.json_lookup.specs.Finds.{nowhere, placeOf, Finds, FindsIn}
+use Rattle.json_lookup.specs.Finds.{nowhere, placeOf, FindsIn}
 
 -- ---- members
 span-takes : (d : ℕ) → Takes (spanOf d)
@@ -77,10 +80,19 @@ module _ (s : Bytes) where
       let r = spans-tail x (loop (spanOf 15)) (l .0) (l .1) rest t (sep-adds (x ∷ []) (λ ps. x ∷ ps) 125 (b .1) (l .0) (l .1) (b .3)) (l .3) in
       record { key = a .0; rest-key = a .1; val = b .0; rest-val = b .1; others = r .0; is-name = a .2; is-value = b .2; turn = span-turn 15 (drop i s) (a .0) (a .1) (b .0) (b .1) (a .2) (b .2); is = r .1 }
 
--- what is still to be looked through
-abbrev pub Todo : Bytes → ℕ → Bytes → ℕ → Type 0
-Todo s at m i = (ps : List Span) (t : Bytes) → loop (spanOf 15) (drop at s) ≡ got ps t
-    → (rest : List Span) × (loop (spanOf 15) (drop i s) ≡ got rest t) × (found (length s) m ps ≡ found (length s) m rest)
+-- ---- the search: none of the members so far has the name, and the spans from the place of the next name on are still to be looked through
+pub record Todo (s m : Bytes) (q a : ℕ) : Type 0 where
+  pub place : ℕ
+  pub spans-left : List Span
+  pub after-all : Bytes
+  pub reads : loop (spanOf 15) (drop place s) ≡ got spans-left after-all
+  pub told : TellsHead s place (record { name = q; start = a })
+  pub same-found : found (length s) m (given (spans 15 s)) ≡ found (length s) m spans-left
+
+abbrev pub Seeking : Bytes → Bytes → Member → Type 0
+Seeking s m (At q a) = (j : Json) (t : Bytes) → text 16 s ≡ got j t → Todo s m q a
+Seeking s m (End x) = FindsIn s m nowhere
+Seeking s m NoObject = FindsIn s m nowhere
 
 matched : (k m : Bytes) (q : Option Bytes) → q ≡ decode k → spells q m ≡ with-some (decode k) (same m) false
 matched k m q e = ap (λ (x : Option Bytes). spells x m) e ∙ go (decode k)
@@ -89,79 +101,103 @@ matched k m q e = ap (λ (x : Option Bytes). spells x m) e ∙ go (decode k)
     go none = refl
     go (some y) = refl
 
-module _ (s : Bytes) (at : ℕ) (m : Bytes) (i : ℕ) (todo : Todo s at m i) (r : Places) (told : TellsMember 15 s i r) (b : Bool) (eb : b ≡ spells (decodedAt s (r .name)) m) where
-  pub found-here : b ≡ true → r .start ≤ r .end → r .end ≤ length s → (ps : List Span) (t : Bytes) → loop (spanOf 15) (drop at s) ≡ got ps t
-      → record { start = r .start; end = r .end } ≡ placeOf (found (length s) m ps)
+module _ (s m : Bytes) (r : Member) (seeking : Seeking s m r) (q a : ℕ) (is-r : r ≡ At q a) (b : Bool) (eb : b ≡ spells (spelled s q) m) (z : ℕ) (ends : EndsAt 15 s a z) where
+  -- the member that is next
+  record Next (j : Json) (t : Bytes) : Type 0 where
+    todo : Todo s m q a
+    here : Here s (todo .place) (todo .spans-left)
+    begins : skip (here .rest-key) ≡ drop a s
+    ends-at : here .rest-val ≡ drop z s
+    is-found : with-some (decode (here .key)) (same m) false ≡ b
+
+  next : (j : Json) (t : Bytes) → text 16 s ≡ got j t → Next j t
+  next j t x =
+      let y : Todo s m q a = subst (Seeking s m) is-r seeking j t x in
+      let h = span-here s (y .place) (y .spans-left) (y .after-all) (y .reads) in
+      let k = y .told (h .key) (h .rest-key) (h .is-name) in
+      record {
+        todo = y;
+        here = h;
+        begins = k .1;
+        ends-at = ends (h .val) (h .rest-val) (value-from 15 s (h .rest-key) a (k .1) (h .val) (h .rest-val) (h .is-value));
+        is-found = sym (matched (h .key) m _ (k .0)) ∙ sym eb;
+      }
+
+  pub found-here : b ≡ true → a ≤ z → z ≤ length s → FindsIn s m (record { start = a; end = z })
   unfolding found
-  found-here q l h ps t x =
-      let y = todo ps t x in
-      let z = span-here s i (y .0) t (y .1) in
-      let k = told (z .key) (z .rest-key) (z .is-name) (z .val) (z .rest-val) (z .is-value) in
-      let c : with-some (decode (z .key)) (same m) false ≡ true = sym (matched (z .key) m _ (k .0)) ∙ sym eb ∙ q in
-      let o : length s - length (skip (z .rest-key)) ≡ r .start = rw (k .1 .begins, length-drop (r .start) s) (omega arith) in
-      let p : length (skip (z .rest-key)) - length (z .rest-val) ≡ r .end - r .start = rw (k .1 .begins, k .1 .ends, length-drop (r .start) s, length-drop (r .end) s) (omega arith) in
-      let w : r .start + (r .end - r .start) ≡ r .end = omega arith in
-      sym (ap placeOf (y .2 ∙ ap (found (length s) m) (z .is)) ∙ rw (c, o, p, w))
+  found-here f l h j t x =
+      let n = next j t x in
+      let y = n .here in
+      let c : with-some (decode (y .key)) (same m) false ≡ true = n .is-found ∙ f in
+      let o : length s - length (skip (y .rest-key)) ≡ a = rw (n .begins, length-drop a s) (omega arith) in
+      let p : length (skip (y .rest-key)) - length (y .rest-val) ≡ z - a = rw (n .begins, n .ends-at, length-drop a s, length-drop z s) (omega arith) in
+      let w : a + (z - a) ≡ z = omega arith in
+      sym (ap placeOf (n .todo .same-found ∙ ap (found (length s) m) (y .is)) ∙ rw (c, o, p, w))
 
-  module _ (q : b ≡ false) where
-    pub found-on : (j : ℕ) → GivesT s (r .end) (sep 125 zero suc (drop (r .end) s)) (Go j) → Todo s at m j
+  module _ (f : b ≡ false) where
+    goes : (j : ℕ) → GoesOn s z 125 j → (p g : ℕ) → TellsHead s j (record { name = p; start = g }) → Seeking s m (At p g)
     unfolding found
-    found-on j w ps t x =
-        let y = todo ps t x in
-        let z = span-here s i (y .0) t (y .1) in
-        let k = told (z .key) (z .rest-key) (z .is-name) (z .val) (z .rest-val) (z .is-value) in
-        let p = spanAt (z .key) (z .rest-key) (z .rest-val) in
-        let c : with-some (decode (z .key)) (same m) false ≡ false = sym (matched (z .key) m _ (k .0)) ∙ sym eb ∙ q in
-        let f : spanOf 15 (drop i s) ≡ got (more (λ ps. p ∷ ps)) (drop j s) = z .turn ∙ ap (sep 125 (p ∷ []) (λ ps. p ∷ ps)) (k .1 .ends) ∙ sep-go (p ∷ []) (λ ps. p ∷ ps) 125 w in
-        let l = under-inv (λ (ps : List Span). p ∷ ps) (loop (spanOf 15) (drop j s)) (sym (loop-more (spanOf 15) (span-takes 15) (drop i s) (drop j s) (λ ps. p ∷ ps) f) ∙ y .1) in
-        (l .0, l .1, y .2 ∙ ap (found (length s) m) (sym (l .2)) ∙ rw c)
+    goes i w p g told j t x =
+        let n = next j t x in
+        let y = n .here in
+        let v = spanAt (y .key) (y .rest-key) (y .rest-val) in
+        let c : with-some (decode (y .key)) (same m) false ≡ false = n .is-found ∙ f in
+        let e : spanOf 15 (drop (n .todo .place) s) ≡ got (more (λ ps. v ∷ ps)) (drop i s) = y .turn ∙ ap (sep 125 (v ∷ []) (λ ps. v ∷ ps)) (n .ends-at) ∙ sep-go (v ∷ []) (λ ps. v ∷ ps) 125 w in
+        let l = under-inv (λ (ps : List Span). v ∷ ps) (loop (spanOf 15) (drop i s)) (sym (loop-more (spanOf 15) (span-takes 15) (drop (n .todo .place) s) (drop i s) (λ ps. v ∷ ps) e) ∙ n .todo .reads) in
+        record { place = i; spans-left = l .0; after-all = n .todo .after-all; reads = l .1; told = told; same-found = n .todo .same-found ∙ ap (found (length s) m) (sym (l .2)) ∙ rw c }
 
-    pub found-last : (v : Read) → GivesT s (r .end) (sep 125 zero suc (drop (r .end) s)) (Stop v) → (ps : List Span) (t : Bytes) → loop (spanOf 15) (drop at s) ≡ got ps t → nowhere ≡ placeOf (found (length s) m ps)
+    over : (v : Read) → GivesT s z (sep 125 zero suc (drop z s)) (Stop v) → FindsIn s m nowhere
     unfolding found
-    found-last v w ps t x =
-        let y = todo ps t x in
-        let z = span-here s i (y .0) t (y .1) in
-        let k = told (z .key) (z .rest-key) (z .is-name) (z .val) (z .rest-val) (z .is-value) in
-        let p = spanAt (z .key) (z .rest-key) (z .rest-val) in
-        let c : with-some (decode (z .key)) (same m) false ≡ false = sym (matched (z .key) m _ (k .0)) ∙ sym eb ∙ q in
-        let l = loop-split (spanOf 15) (span-takes 15) (drop i s) (y .0) t (y .1) in
-        let n = sep-stop (p ∷ []) (λ ps. p ∷ ps) 125 w (l .0) (l .1) (sym (ap (sep 125 (p ∷ []) (λ ps. p ∷ ps)) (k .1 .ends)) ∙ sym (z .turn) ∙ l .2) in
-        sym (ap placeOf (y .2 ∙ ap (found (length s) m) (sym (got-what (rw n at (l .3))))) ∙ rw c)
+    over v w j t x =
+        let n = next j t x in
+        let y = n .here in
+        let p = spanAt (y .key) (y .rest-key) (y .rest-val) in
+        let c : with-some (decode (y .key)) (same m) false ≡ false = n .is-found ∙ f in
+        let l = loop-split (spanOf 15) (span-takes 15) (drop (n .todo .place) s) (n .todo .spans-left) (n .todo .after-all) (n .todo .reads) in
+        let o = sep-stop (p ∷ []) (λ ps. p ∷ ps) 125 w (l .0) (l .1) (sym (ap (sep 125 (p ∷ []) (λ ps. p ∷ ps)) (n .ends-at)) ∙ sym (y .turn) ∙ l .2) in
+        sym (ap placeOf (n .todo .same-found ∙ ap (found (length s) m) (sym (got-what (rw o at (l .3))))) ∙ rw c)
+
+    pub seeking-on : z ≤ length s → (x : Member) → NextReads s z x → Seeking s m x
+    seeking-on l (At p g) (i, w, told) = goes i w p g told
+    seeking-on l (End x) h = let v = h l in over (v .0) (v .1)
+    seeking-on l NoObject h = absurd h
+
+-- no member is left
+pub not-found : (s m : Bytes) (r : Member) → Over r → Seeking s m r → FindsIn s m nowhere
+not-found s m (At q a) h seeking = absurd h
+not-found s m (End x) h seeking = seeking
+not-found s m NoObject h seeking = seeking
 
 -- ---- a text
--- no members
-module _ (s m : Bytes) (i b : ℕ) (h : Passes isSpace s 0 i) (e : b ≡ byteAt s i) where
-  pub no-object : (b ≡ 123 → ⊥) → nowhere ≡ placeOf (found (length s) m (given (spans 15 s)))
-  unfolding spans found
-  no-object n = sym (ap (λ (x : Got (List Span)). placeOf (found (length s) m (given x))) (ap (on (is 123) _ bad) (skip-to h) ∙ on-no (is 123) s i b e _ _ (ne-eqb _ _ n)))
+module _ (s m : Bytes) where
+  no-object : NoneOpens s 0 123 → FindsIn s m nowhere
+  unfolding spans found on
+  no-object n j t x = sym (rw (ne-eqb (first (skip s)) 123 n))
 
-  module _ (q : b ≡ 123) (j c : ℕ) (k : Passes isSpace s (i + 1) j) (f : c ≡ byteAt s j) where
-    pub no-member : c ≡ 125 → nowhere ≡ placeOf (found (length s) m (given (spans 15 s)))
-    unfolding spans found
-    no-member p = sym (ap (λ (x : Got (List Span)). placeOf (found (length s) m (given x)))
-        (ap (on (is 123) _ bad) (skip-to h) ∙ on-yes (is 123) s i b e _ _ (eq-eqb _ _ q) ∙ ap (on (is 125) _ _) (skip-to k) ∙ on-yes (is 125) s j c f _ _ (eq-eqb _ _ p)))
-
-    spans-from : (c ≡ 125 → ⊥) → spans 15 s ≡ loop (spanOf 15) (drop j s)
+  module _ (j : ℕ) (o : Opens s 0 123 j) where
+    opened : spans 15 s ≡ on (is 125) (λ c t. got [] t) (loop (spanOf 15)) (drop j s)
     unfolding spans
-    spans-from n = ap (on (is 123) _ bad) (skip-to h) ∙ on-yes (is 123) s i b e _ _ (eq-eqb _ _ q) ∙ ap (on (is 125) _ _) (skip-to k) ∙ on-no (is 125) s j c f _ _ (ne-eqb _ _ n)
+    opened =
+        ap (on (is 123) _ bad) (skip-to (o .to-mark)) ∙ on-yes (is 123) s (o .mark) (byteAt s (o .mark)) refl _ _ (eq-eqb _ _ (o .is-mark))
+        ∙ ap (on (is 125) _ _) (skip-to (o .inside))
 
-    pairs-from : (c ≡ 125 → ⊥) → pairs (value 15) (drop (i + 1) s) ≡ loop (pair (value 15)) (drop j s)
-    unfolding pairs
-    pairs-from n = ap (on (is 125) _ _) (skip-to k) ∙ on-no (is 125) s j c f _ _ (ne-eqb _ _ n)
+    no-member : byteAt s j ≡ 125 → FindsIn s m nowhere
+    unfolding found
+    no-member p y t x = sym (ap (λ (x : Got (List Span)). placeOf (found (length s) m (given x))) (opened ∙ on-yes (is 125) s j (byteAt s j) refl _ _ (eq-eqb _ _ p)))
 
-    value-from : (c ≡ 125 → ⊥) → value 16 s ≡ under jobj (loop (pair (value 15)) (drop j s))
-    value-from n =
-        let o : (b ≡ 91 → ⊥) = λ z. omega arith in
-        let z : (_≡_ {A = ℕ} 16 0 → ⊥) = λ z. omega arith in
-        as-object s i b e 0 h 16 z o q ∙ ap (under jobj) (pairs-from n)
-
-    pub members-in : (c ≡ 125 → ⊥) → (r : Part) → Finds s j m r → FindsIn s m r
+    some-member : (byteAt s j ≡ 125 → ⊥) → (q a : ℕ) → TellsHead s j (record { name = q; start = a }) → Seeking s m (At q a)
     unfolding text loop
-    members-in n r finds y t x =
+    some-member n q a told y t x =
         let v = bind-inv (value 16 s) (λ j t. when (is 256) (got j) bad (skip t)) x in
-        let u = under-inv jobj (loop (pair (value 15)) (drop j s)) (sym (value-from n) ∙ v .2) in
+        let u = under-inv jobj (loop (pair (value 15)) (drop j s)) (sym (some-object 15 s 0 j o n) ∙ v .2) in
         let p = spanned 15 s (suc (length (drop j s))) (drop j s) (u .0) (v .1) (take j s, sym (take-append-drop j s)) (u .1) in
-        finds (p .0) (v .1) (p .1) ∙ sym (ap (λ (z : Got (List Span)). placeOf (found (length s) m (given z))) (spans-from n ∙ p .1))
+        let l : spans 15 s ≡ got (p .0) (v .1) = opened ∙ on-no (is 125) s j (byteAt s j) refl _ _ (ne-eqb _ _ n) ∙ p .1 in
+        record { place = j; spans-left = p .0; after-all = v .1; reads = p .1; told = told; same-found = ap (λ (z : Got (List Span)). found (length s) m (given z)) l }
+
+  pub seeking-first : (r : Member) → FirstReads s 0 r → Seeking s m r
+  seeking-first (At q a) (j, o, n, told) = some-member j o n q a told
+  seeking-first (End x) (j, o, e, p) = no-member j o e
+  seeking-first NoObject n = no-object n
 
 -- ---- by the reader's verdict
 module _ (s m : Bytes) where

@@ -1,12 +1,11 @@
 -- What the look-up's contracts cite.
 use mathlib.Core.Path.{_≡_}
-use mathlib.Core.List.{List}
 use mathlib.Core.Option.{Option, none, some}
 use Prim.Native.Nat.{ℕ, _+_, _≤_}
-use lib.ListN.{length, drop}
+use lib.ListN.{length}
 use Rattle.text.specs.Bytes.{Bytes}
-use Rattle.text.specs.Reader.{got, loop}
-use Rattle.json.specs.Lookup.{Span, spanOf, spans, given, found, Part as Found}
+use Rattle.text.specs.Reader.{got}
+use Rattle.json.specs.Lookup.{spans, given, found, Part as Found}
 use Rattle.json.specs.Tree.{Json}
 use Rattle.json.specs.Syntax.{text}
 use Rattle.json_access.specs.declared.Part.{Part}
@@ -23,11 +22,7 @@ abbrev pub placeOf : Option Found → Part
 placeOf none = nowhere
 placeOf (some p) = record { start = p .offset; end = p .offset + p .size }
 
--- if members stand from a place on, it is the part of the first of that name
-abbrev pub Finds : Bytes → ℕ → Bytes → Part → Type 0
-Finds s at m r = (ps : List Span) (t : Bytes) → loop (spanOf 15) (drop at s) ≡ got ps t → r ≡ placeOf (found (length s) m ps)
-
--- the same of the members of a JSON text
+-- of the members of a text that is JSON, it is the part of the first of that name
 abbrev pub FindsIn : Bytes → Bytes → Part → Type 0
 FindsIn s m r = (j : Json) (t : Bytes) → text 16 s ≡ got j t → r ≡ placeOf (found (length s) m (given (spans 15 s)))
 

@@ -1,63 +1,36 @@
 // The look-up service: a top-level member's value as that very part of the caller's JSON.
 use json_access::Part;
-use json_access::member_at;
-use json_marks::separator;
-use json_marks::skip_space;
 use json_read::Verdict;
 use json_read::read;
+use json_skip::skip_value;
 use json_strings::equals;
-use text::LEFT_BRACE;
-use text::RIGHT_BRACE;
-use text::Turn;
-use text::look;
+use json_walk::Member;
+use json_walk::first_member;
+use json_walk::next_member;
 ghost use mathlib.Core.Path.{_≡_};
 ghost use Prim.Native.Nat.{_≤_};
 ghost use lib.ListN.{length};
 ghost use denote.Ref.{ptr};
 ghost use Rattle.json.specs.Lookup.{lookUp, partOf};
-ghost use Rattle.json_lookup.specs.Finds.{Bounds, Finds, FindsIn, placeOf, standsAt};
+ghost use Rattle.json_lookup.specs.Finds.{Bounds, FindsIn, placeOf, standsAt};
 ghost use Rattle.json_lookup.specs.Held.{valueOf, Holds};
 
-// The value of the first member of that name, from a member's place of an object on. Nothing is found where the part is empty.
-fn find_from<'a, 'b>(s: &'a [u8], at: usize, name: &'b [u8]) -> Part
-    requires { ⌜ at ≤ length (now s) ⌝ }
-    ensures { λ r. ⌜ Bounds (length (now (s .entry))) r ⌝ }
-    ensures { λ r. ⌜ Finds (now (s .entry)) at (now (name .entry)) r ⌝ }
-{
-    let mut i = at;
-    loop {
-        let m = member_at(s, i, 15);
-        let q = m.name;
-        let a = m.start;
-        let e = m.end;
-        if equals(s, q, name) {
-            return Part { start: a, end: e };
-        }
-        match separator(s, e, RIGHT_BRACE) {
-            Turn::Go(j) => {
-                i = j;
-            }
-            Turn::Stop(r) => {
-                return Part { start: 0, end: 0 };
-            }
-        }
-    }
-}
-
-// The same in a text that is JSON.
+// The value of the first member of that name in a text that is JSON. Nothing is found where the part is empty.
 fn find_in<'a, 'b>(s: &'a [u8], name: &'b [u8]) -> Part
     ensures { λ r. ⌜ Bounds (length (now (s .entry))) r ⌝ }
     ensures { λ r. ⌜ FindsIn (now (s .entry)) (now (name .entry)) r ⌝ }
 {
-    let i = skip_space(s, 0);
-    if look(s, i) != LEFT_BRACE {
-        return Part { start: 0, end: 0 };
+    let mut m = first_member(s, 0);
+    loop {
+        let Member::At { name: q, start: a } = m else {
+            return Part { start: 0, end: 0 };
+        };
+        let e = skip_value(s, a);
+        if equals(s, q, name) {
+            return Part { start: a, end: e };
+        }
+        m = next_member(s, e);
     }
-    let j = skip_space(s, i + 1);
-    if look(s, j) == RIGHT_BRACE {
-        return Part { start: 0, end: 0 };
-    }
-    find_from(s, j, name)
 }
 
 // From where to where that value stands; 0 to 0 where there is none.

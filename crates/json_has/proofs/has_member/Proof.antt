@@ -1,66 +1,78 @@
+use native.Mathlib.Omega.{arith}
 use denote.Ref.{now}
-use Rattle.json_has.proofs.Laws.{has-past, has-not, has-none, has-some}
 use borrow.Author.Needs.{needs}
+use lib.ListN.{length}
+use Rattle.json_walk.proofs.Laws.{ahead, InText, less-ahead, is-over}
+use Rattle.json_has.proofs.Laws.{Seeking, seeking-first, found, seeking-on, not-found}
 use Rattle.json_has.proofs.has_member.Statement.{statement}
 use Rattle.json_has.proofs.has_member.Tie as tie
 
-returns : tie.Need-returns
-returns c = let a = c .before .before .before .args in has-past (a .depth) (now (a .s)) (a .at) (now (a .name)) (c .if1 .taken)
+abbrev Inv-loop : tie.InvT-loop
+Inv-loop s at depth name m₀ m = InText (length s) m × Seeking depth s at name m
 
-skip-space-requires : tie.Need-skip-space-requires
-skip-space-requires c κs = search needs
+abbrev μ-loop : tie.MeasureT-loop
+μ-loop s at depth name m₀ m = ahead (length s) m
 
-look-requires : tie.Need-look-requires
-look-requires c κs = search needs
+first-member-requires : tie.Need-first-member-requires Inv-loop μ-loop
+first-member-requires c κs = tt
 
-returns-2 : tie.Need-returns-2
+loop-holds : tie.Need-loop-holds Inv-loop μ-loop
+loop-holds c =
+    let a = c .before .before .before .args in
+    let m = c .first-member in
+    ((a .at, m .ensures .0), seeking-first (a .depth) (now (a .s)) (a .at) (now (a .name)) (m .result) (m .ensures .1 .0))
+
+enum-known-m : tie.Need-enum-known-m Inv-loop μ-loop
+enum-known-m c = search needs
+
+returns : tie.Need-returns Inv-loop μ-loop
+returns c =
+    let a = c .before .before .before .before .before .args in
+    not-found (a .depth) (now (a .s)) (a .at) (now (a .name)) (c .before .loop .m) (is-over (c .before .loop .m) (c .match .keys2)) (c .before .loop .inv .1)
+
+equals-requires : tie.Need-equals-requires Inv-loop μ-loop
+equals-requires c κs = tt
+
+returns-2 : tie.Need-returns-2 Inv-loop μ-loop
 returns-2 c =
-    let a = c .before .before .before .before .before .before .args in
-    let p = c .before .before .skip-space in
-    let b = c .before .look in
-    has-not (a .depth) (now (a .s)) (a .at) (now (a .name)) (p .result) (b .result) (p .ensures) (b .ensures .0) (c .if2 .taken)
-
-add-skip-space : tie.Need-add-skip-space
-add-skip-space c = search needs
-
-skip-space-requires-2 : tie.Need-skip-space-requires-2
-skip-space-requires-2 c κs = search needs
-
-look-requires-2 : tie.Need-look-requires-2
-look-requires-2 c κs = search needs
-
-returns-3 : tie.Need-returns-3
-returns-3 c =
     let a = c .before .before .before .before .before .before .before .before .before .args in
-    let p = c .before .before .before .before .before .skip-space in
-    let b = c .before .before .before .before .look in
-    let j = c .before .before .skip-space2 in
-    let k = c .before .look2 in
-    has-none (a .depth) (now (a .s)) (a .at) (now (a .name)) (p .result) (b .result) (p .ensures) (b .ensures .0) (c .before .before .before .if2 .left) (j .result) (k .result) (j .ensures) (k .ensures .0) (c .if3 .taken)
+    let g = c .before .before .before .m .given in
+    let q = c .before .equals in
+    found (a .depth) (now (a .s)) (a .at) (now (a .name)) (c .before .before .before .before .before .loop .m) (c .before .before .before .before .before .loop .inv .1) (g .0 .0) (g .0 .1 .0) (g .1) (q .result) (q .ensures) (c .if1 .taken)
 
-has-from-requires : tie.Need-has-from-requires
-has-from-requires c κs = search needs
+skip-value-requires : tie.Need-skip-value-requires Inv-loop μ-loop
+skip-value-requires c κs = tt
 
-returns-4 : tie.Need-returns-4
-returns-4 c =
-    let a = c .before .before .before .before .before .before .before .before .before .before .args in
-    let p = c .before .before .before .before .before .before .skip-space in
-    let b = c .before .before .before .before .before .look in
-    let j = c .before .before .before .skip-space2 in
-    let k = c .before .before .look2 in
-    has-some (a .depth) (now (a .s)) (a .at) (now (a .name)) (p .result) (b .result) (p .ensures) (b .ensures .0) (c .before .before .before .before .if2 .left) (j .result) (k .result) (j .ensures) (k .ensures .0) (c .before .if3 .left) _ (c .has-from .ensures)
+next-member-requires : tie.Need-next-member-requires Inv-loop μ-loop
+next-member-requires c κs = tt
+
+loop-less : tie.Need-loop-less Inv-loop μ-loop
+loop-less c =
+    let g = c .before .before .before .before .before .m .given in
+    less-ahead (length (now (c .before .before .before .before .before .before .before .before .before .before .before .args .s))) (c .before .before .before .before .before .before .before .loop .m) (c .next-member .result) (g .0 .0) (g .0 .1 .0) (c .before .skip-value .result) (g .1) (c .before .before .before .before .before .before .before .loop .inv .0) (c .before .skip-value .ensures .0 .0) (c .next-member .ensures .0)
+
+loop-again : tie.Need-loop-again Inv-loop μ-loop
+loop-again c =
+    let a = c .before .before .before .before .before .before .before .before .before .before .before .args in
+    let g = c .before .before .before .before .before .m .given in
+    let q = c .before .before .before .equals in
+    let e = c .before .skip-value in
+    let n = c .next-member in
+    ((e .result, n .ensures .0), seeking-on (a .depth) (now (a .s)) (a .at) (now (a .name)) (c .before .before .before .before .before .before .before .loop .m) (c .before .before .before .before .before .before .before .loop .inv .1) (g .0 .0) (g .0 .1 .0) (g .1) (q .result) (q .ensures) (c .before .before .if1 .left) (e .result) (e .ensures .1 (a .depth)) (n .result) (n .ensures .1 .0))
 
 pub has-member-spec : {M : Type 1} → statement M
 has-member-spec =
     tie.close
     (tie.spec
+    Inv-loop
+    μ-loop
+    first-member-requires
+    loop-holds
+    enum-known-m
     returns
-    skip-space-requires
-    look-requires
+    equals-requires
     returns-2
-    add-skip-space
-    skip-space-requires-2
-    look-requires-2
-    returns-3
-    has-from-requires
-    returns-4)
+    skip-value-requires
+    next-member-requires
+    loop-less
+    loop-again)

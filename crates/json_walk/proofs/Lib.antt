@@ -1,0 +1,4 @@
+pub mod Values
+pub mod Marks
+pub mod Steps
+pub mod Laws
