@@ -8,7 +8,7 @@ use Rattle.text.specs.Choice.{with-some}
 use Rattle.text.specs.Bytes.{Bytes, any, same, among}
 use Rattle.text.proofs.Same.{among-none}
 use Rattle.json.specs.Tree.{Json, Member as Named, member, asObject}
-use Rattle.json_strings.specs.Spelled.{spelled, spells}
+use Rattle.json_strings.specs.Decoded.{decodedAt, spells}
 use Rattle.json_access.specs.Access.{EndsAt}
 use Rattle.json_walk.specs.declared.Member.{Member}
 use Rattle.json_walk.specs.declared.Member.the-variants.{At, End, NoObject}
@@ -32,7 +32,7 @@ pub seeking-first : (d : ℕ) (s : Bytes) (at : ℕ) (n : Bytes) (r : Member) �
 seeking-first d s at n r h v e = let x = h d v e in (asObject v, x .0, x .2, refl)
 
 module _ (d : ℕ) (s : Bytes) (at : ℕ) (n : Bytes) where
-  module _ (m : Member) (seeking : Seeking d s at n m) (q a : ℕ) (is-m : m ≡ At q a) (b : Bool) (is-b : b ≡ spells (spelled s q) n) where
+  module _ (m : Member) (seeking : Seeking d s at n m) (q a : ℕ) (is-m : m ≡ At q a) (b : Bool) (is-b : b ≡ spells (decodedAt s q) n) where
     pub found : b ≡ true → HasMember d s at n true
     found h v e =
         let y = seeking v e in

@@ -101,7 +101,7 @@ matched k m q e = ap (λ (x : Option Bytes). spells x m) e ∙ go (decode k)
     go none = refl
     go (some y) = refl
 
-module _ (s m : Bytes) (r : Member) (seeking : Seeking s m r) (q a : ℕ) (is-r : r ≡ At q a) (b : Bool) (eb : b ≡ spells (spelled s q) m) (z : ℕ) (ends : EndsAt 15 s a z) where
+module _ (s m : Bytes) (r : Member) (seeking : Seeking s m r) (q a : ℕ) (is-r : r ≡ At q a) (b : Bool) (eb : b ≡ spells (decodedAt s q) m) (z : ℕ) (ends : EndsAt 15 s a z) where
   -- the member that is next
   record Next (j : Json) (t : Bytes) : Type 0 where
     todo : Todo s m q a

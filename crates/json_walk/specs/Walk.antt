@@ -15,7 +15,7 @@ use Rattle.json.specs.Tree.{Json, Elems, Members, Member as Named, member, memb
 use Rattle.json.specs.Syntax.{skip, sep, value}
 use Rattle.json.specs.Strings.{decoded, decodedElems, decodedMembers}
 use Rattle.json_scan.specs.After.{elementsAfter, membersAfter}
-use Rattle.json_strings.specs.Spelled.{spelled}
+use Rattle.json_strings.specs.Decoded.{decodedAt}
 use Rattle.json_access.specs.Access.{placeOf, EndsAt, TellsHead}
 use Rattle.json_walk.specs.declared.Member.{Member}
 use Rattle.json_walk.specs.declared.Member.the-variants.{At as Member-At, End as Member-End, NoObject}
@@ -52,7 +52,7 @@ pub record FirstMember (d : ℕ) (s : Bytes) (ms : List Named) (t : Bytes) (q a 
   pub val : Json
   pub others : List Named
   pub is : ms ≡ member key val ∷ others
-  pub is-key : spelled s q ≡ some key
+  pub is-key : decodedAt s q ≡ some key
   pub is-val : jsonAt d s a ≡ some val
   pub left : (e : ℕ) → EndsAt d s a e → MembersLeft d s e others t
 
