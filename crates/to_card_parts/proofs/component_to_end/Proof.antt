@@ -1,28 +1,30 @@
 use native.Mathlib.Omega.{arith}
 use denote.Ref.{now}
-use mathlib.Core.Path.{ap}
+use mathlib.Core.Path.{ap, subst}
+use mathlib.Core.Bool.{not}
 use lib.ListN.{length}
-use Rattle.text.proofs.Cases.{not-true, not-false}
+use borrow.Author.Tests.{eq-eqb, ne-eqb}
+use Rattle.to_card_parts.specs.Parts.{KindIn, TellsComponent}
 use Rattle.to_card_parts.proofs.Components.{clear-three, names-are, object-not, object-strange, object-of}
 use borrow.Author.Needs.{needs}
-use Rattle.to_card_parts.proofs.component_at.Statement.{statement}
-use Rattle.to_card_parts.proofs.component_at.Tie as tie
-use Rattle.to_card_parts.proofs.component_at.Reads as reads
-use Rattle.to_card_parts.proofs.component_at.Lts as lts
-use Rattle.json_index.proofs.index_object.Reads as index-object-reads
+use Rattle.to_card_parts.proofs.component_to_end.Statement.{statement}
+use Rattle.to_card_parts.proofs.component_to_end.Tie as tie
+use Rattle.to_card_parts.proofs.component_to_end.Reads as reads
+use Rattle.to_card_parts.proofs.component_to_end.Lts as lts
+use Rattle.json_index.proofs.index_to_end.Reads as index-to-end-reads
 use Rattle.to_card_parts.proofs.component_of.Reads as component-of-reads
 
-slice-aggregate-index-object : tie.Need-slice-aggregate-index-object
-slice-aggregate-index-object c = search needs
+slice-aggregate-index-to-end : tie.Need-slice-aggregate-index-to-end
+slice-aggregate-index-to-end c = search needs
 
-slice-aggregate-index-object-2 : tie.Need-slice-aggregate-index-object-2
-slice-aggregate-index-object-2 c = search needs
+slice-aggregate-index-to-end-2 : tie.Need-slice-aggregate-index-to-end-2
+slice-aggregate-index-to-end-2 c = search needs
 
-index-object-requires : tie.Need-index-object-requires
-index-object-requires c κs = (c .before .before .before .pre, (omega (arith, ap length names-are), clear-three))
+index-to-end-requires : tie.Need-index-to-end-requires
+index-to-end-requires c κs = (c .before .before .before .pre, (omega (arith, ap length names-are), clear-three))
 
 returns : tie.Need-returns
-returns c = (tt, object-not (now (c .before .before .before .before .before .before .args .s)) (c .before .before .before .before .before .before .args .at) _ (c .before .before .index-object .result) (c .before .before .index-object .ensures) (not-true _ (c .if1 .taken)))
+returns c = (tt, (object-not (now (c .before .before .before .before .before .before .args .s)) (c .before .before .before .before .before .before .args .at) _ _ (c .before .before .index-to-end .ensures .1) (ap not (eq-eqb _ 0 (c .if1 .taken))), tt))
 
 array-read-a : tie.Need-array-read-a
 array-read-a c = search needs
@@ -34,35 +36,39 @@ array-read-other : tie.Need-array-read-other
 array-read-other c = search needs
 
 returns-2 : tie.Need-returns-2
-returns-2 c =
-    let args = c .before .before .before .before .before .before .before .args in
-    let index-object = c .before .before .before .index-object in (
-      tt,
-      object-strange (now (args .s)) (args .at) _ (index-object .result) (index-object .ensures) (not-false _ (c .before .if1 .left)) (c .if2 .taken),
-    )
+returns-2 c = (tt, (object-strange (now (c .before .before .before .before .before .before .before .args .s)) (c .before .before .before .before .before .before .before .args .at) _ _ (c .before .before .before .index-to-end .ensures .1) (ap not (ne-eqb _ 0 (c .before .if1 .left))) (c .if2 .taken), tt))
 
 component-of-requires : tie.Need-component-of-requires
-component-of-requires c κs = tt
+component-of-requires c κs = search needs
+
+enum-known-k : tie.Need-enum-known-k
+enum-known-k c = search needs
+
+enum-told : tie.Need-enum-told
+enum-told c = search needs
 
 returns-3 : tie.Need-returns-3
-returns-3 c =
-    let args = c .before .before .before .before .before .before .before .before .args in
-    let index-object = c .before .before .before .before .index-object in (
-      c .component-of .ensures .0,
-      object-of (now (args .s)) (args .at) _ (index-object .result) (index-object .ensures) (not-false _ (c .before .before .if1 .left)) (c .before .if2 .left) (c .component-of .result) (c .component-of .ensures .1),
-    )
+returns-3 c = (tt, (subst (TellsComponent (now (c .before .before .before .before .before .before .before .before .before .before .args .s)) (c .before .before .before .before .before .before .before .before .before .before .args .at)) (c .enum-told .given .1) (object-of (now (c .before .before .before .before .before .before .before .before .before .before .args .s)) (c .before .before .before .before .before .before .before .before .before .before .args .at) _ _ (c .before .before .before .before .before .before .index-to-end .ensures .1) (ap not (ne-eqb _ 0 (c .before .before .before .before .if1 .left))) (c .before .before .before .if2 .left) (c .before .before .component-of .result) (c .before .before .component-of .ensures .1)), tt))
 
-pub component-at-spec : {M : Type 1} → statement M
-component-at-spec =
+returns-4 : tie.Need-returns-4
+returns-4 c =
+    let told = object-of (now (c .before .before .before .before .before .before .before .before .before .before .before .args .s)) (c .before .before .before .before .before .before .before .before .before .before .before .args .at) _ _ (c .before .before .before .before .before .before .before .index-to-end .ensures .1) (ap not (ne-eqb _ 0 (c .before .before .before .before .before .if1 .left))) (c .before .before .before .before .if2 .left) (c .before .before .before .component-of .result) (c .before .before .before .component-of .ensures .1) in
+    (subst KindIn (c .before .k .given .1) (c .before .before .before .component-of .ensures .0), (subst (TellsComponent (now (c .before .before .before .before .before .before .before .before .before .before .before .args .s)) (c .before .before .before .before .before .before .before .before .before .before .before .args .at)) (c .before .k .given .1) told, c .before .before .before .before .before .before .before .index-to-end .ensures .0 (c .before .before .before .before .before .if1 .left)))
+
+pub component-to-end-spec : {M : Type 1} → statement M
+component-to-end-spec =
     tie.close
     (tie.spec
-    slice-aggregate-index-object
-    slice-aggregate-index-object-2
-    index-object-requires
+    slice-aggregate-index-to-end
+    slice-aggregate-index-to-end-2
+    index-to-end-requires
     returns
     array-read-a
     array-read-b
     array-read-other
     returns-2
     component-of-requires
-    returns-3)
+    enum-known-k
+    enum-told
+    returns-3
+    returns-4)

@@ -1,0 +1,23 @@
+use denote.Ref.{now}
+use Rattle.to_card_parts.proofs.Values.{one-unwanted, one-wanted}
+use borrow.Author.Needs.{needs}
+use Rattle.to_card_parts.proofs.pen_value.Statement.{statement}
+use Rattle.to_card_parts.proofs.pen_value.Tie as tie
+use Rattle.to_card_parts.proofs.pen_value.Reads as reads
+use Rattle.to_card_parts.proofs.pen_value.Lts as lts
+use Rattle.to_card_parts.proofs.pen_wanted.Reads as pen-wanted-reads
+
+pen-wanted-requires : tie.Need-pen-wanted-requires
+pen-wanted-requires c κs = search needs
+
+same-length : tie.Need-same-length
+same-length c = search needs
+
+returns : tie.Need-returns
+returns c = one-wanted (now (c .before .before .before .before .before .before .before .args .s)) (c .before .before .before .before .before .before .before .args .at) (c .before .before .before .before .before .before .before .args .style) (c .before .before .before .before .before .before .before .args .mark) (c .before .before .before .before .before .before .before .args .wanted) (c .before .before .before .before .before .before .before .args .begun) (now (c .before .before .before .before .before .before .before .args .out)) (c .before .before .before .before .before .before .before .args .column) (c .before .before .before .before .if1 .taken) (c .before .before .pen-wanted .ensures)
+
+returns-2 : tie.Need-returns-2
+returns-2 c = one-unwanted (now (c .before .before .before .args .s)) (c .before .before .before .args .at) (c .before .before .before .args .style) (c .before .before .before .args .mark) (c .before .before .before .args .wanted) (c .before .before .before .args .begun) (now (c .before .before .before .args .out)) (c .before .before .before .args .column) (c .if1 .left)
+
+pub pen-value-spec : {M : Type 1} → statement M
+pen-value-spec = tie.close (tie.spec pen-wanted-requires same-length returns returns-2)
