@@ -10,19 +10,19 @@ use native.Mathlib.Nat.{add-zero}
 use lib.ListN.{length, take, drop}
 use lib.Seq.{drop-cons}
 use lib.Dec.{eqb, ltb}
-use borrow.Author.Tests.{ne-eqb, le-ltb, ltb-true, eqb-false}
+use borrow.Author.Tests.{ne-eqb, le-ltb, ltb-true, eqb-true, eqb-false}
 use borrow.Rule.Slice.PartMut.{midOf, putMid}
 use Rattle.text.specs.Choice.{pick}
 use Rattle.text.specs.Bytes.{Bytes, all, is, between}
 use Rattle.text.specs.Places.{byteAt}
 use Rattle.text.proofs.Places.{on-yes, on-no}
-use Rattle.text.proofs.Cases.{byBool, split, in-between}
+use Rattle.text.proofs.Cases.{byBool, split, in-between, between-true, and-left, and-right, not-true}
 use Rattle.json.specs.Strings.{before}
 use Rattle.json_escapes.specs.Units.{unit}
 use Rattle.json_escapes.specs.declared.Piece.the-variants.{Of}
 use Rattle.json_strings.specs.declared.Byte.the-variants.{One}
-use Rattle.json_strings.specs.Decoded.{decodedAt, left, weight, byteOf}
-use Rattle.json_strings.proofs.Laws.{left-none, raw-is}
+use Rattle.json_strings.specs.Spelled.{spelled, left, weight, byteOf}
+use Rattle.json_strings.proofs.Laws.{left-none, left-raw, raw-is, quote-at, bare-at}
 use Rattle.json_strings.proofs.NextByte.{one-left}
 use Rattle.line.specs.Class.{isControl}
 use Rattle.line.specs.Text.{escape}
@@ -78,6 +78,25 @@ module _ (s : Bytes) (i b : ℕ) (e : b ≡ byteAt s i) (h : PlainByte b true) w
 
   plain-left : left s i 0 ≡ byteOf s (One b (i + 1) 0)
   plain-left = left-none s i ∙ read ∙ ap (before (b ∷ [])) (sym (left-none s (i + 1)))
+
+-- ---- what comes next, by the byte that stands there, where nothing is held
+
+and-no : (a b : Bool) → a ≡ true → a && b ≡ false → b ≡ false
+and-no true b e f = f
+and-no false b e f = cc
+
+module _ (s : Bytes) (at h b : ℕ) (e : b ≡ byteAt s at) where
+  pub quote-next : eqb h 0 && eqb b 34 ≡ true → left s at h ≡ some []
+  quote-next q = ap (left s at) (eqb-true h 0 (and-left _ _ q)) ∙ left-none s at ∙ quote-at s at b e (eqb-true b 34 (and-right (eqb h 0) _ q))
+
+  pub bare-next : (r : Bool) → r ≡ between 32 255 b → eqb h 0 && eqb b 34 ≡ false → eqb h 0 && (not (eqb b 92) && r) ≡ true → (b < 256) × (left s at h ≡ byteOf s (One b (at + 1) 0))
+  bare-next r w n q =
+      let z = and-left (eqb h 0) _ q in
+      let m = and-right (eqb h 0) _ q in
+      let l = between-true 32 255 b (sym w ∙ and-right (not (eqb b 92)) r m) in
+      let quote = eqb-false b 34 (and-no (eqb h 0) _ z n) in
+      let backslash = eqb-false b 92 (not-true (eqb b 92) (and-left _ r m)) in
+      (omega (arith, l .1), ap (left s at) (eqb-true h 0 z) ∙ left-raw s at b (at + 1) (bare-at s at b e quote backslash (l .0) (omega (arith, l .1))))
 
 -- ---- runs of them
 

@@ -1,6 +1,7 @@
 // The strings of an entry as a line's value, in one pass: judged (12), written by the map's form, and told whether a line can carry them (13).
 // Forms are numbers: 0 TEXT, 1 TEXT (nicknames), 2 raw, 3 a phone (raw with VALUE=uri, or TEXT), 4 an organization.
 use card_pen::Told;
+use card_pen::byte_at;
 use card_pen::is_control;
 use card_pen::pen_string;
 use json_access::element_at;
@@ -8,7 +9,6 @@ use json_index::index_object;
 use json_marks::separator;
 use json_marks::skip_space;
 use json_strings::Byte;
-use json_strings::next_byte;
 use line_pen::pen_bytes;
 use text::LEFT_BRACKET;
 use text::QUOTE;
@@ -95,7 +95,7 @@ fn is_blank(s: &[u8], at: usize) -> bool
     if at > s.len() {
         return false;
     }
-    match next_byte(s, at, 0) {
+    match byte_at(s, at, 0) {
         Byte::Alone => false,
         Byte::End => true,
         Byte::One {
@@ -148,7 +148,7 @@ fn is_tel(form: u8, s: &[u8], at: usize) -> bool
     let mut h = 0;
     let mut k: usize = 0;
     loop {
-        match next_byte(s, i, h) {
+        match byte_at(s, i, h) {
             Byte::Alone => {
                 return false;
             }

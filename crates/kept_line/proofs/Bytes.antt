@@ -38,27 +38,23 @@ upper-all s {i = i} f h = pens-as (ap uppered (take-all i s h)) f
 -- ---- bytes, and whether each can stand there
 
 module _ (style : ℕ) (s : Bytes) where
-  -- what is written so far
-  abbrev pub Sofar : Bytes → ℕ → ℕ → ℕ → Bool → ℕ → Bytes → Type 0
-  Sofar room column n k ok i out = Tells room column (take i s) (allStandIn style (take i s)) (record { bytes = n; column = k; carried = ok }) out
+  -- whether those so far can
+  abbrev pub StandSofar : Bool → ℕ → Type 0
+  StandSofar ok i = ok ≡ allStandIn style (take i s)
 
-  pub told-first : (room : Bytes) (column : ℕ) → Sofar room column 0 column true 0 room
+  pub stand-first : StandSofar true 0
   unfolding allStandIn all
-  told-first room column = record { pens = pens-none room column; carried = refl }
+  stand-first = refl
 
-  pub told-on : {room out last : Bytes} {column n k i : ℕ} {ok c : Bool} {p : Pen} → Sofar room column n k ok i out → i < length s → Pens (midOf n (length out - n) out) k (getD s i 0 ∷ []) p last
-      → c ≡ standsIn style (getD s i 0) → Sofar room column (n + p .bytes) (p .column) (ok && c) (i + 1) (putMid n (length out - n) out last)
-  told-on {i = i} {ok} {c} f h g e = record {
-    pens = pens-as (one-more s i h) (pens-then (f .pens) g);
-    carried =
-        ap (λ (x : Bool). x && c) (f .carried)
-        ∙ ap (λ (x : Bool). allStandIn style (take i s) && x) e
-        ∙ stand-more style (take i s) (getD s i 0)
-        ∙ ap (allStandIn style) (one-more s i h);
-  }
+  pub stand-on : {ok c : Bool} {i : ℕ} → StandSofar ok i → i < length s → c ≡ standsIn style (getD s i 0) → StandSofar (ok && c) (i + 1)
+  stand-on {c = c} {i} f h e =
+      ap (λ (x : Bool). x && c) f
+      ∙ ap (λ (x : Bool). allStandIn style (take i s) && x) e
+      ∙ stand-more style (take i s) (getD s i 0)
+      ∙ ap (allStandIn style) (one-more s i h)
 
-  pub told-all : {room out : Bytes} {column n k i : ℕ} {ok : Bool} → Sofar room column n k ok i out → length s ≤ i → Tells room column s (allStandIn style s) (record { bytes = n; column = k; carried = ok }) out
-  told-all {i = i} f h = record { pens = pens-as (take-all i s h) (f .pens); carried = f .carried ∙ ap (allStandIn style) (take-all i s h) }
+  pub stand-all : {ok : Bool} {i : ℕ} → StandSofar ok i → length s ≤ i → ok ≡ allStandIn style s
+  stand-all {i = i} f h = f ∙ ap (allStandIn style) (take-all i s h)
 
 -- ---- pieces one after the other
 

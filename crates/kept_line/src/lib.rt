@@ -44,24 +44,29 @@ fn pen_upper(out: &mut [u8], column: usize, name: &[u8]) -> Pen
     }
 }
 
+// Whether each of these bytes can stand in a line in that style.
+fn all_stand(style: u8, s: &[u8]) -> bool
+    ensures { λ r. ⌜ r ≡ allStandIn style (now (s .entry)) ⌝ }
+{
+    let mut ok = true;
+    let mut i = 0;
+    while i < s.len() {
+        ok = ok & can_stand(style, s[i]);
+        i += 1;
+    }
+    ok
+}
+
 // Bytes as they are, and whether each of them can stand in a line in that style.
 fn pen_told(out: &mut [u8], column: usize, style: u8, s: &[u8]) -> Told
     ensures { λ r. ⌜ Tells (now (out .entry)) column (now (s .entry)) (allStandIn style (now (s .entry))) r (now (out .exit)) ⌝ }
 {
-    let mut at = 0;
-    let mut k = column;
-    let mut ok = true;
-    let mut i = 0;
-    while i < s.len() {
-        let c = s[i];
-        let p = pen_byte(&mut out[at..], k, c);
-        at += p.bytes;
-        k = p.column;
-        ok = ok & can_stand(style, c);
-        i += 1;
-    }
+    let p = pen_bytes(out, column, s);
+    let n = p.bytes;
+    let k = p.column;
+    let ok = all_stand(style, s);
     Told {
-        bytes: at,
+        bytes: n,
         column: k,
         carried: ok,
     }

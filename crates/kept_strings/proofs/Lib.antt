@@ -1,3 +1,4 @@
+pub mod Bare
 pub mod Putting
 pub mod Tables
 pub mod Elements

@@ -3,7 +3,7 @@ use mathlib.Core.Path.{_≡_}
 use mathlib.Core.Bool.{Bool, true, false, _&&_, not}
 use mathlib.Core.List.{List, [], _∷_, _++_}
 use mathlib.Core.Option.{Option, none, some, Option·map}
-use Prim.Native.Nat.{ℕ, zero, suc, _+_, _≤_, _<_}
+use Prim.Native.Nat.{ℕ, zero, suc, _+_, _-_, _≤_, _<_}
 use lib.Dec.{eqb, leb}
 use lib.ListN.{length, take, drop, getD}
 use Rattle.text.specs.Choice.{pick, chain, provided}
@@ -12,7 +12,7 @@ use Rattle.text.specs.Reader.{got, loop}
 use Rattle.json.specs.Tree.{Json, jnull, jtrue, jfalse, jnum, jstr, jarr, jobj, Elems, enil, econs, Members, mnil, mcons, elemsOf, asString}
 use Rattle.json.specs.Syntax.{item, value}
 use Rattle.json.specs.Strings.{decodedElems}
-use Rattle.json_strings.specs.Decoded.{decodedAt}
+use Rattle.json_strings.specs.Spelled.{spelled, textAt}
 use Rattle.json_index.specs.Index.{jsonAt}
 use Rattle.line.specs.Grammar.{Param, param, paramName, paramValues}
 use Rattle.line_table.specs.Spread.{spread}
@@ -42,6 +42,14 @@ unfoldable mutual
   pub sizeMembers : Members → ℕ
   sizeMembers mnil = 0
   sizeMembers (mcons k j ms) = length k + size j + sizeMembers ms
+
+-- ---- strings without an escape
+
+-- the string from a place on stands for the very bytes up to another
+pub record BareText (s : Bytes) (at e : ℕ) : Type 0 where
+  pub from : at ≤ e
+  pub within : e ≤ length s
+  pub is : textAt s at ≡ take (e - at) (drop at s)
 
 -- ---- one string more in a buffer whose first n bytes are taken
 

@@ -1,6 +1,7 @@
 // Strings of a JSON text one after the other in a lent buffer, and the values of a parameter of vCardProps as rows of a line's table.
 use card_value::string_in;
 use json_access::element_at;
+use json_index::is_raw;
 use json_marks::separator;
 use json_marks::skip_space;
 use json_strings::decode_into;
@@ -8,6 +9,7 @@ use line_class::Class;
 use line_class::all_of;
 use line_table::put_row;
 use output::Wrote;
+use output::put_text;
 use text::LEFT_BRACKET;
 use text::RIGHT_BRACKET;
 use text::Turn;
@@ -17,7 +19,7 @@ ghost use Prim.Native.Nat.{_≤_, _<_};
 ghost use lib.ListN.{length};
 ghost use Rattle.json_strings.specs.Decoded.{textAt};
 ghost use Rattle.convert.specs.FromJson.{isLowerWord};
-ghost use Rattle.kept_strings.specs.Strings.{Puts, Within, PutsAt, Bounds, RowsIn, AddsValue, AddsFrom, AddsValues, TellsSole, PutsGroup};
+ghost use Rattle.kept_strings.specs.Strings.{Puts, BareText, Within, PutsAt, Bounds, RowsIn, AddsValue, AddsFrom, AddsValues, TellsSole, PutsGroup};
 
 // Where what is in the buffer ends.
 pub enum To {
@@ -41,12 +43,45 @@ pub fn is_word(w: &[u8]) -> bool
     all_of(w, Class::LowerName)
 }
 
-// The string whose first quote stands just before a place, after the first n bytes of the buffer.
-pub fn put_decoded<'a, 'b>(b: &'a mut [u8], n: usize, s: &'b [u8], at: usize) -> To
+// The closing quote of a string whose bytes all stand for themselves; the text's length where it has an escape or is no string.
+fn bare_end(s: &[u8], at: usize) -> usize
+    ensures { λ r. ⌜ (r < length (now (s .entry)) → BareText (now (s .entry)) at r) ⌝ }
+{
+    let mut i = at;
+    while i < s.len() {
+        let c = s[i];
+        if !is_raw(c) {
+            if c == b'"' {
+                return i;
+            }
+            return s.len();
+        }
+        i += 1;
+    }
+    s.len()
+}
+
+// The string whose first quote stands just before a place, after the first n bytes of the buffer: decoded byte by byte.
+fn put_escaped<'a, 'b>(b: &'a mut [u8], n: usize, s: &'b [u8], at: usize) -> To
     requires { ⌜ n ≤ length (now b) ⌝ }
     ensures { λ r. ⌜ Puts (now (b .entry)) n (textAt (now (s .entry)) at) r (now (b .exit)) ⌝ }
 {
     let Wrote::Bytes(k) = decode_into(&mut b[n..], s, at) else {
+        return To::Bad;
+    };
+    To::End(n + k)
+}
+
+// The same; most strings have no escape, and are copied as they are.
+pub fn put_decoded<'a, 'b>(b: &'a mut [u8], n: usize, s: &'b [u8], at: usize) -> To
+    requires { ⌜ n ≤ length (now b) ⌝ }
+    ensures { λ r. ⌜ Puts (now (b .entry)) n (textAt (now (s .entry)) at) r (now (b .exit)) ⌝ }
+{
+    let e = bare_end(s, at);
+    if e >= s.len() {
+        return put_escaped(b, n, s, at);
+    }
+    let Wrote::Bytes(k) = put_text(&mut b[n..], &s[at..e]) else {
         return To::Bad;
     };
     To::End(n + k)

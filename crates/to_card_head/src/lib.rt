@@ -1,8 +1,8 @@
 // The first lines of a card from the members of the JSON: BEGIN, VERSION, UID and KIND. A slot is the place of a member's value, 0 where it is absent.
+use card_pen::byte_at;
 use card_value::string_in;
 use json_strings::Byte;
 use json_strings::equals;
-use json_strings::next_byte;
 use line_pen::fill;
 use to_card_lines::Lines;
 use to_card_lines::Penned;
@@ -44,7 +44,7 @@ fn is_word(s: &[u8], at: usize) -> bool
     let mut h = 0;
     let mut begun = false;
     loop {
-        match next_byte(s, i, h) {
+        match byte_at(s, i, h) {
             Byte::Alone => {
                 return false;
             }
@@ -74,7 +74,7 @@ pub fn is_filled(s: &[u8], at: usize) -> bool
     if at > s.len() {
         return false;
     }
-    match next_byte(s, at, 0) {
+    match byte_at(s, at, 0) {
         Byte::Alone => false,
         Byte::End => false,
         Byte::One {

@@ -30,9 +30,9 @@ use Rattle.json_scan.proofs.First.{as-array}
 use Rattle.json_access.specs.declared.Kind.{Kind}
 use Rattle.json_access.specs.declared.Kind.the-variants.{Null, True, False, Number, String, Array, Object}
 use Rattle.json_access.specs.declared.Part.{Part}
-use Rattle.json_access.specs.Access.{TellsElement, TellsKind, kindOf}
+use Rattle.json_access.specs.Access.{TellsElement, TellsKind, EndsAt, kindOf}
 use Rattle.json_access.proofs.First.{is-object, is-string, is-true, is-false, is-null, is-number}
-use Rattle.json_index.specs.Index.{jsonAt}
+use Rattle.json_index.specs.Index.{meant, jsonAt}
 use Rattle.json_index.proofs.Laws.{stands-at}
 use Rattle.json_index.proofs.Objects.{at-inv}
 
@@ -219,28 +219,50 @@ decoded-one : (j : Json) (us es : Elems) → decodedElems (econs j us) ≡ some 
 unfolding decodedElems
 decoded-one j us es e = both-inv econs (decoded j) (decodedElems us) e
 
+value-at : (d : ℕ) (s : Bytes) (i : ℕ) (j v : Json) (u : Bytes) → value d (drop i s) ≡ got j u → decoded j ≡ some v → jsonAt d s i ≡ some v
+unfolding jsonAt
+value-at d s i j v u e q = ap meant e ∙ q
+
 module _ {A : Type 0} {f : Json → Option A} {d : ℕ} {s : Bytes} {js : List Json} {t : Bytes} {i : ℕ} {done : List A} where
-  pub now-of : Far f d s js t i done → (r : Part) → TellsElement d s i r → Now f d s js t i done r
-  now-of far r told =
+  now-by : Far f d s js t i done → (r : Part) → ((j : Json) (u : Bytes) (v : Json) → value d (drop i s) ≡ got j u → decoded j ≡ some v → (jsonAt d s (r .start) ≡ some v) × (u ≡ drop (r .end) s))
+      → Now f d s js t i done r
+  now-by far r told =
       let z = item-here d s i (far .units) t (far .is-units) in
       let x = decoded-one (z .val) (z .others) (far .rest) (ap decodedElems (sym (z .is)) ∙ far .is-rest) in
-      let w = told (z .val) (z .rest-val) (z .is-value) in
+      let w = told (z .val) (z .rest-val) (x .0) (z .is-value) (x .2) in
       let l : elemsOf (far .rest) ≡ x .0 ∷ elemsOf (x .1) = ap elemsOf (sym (x .4)) ∙ elems-cons (x .0) (x .1) in
       let g : each f js ≡ prepend done (both _∷_ (f (x .0)) (each f (elemsOf (x .1)))) = far .is-each ∙ ap (prepend done) (ap (each f) l ∙ each-one f (x .0) (elemsOf (x .1))) in
       let h : (y : A) → f (x .0) ≡ some y → each f js ≡ prepend (done ++ (y ∷ [])) (each f (elemsOf (x .1))) =
       λ y q. g ∙ ap (λ (o : Option A). prepend done (both _∷_ o (each f (elemsOf (x .1))))) q ∙ prepend-one done y (each f (elemsOf (x .1))) in
       record {
         val = x .0;
-        is-val = stands-at d s (drop i s) (z .rest-val) (z .val) (x .0) (r .start) (r .end) w (z .is-value) (x .2);
+        is-val = w .0;
         fails = λ q. g ∙ ap (λ (o : Option A). prepend done (both _∷_ o (each f (elemsOf (x .1))))) q;
         goes = λ y q j v.
-            let o = others-on d s i (far .units) t (far .is-units) z (r .end) (w .ends) j v in
+            let o = others-on d s i (far .units) t (far .is-units) z (r .end) (w .1) j v in
             let m : o .0 ≡ z .others = same-others (o .2) (z .is) in
             record { units = z .others; rest = x .1; is-units = subst (λ (u : Elems). loop (item (value d)) (drop j s) ≡ got u t) m (o .1); is-rest = x .3; is-each = h y q };
         ends = λ y q v p.
-            let o = others-none d s i (far .units) t (far .is-units) z (r .end) (w .ends) v p in
+            let o = others-none d s i (far .units) t (far .is-units) z (r .end) (w .1) v p in
             let m : enil ≡ z .others = same-others o (z .is) in
             let n : enil ≡ x .1 = nil-decoded (x .1) (ap decodedElems m ∙ x .3) in
             h y q ∙ ap (λ (u : Elems). prepend (done ++ (y ∷ [])) (each f (elemsOf u))) (sym n) ∙ ap (λ (u : List Json). prepend (done ++ (y ∷ [])) (each f u)) elems-nil
             ∙ ap (prepend (done ++ (y ∷ []))) (each-none f) ∙ ap some (append-nil (done ++ (y ∷ [])));
       }
+
+  -- by where the element stands
+  pub now-of : Far f d s js t i done → (r : Part) → TellsElement d s i r → Now f d s js t i done r
+  now-of far r told = now-by far r (λ j u v e q. let w = told j u e in (stands-at d s (drop i s) u j v (r .start) (r .end) w e q, w .ends))
+
+  -- by its end alone
+  pub now-to : Far f d s js t i done → (e : ℕ) → EndsAt d s i e → Now f d s js t i done (record { start = i; end = e })
+  now-to far e ends = now-by far (record { start = i; end = e }) (λ j u v h q. (value-at d s i j v u h q, ends j u h))
+
+  -- what it is, wherever it ends
+  pub first-of : Far f d s js t i done → (v : Json) × (jsonAt d s i ≡ some v) × (f v ≡ none → each f js ≡ none)
+  first-of far =
+      let z = item-here d s i (far .units) t (far .is-units) in
+      let x = decoded-one (z .val) (z .others) (far .rest) (ap decodedElems (sym (z .is)) ∙ far .is-rest) in
+      let l : elemsOf (far .rest) ≡ x .0 ∷ elemsOf (x .1) = ap elemsOf (sym (x .4)) ∙ elems-cons (x .0) (x .1) in
+      let g : each f js ≡ prepend done (both _∷_ (f (x .0)) (each f (elemsOf (x .1)))) = far .is-each ∙ ap (prepend done) (ap (each f) l ∙ each-one f (x .0) (elemsOf (x .1))) in
+      (x .0, value-at d s i (z .val) (x .0) (z .rest-val) (z .is-value) (x .2), λ q. g ∙ ap (λ (o : Option A). prepend done (both _∷_ o (each f (elemsOf (x .1))))) q)

@@ -23,7 +23,7 @@ use Rattle.json.specs.Syntax.{sep, item, value}
 use Rattle.json.specs.Strings.{decodedElems}
 use Rattle.json_strings.specs.Decoded.{decodedAt}
 use Rattle.json_access.specs.declared.Part.{Part}
-use Rattle.json_access.specs.Access.{TellsElement}
+use Rattle.json_access.specs.Access.{TellsElement, EndsAt}
 use Rattle.json_index.specs.Index.{jsonAt, Clear}
 use Rattle.line_pen.specs.declared.Pen.{Pen}
 use Rattle.line_pen.specs.Pen.{Pens}
@@ -31,11 +31,12 @@ use Rattle.line_pen.proofs.Laws.{pens-none, pens-then}
 use Rattle.convert.specs.Value.{filled}
 use Rattle.convert.specs.FromJson.{Component, component, componentOf, ofKind}
 use Rattle.to_card_parts.specs.declared.Found.{Found}
+use Rattle.to_card_parts.specs.declared.Ended.{Ended}
 use Rattle.to_card_parts.specs.declared.Found.the-variants.{Of, Wrong}
 use Rattle.to_card_parts.specs.declared.Inked.{Inked}
 use Rattle.to_card_head.specs.Head.{TellsFilled}
-use Rattle.to_card_parts.specs.Parts.{KindIn, ComponentIs, TellsComponent, Lists, valuesOf, Marked, Marks, CheckedAs, ChecksFrom, Says, InksOne, InksKind}
-use Rattle.to_card_parts.proofs.Elements.{Far, far-first, Now, now-of}
+use Rattle.to_card_parts.specs.Parts.{foundOf, EndIn, KindIn, ComponentIs, TellsComponent, Lists, valuesOf, Marked, Marks, CheckedAs, ChecksFrom, Says, InksOne, InksKind}
+use Rattle.to_card_parts.proofs.Elements.{Far, far-first, Now, now-of, now-to, first-of}
 use Rattle.to_card_parts.proofs.Values.{values-none, values-more, says-none, says-then, says-as}
 
 -- ---- what was found
@@ -59,6 +60,13 @@ found-some s r (some (component l x)) h k v e =
     let a : l ≡ k = of-kind (sym (h .1) ∙ e) in
     let b : h .0 ≡ v = of-place (sym (h .1) ∙ e) in
     (x, ap (λ (i : ℕ). some (component i x)) a, ap (decodedAt s) (sym b) ∙ h .2)
+
+-- the same of a component with its end
+pub ended-found : {r q : Ended} → r ≡ q → foundOf r ≡ foundOf q
+ended-found e = ap foundOf e
+
+pub ended-in : (s : Bytes) (at : ℕ) {r q : Ended} → EndIn s at r → r ≡ q → EndIn s at q
+ended-in s at w e = subst (EndIn s at) e w
 
 pub kind-in : {k v : ℕ} (r : Found) → KindIn r → r ≡ Of k v → k < 7
 kind-in {k} {v} r h e = subst KindIn e h
@@ -120,25 +128,25 @@ Checking s at i m = (us es : Elems) (t : Bytes) → loop (item (value 13)) (drop
 pub checking-first : (s : Bytes) (at : ℕ) (m : List ℕ) → Clear m → Checking s at at m
 checking-first s at m h us es t e f = ([], far-first componentOf 13 s us es t at e f, λ i l. eq-eqb (getD m i 0) 0 (h i) ∙ sym (ap empty (values-none i)))
 
-module _ (s : Bytes) (at i : ℕ) (m : List ℕ) (going : Checking s at i m) (r : Part) (told : TellsElement 13 s i r) (f : Found) (tells : TellsComponent s (r .start) f) where
+module _ (s : Bytes) (at i : ℕ) (m : List ℕ) (going : Checking s at i m) (f : Found) (tells : TellsComponent s i f) where
   pub checks-wrong : f ≡ Wrong → (after : List ℕ) → ChecksFrom s at after 0
   checks-wrong e after us es t x y =
       let g = going us es t x y in
-      let n = now-of (g .1) r told in
-      subst (CheckedAs after 0) (sym (n .fails (found-none s f (componentOf (n .val)) (tells (n .val) (n .is-val)) e))) refl
+      let n = first-of (g .1) in
+      subst (CheckedAs after 0) (sym (n .2 (found-none s f (componentOf (n .0)) (tells (n .0) (n .1)) e))) refl
 
-  module _ (k v : ℕ) (e : f ≡ Of k v) (after : List ℕ) (l : k < length m) (marks : Marks s v k m after) where
-    pub checking-on : (j : ℕ) → GivesT s (r .end) (sep 93 zero suc (drop (r .end) s)) (Go j) → Checking s at j after
+  module _ (k v : ℕ) (e : f ≡ Of k v) (after : List ℕ) (l : k < length m) (marks : Marks s v k m after) (end : ℕ) (told : EndsAt 13 s i end) where
+    pub checking-on : (j : ℕ) → GivesT s end (sep 93 zero suc (drop end s)) (Go j) → Checking s at j after
     checking-on j w us es t x y =
         let g = going us es t x y in
-        let n = now-of (g .1) r told in
+        let n = now-to (g .1) end told in
         let c = found-some s f (componentOf (n .val)) (tells (n .val) (n .is-val)) k v e in
         (g .0 ++ (component k (c .0) ∷ []), n .goes (component k (c .0)) (c .1) j w, marked-on m after (g .0) k (c .0) l (marks .is (c .0) (c .2)) (g .2))
 
-    pub checks-all : (z : Read) → GivesT s (r .end) (sep 93 zero suc (drop (r .end) s)) (Stop z) → (n : ℕ) → 0 < n → ChecksFrom s at after n
+    pub checks-all : (z : Read) → GivesT s end (sep 93 zero suc (drop end s)) (Stop z) → (n : ℕ) → 0 < n → ChecksFrom s at after n
     checks-all z w q h us es t x y =
         let g = going us es t x y in
-        let n = now-of (g .1) r told in
+        let n = now-to (g .1) end told in
         let c = found-some s f (componentOf (n .val)) (tells (n .val) (n .is-val)) k v e in
         subst (CheckedAs after q) (sym (n .ends (component k (c .0)) (c .1) z w)) (h, marked-on m after (g .0) k (c .0) l (marks .is (c .0) (c .2)) (g .2))
 

@@ -19,9 +19,8 @@ use Rattle.text.specs.Places.{GivesT}
 use Rattle.text.proofs.Choices.{some-same}
 use Rattle.json.specs.Tree.{elemsOf}
 use Rattle.json.specs.Syntax.{sep}
-use Rattle.json_strings.specs.Decoded.{decodedAt}
-use Rattle.json_access.specs.declared.Part.{Part}
-use Rattle.json_access.specs.Access.{TellsElement}
+use Rattle.json_strings.specs.Spelled.{spelled}
+use Rattle.json_access.specs.Access.{EndsAt}
 use Rattle.line_pen.specs.Pen.{Pens}
 use Rattle.line_pen.proofs.Laws.{pens-none, pens-then}
 use Rattle.convert.specs.FromJson.{Component, component, componentOf, ofKind}
@@ -29,7 +28,7 @@ use Rattle.to_card_parts.specs.declared.Found.{Found}
 use Rattle.to_card_parts.specs.declared.Found.the-variants.{Of}
 use Rattle.to_card_parts.specs.declared.Inked.{Inked}
 use Rattle.to_card_parts.specs.Parts.{TellsComponent, Lists, valuesOf, CheckedAs, ChecksFrom, Says, InksOne, InksKind, Rows, RowsFrom, AddsRow}
-use Rattle.to_card_parts.proofs.Elements.{Far, far-first, now-of}
+use Rattle.to_card_parts.proofs.Elements.{Far, far-first, now-to}
 use Rattle.to_card_parts.proofs.Passes.{found-some}
 use Rattle.to_card_parts.proofs.Values.{values-none, values-more, says-none, says-then, says-as}
 
@@ -93,7 +92,7 @@ Listing s at i kinds values n = n ≤ 16 → (cs : List Component) (l : Lists s 
 pub listing-first : (s : Bytes) (at : ℕ) (kinds values : List ℕ) → Listing s at at kinds values 0
 listing-first s at kinds values le cs l = ([], far-first componentOf 13 s (l .units) (l .elems) (l .rest) at (l .read) (l .are), rows-none s kinds values)
 
-module _ (s : Bytes) (at i : ℕ) (kinds values : List ℕ) (n : ℕ) (going : Listing s at i kinds values n) (r : Part) (told : TellsElement 13 s i r) (f : Found) (tells : TellsComponent s (r .start) f)
+module _ (s : Bytes) (at i : ℕ) (kinds values : List ℕ) (n : ℕ) (going : Listing s at i kinds values n) (f : Found) (tells : TellsComponent s i f) (end : ℕ) (told : EndsAt 13 s i end)
     (k v : ℕ) (e : f ≡ Of k v) (l : 16 ≤ length kinds) (m : 16 ≤ length values) (kinds′ values′ : List ℕ) (n′ : ℕ) (adds : AddsRow kinds values n k v kinds′ values′ n′) where
   more-rows : n′ ≤ 16 → (past : List Component) (x : Bytes) → decodedAt s v ≡ some x → Rows s kinds values n past → Rows s kinds′ values′ n′ (past ++ (component k x ∷ []))
   more-rows le past x q h =
@@ -104,19 +103,19 @@ module _ (s : Bytes) (at i : ℕ) (kinds values : List ℕ) (n : ℕ) (going : L
       let w = subst (λ (z : List ℕ). Rows s z (set values n v) n′ cs) (sym (a .2)) u in
       subst (λ (z : List ℕ). Rows s kinds′ z n′ cs) (sym (a .3)) w
 
-  pub listing-on : (j : ℕ) → GivesT s (r .end) (sep 93 zero suc (drop (r .end) s)) (Go j) → Listing s at j kinds′ values′ n′
+  pub listing-on : (j : ℕ) → GivesT s end (sep 93 zero suc (drop end s)) (Go j) → Listing s at j kinds′ values′ n′
   listing-on j w le cs y =
       let a = adds .added le in
       let g = going (omega (arith, a .0)) cs y in
-      let x = now-of (g .1) r told in
+      let x = now-to (g .1) end told in
       let c = found-some s f (componentOf (x .val)) (tells (x .val) (x .is-val)) k v e in
       (g .0 ++ (component k (c .0) ∷ []), x .goes (component k (c .0)) (c .1) j w, more-rows le (g .0) (c .0) (c .2) (g .2))
 
-  pub lists-all : (z : Read) → GivesT s (r .end) (sep 93 zero suc (drop (r .end) s)) (Stop z) → RowsFrom s at kinds′ values′ n′
+  pub lists-all : (z : Read) → GivesT s end (sep 93 zero suc (drop end s)) (Stop z) → RowsFrom s at kinds′ values′ n′
   lists-all z w le cs y =
       let a = adds .added le in
       let g = going (omega (arith, a .0)) cs y in
-      let x = now-of (g .1) r told in
+      let x = now-to (g .1) end told in
       let c = found-some s f (componentOf (x .val)) (tells (x .val) (x .is-val)) k v e in
       let q : g .0 ++ (component k (c .0) ∷ []) ≡ cs = some-same (sym (x .ends (component k (c .0)) (c .1) z w) ∙ y .is) in
       subst (Rows s kinds′ values′ n′) q (more-rows le (g .0) (c .0) (c .2) (g .2))

@@ -19,6 +19,7 @@ use Rattle.card_pen.specs.Styles.{writtenIn, allStandIn, Writes}
 use Rattle.convert.specs.Value.{filled}
 use Rattle.convert.specs.FromJson.{Component, component, ofKind}
 use Rattle.to_card_head.specs.Head.{TellsFilled}
+use Rattle.to_card_parts.specs.declared.Inked.{Inked}
 use Rattle.to_card_parts.specs.Parts.{valuesOf, listFrom, Says, valueIf, InksOne}
 
 -- ---- values of a kind
@@ -105,6 +106,9 @@ one-value style mark begun x t c e q = record { is-text = e ∙ sym (append-nil 
 module _ (s : Bytes) (at style mark : ℕ) (wanted begun : Bool) (room : Bytes) (column : ℕ) where
   pub one-unwanted : wanted ≡ false → InksOne s at style mark wanted begun room column (record { bytes = 0; column = column; begun = begun; carried = true }) room
   one-unwanted e = record { text = []; pens = pens-none room column; says = λ x w. nothing style mark begun (valueIf wanted x) (ap (λ (b : Bool). valueIf b x) e) }
+
+  pub one-wanted : wanted ≡ true → {r : Inked} {after : Bytes} → InksOne s at style mark true begun room column r after → InksOne s at style mark wanted begun room column r after
+  one-wanted e {r} {after} h = subst (λ (w : Bool). InksOne s at style mark w begun room column r after) (sym e) h
 
   module _ (b : Bool) (told : TellsFilled s at b) where
     pub one-empty : b ≡ false → InksOne s at style mark wanted begun room column (record { bytes = 0; column = column; begun = begun; carried = true }) room

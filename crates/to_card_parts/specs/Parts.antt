@@ -12,8 +12,8 @@ use Rattle.text.specs.Reader.{got, loop}
 use Rattle.json.specs.Tree.{Json, Elems, elemsOf, asString, asArray}
 use Rattle.json.specs.Syntax.{item, value}
 use Rattle.json.specs.Strings.{decodedElems}
-use Rattle.json_strings.specs.Decoded.{decodedAt}
-use Rattle.json_index.specs.Index.{jsonAt, Slot}
+use Rattle.json_strings.specs.Spelled.{spelled}
+use Rattle.json_index.specs.Index.{jsonAt, Slot, ValueEnds}
 use Rattle.line_pen.specs.Pen.{Pens}
 use Rattle.card_pen.specs.Styles.{writtenIn, allStandIn}
 use Rattle.convert.specs.Table.{position, componentKinds}
@@ -21,6 +21,8 @@ use Rattle.convert.specs.Value.{filled}
 use Rattle.convert.specs.FromJson.{Component, component, componentOf, ofKind}
 use Rattle.to_card_parts.specs.declared.Found.{Found}
 use Rattle.to_card_parts.specs.declared.Found.the-variants.{Of, Wrong}
+use Rattle.to_card_parts.specs.declared.Ended.{Ended}
+use Rattle.to_card_parts.specs.declared.Ended.the-variants.{Of as EndedOf, Wrong as NoComponent}
 use Rattle.to_card_parts.specs.declared.Array.{Array}
 use Rattle.to_card_parts.specs.declared.Array.the-variants.{At, Empty, Wrong as NoArray}
 use Rattle.to_card_parts.specs.declared.Inked.{Inked}
@@ -47,6 +49,15 @@ TellsSlots s kind value r = (o o′ : Option Json) → Slot 12 s kind o → Slot
 
 abbrev pub TellsComponent : Bytes → ℕ → Found → Type 0
 TellsComponent s at r = (v : Json) → jsonAt 13 s at ≡ some v → ComponentIs s r (componentOf v)
+
+-- the same, and the place after it
+abbrev pub foundOf : Ended → Found
+foundOf (EndedOf k p e) = Of k p
+foundOf NoComponent = Wrong
+
+abbrev pub EndIn : Bytes → ℕ → Ended → Type 0
+EndIn s at (EndedOf k p e) = ValueEnds 12 s at e
+EndIn s at NoComponent = Unit {0}
 
 -- ---- the array of them
 

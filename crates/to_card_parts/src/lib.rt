@@ -2,7 +2,7 @@
 use card_pen::pen_string;
 use card_value::string_in;
 use json_access::element_at;
-use json_index::index_object;
+use json_index::index_to_end;
 use json_index::which_name;
 use json_marks::separator;
 use json_marks::skip_space;
@@ -13,14 +13,21 @@ use text::Turn;
 use text::look;
 use to_card_head::is_filled;
 ghost use mathlib.Core.Path.{_≡_};
+ghost use mathlib.Core.Bool.{true};
 ghost use Prim.Native.Nat.{_≤_, _<_};
 ghost use lib.ListN.{length};
 ghost use Rattle.json_index.specs.Index.{Clear};
-ghost use Rattle.to_card_parts.specs.Parts.{KindIn, TellsSlots, TellsComponent, ArrayIn, OpensAs, Marks, ChecksFrom, InksOne, InksKind, AddsRow, RowsFrom};
+ghost use Rattle.to_card_parts.specs.Parts.{KindIn, TellsSlots, TellsComponent, foundOf, EndIn, ArrayIn, OpensAs, Marks, ChecksFrom, InksOne, InksKind, AddsRow, RowsFrom};
 
 // A component: the place of its kind among the kinds, and the place of its value; or 12.
 pub enum Found {
     Of { kind: usize, value: usize },
+    Wrong,
+}
+
+// The same, and the place after the component.
+pub enum Ended {
+    Of(usize, usize, usize),
     Wrong,
 }
 
@@ -69,23 +76,40 @@ fn component_of(s: &[u8], kind: usize, value: usize) -> Found
     Found::Of { kind: k, value: v }
 }
 
+// The component at a place, and the place after it.
+pub fn component_to_end(s: &[u8], at: usize) -> Ended
+    requires { ⌜ at ≤ length (now s) ⌝ }
+    ensures { λ r. ⌜ KindIn (foundOf r) ⌝ }
+    ensures { λ r. ⌜ TellsComponent (now (s .entry)) at (foundOf r) ⌝ }
+    ensures { λ r. ⌜ EndIn (now (s .entry)) at r ⌝ }
+{
+    let mut slots = [0usize; 3];
+    let end = index_to_end(&mut slots, s, at, 12, b"kind,value");
+    if end == 0 {
+        return Ended::Wrong;
+    }
+    let a = slots[0];
+    let b = slots[1];
+    let other = slots[2];
+    if other != 0 {
+        return Ended::Wrong;
+    }
+    let Found::Of(k, v) = component_of(s, a, b) else {
+        return Ended::Wrong;
+    };
+    Ended::Of(k, v, end)
+}
+
 // The component at a place.
 pub fn component_at(s: &[u8], at: usize) -> Found
     requires { ⌜ at ≤ length (now s) ⌝ }
     ensures { λ r. ⌜ KindIn r ⌝ }
     ensures { λ r. ⌜ TellsComponent (now (s .entry)) at r ⌝ }
 {
-    let mut slots = [0usize; 3];
-    if !index_object(&mut slots, s, at, 12, b"kind,value") {
-        return Found::Wrong;
+    match component_to_end(s, at) {
+        Ended::Of(k, v, e) => Found::Of(k, v),
+        Ended::Wrong => Found::Wrong,
     }
-    let a = slots[0];
-    let b = slots[1];
-    let other = slots[2];
-    if other != 0 {
-        return Found::Wrong;
-    }
-    component_of(s, a, b)
 }
 
 // The array at a place.
@@ -156,10 +180,7 @@ pub fn list_rows<'a, 'b, 'c, 'd>(
     let mut i = at;
     let mut n = 0;
     loop {
-        let p = element_at(s, i, 13);
-        let a = p.start;
-        let e = p.end;
-        let Found::Of { kind: k, value: v } = component_at(s, a) else {
+        let Ended::Of(k, v, e) = component_to_end(s, i) else {
             return 0;
         };
         mark_kind(marks, s, k, v);
@@ -175,27 +196,18 @@ pub fn list_rows<'a, 'b, 'c, 'd>(
     }
 }
 
-// One value, after the mark between values where one has been written before; nothing where it is empty or not wanted.
-fn pen_value<'a, 'b>(
+// One value that is wanted, after the mark between values where one has been written before; nothing where it is empty.
+fn pen_wanted<'a, 'b>(
     out: &'a mut [u8],
     column: usize,
     style: u8,
     mark: u8,
     s: &'b [u8],
     at: usize,
-    wanted: bool,
     begun: bool,
 ) -> Inked
-    ensures { λ r. ⌜ InksOne (now (s .entry)) at style mark wanted begun (now (out .entry)) column r (now (out .exit)) ⌝ }
+    ensures { λ r. ⌜ InksOne (now (s .entry)) at style mark true begun (now (out .entry)) column r (now (out .exit)) ⌝ }
 {
-    if !wanted {
-        return Inked {
-            bytes: 0,
-            column: column,
-            begun: begun,
-            carried: true,
-        };
-    }
     if !is_filled(s, at) {
         return Inked {
             bytes: 0,
@@ -227,6 +239,30 @@ fn pen_value<'a, 'b>(
         column: k,
         begun: true,
         carried: ok,
+    }
+}
+
+// The same of any value; nothing where it is not wanted, as most are not.
+fn pen_value<'a, 'b>(
+    out: &'a mut [u8],
+    column: usize,
+    style: u8,
+    mark: u8,
+    s: &'b [u8],
+    at: usize,
+    wanted: bool,
+    begun: bool,
+) -> Inked
+    ensures { λ r. ⌜ InksOne (now (s .entry)) at style mark wanted begun (now (out .entry)) column r (now (out .exit)) ⌝ }
+{
+    if wanted {
+        return pen_wanted(out, column, style, mark, s, at, begun);
+    }
+    Inked {
+        bytes: 0,
+        column: column,
+        begun: begun,
+        carried: true,
     }
 }
 

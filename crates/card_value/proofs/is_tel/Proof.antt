@@ -16,7 +16,7 @@ use Rattle.card_value.proofs.is_tel.Reads as reads
 use Rattle.card_value.proofs.is_tel.Lts as lts
 use Rattle.card_value.proofs.fits_tel.Reads as fits-tel-reads
 use Rattle.card_value.proofs.onward.Reads as onward-reads
-use Rattle.json_strings.proofs.next_byte.Reads as next-byte-reads
+use Rattle.card_pen.proofs.byte_at.Reads as byte-at-reads
 
 abbrev Inv-loop : tie.InvT-loop
 Inv-loop form s at i₀ h₀ k₀ i h k = (i ≤ length s) × (telOf (decodedAt s at) ≡ telSeen k (left s i h))
@@ -37,8 +37,8 @@ loop-holds : tie.Need-loop-holds Inv-loop μ-loop
 loop-holds c = (c .if2 .left, tel-first _ _ (left-none (now (c .before .before .before .args .s)) (c .before .before .before .args .at)))
 
 -- src/lib.rt:139:15
-next-byte-requires : tie.Need-next-byte-requires Inv-loop μ-loop
-next-byte-requires c κs = c .loop .inv .0
+byte-at-requires : tie.Need-byte-at-requires Inv-loop μ-loop
+byte-at-requires c κs = c .loop .inv .0
 
 -- src/lib.rt:141:17
 enum-told : tie.Need-enum-told Inv-loop μ-loop
@@ -51,7 +51,7 @@ returns-3 c =
     let if1 = c .before .before .before .before .before .if1 in
     let loop = c .before .before .before .loop in
     the-form (eq-eqb _ _ (if1 .left))
-    (sym (loop .inv .1 ∙ ap (telSeen (loop .k)) (is-alone (now (args .s)) (c .before .before .next-byte .ensures .0) (c .enum-told .given .1))))
+    (sym (loop .inv .1 ∙ ap (telSeen (loop .k)) (is-alone (now (args .s)) (c .before .before .byte-at .ensures .0) (c .enum-told .given .1))))
 
 -- src/lib.rt:144:17
 enum-told-2 : tie.Need-enum-told-2 Inv-loop μ-loop
@@ -65,7 +65,7 @@ returns-4 c =
     let loop = c .before .before .before .loop in
     the-form (eq-eqb _ _ (if1 .left))
     (tel-end (loop .k) ∙ sym
-    (loop .inv .1 ∙ ap (telSeen (loop .k)) (is-end (now (args .s)) (c .before .before .next-byte .ensures .0) (c .enum-told2 .given .1))))
+    (loop .inv .1 ∙ ap (telSeen (loop .k)) (is-end (now (args .s)) (c .before .before .byte-at .ensures .0) (c .enum-told2 .given .1))))
 
 -- src/lib.rt:146:23
 enum-known-b : tie.Need-enum-known-b Inv-loop μ-loop
@@ -81,12 +81,12 @@ returns-5 c =
     let args = c .before .before .before .before .before .before .before .before .before .before .args in
     let if1 = c .before .before .before .before .before .before .before .before .if1 in
     let loop = c .before .before .before .before .before .before .loop in
-    let next-byte = c .before .before .before .before .before .next-byte in
+    let byte-at = c .before .before .before .before .before .byte-at in
     let b = c .before .before .before .b in
     the-form (eq-eqb _ _ (if1 .left))
     (tel-bad (loop .k) (b .given .0 .0) (left (now (args .s)) (b .given .0 .1 .0) (b .given .0 .1 .1 .0))
     (sym (c .before .fits-tel .ensures) ∙ not-true _ (c .if3 .taken)) ∙ sym
-    (loop .inv .1 ∙ ap (telSeen (loop .k)) (is-one (now (args .s)) (next-byte .ensures .0) (b .given .1))))
+    (loop .inv .1 ∙ ap (telSeen (loop .k)) (is-one (now (args .s)) (byte-at .ensures .0) (b .given .1))))
 
 -- src/lib.rt:150:17
 onward-requires : tie.Need-onward-requires Inv-loop μ-loop
@@ -97,19 +97,19 @@ loop-less : tie.Need-loop-less Inv-loop μ-loop
 loop-less c =
     let args = c .before .before .before .before .before .before .before .before .before .before .before .args in
     let loop = c .before .before .before .before .before .before .before .loop in
-    let next-byte = c .before .before .before .before .before .before .next-byte in
+    let byte-at = c .before .before .before .before .before .before .byte-at in
     let b = c .before .before .before .before .b in
-    byte-in (now (args .s)) (loop .i) (loop .h) (next-byte .ensures .1) (b .given .1) .1
+    byte-in (now (args .s)) (loop .i) (loop .h) (byte-at .ensures .1) (b .given .1) .1
 
 -- src/lib.rt:138:5
 loop-again : tie.Need-loop-again Inv-loop μ-loop
 loop-again c =
     let args = c .before .before .before .before .before .before .before .before .before .before .before .args in
     let loop = c .before .before .before .before .before .before .before .loop in
-    let next-byte = c .before .before .before .before .before .before .next-byte in
+    let byte-at = c .before .before .before .before .before .before .byte-at in
     let b = c .before .before .before .before .b in (
-      byte-in (now (args .s)) (loop .i) (loop .h) (next-byte .ensures .1) (b .given .1) .0,
-      loop .inv .1 ∙ ap (telSeen (loop .k)) (is-one (now (args .s)) (next-byte .ensures .0) (b .given .1)) ∙ tel-more (loop .k) (b .given .0 .0) (left (now (args .s)) (b .given .0 .1 .0) (b .given .0 .1 .1 .0)) (sym (c .before .before .fits-tel .ensures) ∙ not-false _ (c .before .if3 .left)) (c .onward .ensures),
+      byte-in (now (args .s)) (loop .i) (loop .h) (byte-at .ensures .1) (b .given .1) .0,
+      loop .inv .1 ∙ ap (telSeen (loop .k)) (is-one (now (args .s)) (byte-at .ensures .0) (b .given .1)) ∙ tel-more (loop .k) (b .given .0 .0) (left (now (args .s)) (b .given .0 .1 .0) (b .given .0 .1 .1 .0)) (sym (c .before .before .fits-tel .ensures) ∙ not-false _ (c .before .if3 .left)) (c .onward .ensures),
     )
 
 pub is-tel-spec : {M : Type 1} → statement M
@@ -121,7 +121,7 @@ is-tel-spec =
     returns
     returns-2
     loop-holds
-    next-byte-requires
+    byte-at-requires
     enum-told
     returns-3
     enum-told-2

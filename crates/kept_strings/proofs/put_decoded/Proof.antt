@@ -1,87 +1,100 @@
-use denote.Ref.{now}
 use native.Mathlib.Omega.{arith}
-use Rattle.json_strings.specs.Decoded.{textAt}
-use Rattle.kept_strings.proofs.Putting.{part-same, grew, no-room, puts-long, puts-within, no-string, a-string, word-none, word-some}
+use denote.Ref.{now}
+use Rattle.json_strings.specs.Spelled.{textAt}
+use Rattle.kept_strings.proofs.Putting.{grew, no-room}
+use Rattle.kept_strings.proofs.Bare.{bare-puts}
 use borrow.Author.Needs.{needs}
 use Rattle.kept_strings.proofs.put_decoded.Statement.{statement}
 use Rattle.kept_strings.proofs.put_decoded.Tie as tie
 use Rattle.kept_strings.proofs.put_decoded.Reads as reads
 use Rattle.kept_strings.proofs.put_decoded.Lts as lts
-use Rattle.json_strings.proofs.decode_into.Reads as decode-into-reads
+use Rattle.kept_strings.proofs.bare_end.Reads as bare-end-reads
+use Rattle.kept_strings.proofs.put_escaped.Reads as put-escaped-reads
+use Rattle.output.proofs.put_text.Reads as put-text-reads
 
--- src/lib.rt:47:39
-sub-decode-into : tie.Need-sub-decode-into
-sub-decode-into c = search needs
+bare-end-requires : tie.Need-bare-end-requires
+bare-end-requires c κs = search needs
 
--- src/lib.rt:47:39
-part-decode-into-start : tie.Need-part-decode-into-start
-part-decode-into-start c = search needs
+put-escaped-requires : tie.Need-put-escaped-requires
+put-escaped-requires c κs = search needs
 
--- src/lib.rt:47:39
-part-decode-into-end : tie.Need-part-decode-into-end
-part-decode-into-end c = search needs
-
--- src/lib.rt:47:27
-decode-into-requires : tie.Need-decode-into-requires
-decode-into-requires c κs = search needs
-
--- src/lib.rt:47:22
-enum-known-k : tie.Need-enum-known-k
-enum-known-k c = search needs
-
--- src/lib.rt:48:9
-enum-told : tie.Need-enum-told
-enum-told c = search needs
-
--- src/lib.rt:48:9
 same-length : tie.Need-same-length
 same-length c = search needs
 
--- src/lib.rt:48:9
 returns : tie.Need-returns
-returns c =
-    let pre = c .before .before .before .before .before .before .before .before .pre in
-    let args = c .before .before .before .before .before .before .before .before .args in
-    let decode-into = c .before .before .before .before .decode-into in
-    no-room (now (args .b)) (args .n) (pre) (textAt (now (args .s)) (args .at)) _ (decode-into .result) (decode-into .ensures)
-    (c .enum-told .given .1)
+returns c = search needs
 
--- src/lib.rt:50:13
-add-t8 : tie.Need-add-t8
-add-t8 c =
-    let pre = c .before .before .before .before .before .before .before .before .before .pre in
-    let args = c .before .before .before .before .before .before .before .before .before .args in
-    let good = c .before .before .before .before .before .before .before .before .before .good in
-    let decode-into = c .before .before .before .before .before .decode-into in
-    record {
-      fits = let g = grew (now (args .b)) (args .n) (pre) (textAt (now (args .s)) (args .at)) _ (decode-into .result) (decode-into .ensures)
-          (c .before .k .given .1) in omega (arith, g .within, good .0 .0);
-    }
+sub-put-text : tie.Need-sub-put-text
+sub-put-text c = search needs
 
--- src/lib.rt:43:1
+part-put-text-start : tie.Need-part-put-text-start
+part-put-text-start c = search needs
+
+part-put-text-end : tie.Need-part-put-text-end
+part-put-text-end c = search needs
+
+sub-put-text-2 : tie.Need-sub-put-text-2
+sub-put-text-2 c = let w = c .before .before .bare-end .ensures (c .before .if1 .left) in omega (arith, w .from)
+
+part-put-text-start-2 : tie.Need-part-put-text-start-2
+part-put-text-start-2 c = let w = c .before .before .bare-end .ensures (c .before .if1 .left) in omega (arith, w .from)
+
+part-put-text-end-2 : tie.Need-part-put-text-end-2
+part-put-text-end-2 c = search needs
+
+put-text-requires : tie.Need-put-text-requires
+put-text-requires c κs = search needs
+
+enum-known-k : tie.Need-enum-known-k
+enum-known-k c = search needs
+
+enum-told : tie.Need-enum-told
+enum-told c = search needs
+
 same-length-2 : tie.Need-same-length-2
 same-length-2 c = search needs
 
--- src/lib.rt:43:1
 returns-2 : tie.Need-returns-2
 returns-2 c =
-    let pre = c .before .before .before .before .before .before .before .before .before .pre in
-    let args = c .before .before .before .before .before .before .before .before .before .args in
-    let decode-into = c .before .before .before .before .before .decode-into in
-    grew (now (args .b)) (args .n) (pre) (textAt (now (args .s)) (args .at)) _ (decode-into .result) (decode-into .ensures) (c .before .k .given .1)
+    let a = c .before .before .before .before .before .before .before .before .before .before .before .args in
+    let w = c .before .before .before .before .before .before .before .before .bare-end .ensures (c .before .before .before .before .before .before .before .if1 .left) in
+    no-room (now (a .b)) (a .n) (c .before .before .before .before .before .before .before .before .before .before .before .pre) (textAt (now (a .s)) (a .at)) _ (c .before .before .before .before .put-text .result) (bare-puts w (c .before .before .before .before .put-text .ensures)) (c .enum-told .given .1)
+
+add-t7 : tie.Need-add-t7
+add-t7 c =
+    let a = c .before .before .before .before .before .before .before .before .before .before .before .before .args in
+    let w = c .before .before .before .before .before .before .before .before .before .bare-end .ensures (c .before .before .before .before .before .before .before .before .if1 .left) in
+    let g = grew (now (a .b)) (a .n) (c .before .before .before .before .before .before .before .before .before .before .before .before .pre) (textAt (now (a .s)) (a .at)) _ (c .before .before .before .before .before .put-text .result) (bare-puts w (c .before .before .before .before .before .put-text .ensures)) (c .before .k .given .1) in
+    record { fits = omega (arith, g .within, c .before .before .before .before .before .before .before .before .before .before .before .before .good .0 .0) }
+
+same-length-3 : tie.Need-same-length-3
+same-length-3 c = search needs
+
+returns-3 : tie.Need-returns-3
+returns-3 c =
+    let a = c .before .before .before .before .before .before .before .before .before .before .before .before .args in
+    let w = c .before .before .before .before .before .before .before .before .before .bare-end .ensures (c .before .before .before .before .before .before .before .before .if1 .left) in
+    grew (now (a .b)) (a .n) (c .before .before .before .before .before .before .before .before .before .before .before .before .pre) (textAt (now (a .s)) (a .at)) _ (c .before .before .before .before .before .put-text .result) (bare-puts w (c .before .before .before .before .before .put-text .ensures)) (c .before .k .given .1)
 
 pub put-decoded-spec : {M : Type 1} → statement M
 put-decoded-spec =
     tie.close
     (tie.spec
-    sub-decode-into
-    part-decode-into-start
-    part-decode-into-end
-    decode-into-requires
-    enum-known-k
-    enum-told
+    bare-end-requires
+    put-escaped-requires
     same-length
     returns
-    add-t8
+    sub-put-text
+    part-put-text-start
+    part-put-text-end
+    sub-put-text-2
+    part-put-text-start-2
+    part-put-text-end-2
+    put-text-requires
+    enum-known-k
+    enum-told
     same-length-2
-    returns-2)
+    returns-2
+    add-t7
+    same-length-3
+    returns-3)

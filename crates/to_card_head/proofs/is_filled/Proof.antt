@@ -5,13 +5,13 @@ use Rattle.to_card_head.proofs.is_filled.Statement.{statement}
 use Rattle.to_card_head.proofs.is_filled.Tie as tie
 use Rattle.to_card_head.proofs.is_filled.Reads as reads
 use Rattle.to_card_head.proofs.is_filled.Lts as lts
-use Rattle.json_strings.proofs.next_byte.Reads as next-byte-reads
+use Rattle.card_pen.proofs.byte_at.Reads as byte-at-reads
 
 returns : tie.Need-returns
 returns c = filled-past (now (c .before .before .args .s)) (c .before .before .args .at) (c .if1 .taken)
 
-next-byte-requires : tie.Need-next-byte-requires
-next-byte-requires c κs = search needs
+byte-at-requires : tie.Need-byte-at-requires
+byte-at-requires c κs = search needs
 
 enum-told : tie.Need-enum-told
 enum-told c = search needs
@@ -23,20 +23,20 @@ enum-known-b : tie.Need-enum-known-b
 enum-known-b c = search needs
 
 returns-2 : tie.Need-returns-2
-returns-2 c = filled-alone (now (c .before .before .before .before .before .args .s)) (c .before .before .before .before .before .args .at) (c .before .before .next-byte .result) (c .before .before .next-byte .ensures .0) (c .enum-told .given .1)
+returns-2 c = filled-alone (now (c .before .before .before .before .before .args .s)) (c .before .before .before .before .before .args .at) (c .before .before .byte-at .result) (c .before .before .byte-at .ensures .0) (c .enum-told .given .1)
 
 returns-3 : tie.Need-returns-3
-returns-3 c = filled-end (now (c .before .before .before .before .before .args .s)) (c .before .before .before .before .before .args .at) (c .before .before .next-byte .result) (c .before .before .next-byte .ensures .0) (c .enum-told2 .given .1)
+returns-3 c = filled-end (now (c .before .before .before .before .before .args .s)) (c .before .before .before .before .before .args .at) (c .before .before .byte-at .result) (c .before .before .byte-at .ensures .0) (c .enum-told2 .given .1)
 
 returns-4 : tie.Need-returns-4
-returns-4 c = filled-one (now (c .before .before .before .before .before .before .args .s)) (c .before .before .before .before .before .before .args .at) (c .before .before .before .next-byte .result) (c .before .before .before .next-byte .ensures .0) (c .before .b .given .1)
+returns-4 c = filled-one (now (c .before .before .before .before .before .before .args .s)) (c .before .before .before .before .before .before .args .at) (c .before .before .before .byte-at .result) (c .before .before .before .byte-at .ensures .0) (c .before .b .given .1)
 
 pub is-filled-spec : {M : Type 1} → statement M
 is-filled-spec =
     tie.close
     (tie.spec
     returns
-    next-byte-requires
+    byte-at-requires
     enum-told
     enum-told-2
     enum-known-b

@@ -14,7 +14,7 @@ use Rattle.to_card_head.proofs.is_word.Statement.{statement}
 use Rattle.to_card_head.proofs.is_word.Tie as tie
 use Rattle.to_card_head.proofs.is_word.Reads as reads
 use Rattle.to_card_head.proofs.is_word.Lts as lts
-use Rattle.json_strings.proofs.next_byte.Reads as next-byte-reads
+use Rattle.card_pen.proofs.byte_at.Reads as byte-at-reads
 use Rattle.to_card_head.proofs.is_lower_name.Reads as is-lower-name-reads
 
 abbrev Inv-loop : tie.InvT-loop
@@ -29,14 +29,14 @@ returns c = sym (ap wordOf (decoded-past (now (c .before .before .args .s)) (c .
 loop-holds : tie.Need-loop-holds Inv-loop μ-loop
 loop-holds c = (c .if1 .left, word-first _ _ (left-none (now (c .before .before .args .s)) (c .before .before .args .at)))
 
-next-byte-requires : tie.Need-next-byte-requires Inv-loop μ-loop
-next-byte-requires c κs = c .loop .inv .0
+byte-at-requires : tie.Need-byte-at-requires Inv-loop μ-loop
+byte-at-requires c κs = c .loop .inv .0
 
 enum-told : tie.Need-enum-told Inv-loop μ-loop
 enum-told c = search needs
 
 returns-2 : tie.Need-returns-2 Inv-loop μ-loop
-returns-2 c = sym (c .before .before .before .loop .inv .1 ∙ ap (wordFrom (c .before .before .before .loop .begun)) (is-alone (now (c .before .before .before .before .before .before .args .s)) (c .before .before .next-byte .ensures .0) (c .enum-told .given .1)))
+returns-2 c = sym (c .before .before .before .loop .inv .1 ∙ ap (wordFrom (c .before .before .before .loop .begun)) (is-alone (now (c .before .before .before .before .before .before .args .s)) (c .before .before .byte-at .ensures .0) (c .enum-told .given .1)))
 
 enum-told-2 : tie.Need-enum-told-2 Inv-loop μ-loop
 enum-told-2 c = search needs
@@ -46,7 +46,7 @@ returns-3 c =
     let args = c .before .before .before .before .before .before .args in
     let loop = c .before .before .before .loop in
     word-end (loop .begun) ∙ sym
-    (loop .inv .1 ∙ ap (wordFrom (loop .begun)) (is-end (now (args .s)) (c .before .before .next-byte .ensures .0) (c .enum-told2 .given .1)))
+    (loop .inv .1 ∙ ap (wordFrom (loop .begun)) (is-end (now (args .s)) (c .before .before .byte-at .ensures .0) (c .enum-told2 .given .1)))
 
 enum-known-b : tie.Need-enum-known-b Inv-loop μ-loop
 enum-known-b c = search needs
@@ -58,28 +58,28 @@ returns-4 : tie.Need-returns-4 Inv-loop μ-loop
 returns-4 c =
     let args = c .before .before .before .before .before .before .before .before .before .args in
     let loop = c .before .before .before .before .before .before .loop in
-    let next-byte = c .before .before .before .before .before .next-byte in
+    let byte-at = c .before .before .before .before .before .byte-at in
     let b = c .before .before .before .b in
     word-bad (loop .begun) (b .given .0 .0) (left (now (args .s)) (b .given .0 .1 .0) (b .given .0 .1 .1 .0))
     (sym (c .before .is-lower-name .ensures) ∙ not-true _ (c .if2 .taken)) ∙ sym
-    (loop .inv .1 ∙ ap (wordFrom (loop .begun)) (is-one (now (args .s)) (next-byte .ensures .0) (b .given .1)))
+    (loop .inv .1 ∙ ap (wordFrom (loop .begun)) (is-one (now (args .s)) (byte-at .ensures .0) (b .given .1)))
 
 loop-less : tie.Need-loop-less Inv-loop μ-loop
 loop-less c =
     let args = c .before .before .before .before .before .before .before .before .before .args in
     let loop = c .before .before .before .before .before .before .loop in
-    let next-byte = c .before .before .before .before .before .next-byte in
+    let byte-at = c .before .before .before .before .before .byte-at in
     let b = c .before .before .before .b in
-    byte-in (now (args .s)) (loop .i) (loop .h) (next-byte .ensures .1) (b .given .1) .1
+    byte-in (now (args .s)) (loop .i) (loop .h) (byte-at .ensures .1) (b .given .1) .1
 
 loop-again : tie.Need-loop-again Inv-loop μ-loop
 loop-again c =
     let args = c .before .before .before .before .before .before .before .before .before .args in
     let loop = c .before .before .before .before .before .before .loop in
-    let next-byte = c .before .before .before .before .before .next-byte in
+    let byte-at = c .before .before .before .before .before .byte-at in
     let b = c .before .before .before .b in (
-      byte-in (now (args .s)) (loop .i) (loop .h) (next-byte .ensures .1) (b .given .1) .0,
-      loop .inv .1 ∙ ap (wordFrom (loop .begun)) (is-one (now (args .s)) (next-byte .ensures .0) (b .given .1)) ∙ word-on (loop .begun) (b .given .0 .0) (left (now (args .s)) (b .given .0 .1 .0) (b .given .0 .1 .1 .0)) (sym (c .before .is-lower-name .ensures) ∙ not-false _ (c .if2 .left)),
+      byte-in (now (args .s)) (loop .i) (loop .h) (byte-at .ensures .1) (b .given .1) .0,
+      loop .inv .1 ∙ ap (wordFrom (loop .begun)) (is-one (now (args .s)) (byte-at .ensures .0) (b .given .1)) ∙ word-on (loop .begun) (b .given .0 .0) (left (now (args .s)) (b .given .0 .1 .0) (b .given .0 .1 .1 .0)) (sym (c .before .is-lower-name .ensures) ∙ not-false _ (c .if2 .left)),
     )
 
 pub is-word-spec : {M : Type 1} → statement M
@@ -90,7 +90,7 @@ is-word-spec =
     μ-loop
     returns
     loop-holds
-    next-byte-requires
+    byte-at-requires
     enum-told
     returns-2
     enum-told-2

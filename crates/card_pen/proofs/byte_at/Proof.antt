@@ -1,0 +1,54 @@
+use Prim.Native.Nat.{_+_, _≤_}
+use lib.ListN.{length}
+use native.Mathlib.Omega.{arith}
+use denote.Ref.{now}
+use Rattle.json_strings.proofs.Laws.{weight-falls}
+use Rattle.card_pen.proofs.Plain.{quote-next, bare-next}
+use borrow.Author.Needs.{needs}
+use Rattle.card_pen.proofs.byte_at.Statement.{statement}
+use Rattle.card_pen.proofs.byte_at.Tie as tie
+use Rattle.card_pen.proofs.byte_at.Reads as reads
+use Rattle.card_pen.proofs.byte_at.Lts as lts
+use Rattle.json_strings.proofs.next_byte.Reads as next-byte-reads
+use Rattle.text.proofs.in_range.Reads as in-range-reads
+use Rattle.text.proofs.look.Reads as look-reads
+
+look-requires : tie.Need-look-requires
+look-requires c κs = search needs
+
+returns : tie.Need-returns
+returns c = (quote-next (now (c .before .before .before .args .s)) (c .before .before .before .args .at) (c .before .before .before .args .hold) (c .before .look .result) (c .before .look .ensures .0) (c .if1 .taken), tt)
+
+in-range-requires : tie.Need-in-range-requires
+in-range-requires c κs = search needs
+
+cast-t10 : tie.Need-cast-t10
+cast-t10 c = let w = bare-next (now (c .before .before .before .before .before .args .s)) (c .before .before .before .before .before .args .at) (c .before .before .before .before .before .args .hold) (c .before .before .before .look .result) (c .before .before .before .look .ensures .0) (c .before .in-range .result) (c .before .in-range .ensures) (c .before .before .if1 .left) (c .if2 .taken) in omega (arith, w .0)
+
+add-t11 : tie.Need-add-t11
+add-t11 c = search needs
+
+returns-2 : tie.Need-returns-2
+returns-2 c =
+    let w = bare-next (now (c .before .before .before .before .before .args .s)) (c .before .before .before .before .before .args .at) (c .before .before .before .before .before .args .hold) (c .before .before .before .look .result) (c .before .before .before .look .ensures .0) (c .before .in-range .result) (c .before .in-range .ensures) (c .before .before .if1 .left) (c .if2 .taken) in
+    let in-text : (c .before .before .before .before .before .args .at) + 1 ≤ length (now (c .before .before .before .before .before .args .s)) = omega (arith, w .0, c .before .before .before .look .ensures .1) in
+    (w .1, (in-text, weight-falls (now (c .before .before .before .before .before .args .s)) (c .before .before .before .before .before .args .at) _ (c .before .before .before .before .before .args .hold) 0 (omega arith) in-text))
+
+next-byte-requires : tie.Need-next-byte-requires
+next-byte-requires c κs = search needs
+
+returns-3 : tie.Need-returns-3
+returns-3 c = search needs
+
+pub byte-at-spec : {M : Type 1} → statement M
+byte-at-spec =
+    tie.close
+    (tie.spec
+    look-requires
+    returns
+    in-range-requires
+    cast-t10
+    add-t11
+    returns-2
+    next-byte-requires
+    returns-3)

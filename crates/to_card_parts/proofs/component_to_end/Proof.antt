@@ -1,0 +1,74 @@
+use native.Mathlib.Omega.{arith}
+use denote.Ref.{now}
+use mathlib.Core.Path.{ap, subst}
+use mathlib.Core.Bool.{not}
+use lib.ListN.{length}
+use borrow.Author.Tests.{eq-eqb, ne-eqb}
+use Rattle.to_card_parts.specs.Parts.{KindIn, TellsComponent}
+use Rattle.to_card_parts.proofs.Components.{clear-three, names-are, object-not, object-strange, object-of}
+use borrow.Author.Needs.{needs}
+use Rattle.to_card_parts.proofs.component_to_end.Statement.{statement}
+use Rattle.to_card_parts.proofs.component_to_end.Tie as tie
+use Rattle.to_card_parts.proofs.component_to_end.Reads as reads
+use Rattle.to_card_parts.proofs.component_to_end.Lts as lts
+use Rattle.json_index.proofs.index_to_end.Reads as index-to-end-reads
+use Rattle.to_card_parts.proofs.component_of.Reads as component-of-reads
+
+slice-aggregate-index-to-end : tie.Need-slice-aggregate-index-to-end
+slice-aggregate-index-to-end c = search needs
+
+slice-aggregate-index-to-end-2 : tie.Need-slice-aggregate-index-to-end-2
+slice-aggregate-index-to-end-2 c = search needs
+
+index-to-end-requires : tie.Need-index-to-end-requires
+index-to-end-requires c κs = (c .before .before .before .pre, (omega (arith, ap length names-are), clear-three))
+
+returns : tie.Need-returns
+returns c = (tt, (object-not (now (c .before .before .before .before .before .before .args .s)) (c .before .before .before .before .before .before .args .at) _ _ (c .before .before .index-to-end .ensures .1) (ap not (eq-eqb _ 0 (c .if1 .taken))), tt))
+
+array-read-a : tie.Need-array-read-a
+array-read-a c = search needs
+
+array-read-b : tie.Need-array-read-b
+array-read-b c = search needs
+
+array-read-other : tie.Need-array-read-other
+array-read-other c = search needs
+
+returns-2 : tie.Need-returns-2
+returns-2 c = (tt, (object-strange (now (c .before .before .before .before .before .before .before .args .s)) (c .before .before .before .before .before .before .before .args .at) _ _ (c .before .before .before .index-to-end .ensures .1) (ap not (ne-eqb _ 0 (c .before .if1 .left))) (c .if2 .taken), tt))
+
+component-of-requires : tie.Need-component-of-requires
+component-of-requires c κs = search needs
+
+enum-known-k : tie.Need-enum-known-k
+enum-known-k c = search needs
+
+enum-told : tie.Need-enum-told
+enum-told c = search needs
+
+returns-3 : tie.Need-returns-3
+returns-3 c = (tt, (subst (TellsComponent (now (c .before .before .before .before .before .before .before .before .before .before .args .s)) (c .before .before .before .before .before .before .before .before .before .before .args .at)) (c .enum-told .given .1) (object-of (now (c .before .before .before .before .before .before .before .before .before .before .args .s)) (c .before .before .before .before .before .before .before .before .before .before .args .at) _ _ (c .before .before .before .before .before .before .index-to-end .ensures .1) (ap not (ne-eqb _ 0 (c .before .before .before .before .if1 .left))) (c .before .before .before .if2 .left) (c .before .before .component-of .result) (c .before .before .component-of .ensures .1)), tt))
+
+returns-4 : tie.Need-returns-4
+returns-4 c =
+    let told = object-of (now (c .before .before .before .before .before .before .before .before .before .before .before .args .s)) (c .before .before .before .before .before .before .before .before .before .before .before .args .at) _ _ (c .before .before .before .before .before .before .before .index-to-end .ensures .1) (ap not (ne-eqb _ 0 (c .before .before .before .before .before .if1 .left))) (c .before .before .before .before .if2 .left) (c .before .before .before .component-of .result) (c .before .before .before .component-of .ensures .1) in
+    (subst KindIn (c .before .k .given .1) (c .before .before .before .component-of .ensures .0), (subst (TellsComponent (now (c .before .before .before .before .before .before .before .before .before .before .before .args .s)) (c .before .before .before .before .before .before .before .before .before .before .before .args .at)) (c .before .k .given .1) told, c .before .before .before .before .before .before .before .index-to-end .ensures .0 (c .before .before .before .before .before .if1 .left)))
+
+pub component-to-end-spec : {M : Type 1} → statement M
+component-to-end-spec =
+    tie.close
+    (tie.spec
+    slice-aggregate-index-to-end
+    slice-aggregate-index-to-end-2
+    index-to-end-requires
+    returns
+    array-read-a
+    array-read-b
+    array-read-other
+    returns-2
+    component-of-requires
+    enum-known-k
+    enum-told
+    returns-3
+    returns-4)
