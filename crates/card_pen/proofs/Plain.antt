@@ -21,7 +21,7 @@ use Rattle.json.specs.Strings.{before}
 use Rattle.json_escapes.specs.Units.{unit}
 use Rattle.json_escapes.specs.declared.Piece.the-variants.{Of}
 use Rattle.json_strings.specs.declared.Byte.the-variants.{One}
-use Rattle.json_strings.specs.Spelled.{spelled, left, weight, byteOf}
+use Rattle.json_strings.specs.Decoded.{decodedAt, left, weight, byteOf}
 use Rattle.json_strings.proofs.Laws.{left-none, left-raw, raw-is, quote-at, bare-at}
 use Rattle.json_strings.proofs.NextByte.{one-left}
 use Rattle.line.specs.Class.{isControl}

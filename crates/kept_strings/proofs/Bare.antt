@@ -10,7 +10,7 @@ use Rattle.text.specs.Bytes.{Bytes}
 use Rattle.output.specs.declared.Wrote.{Wrote}
 use Rattle.output.specs.Put.{Puts}
 use Rattle.json.specs.Strings.{before}
-use Rattle.json_strings.specs.Spelled.{spelled, textAt}
+use Rattle.json_strings.specs.Decoded.{decodedAt, textAt}
 use Rattle.json_strings.proofs.Laws.{quote-at, bare-at}
 use Rattle.json_strings.proofs.NextByte.{text-some}
 use Rattle.json_strings.proofs.Sixteen.{byte-more}
@@ -22,7 +22,7 @@ module _ (s : Bytes) (at : ℕ) where
   -- the bytes up to a place are those that the string begins with
   pub record BareTo (i : ℕ) : Type 0 where
     pub from : at ≤ i
-    pub begins : (x : Bytes) → spelled s i ≡ some x → spelled s at ≡ some (take (i - at) (drop at s) ++ x)
+    pub begins : (x : Bytes) → decodedAt s i ≡ some x → decodedAt s at ≡ some (take (i - at) (drop at s) ++ x)
 
   pub bare-none : BareTo at
   bare-none = record { from = omega arith; begins = λ x e. let z : at - at ≡ 0 = omega arith in rw z e }

@@ -12,7 +12,7 @@ use Rattle.text.specs.Reader.{got, loop}
 use Rattle.json.specs.Tree.{Json, jnull, jtrue, jfalse, jnum, jstr, jarr, jobj, Elems, enil, econs, Members, mnil, mcons, elemsOf, asString}
 use Rattle.json.specs.Syntax.{item, value}
 use Rattle.json.specs.Strings.{decodedElems}
-use Rattle.json_strings.specs.Spelled.{spelled, textAt}
+use Rattle.json_strings.specs.Decoded.{decodedAt, textAt}
 use Rattle.json_index.specs.Index.{jsonAt}
 use Rattle.line.specs.Grammar.{Param, param, paramName, paramValues}
 use Rattle.line_table.specs.Spread.{spread}

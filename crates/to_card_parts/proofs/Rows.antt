@@ -19,7 +19,7 @@ use Rattle.text.specs.Places.{GivesT}
 use Rattle.text.proofs.Choices.{some-same}
 use Rattle.json.specs.Tree.{elemsOf}
 use Rattle.json.specs.Syntax.{sep}
-use Rattle.json_strings.specs.Spelled.{spelled}
+use Rattle.json_strings.specs.Decoded.{decodedAt}
 use Rattle.json_access.specs.Access.{EndsAt}
 use Rattle.line_pen.specs.Pen.{Pens}
 use Rattle.line_pen.proofs.Laws.{pens-none, pens-then}

@@ -12,7 +12,7 @@ use Rattle.text.specs.Reader.{got, loop}
 use Rattle.json.specs.Tree.{Json, Elems, elemsOf, asString, asArray}
 use Rattle.json.specs.Syntax.{item, value}
 use Rattle.json.specs.Strings.{decodedElems}
-use Rattle.json_strings.specs.Spelled.{spelled}
+use Rattle.json_strings.specs.Decoded.{decodedAt}
 use Rattle.json_index.specs.Index.{jsonAt, Slot, ValueEnds}
 use Rattle.line_pen.specs.Pen.{Pens}
 use Rattle.card_pen.specs.Styles.{writtenIn, allStandIn}

@@ -94,7 +94,7 @@ pub fn component_to_end(s: &[u8], at: usize) -> Ended
     if other != 0 {
         return Ended::Wrong;
     }
-    let Found::Of(k, v) = component_of(s, a, b) else {
+    let Found::Of { kind: k, value: v } = component_of(s, a, b) else {
         return Ended::Wrong;
     };
     Ended::Of(k, v, end)
@@ -107,7 +107,7 @@ pub fn component_at(s: &[u8], at: usize) -> Found
     ensures { λ r. ⌜ TellsComponent (now (s .entry)) at r ⌝ }
 {
     match component_to_end(s, at) {
-        Ended::Of(k, v, e) => Found::Of(k, v),
+        Ended::Of(k, v, e) => Found::Of { kind: k, value: v },
         Ended::Wrong => Found::Wrong,
     }
 }

@@ -1,6 +1,6 @@
 use native.Mathlib.Omega.{arith}
 use denote.Ref.{now}
-use Rattle.json_strings.specs.Spelled.{textAt}
+use Rattle.json_strings.specs.Decoded.{textAt}
 use Rattle.kept_strings.proofs.Putting.{grew, no-room}
 use Rattle.kept_strings.proofs.Bare.{bare-puts}
 use borrow.Author.Needs.{needs}

@@ -1,6 +1,6 @@
 use denote.Ref.{now}
 use native.Mathlib.Omega.{arith}
-use Rattle.json_strings.specs.Spelled.{textAt}
+use Rattle.json_strings.specs.Decoded.{textAt}
 use Rattle.kept_strings.proofs.Putting.{part-same, grew, no-room, puts-long, puts-within, no-string, a-string, word-none, word-some}
 use borrow.Author.Needs.{needs}
 use Rattle.kept_strings.proofs.put_escaped.Statement.{statement}
