@@ -21,7 +21,7 @@ use card_refusals::refusal_of;
 use card_refusals::unjudged;
 use card_seen::settle;
 use class_line::Class;
-use class_line::class_line;
+use class_line::class_numbered;
 use class_names::name_code;
 use line_table::fill;
 use line_unfold::line_at;
@@ -106,7 +106,7 @@ fn next_line(
     let code = name_code(&s[a..b]);
     let before = p.judged;
     let judged = judge_line(before, k, code, &counts, &froms, &tos, s, t);
-    let class = class_line(&counts, &froms, &tos, s, t, text, p.full, p.parts);
+    let class = class_numbered(code, &counts, &froms, &tos, s, t, text, p.full, p.parts);
     pass_line(codes, ids, prints, p, k, judged, bytes, at, s, class)
 }
 

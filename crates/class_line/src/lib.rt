@@ -136,9 +136,10 @@ fn jsprop_class(
     }
 }
 
-// The rows are those of the line's parameters (`table_marks::scan_rows`); the flags say whether FN and N have converted. The scratch is for the
-// value of JSPROP.
-pub fn class_line(
+// The line whose name has the number k. The rows are those of its parameters (`table_marks::scan_rows`); the flags say whether FN and N have converted.
+// The scratch is for the value of JSPROP.
+pub fn class_numbered(
+    k: usize,
     counts: &[usize],
     froms: &[usize],
     tos: &[usize],
@@ -148,12 +149,9 @@ pub fn class_line(
     full: bool,
     parts: bool,
 ) -> Class
-    requires { ⌜ Rowed (now s) (now t) (now counts) (now froms) (now tos) × Room (now s) (now scratch) ⌝ }
+    requires { ⌜ Rowed (now s) (now t) (now counts) (now froms) (now tos) × Room (now s) (now scratch) × Numbered (now s) (now t) k ⌝ }
     ensures { λ r. ⌜ Classes (now (s .entry)) (now (t .entry)) full parts r ⌝ }
 {
-    let a = t[2];
-    let b = t[3];
-    let k = name_code(&s[a..b]);
     if k >= 16 {
         return map_class(counts, froms, tos, s, t, k - 16);
     }
@@ -176,4 +174,24 @@ pub fn class_line(
         return Class::Uid;
     }
     Class::Kind
+}
+
+// The same where the number is not known.
+pub fn class_line(
+    counts: &[usize],
+    froms: &[usize],
+    tos: &[usize],
+    s: &[u8],
+    t: &[usize],
+    scratch: &mut [u8],
+    full: bool,
+    parts: bool,
+) -> Class
+    requires { ⌜ Rowed (now s) (now t) (now counts) (now froms) (now tos) × Room (now s) (now scratch) ⌝ }
+    ensures { λ r. ⌜ Classes (now (s .entry)) (now (t .entry)) full parts r ⌝ }
+{
+    let a = t[2];
+    let b = t[3];
+    let k = name_code(&s[a..b]);
+    class_numbered(k, counts, froms, tos, s, t, scratch, full, parts)
 }

@@ -60,12 +60,14 @@ pub fn in_class(b: u8, class: Class) -> bool
     marked(&table, b, mask)
 }
 
+// Most bytes of names are letters: they are asked for first, and nothing else of them.
 fn is_name(b: u8) -> bool
     ensures { λ r. ⌜ r ≡ isName b ⌝ }
 {
-    (((b >= b'A') & (b <= b'Z')) | ((b >= b'a') & (b <= b'z')))
-        | ((b >= b'0') & (b <= b'9'))
-        | (b == b'-')
+    if ((b >= b'A') & (b <= b'Z')) | ((b >= b'a') & (b <= b'z')) {
+        return true;
+    }
+    ((b >= b'0') & (b <= b'9')) | (b == b'-')
 }
 
 fn is_bare(b: u8) -> bool

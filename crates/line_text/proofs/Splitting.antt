@@ -1,6 +1,6 @@
 -- Splitting TEXT: one turn of the scanner. What is true of the part that begins later is true of the part that begins here.
 use mathlib.Core.Path.{_≡_, refl, sym, ap, _∙_}
-use mathlib.Core.Bool.{true, false, _&&_, not}
+use mathlib.Core.Bool.{true, false, _&&_, _||_, not}
 use mathlib.Core.List.{[], _∷_}
 use Prim.Native.Nat.{ℕ, suc, _+_, _-_, _≤_, _<_}
 use native.Mathlib.Omega.{arith}
@@ -14,7 +14,7 @@ use Rattle.text.specs.Bytes.{Bytes, onHead}
 use Rattle.line.specs.Text.{splitFrom, splitText}
 use Rattle.text.proofs.Cases.{byBool, split}
 use Rattle.line.proofs.Shapes.{on-head}
-use Rattle.line_text.specs.Split.{PartEnds, charEnd}
+use Rattle.line_text.specs.Split.{PartEnds, Joined, charEnd}
 
 -- ---- what one byte does
 
@@ -154,3 +154,22 @@ char-onward s i j h is =
     byBool (eqb (getD s i 0) 92)
     (λ b. let e : j ≡ i + 1 + 1 = is ∙ end-escape s i l b in (omega arith, omega arith))
     (λ b. let e : j ≡ i + 1 = is ∙ end-plain s i l b in (omega arith, omega arith)))
+
+-- ---- bytes that belong to the part
+
+pub joined-none : (d : ℕ) (s : Bytes) (at : ℕ) → Joined d s at at
+joined-none d s at = record { from = omega arith; within = λ l. l; on = λ f p. p }
+
+-- neither a backslash nor the separator
+neither : (d c : ℕ) → (eqb c 92 || eqb c d) ≡ false → (eqb c 92 ≡ false) × (eqb c d ≡ false)
+neither d c e = byBool (eqb c 92) (λ b. let z : _≡_ {A = ℕ} 0 1 = cc in absurd (omega arith)) (λ b. (b, rw b at e))
+
+pub joined-one : (d : ℕ) (s : Bytes) (at i : ℕ) → Joined d s at i → i < length s → (eqb (getD s i 0) 92 || eqb (getD s i 0) d) ≡ false
+    → Joined d s at (i + 1)
+joined-one d s at i j h n =
+    let both = neither d (getD s i 0) n in
+    record {
+      from = omega (arith, j .from);
+      within = λ l. omega arith;
+      on = λ f p. j .on f (skip-plain d s i f h (both .0) (both .1) p);
+    }

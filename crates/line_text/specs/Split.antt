@@ -18,3 +18,9 @@ pub record PartEnds (d : ℕ) (s : Bytes) (at e : ℕ) : Type 0 where
   pub from : at ≤ e
   pub within : at ≤ length s → e ≤ length s
   pub parts : splitText d (drop at s) ≡ take (e - at) (drop at s) ∷ pick (ltb e (length s)) (splitText d (drop (e + 1) s)) []
+
+-- What stands from `at` to e belongs to the part that begins there, wherever that ends.
+pub record Joined (d : ℕ) (s : Bytes) (at e : ℕ) : Type 0 where
+  pub from : at ≤ e
+  pub within : at ≤ length s → e ≤ length s
+  pub on : (f : ℕ) → PartEnds d s e f → PartEnds d s at f

@@ -7,7 +7,7 @@ ghost use lib.ListN.{length, drop};
 ghost use Rattle.text.specs.Choice.{is-some};
 ghost use Rattle.line.specs.Text.{readText, textFrom, escape, writeText};
 ghost use Rattle.line_text.specs.Read.{OneChar, Plain, plainText};
-ghost use Rattle.line_text.specs.Split.{PartEnds, charEnd};
+ghost use Rattle.line_text.specs.Split.{PartEnds, Joined, charEnd};
 use output::Wrote;
 use output::put_byte;
 use output::put_text;
@@ -224,17 +224,33 @@ fn char_end(s: &[u8], i: usize) -> usize
     e
 }
 
+// Where bytes that are neither a backslash nor the separator d end. A loop of its own: no turn waits for what the one before found.
+fn joined_end(s: &[u8], at: usize, d: u8) -> usize
+    ensures { λ r. ⌜ Joined d (now (s .entry)) at r ⌝ }
+{
+    let mut i = at;
+    while i < s.len() {
+        let c = s[i];
+        if (c == b'\\') | (c == d) {
+            return i;
+        }
+        i += 1;
+    }
+    i
+}
+
 // Where the part that begins at `at` ends: at a bare separator d, or at the end.
 pub fn part_end(s: &[u8], at: usize, d: u8) -> usize
     ensures { λ r. ⌜ PartEnds d (now (s .entry)) at r ⌝ }
 {
-    let mut i = at;
+    let mut i = joined_end(s, at, d);
     while i < s.len() {
         let c = s[i];
         if (c != b'\\') & (c == d) {
             return i;
         }
-        i = char_end(s, i);
+        let e = char_end(s, i);
+        i = joined_end(s, e, d);
     }
     i
 }

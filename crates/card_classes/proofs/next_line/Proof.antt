@@ -1,6 +1,8 @@
+use mathlib.Core.Path.{refl}
 use denote.Ref.{now}
 use native.Mathlib.Omega.{arith}
 use Rattle.convert_entry.proofs.Entry.{clear-eight}
+use Rattle.class_line.proofs.Lines.{numbered}
 use Rattle.card_classes.proofs.Names.{coded}
 use Rattle.card_classes.proofs.Passing.{next-line}
 use borrow.Author.Needs.{needs}
@@ -53,26 +55,27 @@ judge-line-requires c κs =
     let start = at-scan-rows .before .before .before .before .before .before .before .before .before .before .before in
     (start .pre .0, record { wide = record { counts = search needs; froms = search needs; tos = search needs }; row = at-scan-rows .scan-rows .ensures; sound = start .pre .4 }, coded (now (start .args .s)) (now (start .args .t)) (at-name-code .name-code .result) (at-name-code .name-code .ensures))
 
-slice-aggregate-class-line : tie.Need-slice-aggregate-class-line
-slice-aggregate-class-line c = search needs
+slice-aggregate-class-numbered : tie.Need-slice-aggregate-class-numbered
+slice-aggregate-class-numbered c = search needs
 
-slice-aggregate-class-line-2 : tie.Need-slice-aggregate-class-line-2
-slice-aggregate-class-line-2 c = search needs
+slice-aggregate-class-numbered-2 : tie.Need-slice-aggregate-class-numbered-2
+slice-aggregate-class-numbered-2 c = search needs
 
-slice-aggregate-class-line-3 : tie.Need-slice-aggregate-class-line-3
-slice-aggregate-class-line-3 c = search needs
+slice-aggregate-class-numbered-3 : tie.Need-slice-aggregate-class-numbered-3
+slice-aggregate-class-numbered-3 c = search needs
 
-class-line-requires : tie.Need-class-line-requires
-class-line-requires c κs =
-    let at-scan-rows = c .before .before .before .before .before .before .before .before .before .before .before .before .before .before .before .before in
+class-numbered-requires : tie.Need-class-numbered-requires
+class-numbered-requires c κs =
+    let at-name-code = c .before .before .before .before .before .before .before .before .before in
+    let at-scan-rows = at-name-code .before .before .before .before .before .before .before in
     let start = at-scan-rows .before .before .before .before .before .before .before .before .before .before .before in
-    (record { wide = record { counts = search needs; froms = search needs; tos = search needs }; row = at-scan-rows .scan-rows .ensures; sound = start .pre .4 }, start .pre .5)
+    (record { wide = record { counts = search needs; froms = search needs; tos = search needs }; row = at-scan-rows .scan-rows .ensures; sound = start .pre .4 }, start .pre .5, numbered (now (start .args .s)) (now (start .args .t)) (at-name-code .name-code .result) _ (at-name-code .name-code .ensures) refl)
 
 pass-line-requires : tie.Need-pass-line-requires
 pass-line-requires c κs =
     let at-class-line = c .before .before .before .before .before in
     let start = at-class-line .before .before .before .before .before .before .before .before .before .before .before .before .before .before .before .before .before .before .before .before .before .before .before .before .before .before .before .before in
-    (start .pre .1, start .pre .2, start .pre .3, at-class-line .class-line .ensures .within)
+    (start .pre .1, start .pre .2, start .pre .3, at-class-line .class-numbered .ensures .within)
 
 same-length : tie.Need-same-length
 same-length c = search needs
@@ -93,7 +96,7 @@ returns c =
     let at-judge-line = at-class-line .before .before .before .before .before in
     let at-name-code = at-judge-line .before .before .before .before .before in
     let start = at-name-code .before .before .before .before .before .before .before .before .before .before .before .before .before .before .before .before .before .before in
-    next-line (coded (now (start .args .s)) (now (start .args .t)) (at-name-code .name-code .result) (at-name-code .name-code .ensures)) (at-judge-line .judge-line .ensures) (at-class-line .class-line .ensures) (at-pass-line .pass-line .ensures) (start .pre .1)
+    next-line (coded (now (start .args .s)) (now (start .args .t)) (at-name-code .name-code .result) (at-name-code .name-code .ensures)) (at-judge-line .judge-line .ensures) (at-class-line .class-numbered .ensures) (at-pass-line .pass-line .ensures) (start .pre .1)
 
 pub next-line-spec : {M : Type 1} → statement M
 next-line-spec =
@@ -113,10 +116,10 @@ next-line-spec =
     slice-aggregate-judge-line-2
     slice-aggregate-judge-line-3
     judge-line-requires
-    slice-aggregate-class-line
-    slice-aggregate-class-line-2
-    slice-aggregate-class-line-3
-    class-line-requires
+    slice-aggregate-class-numbered
+    slice-aggregate-class-numbered-2
+    slice-aggregate-class-numbered-3
+    class-numbered-requires
     pass-line-requires
     same-length
     same-length-2
