@@ -1,13 +1,14 @@
 -- Laws of characters, over plain values.
-use mathlib.Core.Path.{_≡_, refl, ap, _∙_}
+use mathlib.Core.Path.{_≡_, refl, sym, ap, _∙_}
 use mathlib.Core.Bool.{true, false}
-use mathlib.Core.List.{[], _∷_}
+use mathlib.Core.List.{[], _∷_, _++_}
 use Prim.Native.Nat.{ℕ, zero, suc, _+_, _-_, _≤_, _<_}
-use native.Mathlib.Numerals.{sub-one}
+use native.Mathlib.Numerals.{add-one, sub-one}
 use native.Mathlib.Omega.{arith}
-use lib.ListN.{length, drop}
+use lib.ListN.{length, drop, getD, length-drop, length-append, List·getD-append}
+use lib.Seq.{drop-cons, getD-drop}
 use lib.Dec.{ltb}
-use borrow.Author.Tests.{eq-eqb, ne-eqb, lt-ltb, ltb-false}
+use borrow.Author.Tests.{eq-eqb, ne-eqb, lt-ltb, ltb-true, ltb-false}
 use Rattle.text.specs.declared.Read.{Read}
 use Rattle.text.specs.declared.Read.the-variants.{Next, Bad}
 use Rattle.text.specs.declared.Turn.{Turn}
@@ -16,12 +17,13 @@ use Rattle.text.specs.Bytes.{Bytes, is, between}
 use Rattle.text.specs.Utf8.{Due, due, lead}
 use Rattle.text.specs.Reader.{Got, got, bad, under, on, Step, more, last}
 use Rattle.text.specs.Places.{byteAt, Gives, GivesT}
-use Rattle.text.proofs.Places.{byBool, here, bad-here, by-under, by-on, not-on, on-yes, on-no, same-turn, under-more, under-bad, more-here, last-here, bad-turn, same-as, up}
+use Rattle.text.proofs.Places.{byBool, byte-default, here, bad-here, by-under, by-on, not-on, on-yes, on-no, same-turn, under-more, under-bad, more-here, last-here, bad-turn, same-as, up}
 use Rattle.text.proofs.Cases.{in-between}
 use Rattle.text.proofs.Fine.{loop-more, loop-last, loop-bad}
 use Rattle.json.specs.Syntax.{escape, isLead, leads, tailBytes, following, character, characters}
 use Rattle.json.proofs.Fine.{character-fine}
-use Rattle.json_chars.specs.Strings.{ToEnd}
+use Rattle.json_escapes.proofs.Characters.{wide-bytes}
+use Rattle.json_chars.specs.Strings.{ToEnd, Unmarked}
 
 -- ---- whether a character of several bytes starts, by what must follow
 pub by-lead : (c : ℕ) {d : Due} → d ≡ lead c → isLead c ≡ leads d
@@ -107,3 +109,43 @@ module _ (s : Bytes) (i : ℕ) where
   -- a character of one byte that stands for itself
   pub plain-on : (b : ℕ) → b ≡ byteAt s i → (b ≡ 34 → ⊥) → (b ≡ 92 → ⊥) → 32 ≤ b → b < 128 → i + 1 ≤ length s → ToEnd s i (i + 1)
   plain-on b e n m l h k = string-on (i + 1) (char-plain s i b e n m (in-between 32 127 b l (omega arith)) k)
+
+-- ---- bytes with no mark among them
+all-high : (b : ℕ) (x : Bytes) → 128 ≤ b → ((k : ℕ) → k < length x → 128 ≤ getD x k 0) → (k : ℕ) → k < length (b ∷ x) → 128 ≤ getD (b ∷ x) k 0
+all-high b x l h zero m = l
+all-high b x l h (suc k) m = h k (omega (arith, m))
+
+pub unmarked-none : (s : Bytes) (at : ℕ) → Unmarked s at at
+unmarked-none s at k l m = absurd (omega (arith, l, m))
+
+module _ (s : Bytes) where
+  pub unmarked-join : {a b c : ℕ} → Unmarked s a b → Unmarked s b c → Unmarked s a c
+  unmarked-join {b = b} h g k l m = byBool (ltb k b) (λ z. h k l (ltb-true k b z)) (λ z. g k (ltb-false k b z) m)
+
+  module _ (i b : ℕ) (e : b ≡ byteAt s i) (w : i < length s) where
+    same-byte : b ≡ getD s i 0
+    same-byte = e ∙ byte-default s i 256 0 w
+
+    pub unmarked-one : 32 ≤ b → (b ≡ 34 → ⊥) → (b ≡ 92 → ⊥) → Unmarked s i (i + 1)
+    unmarked-one l n m k p q =
+        let z : i ≡ k = omega (arith, p, q) in
+        let t : b ≡ getD s k 0 = same-byte ∙ ap (λ (x : ℕ). getD s x 0) z in
+        (omega (arith, t), λ x. n (t ∙ x), λ x. m (t ∙ x))
+
+    -- a character of several bytes
+    wide-goes : 128 ≤ b → (j : ℕ) (t : Got (Step Bytes)) → character (drop i s) ≡ t → GivesT s i t (Go j) → Unmarked s i j
+    wide-goes l j (got (more g) t) q h k m n =
+        let front : drop i s ≡ b ∷ drop (i + 1) s = rw (drop-cons s i 256 w, ← e, ← add-one i) in
+        let x = wide-bytes b (drop (i + 1) s) (drop j s) g l (ap character (sym front) ∙ q ∙ ap (got (more g)) (h .is)) in
+        let whole : drop i s ≡ (b ∷ x .0) ++ drop j s = front ∙ ap (λ (y : Bytes). b ∷ y) (x .1) in
+        let size = simp (length-drop, length-append, length-drop) at (ap length whole) in
+        let o : k - i < length (b ∷ x .0) = omega (arith, size, h .within .1, m, n) in
+        let v : getD s k 0 ≡ getD (b ∷ x .0) (k - i) 0 = ap (λ (y : ℕ). getD s y 0) (omega (arith, m)) ∙ sym (getD-drop i s (k - i) 0)
+        ∙ ap (λ (y : Bytes). getD y (k - i) 0) whole ∙ List·getD-append (b ∷ x .0) (drop j s) 0 (k - i) o in
+        let high : 128 ≤ getD s k 0 = rw v (all-high b (x .0) l (x .2) (k - i) o) in
+        (omega (arith, high), λ y. omega (arith, high, y), λ y. omega (arith, high, y))
+    wide-goes l j (got (last c) t) q h k m n = absurd (h .is)
+    wide-goes l j (bad t) q h k m n = absurd (h .is)
+
+    pub unmarked-wide : 128 ≤ b → (j : ℕ) → GivesT s i (character (drop i s)) (Go j) → Unmarked s i j
+    unmarked-wide l j h = wide-goes l j (character (drop i s)) refl h

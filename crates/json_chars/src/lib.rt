@@ -14,7 +14,7 @@ ghost use lib.ListN.{length, drop};
 ghost use Rattle.text.specs.Utf8.{due};
 ghost use Rattle.text.specs.Places.{Gives, GivesT};
 ghost use Rattle.json.specs.Syntax.{tailBytes, following, character, characters};
-ghost use Rattle.json_chars.specs.Strings.{ToEnd};
+ghost use Rattle.json_chars.specs.Strings.{ToEnd, Unmarked};
 
 // So many tails of a character.
 fn tails_end(s: &[u8], at: usize, count: u8) -> Read
@@ -83,6 +83,7 @@ fn plain_end(s: &[u8], at: usize) -> usize
     requires { ⌜ at ≤ length (now s) ⌝ }
     ensures { λ r. ⌜ (at ≤ r) × (r ≤ length (now (s .entry))) ⌝ }
     ensures { λ r. ⌜ ToEnd (now (s .entry)) at r ⌝ }
+    ensures { λ r. ⌜ Unmarked (now (s .entry)) at r ⌝ }
 {
     let mut i = at;
     loop {
@@ -104,6 +105,30 @@ fn plain_end(s: &[u8], at: usize) -> usize
             return i;
         }
         i += 1;
+    }
+}
+
+// Past characters that stand for themselves, of one byte or of several.
+pub fn text_end(s: &[u8], at: usize) -> usize
+    requires { ⌜ at ≤ length (now s) ⌝ }
+    ensures { λ r. ⌜ (at ≤ r) × (r ≤ length (now (s .entry))) ⌝ }
+    ensures { λ r. ⌜ ToEnd (now (s .entry)) at r ⌝ }
+    ensures { λ r. ⌜ Unmarked (now (s .entry)) at r ⌝ }
+{
+    let mut i = at;
+    loop {
+        let from = plain_end(s, i);
+        if look(s, from) < 128 {
+            return from;
+        }
+        match next_character(s, from) {
+            Turn::Go(j) => {
+                i = j;
+            }
+            Turn::Stop(_) => {
+                return from;
+            }
+        }
     }
 }
 

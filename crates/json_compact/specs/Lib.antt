@@ -1,2 +1,3 @@
 pub mod Compacts
 pub mod Squeezed
+pub mod Stands

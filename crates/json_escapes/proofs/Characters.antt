@@ -4,7 +4,7 @@ use mathlib.Core.Bool.{Bool, true, false}
 use mathlib.Core.List.{[], _∷_, _++_}
 use Prim.Native.Nat.{ℕ, zero, suc, _≤_, _<_}
 use native.Mathlib.Omega.{arith}
-use lib.ListN.{length}
+use lib.ListN.{length, getD}
 use lib.Dec.{eqb, leb, ltb}
 use borrow.Author.Tests.{ltb-true, le-leb, lt-leb, leb-true, leb-false, le-ltb, ne-eqb}
 use Rattle.text.specs.Choice.{pick}
@@ -12,7 +12,7 @@ use Rattle.text.specs.Bytes.{Bytes, is, between}
 use Rattle.text.specs.Utf8.{Due, start, due, broken, lead, byRow}
 use Rattle.text.specs.Reader.{Got, got, bad, under, on, Step, more, last, after, turns, loop}
 use Rattle.text.proofs.Places.{byBool, between-in}
-use Rattle.text.proofs.Fine.{Fine, not-bad, got-rest, got-what, bind-inv, under-inv, fine-got, fine-bad, fine-weak, fine-under, fine-on, loop-more, loop-last}
+use Rattle.text.proofs.Fine.{Fine, not-bad, got-rest, got-what, bind-inv, under-inv, fine-got, fine-bad, fine-weak, fine-under, fine-on, fine-loop, loop-more, loop-last, loop-bad}
 use Rattle.json.specs.Syntax.{escape, isLead, tailBytes, following, character, characters}
 use Rattle.json.proofs.Fine.{escape-fine, below-256, plain-256, lead-256, dueBelow, lead-below}
 use Rattle.json_escapes.specs.Units.{push, unit, units}
@@ -153,6 +153,25 @@ char-after (c ∷ s) w v e =
     (λ l. let i = under-inv (λ cs. more (λ (us : Bytes). c ∷ (cs ++ us))) (following (lead c) s) (rw (p, q, r, l) at e) in wide-after c s (i .0) w v l (i .1) (i .2))
     (λ l. absurd (not-bad (rw (p, q, r, l) at e))))))
 
+-- a character that starts with a byte from 128 up has no other
+raws-high : {x : Bytes} → Raws x → (k : ℕ) → k < length x → 128 ≤ getD x k 0
+raws-high none-more k h = absurd (omega arith)
+raws-high (one-more l m r) zero h = l
+raws-high (one-more l m r) (suc k) h = raws-high r k (omega arith)
+
+pub wide-bytes : (c : ℕ) (s v : Bytes) (g : Bytes → Bytes) → 128 ≤ c → character (c ∷ s) ≡ got (more g) v
+    → (x : Bytes) × (s ≡ x ++ v) × ((k : ℕ) → k < length x → 128 ≤ getD x k 0)
+unfolding character on
+wide-bytes c s v g l e =
+    let p = ne-eqb c 34 (λ z. omega arith) in
+    let q = ne-eqb c 92 (λ z. omega arith) in
+    let r = above 32 127 c (omega arith) in
+    byBool (isLead c)
+    (λ w. let i = under-inv (λ cs. more (λ (us : Bytes). c ∷ (cs ++ us))) (following (lead c) s) (rw (p, q, r, w) at e) in
+    let f = following-raw (lead c) (lead-low c) (lead-below c) s (i .0) v (i .1) in
+    (i .0, f .0, raws-high (f .1)))
+    (λ w. absurd (not-bad (rw (p, q, r, w) at e)))
+
 -- ---- THE LAW
 rest-same : (n : ℕ) (w : Step Bytes) (v us t : Bytes) → ((us : Bytes) → turns character n v ≡ got us t → loop unit v ≡ got us t)
     → after w v (turns character n) ≡ got us t → after w v (loop unit) ≡ got us t
@@ -169,3 +188,22 @@ turns-same (suc n) s us t e =
 pub units-same : (s us t : Bytes) → characters s ≡ got us t → units s ≡ got us t
 unfolding characters units loop
 units-same s us t e = turns-same (suc (length s)) s us t e
+
+-- ---- the units of a string, by its first byte
+pub units-fine : Fine 1 units
+unfolding units
+units-fine = fine-loop unit unit-fine
+
+module _ (c : ℕ) (s : Bytes) where
+  pub units-quote : eqb c 34 ≡ true → units (c ∷ s) ≡ got [] s
+  unfolding units unit on
+  units-quote p = loop-last unit (unit-fine .less) (c ∷ s) s [] (rw p)
+
+  module _ (p : eqb c 34 ≡ false) (q : eqb c 92 ≡ false) where
+    pub units-byte : between 32 255 c ≡ true → units (c ∷ s) ≡ under (λ us. c ∷ us) (units s)
+    unfolding units unit on
+    units-byte r = loop-more unit (unit-fine .less) (c ∷ s) s (λ us. c ∷ us) (rw (p, q, r))
+
+    pub units-no-byte : between 32 255 c ≡ false → units (c ∷ s) ≡ bad (c ∷ s)
+    unfolding units unit on
+    units-no-byte r = loop-bad unit (unit-fine .less) (c ∷ s) (c ∷ s) (rw (p, q, r))

@@ -35,13 +35,13 @@ loop-again c =
     let args = c .before .before .before .before .before .before .before .args in
     let loop = c .before .before .before .before .before .loop in
     let plain-end = c .before .before .before .before .plain-end in
-    let h = turn-as (c .before .before .before .next-character .ensures) (c .before .j .given .1) in (h .within .1, λ r x. loop .inv .1 r (plain-end .ensures .1 r (string-on (now (args .s)) (plain-end .result) (c .before .j .given .0 .0) h r x)))
+    let h = turn-as (c .before .before .before .next-character .ensures) (c .before .j .given .1) in (h .within .1, λ r x. loop .inv .1 r (plain-end .ensures .1 .0 r (string-on (now (args .s)) (plain-end .result) (c .before .j .given .0 .0) h r x)))
 
 enum-known-r : tie.Need-enum-known-r Inv-loop μ-loop
 enum-known-r c = search needs
 
 returns : tie.Need-returns Inv-loop μ-loop
-returns c = c .before .before .before .before .before .loop .inv .1 _ (c .before .before .before .before .plain-end .ensures .1 _ (string-stop (now (c .before .before .before .before .before .before .before .args .s)) (c .before .before .before .before .plain-end .result) (c .before .r .given .0 .0) (turn-as (c .before .before .before .next-character .ensures) (c .before .r .given .1))))
+returns c = c .before .before .before .before .before .loop .inv .1 _ (c .before .before .before .before .plain-end .ensures .1 .0 _ (string-stop (now (c .before .before .before .before .before .before .before .args .s)) (c .before .before .before .before .plain-end .result) (c .before .r .given .0 .0) (turn-as (c .before .before .before .next-character .ensures) (c .before .r .given .1))))
 
 pub string-end-spec : {M : Type 1} → statement M
 string-end-spec =

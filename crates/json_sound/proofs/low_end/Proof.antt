@@ -1,0 +1,59 @@
+use borrow.Author.Needs.{needs}
+use native.Mathlib.Omega.{arith}
+use denote.Ref.{now}
+use Rattle.json_escapes.proofs.Laws.{tells-as}
+use Rattle.json_sound.proofs.Escapes.{low-none, low-here}
+use Rattle.json_sound.proofs.low_end.Statement.{statement}
+use Rattle.json_sound.proofs.low_end.Tie as tie
+
+look-requires : tie.Need-look-requires
+look-requires c κs = search needs
+
+returns : tie.Need-returns
+returns c = ((omega arith, c .before .before .before .pre), low-none (now (c .before .before .before .args .s)) (c .before .before .before .args .at))
+
+add-escape-at : tie.Need-add-escape-at
+add-escape-at c = search needs
+
+escape-at-requires : tie.Need-escape-at-requires
+escape-at-requires c κs = search needs
+
+enum-told : tie.Need-enum-told
+enum-told c = search needs
+
+enum-known-u : tie.Need-enum-known-u
+enum-known-u c = search needs
+
+returns-2 : tie.Need-returns-2
+returns-2 c = ((omega arith, c .before .before .before .before .before .before .before .before .pre), low-none (now (c .before .before .before .before .before .before .before .before .args .s)) (c .before .before .before .before .before .before .before .before .args .at))
+
+returns-3 : tie.Need-returns-3
+returns-3 c = ((omega arith, c .before .before .before .before .before .before .before .before .before .pre), low-none (now (c .before .before .before .before .before .before .before .before .before .args .s)) (c .before .before .before .before .before .before .before .before .before .args .at))
+
+returns-4 : tie.Need-returns-4
+returns-4 c = ((omega arith, c .before .before .before .before .before .before .pre), low-none (now (c .before .before .before .before .before .before .args .s)) (c .before .before .before .before .before .before .args .at))
+
+returns-5 : tie.Need-returns-5
+returns-5 c =
+    let args = c .before .before .before .before .before .before .before .before .before .args in
+    let look = c .before .before .before .before .before .before .before .look in
+    let u = c .before .before .before .u in
+    let w = tells-as (c .before .before .before .before .before .escape-at .ensures) (u .given .1) .within in (
+      (omega (arith, w .0), w .1),
+      low-here (now (args .s)) (args .at) (look .result) (look .ensures .0) (c .before .before .before .before .before .before .if1 .left) (c .before .before .before .before .before .escape-at .ensures) _ _ (u .given .1) (omega (arith, c .before .if2 .left)) (omega (arith, c .if3 .left)),
+    )
+
+pub low-end-spec : {M : Type 1} → statement M
+low-end-spec =
+    tie.close
+    (tie.spec
+    look-requires
+    returns
+    add-escape-at
+    escape-at-requires
+    enum-told
+    enum-known-u
+    returns-2
+    returns-3
+    returns-4
+    returns-5)
