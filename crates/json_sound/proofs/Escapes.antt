@@ -24,8 +24,8 @@ use Rattle.json_escapes.specs.declared.Piece.the-variants.{Of as Piece-Of}
 use Rattle.json_escapes.specs.Units.{push, unit}
 use Rattle.json_escapes.specs.Values.{Tells}
 use Rattle.json_escapes.proofs.Laws.{tells-as, by-place}
-use Rattle.json_strings.specs.Spelled.{spelled}
-use Rattle.json_strings.proofs.Laws.{spelled-is, bare-at, raw-is, code-is, high-is, pair-is}
+use Rattle.json_strings.specs.Decoded.{decodedAt}
+use Rattle.json_strings.proofs.Laws.{decoded-is, bare-at, raw-is, code-is, high-is, pair-is}
 use Rattle.json_sound.specs.declared.Sounded.{Sounded}
 use Rattle.json_sound.specs.declared.Sounded.the-variants.{Sound, Unsound, Bad}
 use Rattle.json_sound.specs.Sound.{paired, Judged, Onward, Follows, Low}
@@ -48,28 +48,28 @@ module _ (s : Bytes) where
   follows-then h k = (λ r x. h .0 r (k .0 r x), h .1 ∙ k .1)
 
   -- past bytes that stand for themselves no surrogate comes to stand alone
-  some-on : ((k : ℕ) → getD s k 0 < 256) → (at n : ℕ) → at + n ≤ length s → Unmarked s at (at + n) → is-some (spelled s at) ≡ is-some (spelled s (at + n))
-  some-on small at zero l u = let z : at ≡ at + 0 = omega arith in ap (λ (i : ℕ). is-some (spelled s i)) z
+  some-on : ((k : ℕ) → getD s k 0 < 256) → (at n : ℕ) → at + n ≤ length s → Unmarked s at (at + n) → is-some (decodedAt s at) ≡ is-some (decodedAt s (at + n))
+  some-on small at zero l u = let z : at ≡ at + 0 = omega arith in ap (λ (i : ℕ). is-some (decodedAt s i)) z
   some-on small at (suc n) l u =
       let here = u at (omega arith) (omega arith) in
       let w : getD s at 0 ≡ byteAt s at = byte-default s at 0 256 (omega arith) in
       let z : at + 1 + n ≡ at + suc n = omega arith in
-      ap is-some (bare-at s at (getD s at 0) w (here .1) (here .2) (here .0) (small at)) ∙ some-before (getD s at 0 ∷ []) (spelled s (at + 1))
-      ∙ some-on small (at + 1) n (omega arith) (λ k p q. u k (omega (arith, p)) (omega (arith, q))) ∙ ap (λ (i : ℕ). is-some (spelled s i)) z
+      ap is-some (bare-at s at (getD s at 0) w (here .1) (here .2) (here .0) (small at)) ∙ some-before (getD s at 0 ∷ []) (decodedAt s (at + 1))
+      ∙ some-on small (at + 1) n (omega arith) (λ k p q. u k (omega (arith, p)) (omega (arith, q))) ∙ ap (λ (i : ℕ). is-some (decodedAt s i)) z
 
   pub follows-text : ((k : ℕ) → getD s k 0 < 256) → (at to : ℕ) → at ≤ to → to ≤ length s → ToEnd s at to → Unmarked s at to → Follows s at to
   follows-text small at to l m g u =
       let z : at + (to - at) ≡ to = omega arith in
-      (g, some-on small at (to - at) (omega arith) (λ k p q. u k p (omega (arith, q))) ∙ ap (λ (i : ℕ). is-some (spelled s i)) z)
+      (g, some-on small at (to - at) (omega arith) (λ k p q. u k p (omega (arith, q))) ∙ ap (λ (i : ℕ). is-some (decodedAt s i)) z)
 
   -- what is judged from a place on is judged from one that it follows
   pub follows-judged : (at i : ℕ) → Follows s at i → (r : Sounded) → Onward i (length s) r → Judged s (characters (drop i s)) paired r → Judged s (characters (drop at s)) paired r
   follows-judged at i h (Sound e) w x =
       chars-paired s at (Next e) (h .0 (Next e) (same-as (x .1) (record { is = refl; within = (omega (arith, w .0), w .1) })))
-      (h .1 ∙ ap is-some (spelled-is s i (x .0) (drop e s) (x .1)) ∙ x .2)
+      (h .1 ∙ ap is-some (decoded-is s i (x .0) (drop e s) (x .1)) ∙ x .2)
   follows-judged at i h (Unsound e) w x =
       chars-alone s at (Next e) (h .0 (Next e) (same-as (x .1) (record { is = refl; within = (omega (arith, w .0), w .1) })))
-      (h .1 ∙ ap is-some (spelled-is s i (x .0) (drop e s) (x .1)) ∙ x .2)
+      (h .1 ∙ ap is-some (decoded-is s i (x .0) (drop e s) (x .1)) ∙ x .2)
   follows-judged at i h (Bad b) w x = at-bad (characters (drop at s)) (h .0 (Read-Bad b) (same-as x (record { is = refl; within = w })))
 
 pub low-none : (s : Bytes) (at : ℕ) → Low s at at
@@ -85,10 +85,10 @@ module _ (s : Bytes) (at b : ℕ) (e : b ≡ byteAt s at) (p : b ≡ 92) {r : Va
   end-escape = string-on s at j (char-escape s at b e (λ z. omega arith) p (Next j) (by-place (Of u j) (tells-as t q)))
 
   follows-byte : u < 256 → Follows s at j
-  follows-byte l = (end-escape, ap is-some (raw-is s at {r = Piece-Of u j} unit-escape u j refl l) ∙ some-before (u ∷ []) (spelled s j))
+  follows-byte l = (end-escape, ap is-some (raw-is s at {r = Piece-Of u j} unit-escape u j refl l) ∙ some-before (u ∷ []) (decodedAt s j))
 
   follows-code : 256 ≤ u → isHigh (u - 256) ≡ false → isLow (u - 256) ≡ false → Follows s at j
-  follows-code l h k = (end-escape, ap is-some (code-is s at {r = Piece-Of u j} unit-escape u j refl l h k) ∙ some-before _ (spelled s j))
+  follows-code l h k = (end-escape, ap is-some (code-is s at {r = Piece-Of u j} unit-escape u j refl l h k) ∙ some-before _ (decodedAt s j))
 
   -- no surrogate
   pub follows-below : u < 55552 → Follows s at j
@@ -107,4 +107,4 @@ module _ (s : Bytes) (at b : ℕ) (e : b ≡ byteAt s at) (p : b ≡ 92) {r : Va
       let z = w n in
       let high = high-is s at {r = Piece-Of u j} unit-escape u j refl (omega arith) (in-between 0xd800 0xdbff (u - 256) (omega arith) (omega arith)) in
       let both = pair-is s j {r = Piece-Of (z .0) k} (z .1) (u - 256) (λ x. omega arith) (z .0) k refl (z .2) (z .3) in
-      (λ r x. end-escape r (z .4 r x), ap is-some (high ∙ both) ∙ some-before _ (spelled s k))
+      (λ r x. end-escape r (z .4 r x), ap is-some (high ∙ both) ∙ some-before _ (decodedAt s k))
