@@ -3,33 +3,28 @@ use mathlib.Core.Path.{_≡_, refl, sym, ap, subst, _∙_}
 use mathlib.Core.Bool.{Bool, true, false}
 use mathlib.Core.List.{List, [], _∷_, _++_, map}
 use mathlib.Core.Option.{Option, none, some, Option·map}
-use Prim.Native.Nat.{ℕ, zero, suc, _+_, _≤_, _<_}
+use Prim.Native.Nat.{ℕ, suc, _+_, _≤_, _<_}
 use native.Mathlib.Omega.{arith}
 use lib.Dec.{eqb, ltb}
-use lib.ListN.{length, drop, set}
+use lib.ListN.{length, set}
 use borrow.Author.Tests.{eq-eqb, ne-eqb, lt-ltb, le-ltb, ltb-true, ltb-false}
-use Rattle.text.specs.declared.Read.{Read}
-use Rattle.text.specs.declared.Turn.the-variants.{Go, Stop}
 use Rattle.text.specs.Choice.{pick, with-some, chain, provided}
 use Rattle.text.specs.Bytes.{Bytes, each, parts, same}
-use Rattle.text.specs.Reader.{got, loop}
-use Rattle.text.specs.Places.{byteAt, Passes, GivesT}
 use Rattle.text.proofs.Cases.{byBool}
 use Rattle.text.proofs.Same.{same-swap}
-use Rattle.json.specs.Grammar.{isSpace}
-use Rattle.json.specs.Tree.{Json, jnull, jtrue, jfalse, jnum, jstr, jarr, jobj, Members, Member, member, membersOf, asObject}
-use Rattle.json.specs.Syntax.{sep, pair, value}
-use Rattle.json.specs.Strings.{decodedMembers}
-use Rattle.json_strings.specs.Decoded.{decodedAt}
+use Rattle.json.specs.Tree.{Json, jnull, jtrue, jfalse, jnum, jstr, jarr, jobj, member, asObject}
+use Rattle.json_strings.specs.Spelled.{spelled}
 use Rattle.json_access.specs.declared.Kind.{Kind}
-use Rattle.json_access.specs.declared.Places.{Places}
-use Rattle.json_access.specs.Access.{TellsMember, TellsKind, kindOf}
+use Rattle.json_access.specs.Access.{EndsAt, TellsKind, kindOf}
 use Rattle.json_index.specs.Index.{jsonAt, placed, Slot}
-use Rattle.json_index.proofs.Objects.{not-object, empty-object, object-members}
+use Rattle.json_walk.specs.declared.Member.{Member}
+use Rattle.json_walk.specs.declared.Member.the-variants.{At, End, NoObject}
+use Rattle.json_walk.specs.Walk.{FirstOf, NextOf}
+use Rattle.json_walk.proofs.Each.{Far, far-first, now-of, far-end, far-none}
 use Rattle.convert.specs.Table.{TypeName, jsonType, position}
 use Rattle.convert.specs.FromJson.{isTrue, flagOf, flagsFrom}
-use Rattle.card_params.specs.Params.{codeOf, markAll, flagsIn, FlagsAs, FlagsFrom, TellsFlags}
-use Rattle.card_params.proofs.Walk.{slot-none, slot-some, none-past, kind-told, Far, far-first, Now, now-of}
+use Rattle.card_params.specs.Params.{codeOf, markAll, flagsIn, FlagsAs, TellsFlags}
+use Rattle.card_params.proofs.Walk.{slot-none, slot-some, kind-told}
 
 -- ---- a name's place
 
@@ -91,86 +86,60 @@ mark-none row = refl
 
 -- ---- the pass
 
-abbrev pub Todo : Bytes → ℕ → ℕ → Bytes → List ℕ → ℕ → List ℕ → Type 0
-Todo s at base names row₀ i row = (ts : List TypeName) → parts 44 names ≡ map jsonType ts → (us ms : Members) (t : Bytes) → loop (pair (value 12)) (drop at s) ≡ got us t → decodedMembers us ≡ some ms
-    → (done : List ℕ) × Far (flagOf base ts) 12 s (membersOf ms) t i done × (row ≡ markAll row₀ done)
+-- what the value at a slot's place says: whether each member is a flag of the table, and then a mark for each
+abbrev FlagsOf : Bytes → ℕ → ℕ → Bytes → List ℕ → Bool → List ℕ → Type 0
+FlagsOf s slot base names row r after = (ts : List TypeName) → parts 44 names ≡ map jsonType ts → (v : Json) → jsonAt 13 s slot ≡ some v → FlagsAs row r after (chain (asObject v) (each (flagOf base ts)))
 
-pub todo-first : (s : Bytes) (at base : ℕ) (names : Bytes) (row : List ℕ) → Todo s at base names row at row
-todo-first s at base names row ts p us ms t e f = ([], far-first (flagOf base ts) 12 s us ms t at e f, mark-none row)
+abbrev pub Todo : Bytes → ℕ → ℕ → Bytes → List ℕ → Member → List ℕ → Type 0
+Todo s slot base names row₀ r row = (ts : List TypeName) → parts 44 names ≡ map jsonType ts → (v : Json) → jsonAt 13 s slot ≡ some v
+    → (done : List ℕ) × Far (flagOf base ts) 12 s (chain (asObject v) (each (flagOf base ts))) r done × (row ≡ markAll row₀ done)
+
+pub todo-first : (s : Bytes) (slot base : ℕ) (names : Bytes) (row : List ℕ) (r : Member) → FirstOf s slot r → Todo s slot base names row r row
+todo-first s slot base names row r h ts p v e = ([], far-first (flagOf base ts) 12 s slot r h v e, mark-none row)
 
 flags-as : (row after : List ℕ) (r : Bool) {o p : Option (List ℕ)} → o ≡ p → FlagsAs row r after p → FlagsAs row r after o
 flags-as row after r e x = subst (FlagsAs row r after) (sym e) x
 
-module _ (s : Bytes) (at base : ℕ) (names : Bytes) (row₀ : List ℕ) (i : ℕ) (row : List ℕ) (todo : Todo s at base names row₀ i row) (r : Places) (told : TellsMember 12 s i r)
-    (kd : Kind) (kt : TellsKind s (r .start) kd) (v : ℕ) (vc : v ≡ codeOf kd) where
-  is-true : (x : Json) → jsonAt 12 s (r .start) ≡ some x → isTrue x ≡ eqb v 1
-  is-true x e = sym (ap (λ (k : ℕ). eqb k 1) (vc ∙ ap codeOf (kind-told 11 s (r .start) kd kt x e)) ∙ true-code x)
-
-  pub flags-not : (v ≡ 1 → ⊥) → (after : List ℕ) → FlagsFrom s at base names row₀ false after
-  flags-not n after ts p us ms t e f =
-      let y = todo ts p us ms t e f in
-      let w = now-of (y .1) r told in
-      flags-as row₀ after false (w .fails (flag-false base names ts p (w .key) (w .val) (is-true (w .val) (w .is-val) ∙ ne-eqb v 1 n))) refl
-
-  module _ (q : v ≡ 1) (k : ℕ) (kp : k ≡ placed (decodedAt s (r .name)) (parts 44 names)) (count : ℕ) (cn : count ≡ length (parts 44 names)) where
-    at-k : (x : Bytes) → decodedAt s (r .name) ≡ some x → placed (some x) (parts 44 names) ≡ k
-    at-k x e = sym (kp ∙ ap (λ (o : Option Bytes). placed o (parts 44 names)) e)
-
-    pub flags-other : count ≤ k → (after : List ℕ) → FlagsFrom s at base names row₀ false after
-    flags-other l after ts p us ms t e f =
-        let y = todo ts p us ms t e f in
-        let w = now-of (y .1) r told in
-        let m : length (parts 44 names) ≤ placed (some (w .key)) (parts 44 names) = omega (arith, at-k (w .key) (w .is-key)) in
-        flags-as row₀ after false (w .fails (flag-other base names ts p (w .key) (w .val) (is-true (w .val) (w .is-val) ∙ eq-eqb v 1 q) m)) refl
-
-    module _ (l : k < count) where
-      is-one : (ts : List TypeName) → parts 44 names ≡ map jsonType ts → (x : Bytes) (j : Json) → decodedAt s (r .name) ≡ some x → jsonAt 12 s (r .start) ≡ some j → flagOf base ts (member x j) ≡ some (base + k)
-      is-one ts p x j e g =
-          let m : placed (some x) (parts 44 names) < length (parts 44 names) = omega (arith, at-k x e) in
-          flag-one base names ts p x j (is-true j g ∙ eq-eqb v 1 q) m ∙ ap (λ (u : ℕ). some (base + u)) (at-k x e)
-
-      pub flags-on : (j : ℕ) → GivesT s (r .end) (sep 125 zero suc (drop (r .end) s)) (Go j) → Todo s at base names row₀ j (set row (base + k) 1)
-      flags-on j g ts p us ms t e f =
-          let y = todo ts p us ms t e f in
-          let w = now-of (y .1) r told in
-          (y .0 ++ ((base + k) ∷ []), w .goes (base + k) (is-one ts p (w .key) (w .val) (w .is-key) (w .is-val)) j g, ap (λ (u : List ℕ). set u (base + k) 1) (y .2) ∙ mark-more row₀ (y .0) (base + k))
-
-      pub flags-all : (x : Read) → GivesT s (r .end) (sep 125 zero suc (drop (r .end) s)) (Stop x) → FlagsFrom s at base names row₀ true (set row (base + k) 1)
-      flags-all x g ts p us ms t e f =
-          let y = todo ts p us ms t e f in
-          let w = now-of (y .1) r told in
-          flags-as row₀ (set row (base + k) 1) true (w .ends (base + k) (is-one ts p (w .key) (w .val) (w .is-key) (w .is-val)) x g) (refl, ap (λ (u : List ℕ). set u (base + k) 1) (y .2) ∙ mark-more row₀ (y .0) (base + k))
-
 -- ---- by the slot
 
-module _ (s : Bytes) (slot base : ℕ) (names : Bytes) (row : List ℕ) where
-  pub flags-absent : slot ≡ 0 → TellsFlags s slot base names row true row
-  unfolding flagsIn
-  flags-absent e ts p o h = flags-as row row true (ap (λ (x : Option Json). with-some x (flagsFrom base ts) (some [])) (slot-none h e)) (refl, mark-none row)
+pub flags-absent : (s : Bytes) (slot base : ℕ) (names : Bytes) (row : List ℕ) → slot ≡ 0 → TellsFlags s slot base names row true row
+unfolding flagsIn
+flags-absent s slot base names row e ts p o h = flags-as row row true (ap (λ (x : Option Json). with-some x (flagsFrom base ts) (some [])) (slot-none h e)) (refl, mark-none row)
 
-  module _ (n : slot ≡ 0 → ⊥) where
-    by-value : (r : Bool) (after : List ℕ) → ((ts : List TypeName) → parts 44 names ≡ map jsonType ts → (v : Json) → jsonAt 13 s slot ≡ some v → FlagsAs row r after (chain (asObject v) (each (flagOf base ts))))
-        → TellsFlags s slot base names row r after
-    unfolding flagsIn flagsFrom
-    by-value r after g ts p o h = let v = slot-some h n in flags-as row after r (ap (λ (x : Option Json). with-some x (flagsFrom base ts) (some [])) (v .1)) (g ts p (v .0) (v .2))
+module _ (s : Bytes) (slot base : ℕ) (names : Bytes) (row₀ : List ℕ) (there : slot ≡ 0 → ⊥) (m : Member) (row : List ℕ) (todo : Todo s slot base names row₀ m row) where
+  by-value : (r : Bool) (after : List ℕ) → FlagsOf s slot base names row₀ r after → TellsFlags s slot base names row₀ r after
+  unfolding flagsIn flagsFrom
+  by-value r after g ts p o h = let v = slot-some h there in flags-as row₀ after r (ap (λ (x : Option Json). with-some x (flagsFrom base ts) (some [])) (v .1)) (g ts p (v .0) (v .2))
 
-    pub flags-past : (after : List ℕ) → length s < slot → TellsFlags s slot base names row false after
-    flags-past after l = by-value false after (λ ts p v e. none-past 13 s slot v l e)
+  pub flags-all : (x : ℕ) → m ≡ End x → TellsFlags s slot base names row₀ true row
+  flags-all x e = by-value true row (λ ts p v h. let y = todo ts p v h in flags-as row₀ row true (far-end (y .1) x e) (refl, y .2))
 
-    module _ (i b : ℕ) (h : Passes isSpace s slot i) (e : b ≡ byteAt s i) where
-      pub flags-none : (after : List ℕ) → (b ≡ 123 → ⊥) → TellsFlags s slot base names row false after
-      flags-none after m = by-value false after (λ ts p v w. flags-as row after false (ap (λ (o : Option (List Member)). chain o (each (flagOf base ts))) (not-object 12 s slot [] [] i b h e m v w)) refl)
+  pub flags-none : m ≡ NoObject → (after : List ℕ) → TellsFlags s slot base names row₀ false after
+  flags-none e after = by-value false after (λ ts p v h. flags-as row₀ after false (far-none (todo ts p v h .1) e) refl)
 
-      module _ (q : b ≡ 123) (j c : ℕ) (k : Passes isSpace s (i + 1) j) (f : c ≡ byteAt s j) where
-        each-nil : (ts : List TypeName) → each (flagOf base ts) [] ≡ some []
-        unfolding each
-        each-nil ts = refl
+  module _ (q a : ℕ) (is-m : m ≡ At q a) (kd : Kind) (kt : TellsKind s a kd) (v : ℕ) (vc : v ≡ codeOf kd) where
+    is-true : (x : Json) → jsonAt 12 s a ≡ some x → isTrue x ≡ eqb v 1
+    is-true x e = sym (ap (λ (k : ℕ). eqb k 1) (vc ∙ ap codeOf (kind-told 11 s a kd kt x e)) ∙ true-code x)
 
-        pub flags-empty : c ≡ 125 → TellsFlags s slot base names row true row
-        flags-empty m = by-value true row (λ ts p v w.
-            flags-as row row true (ap (λ (o : Option (List Member)). chain o (each (flagOf base ts))) (empty-object 12 s slot [] [] i b h e q j c k f m v w) ∙ each-nil ts) (refl, mark-none row))
+    pub flags-not : (v ≡ 1 → ⊥) → (after : List ℕ) → TellsFlags s slot base names row₀ false after
+    flags-not n after = by-value false after (λ ts p u h.
+        let w = now-of (todo ts p u h .1) q a is-m in
+        flags-as row₀ after false (w .fails (flag-false base names ts p (w .key) (w .val) (is-true (w .val) (w .is-val) ∙ ne-eqb v 1 n))) refl)
 
-        pub flags-full : (c ≡ 125 → ⊥) → (r : Bool) (after : List ℕ) → FlagsFrom s j base names row r after → TellsFlags s slot base names row r after
-        flags-full m r after g = by-value r after (λ ts p v w.
-            let o = object-members 12 s slot [] [] i b h e q j c k f m v w in
-            flags-as row after r (ap (λ (o : Option (List Member)). chain o (each (flagOf base ts))) (o .5)) (g ts p (o .0) (o .1) (o .2) (o .3) (o .4)))
+    module _ (is-1 : v ≡ 1) (k : ℕ) (kp : k ≡ placed (spelled s q) (parts 44 names)) (count : ℕ) (cn : count ≡ length (parts 44 names)) where
+      at-k : (x : Bytes) → spelled s q ≡ some x → placed (some x) (parts 44 names) ≡ k
+      at-k x e = sym (kp ∙ ap (λ (o : Option Bytes). placed o (parts 44 names)) e)
+
+      pub flags-other : count ≤ k → (after : List ℕ) → TellsFlags s slot base names row₀ false after
+      flags-other l after = by-value false after (λ ts p u h.
+          let w = now-of (todo ts p u h .1) q a is-m in
+          let n : length (parts 44 names) ≤ placed (some (w .key)) (parts 44 names) = omega (arith, at-k (w .key) (w .is-key)) in
+          flags-as row₀ after false (w .fails (flag-other base names ts p (w .key) (w .val) (is-true (w .val) (w .is-val) ∙ eq-eqb v 1 is-1) n)) refl)
+
+      pub flags-on : k < count → (z : ℕ) → EndsAt 12 s a z → (next : Member) → NextOf s z next → Todo s slot base names row₀ next (set row (base + k) 1)
+      flags-on l z ends next told ts p u h =
+          let y = todo ts p u h in
+          let w = now-of (y .1) q a is-m in
+          let n : placed (some (w .key)) (parts 44 names) < length (parts 44 names) = omega (arith, at-k (w .key) (w .is-key)) in
+          let one = flag-one base names ts p (w .key) (w .val) (is-true (w .val) (w .is-val) ∙ eq-eqb v 1 is-1) n ∙ ap (λ (u : ℕ). some (base + u)) (at-k (w .key) (w .is-key)) in
+          (y .0 ++ ((base + k) ∷ []), w .goes (base + k) one z ends next told, ap (λ (u : List ℕ). set u (base + k) 1) (y .2) ∙ mark-more row₀ (y .0) (base + k))

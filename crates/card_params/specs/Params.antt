@@ -8,11 +8,8 @@ use Prim.Native.Char.{code}
 use lib.Dec.{eqb, ltb, leb}
 use lib.ListN.{length, take, drop, getD, set}
 use Rattle.text.specs.Choice.{pick, with-some, chain, provided}
-use Rattle.text.specs.Bytes.{Bytes, ascii, empty, each, parts}
-use Rattle.text.specs.Reader.{got, loop}
-use Rattle.json.specs.Tree.{Json, Members, membersOf, asNumber}
-use Rattle.json.specs.Syntax.{pair, value}
-use Rattle.json.specs.Strings.{decodedMembers}
+use Rattle.text.specs.Bytes.{Bytes, ascii, empty, parts}
+use Rattle.json.specs.Tree.{Json, asNumber}
 use Rattle.json_access.specs.declared.Kind.{Kind}
 use Rattle.json_access.specs.declared.Kind.the-variants.{Null, True, False, Number, String, Array, Object}
 use Rattle.json_index.specs.Index.{Slot}
@@ -46,12 +43,7 @@ abbrev pub FlagsAs : List ℕ → Bool → List ℕ → Option (List ℕ) → Ty
 FlagsAs row r after none = r ≡ false
 FlagsAs row r after (some cs) = (r ≡ true) × (after ≡ markAll row cs)
 
--- of the members from a place on: whether each is a flag of the table, and then a mark for each
-abbrev pub FlagsFrom : Bytes → ℕ → ℕ → Bytes → List ℕ → Bool → List ℕ → Type 0
-FlagsFrom s at base names row r after = (ts : List TypeName) → parts (code ",") names ≡ map jsonType ts → (us ms : Members) (t : Bytes) → loop (pair (value 12)) (drop at s) ≡ got us t → decodedMembers us ≡ some ms
-    → FlagsAs row r after (each (flagOf base ts) (membersOf ms))
-
--- the same of the value in a slot
+-- of the value in a slot: whether each member is a flag of the table, and then a mark for each
 abbrev pub TellsFlags : Bytes → ℕ → ℕ → Bytes → List ℕ → Bool → List ℕ → Type 0
 TellsFlags s slot base names row r after = (ts : List TypeName) → parts (code ",") names ≡ map jsonType ts → (o : Option Json) → Slot 13 s slot o → FlagsAs row r after (flagsIn base ts o)
 

@@ -4,24 +4,21 @@ use convert_tests::is_pref;
 use json_access::Kind;
 use json_access::element_at;
 use json_access::kind_at;
-use json_access::member_at;
 use json_index::nth_name;
 use json_index::which_name;
-use json_marks::separator;
-use json_marks::skip_space;
+use json_skip::skip_value;
+use json_walk::Member;
+use json_walk::first_member;
+use json_walk::next_member;
 use line_pen::Pen;
 use line_pen::pen_bytes;
-use text::LEFT_BRACE;
-use text::RIGHT_BRACE;
-use text::Turn;
-use text::look;
 ghost use mathlib.Core.Path.{_≡_};
 ghost use mathlib.Core.Bool.{false};
 ghost use Prim.Native.Nat.{_≤_, _+_};
 ghost use lib.ListN.{length};
 ghost use Rattle.text.specs.Bytes.{code, parts};
 ghost use Rattle.line_pen.specs.Pen.{Pens};
-ghost use Rattle.card_params.specs.Params.{codeOf, FlagsFrom, TellsFlags, TellsPref, spanOf, prefPiece, typeLead, typePart, typesFrom};
+ghost use Rattle.card_params.specs.Params.{codeOf, TellsFlags, TellsPref, spanOf, prefPiece, typeLead, typePart, typesFrom};
 
 // The number's part of the text, empty where there is none; or 12.
 pub enum Pref {
@@ -44,48 +41,6 @@ fn kind_code(k: Kind) -> usize
     }
 }
 
-// The members from a place on: each is true, and has one of the names.
-fn flags_from<'a, 'b, 'c>(
-    row: &'a mut [u8],
-    s: &'b [u8],
-    at: usize,
-    base: usize,
-    names: &'c [u8],
-    count: usize,
-) -> bool
-    requires { ⌜ at ≤ length (now s) ⌝ }
-    requires { ⌜ count ≡ length (parts (code ",") (now names)) ⌝ }
-    requires { ⌜ base + count ≤ length (now row) ⌝ }
-    ensures { λ r. ⌜ length (now (row .exit)) ≡ length (now (row .entry)) ⌝ }
-    ensures { λ r. ⌜ FlagsFrom (now (s .entry)) at base (now (names .entry)) (now (row .entry)) r (now (row .exit)) ⌝ }
-{
-    let mut i = at;
-    loop {
-        let m = member_at(s, i, 12);
-        let q = m.name;
-        let a = m.start;
-        let e = m.end;
-        let v = kind_code(kind_at(s, a));
-        if v != 1 {
-            return false;
-        }
-        let k = which_name(s, q, names);
-        if k >= count {
-            return false;
-        }
-        let c = base + k;
-        row[c] = 1;
-        match separator(s, e, RIGHT_BRACE) {
-            Turn::Go(j) => {
-                i = j;
-            }
-            Turn::Stop(r) => {
-                return true;
-            }
-        }
-    }
-}
-
 // The contexts or features in a slot; their places in the table of TYPE begin at base.
 pub fn flags_in<'a, 'b, 'c>(
     row: &'a mut [u8],
@@ -103,18 +58,31 @@ pub fn flags_in<'a, 'b, 'c>(
     if slot == 0 {
         return true;
     }
-    if slot > s.len() {
-        return false;
+    let mut m = first_member(s, slot);
+    loop {
+        match m {
+            Member::At { name: q, start: a } => {
+                let v = kind_code(kind_at(s, a));
+                if v != 1 {
+                    return false;
+                }
+                let k = which_name(s, q, names);
+                if k >= count {
+                    return false;
+                }
+                let c = base + k;
+                row[c] = 1;
+                let e = skip_value(s, a);
+                m = next_member(s, e);
+            }
+            Member::End { after: x } => {
+                return true;
+            }
+            Member::NoObject => {
+                return false;
+            }
+        }
     }
-    let i = skip_space(s, slot);
-    if look(s, i) != LEFT_BRACE {
-        return false;
-    }
-    let j = skip_space(s, i + 1);
-    if look(s, j) == RIGHT_BRACE {
-        return true;
-    }
-    flags_from(row, s, j, base, names, count)
 }
 
 // The pref in a slot: a number from 1 to 100, as it is spelled.

@@ -18,7 +18,7 @@ use Rattle.text.proofs.Same.{among-none}
 use Rattle.json.specs.Tree.{Json, Member, nameOf, asObject}
 use Rattle.json_prints.specs.Prints.{Names, SoughtKey}
 use Rattle.json_prints.proofs.Prints.{no-names}
-use Rattle.json_index.specs.Index.{jsonAt}
+use Rattle.json_walk.specs.Walk.{jsonAt}
 use Rattle.json_has.specs.Has.{named, hasName, HasMember}
 use Rattle.name_index.specs.declared.Noted.{Noted}
 use Rattle.name_index.specs.declared.Noted.the-variants.{Rows}

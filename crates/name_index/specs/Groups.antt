@@ -8,13 +8,10 @@ use lib.Dec.{eqb}
 use lib.ListN.{length, getD, take, drop}
 use Rattle.text.specs.Choice.{pick, with-some}
 use Rattle.text.specs.Bytes.{Bytes, among}
-use Rattle.text.specs.Reader.{got, loop}
-use Rattle.json.specs.Tree.{Json, Members, Member, membersOf, nameOf, asObject}
-use Rattle.json.specs.Syntax.{pair, value}
-use Rattle.json.specs.Strings.{decodedMembers}
-use Rattle.json_strings.specs.Decoded.{decodedAt}
+use Rattle.json.specs.Tree.{Json, nameOf, asObject}
+use Rattle.json_strings.specs.Spelled.{spelled}
 use Rattle.json_prints.specs.Prints.{Names}
-use Rattle.json_index.specs.Index.{jsonAt}
+use Rattle.json_walk.specs.Walk.{jsonAt}
 use Rattle.name_index.specs.declared.Noted.{Noted}
 use Rattle.name_index.specs.declared.Noted.the-variants.{Rows, Unfit}
 
@@ -57,11 +54,7 @@ abbrev pub NotesAll : Bytes → List Bytes → Noted → List ℕ → List ℕ �
 NotesAll s ns (Rows n) ps fs = Names s (take n ps) (take n fs) ns
 NotesAll s ns Unfit ps fs = Unit {0}
 
--- if members stand from a place on: their names
-abbrev pub NotesFrom : ℕ → Bytes → ℕ → Noted → List ℕ → List ℕ → Type 0
-NotesFrom d s at r ps fs = (us ms : Members) (t : Bytes) → loop (pair (value d)) (drop at s) ≡ got us t → decodedMembers us ≡ some ms
-    → NotesAll s (map nameOf (membersOf ms)) r ps fs
-
+-- of whatever value stands at a place
 abbrev pub NotesNames : ℕ → Bytes → ℕ → Noted → List ℕ → List ℕ → Type 0
 NotesNames d s at r ps fs = (v : Json) → jsonAt (suc d) s at ≡ some v → NotesAll s (namesOf v) r ps fs
 

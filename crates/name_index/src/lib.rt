@@ -1,18 +1,15 @@
 // The names of a JSON card's maps and members, noted once by their places and prints: then whether one is there is asked without a walk over the text.
-use json_access::member_at;
 use json_has::has_member;
-use json_marks::separator;
-use json_marks::skip_space;
 use json_prints::is_key_noted;
 use json_prints::print_from;
-use text::LEFT_BRACE;
-use text::RIGHT_BRACE;
-use text::Turn;
-use text::look;
+use json_skip::skip_value;
+use json_walk::Member;
+use json_walk::first_member;
+use json_walk::next_member;
 ghost use mathlib.Core.Path.{_≡_};
 ghost use Prim.Native.Nat.{_≤_, _<_};
 ghost use lib.ListN.{length, take};
-ghost use Rattle.name_index.specs.Groups.{NotesName, NotedIn, NotesFrom, NotesNames, NotesGroup, Indexes, HasName};
+ghost use Rattle.name_index.specs.Groups.{NotesName, NotedIn, NotesNames, NotesGroup, Indexes, HasName};
 
 // How many rows the names took, or that one did not fit: there was no row for it, or its place or its print has more than sixteen bits.
 pub enum Noted {
@@ -47,40 +44,6 @@ fn note_name<'a, 'b>(
     true
 }
 
-// The names of the members from a place of an object on.
-fn note_from<'a, 'b>(
-    places: &'a mut [u16],
-    prints: &'a mut [u16],
-    s: &'b [u8],
-    at: usize,
-    depth: usize,
-) -> Noted
-    requires { ⌜ at ≤ length (now s) ⌝ }
-    requires { ⌜ length (now places) ≡ length (now prints) ⌝ }
-    ensures { λ r. ⌜ NotedIn (length (now (places .entry))) r ⌝ }
-    ensures { λ r. ⌜ NotesFrom depth (now (s .entry)) at r (now (places .exit)) (now (prints .exit)) ⌝ }
-{
-    let mut i = at;
-    let mut k = 0;
-    loop {
-        let m = member_at(s, i, depth);
-        let q = m.name;
-        let e = m.end;
-        if !note_name(places, prints, k, s, q) {
-            return Noted::Unfit;
-        }
-        k += 1;
-        match separator(s, e, RIGHT_BRACE) {
-            Turn::Go(j) => {
-                i = j;
-            }
-            Turn::Stop(r) => {
-                return Noted::Rows(k);
-            }
-        }
-    }
-}
-
 // The names of the members of the value at a place; none where it is no object.
 fn note_names<'a, 'b>(
     places: &'a mut [u16],
@@ -93,18 +56,19 @@ fn note_names<'a, 'b>(
     ensures { λ r. ⌜ NotedIn (length (now (places .entry))) r ⌝ }
     ensures { λ r. ⌜ NotesNames depth (now (s .entry)) at r (now (places .exit)) (now (prints .exit)) ⌝ }
 {
-    if at > s.len() {
-        return Noted::Unfit;
+    let mut k = 0;
+    let mut m = first_member(s, at);
+    loop {
+        let Member::At { name: q, start: a } = m else {
+            return Noted::Rows(k);
+        };
+        if !note_name(places, prints, k, s, q) {
+            return Noted::Unfit;
+        }
+        k += 1;
+        let e = skip_value(s, a);
+        m = next_member(s, e);
     }
-    let i = skip_space(s, at);
-    if look(s, i) != LEFT_BRACE {
-        return Noted::Rows(0);
-    }
-    let j = skip_space(s, i + 1);
-    if look(s, j) == RIGHT_BRACE {
-        return Noted::Rows(0);
-    }
-    note_from(places, prints, s, j, depth)
 }
 
 // The names of the group i: of the map i, whose slot is the sixth for the first, or, the last group, of the card itself.

@@ -1,103 +1,151 @@
-use Rattle.card_params.proofs.Flags.{flags-absent, flags-past, flags-none, flags-empty, flags-full}
-use mathlib.Core.Path.{refl}
-use denote.Ref.{now}
 use borrow.Author.Needs.{needs}
+use native.Mathlib.Omega.{arith}
+use denote.Ref.{now}
+use mathlib.Core.Path.{_≡_, refl, _∙_}
+use Prim.Native.Nat.{_+_}
+use lib.ListN.{length, length-set}
+use Rattle.json_walk.proofs.Laws.{ahead, InText, less-ahead}
+use Rattle.card_params.proofs.Flags.{Todo, todo-first, flags-absent, flags-not, flags-other, flags-on, flags-all, flags-none}
 use Rattle.card_params.proofs.flags_in.Statement.{statement}
 use Rattle.card_params.proofs.flags_in.Tie as tie
-use Rattle.card_params.proofs.flags_in.Reads as reads
-use Rattle.card_params.proofs.flags_in.Lts as lts
-use Rattle.card_params.proofs.flags_from.Reads as flags-from-reads
-use Rattle.json_marks.proofs.skip_space.Reads as skip-space-reads
-use Rattle.text.proofs.look.Reads as look-reads
 
--- src/lib.rt:102:9
-returns : tie.Need-returns
-returns c = (refl, flags-absent (now (c .before .before .before .before .args .s)) (c .before .before .before .before .args .slot) (c .before .before .before .before .args .base) (now (c .before .before .before .before .args .names)) _ (c .if1 .taken))
+abbrev Inv-loop : tie.InvT-loop
+Inv-loop row₀ s slot base names count m₀ row m = InText (length s) m × (length row ≡ length row₀) × Todo s slot base names row₀ m row
 
--- src/lib.rt:105:9
-returns-2 : tie.Need-returns-2
+abbrev μ-loop : tie.MeasureT-loop
+μ-loop row₀ s slot base names count m₀ row m = ahead (length s) m
+
+returns : tie.Need-returns Inv-loop μ-loop
+returns c =
+    let a = c .before .before .before .before .args in
+    (refl, flags-absent (now (a .s)) (a .slot) (a .base) (now (a .names)) _ (c .if1 .taken))
+
+first-member-requires : tie.Need-first-member-requires Inv-loop μ-loop
+first-member-requires c κs = tt
+
+loop-holds : tie.Need-loop-holds Inv-loop μ-loop
+loop-holds c =
+    let a = c .before .before .before .before .before .args in
+    let f = c .first-member in
+    ((a .slot, f .ensures .0), refl, todo-first (now (a .s)) (a .slot) (a .base) (now (a .names)) (now (a .row)) (f .result) (f .ensures .1 .0))
+
+enum-known-m : tie.Need-enum-known-m Inv-loop μ-loop
+enum-known-m c = search needs
+
+kind-at-requires : tie.Need-kind-at-requires Inv-loop μ-loop
+kind-at-requires c κs = tt
+
+kind-code-requires : tie.Need-kind-code-requires Inv-loop μ-loop
+kind-code-requires c κs = tt
+
+same-length : tie.Need-same-length Inv-loop μ-loop
+same-length c = c .before .before .before .before .before .before .loop .inv .1
+
+returns-2 : tie.Need-returns-2 Inv-loop μ-loop
 returns-2 c =
-    let args = c .before .before .before .before .before .args in
-    (refl, flags-past (now (args .s)) (args .slot) (args .base) (now (args .names)) _ (c .before .if1 .left) _ (c .if2 .taken))
+    let a = c .before .before .before .before .before .before .before .before .before .before .before .before .args in
+    let l = c .before .before .before .before .before .before .loop in
+    let g = c .before .before .before .before .m .given in
+    (l .inv .1, flags-not (now (a .s)) (a .slot) (a .base) (now (a .names)) (now (a .row)) (c .before .before .before .before .before .before .before .before .if1 .left) (l .m) (l .row) (l .inv .2) (g .0 .0) (g .0 .1 .0) (g .1) (c .before .before .kind-at .result) (c .before .before .kind-at .ensures) (c .before .kind-code .result) (c .before .kind-code .ensures) (c .if2 .taken) _)
 
--- src/lib.rt:107:9
-skip-space-requires : tie.Need-skip-space-requires
-skip-space-requires c κs = search needs
+which-name-requires : tie.Need-which-name-requires Inv-loop μ-loop
+which-name-requires c κs = tt
 
--- src/lib.rt:108:8
-look-requires : tie.Need-look-requires
-look-requires c κs = search needs
+same-length-2 : tie.Need-same-length-2 Inv-loop μ-loop
+same-length-2 c = c .before .before .before .before .before .before .before .before .loop .inv .1
 
--- src/lib.rt:109:9
-returns-3 : tie.Need-returns-3
+returns-3 : tie.Need-returns-3 Inv-loop μ-loop
 returns-3 c =
-    let args = c .before .before .before .before .before .before .before .before .args in
-    let if1 = c .before .before .before .before .if1 in (
-      refl,
-      flags-none (now (args .s)) (args .slot) (args .base) (now (args .names)) _ (if1 .left) _ _ (c .before .before .skip-space .ensures) (c .before .look .ensures .0) _ (c .if3 .taken),
+    let a = c .before .before .before .before .before .before .before .before .before .before .before .before .before .before .args in
+    let l = c .before .before .before .before .before .before .before .before .loop in
+    let g = c .before .before .before .before .before .before .m .given in
+    let w = c .before .which-name in (
+      l .inv .1,
+      flags-other (now (a .s)) (a .slot) (a .base) (now (a .names)) (now (a .row)) (c .before .before .before .before .before .before .before .before .before .before .if1 .left) (l .m) (l .row) (l .inv .2) (g .0 .0) (g .0 .1 .0) (g .1) (c .before .before .before .before .kind-at .result) (c .before .before .before .before .kind-at .ensures) (c .before .before .before .kind-code .result) (c .before .before .before .kind-code .ensures) (c .before .before .if2 .left)
+          (w .result) (w .ensures) (a .count) (c .before .before .before .before .before .before .before .before .before .before .before .before .before .before .pre .0) (c .if3 .taken) _,
     )
 
--- src/lib.rt:111:27
-add-skip-space : tie.Need-add-skip-space
-add-skip-space c = search needs
+add-c : tie.Need-add-c Inv-loop μ-loop
+add-c c = omega (arith, c .before .before .before .before .before .before .before .before .before .before .before .before .before .before .pre .1, c .if3 .left)
 
--- src/lib.rt:111:9
-skip-space-requires-2 : tie.Need-skip-space-requires-2
-skip-space-requires-2 c κs = search needs
+slice-write-row : tie.Need-slice-write-row Inv-loop μ-loop
+slice-write-row c = omega (arith, c .before .before .before .before .before .before .before .before .before .before .before .before .before .before .pre .1, c .if3 .left, c .before .before .before .before .before .before .before .before .loop .inv .1)
 
--- src/lib.rt:112:8
-look-requires-2 : tie.Need-look-requires-2
-look-requires-2 c κs = search needs
+skip-value-requires : tie.Need-skip-value-requires Inv-loop μ-loop
+skip-value-requires c κs = tt
 
--- src/lib.rt:113:9
-returns-4 : tie.Need-returns-4
+next-member-requires : tie.Need-next-member-requires Inv-loop μ-loop
+next-member-requires c κs = tt
+
+loop-less : tie.Need-loop-less Inv-loop μ-loop
+loop-less c =
+    let g = c .before .before .before .before .before .before .before .before .m .given in
+    less-ahead (length (now (c .before .before .before .before .before .before .before .before .before .before .before .before .before .before .before .before .args .s))) (c .before .before .before .before .before .before .before .before .before .before .loop .m) (c .next-member .result) (g .0 .0) (g .0 .1 .0) (c .before .skip-value .result) (g .1) (c .before .before .before .before .before .before .before .before .before .before .loop .inv .0) (c .before .skip-value .ensures .0 .0) (c .next-member .ensures .0)
+
+loop-again : tie.Need-loop-again Inv-loop μ-loop
+loop-again c =
+    let a = c .before .before .before .before .before .before .before .before .before .before .before .before .before .before .before .before .args in
+    let l = c .before .before .before .before .before .before .before .before .before .before .loop in
+    let g = c .before .before .before .before .before .before .before .before .m .given in
+    let w = c .before .before .before .which-name in
+    let e = c .before .skip-value in
+    let n = c .next-member in (
+      (e .result, n .ensures .0),
+      length-set (l .row) (a .base + w .result) 1 ∙ (l .inv .1),
+      flags-on (now (a .s)) (a .slot) (a .base) (now (a .names)) (now (a .row)) (c .before .before .before .before .before .before .before .before .before .before .before .before .if1 .left) (l .m) (l .row) (l .inv .2) (g .0 .0) (g .0 .1 .0) (g .1) (c .before .before .before .before .before .before .kind-at .result) (c .before .before .before .before .before .before .kind-at .ensures) (c .before .before .before .before .before .kind-code .result) (c .before .before .before .before .before .kind-code .ensures) (c .before .before .before .before .if2 .left)
+          (w .result) (w .ensures) (a .count) (c .before .before .before .before .before .before .before .before .before .before .before .before .before .before .before .before .pre .0) (omega (arith, c .before .before .if3 .left)) (e .result) (e .ensures .1 12) (n .result) (n .ensures .1 .0),
+    )
+
+enum-known-m-2 : tie.Need-enum-known-m-2 Inv-loop μ-loop
+enum-known-m-2 c = search needs
+
+same-length-3 : tie.Need-same-length-3 Inv-loop μ-loop
+same-length-3 c = c .before .before .before .loop .inv .1
+
+returns-4 : tie.Need-returns-4 Inv-loop μ-loop
 returns-4 c =
-    let args = c .before .before .before .before .before .before .before .before .before .before .before .args in
-    let if1 = c .before .before .before .before .before .before .before .if1 in
-    let skip-space = c .before .before .before .before .before .skip-space in
-    let look = c .before .before .before .before .look in
-    let if3 = c .before .before .before .if3 in (
-      refl,
-      flags-empty (now (args .s)) (args .slot) (args .base) (now (args .names)) _ (if1 .left) _ _ (skip-space .ensures) (look .ensures .0) (if3 .left) _ _ (c .before .before .skip-space2 .ensures) (c .before .look2 .ensures .0) (c .if4 .taken),
-    )
+    let a = c .before .before .before .before .before .before .before .before .before .args in
+    let l = c .before .before .before .loop in
+    (l .inv .1, flags-all (now (a .s)) (a .slot) (a .base) (now (a .names)) (now (a .row)) (c .before .before .before .before .before .if1 .left) (l .m) (l .row) (l .inv .2) (c .before .m2 .given .0 .0) (c .before .m2 .given .1))
 
--- src/lib.rt:115:5
-flags-from-requires : tie.Need-flags-from-requires
-flags-from-requires c κs = search needs
+enum-told : tie.Need-enum-told Inv-loop μ-loop
+enum-told c = search needs
 
--- src/lib.rt:88:1
-same-length : tie.Need-same-length
-same-length c = search needs
+same-length-4 : tie.Need-same-length-4 Inv-loop μ-loop
+same-length-4 c = c .before .before .loop .inv .1
 
--- src/lib.rt:88:1
-returns-5 : tie.Need-returns-5
+returns-5 : tie.Need-returns-5 Inv-loop μ-loop
 returns-5 c =
-    let args = c .before .before .before .before .before .before .before .before .before .before .before .before .before .before .before .args in
-    let if1 = c .before .before .before .before .before .before .before .before .before .before .before .if1 in
-    let skip-space = c .before .before .before .before .before .before .before .before .before .skip-space in
-    let look = c .before .before .before .before .before .before .before .before .look in
-    let if3 = c .before .before .before .before .before .before .before .if3 in
-    let skip-space2 = c .before .before .before .before .before .before .skip-space2 in
-    let look2 = c .before .before .before .before .before .look2 in
-    let if4 = c .before .before .before .before .if4 in
-    let flags-from = c .before .before .flags-from in (
-      flags-from .ensures .0,
-      flags-full (now (args .s)) (args .slot) (args .base) (now (args .names)) _ (if1 .left) _ _ (skip-space .ensures) (look .ensures .0) (if3 .left) _ _ (skip-space2 .ensures) (look2 .ensures .0) (if4 .left) _ _ (flags-from .ensures .1),
-    )
+    let a = c .before .before .before .before .before .before .before .before .args in
+    let l = c .before .before .loop in
+    (l .inv .1, flags-none (now (a .s)) (a .slot) (a .base) (now (a .names)) (now (a .row)) (c .before .before .before .before .if1 .left) (l .m) (l .row) (l .inv .2) (c .enum-told .given .1) _)
 
 pub flags-in-spec : {M : Type 1} → statement M
 flags-in-spec =
     tie.close
     (tie.spec
+    Inv-loop
+    μ-loop
     returns
-    returns-2
-    skip-space-requires
-    look-requires
-    returns-3
-    add-skip-space
-    skip-space-requires-2
-    look-requires-2
-    returns-4
-    flags-from-requires
+    first-member-requires
+    loop-holds
+    enum-known-m
+    kind-at-requires
+    kind-code-requires
     same-length
+    returns-2
+    which-name-requires
+    same-length-2
+    returns-3
+    add-c
+    slice-write-row
+    skip-value-requires
+    next-member-requires
+    loop-less
+    loop-again
+    enum-known-m-2
+    same-length-3
+    returns-4
+    enum-told
+    same-length-4
     returns-5)

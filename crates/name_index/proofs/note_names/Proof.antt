@@ -1,85 +1,115 @@
-use denote.Ref.{now}
-use native.Mathlib.Omega.{arith}
-use Rattle.name_index.proofs.Noting.{notes-not, notes-none, notes-some}
 use borrow.Author.Needs.{needs}
+use denote.Ref.{now}
+use mathlib.Core.Path.{_≡_, refl, sym, _∙_}
+use Prim.Native.Nat.{_≤_}
+use native.Mathlib.Omega.{arith}
+use lib.ListN.{length}
+use Rattle.text.proofs.Cases.{not-false}
+use Rattle.json_walk.proofs.Laws.{ahead, InText, in-text, less-ahead, is-over}
+use Rattle.name_index.proofs.Noting.{noted-as, Noting, noting-first, noting-on, noting-last}
 use Rattle.name_index.proofs.note_names.Statement.{statement}
 use Rattle.name_index.proofs.note_names.Tie as tie
 
-returns : tie.Need-returns
-returns c = search needs
+abbrev Inv-loop : tie.InvT-loop
+Inv-loop places₀ prints₀ s at depth k₀ m₀ places prints k m =
+    InText (length s) m × (length places ≡ length prints) × (length places ≡ length places₀) × (length prints ≡ length prints₀) × (k ≤ length places) × Noting depth s at places prints k m
 
-skip-space-requires : tie.Need-skip-space-requires
-skip-space-requires c κs = search needs
+abbrev μ-loop : tie.MeasureT-loop
+μ-loop places₀ prints₀ s at depth k₀ m₀ places prints k m = ahead (length s) m
 
-look-requires : tie.Need-look-requires
-look-requires c κs = search needs
+first-member-requires : tie.Need-first-member-requires Inv-loop μ-loop
+first-member-requires c κs = tt
 
-returns-2 : tie.Need-returns-2
-returns-2 c =
-    let args = c .before .before .before .before .before .before .before .args in
-    let skip-space = c .before .before .skip-space in
-    (omega arith, notes-not (args .depth) (now (args .s)) (args .at) (skip-space .result) (c .before .look .result) (skip-space .ensures) (c .before .look .ensures .0) (now (args .places)) (now (args .prints)) (c .if2 .taken))
+loop-holds : tie.Need-loop-holds Inv-loop μ-loop
+loop-holds c =
+    let a = c .before .before .before .before .args in
+    let f = c .first-member in
+    ((a .at, f .ensures .0), c .before .before .before .before .pre, refl, refl, omega arith, noting-first (a .depth) (now (a .s)) (a .at) (now (a .places)) (now (a .prints)) (f .result) (f .ensures .1 .0))
 
-add-skip-space : tie.Need-add-skip-space
-add-skip-space c = search needs
+enum-known-m : tie.Need-enum-known-m Inv-loop μ-loop
+enum-known-m c = search needs
 
-skip-space-requires-2 : tie.Need-skip-space-requires-2
-skip-space-requires-2 c κs = search needs
+same-length : tie.Need-same-length Inv-loop μ-loop
+same-length c = c .before .loop .inv .2
 
-look-requires-2 : tie.Need-look-requires-2
-look-requires-2 c κs = search needs
+same-length-2 : tie.Need-same-length-2 Inv-loop μ-loop
+same-length-2 c = c .before .loop .inv .3
 
-returns-3 : tie.Need-returns-3
-returns-3 c =
-    let args = c .before .before .before .before .before .before .before .before .before .before .args in
-    let skip-space = c .before .before .before .before .before .skip-space in
-    let look = c .before .before .before .before .look in
-    let if2 = c .before .before .before .if2 in
-    let skip-space2 = c .before .before .skip-space2 in (
-      omega arith,
-      notes-none (args .depth) (now (args .s)) (args .at) (skip-space .result) (look .result) (skip-space .ensures) (look .ensures .0)
-          (now (args .places)) (now (args .prints)) (if2 .left) (skip-space2 .result) (c .before .look2 .result) (skip-space2 .ensures)
-          (c .before .look2 .ensures .0) (c .if3 .taken),
-    )
+returns : tie.Need-returns Inv-loop μ-loop
+returns c =
+    let a = c .before .before .before .before .before .before .args in
+    let l = c .before .loop in
+    (omega (arith, l .inv .2, l .inv .4), noting-last (a .depth) (now (a .s)) (a .at) (l .places) (l .prints) (l .k) (l .m) (l .inv .5) (is-over (l .m) (c .match .keys2)))
 
-note-from-requires : tie.Need-note-from-requires
-note-from-requires c κs = search needs
+note-name-requires : tie.Need-note-name-requires Inv-loop μ-loop
+note-name-requires c κs =
+    let g = c .before .before .before .m .given in
+    (in-text (length (now (c .before .before .before .before .before .before .before .before .before .before .args .s))) (c .before .before .before .before .before .loop .m) (g .0 .0) (g .0 .1 .0) (g .1) (c .before .before .before .before .before .loop .inv .0) .0, c .before .before .before .before .before .loop .inv .1)
 
-same-length : tie.Need-same-length
-same-length c = search needs
+same-length-3 : tie.Need-same-length-3 Inv-loop μ-loop
+same-length-3 c = c .before .before .before .before .before .note-name .kept .0 ∙ (c .before .before .before .before .before .before .before .before .before .before .before .loop .inv .2)
 
-same-length-2 : tie.Need-same-length-2
-same-length-2 c = search needs
+same-length-4 : tie.Need-same-length-4 Inv-loop μ-loop
+same-length-4 c = c .before .before .before .before .before .note-name .kept .1 .0 ∙ (c .before .before .before .before .before .before .before .before .before .before .before .loop .inv .3)
 
-returns-4 : tie.Need-returns-4
-returns-4 c =
-    let args = c .before .before .before .before .before .before .before .before .before .before .before .before .before .before .before .before .before .args in
-    let skip-space = c .before .before .before .before .before .before .before .before .before .before .before .before .skip-space in
-    let look = c .before .before .before .before .before .before .before .before .before .before .before .look in
-    let if2 = c .before .before .before .before .before .before .before .before .before .before .if2 in
-    let skip-space2 = c .before .before .before .before .before .before .before .before .before .skip-space2 in
-    let look2 = c .before .before .before .before .before .before .before .before .look2 in
-    let if3 = c .before .before .before .before .before .before .before .if3 in
-    let note-from = c .before .before .before .before .note-from in (
-      note-from .ensures .0,
-      notes-some (args .depth) (now (args .s)) (args .at) (skip-space .result) (look .result) (skip-space .ensures) (look .ensures .0)
-          (note-from .last .0) (note-from .last .1 .0) (if2 .left) (skip-space2 .result) (look2 .result) (skip-space2 .ensures) (look2 .ensures .0)
-          (if3 .left) (note-from .result) (note-from .ensures .1),
+returns-2 : tie.Need-returns-2 Inv-loop μ-loop
+returns-2 c = (tt, λ v e. tt)
+
+add-k : tie.Need-add-k Inv-loop μ-loop
+add-k c =
+    let a = c .before .before .before .before .before .before .before .before .before .before .before .before .before .before .before .before .args in
+    let l = c .before .before .before .before .before .before .before .before .before .before .before .loop in
+    let g = c .before .before .before .before .before .before .before .before .before .m .given in
+    let n = c .before .before .before .before .before .note-name in
+    let v = noted-as (now (a .s)) (g .0 .0) (l .k) (l .places) (l .prints) _ _ (n .result) (n .ensures) (not-false _ (c .if1 .left)) in
+    omega (arith, v .0)
+
+skip-value-requires : tie.Need-skip-value-requires Inv-loop μ-loop
+skip-value-requires c κs = tt
+
+next-member-requires : tie.Need-next-member-requires Inv-loop μ-loop
+next-member-requires c κs = tt
+
+loop-less : tie.Need-loop-less Inv-loop μ-loop
+loop-less c =
+    let g = c .before .before .before .before .before .before .before .before .before .before .before .m .given in
+    less-ahead (length (now (c .before .before .before .before .before .before .before .before .before .before .before .before .before .before .before .before .before .before .args .s))) (c .before .before .before .before .before .before .before .before .before .before .before .before .before .loop .m) (c .next-member .result) (g .0 .0) (g .0 .1 .0) (c .before .skip-value .result) (g .1) (c .before .before .before .before .before .before .before .before .before .before .before .before .before .loop .inv .0) (c .before .skip-value .ensures .0 .0) (c .next-member .ensures .0)
+
+loop-again : tie.Need-loop-again Inv-loop μ-loop
+loop-again c =
+    let a = c .before .before .before .before .before .before .before .before .before .before .before .before .before .before .before .before .before .before .args in
+    let l = c .before .before .before .before .before .before .before .before .before .before .before .before .before .loop in
+    let g = c .before .before .before .before .before .before .before .before .before .before .before .m .given in
+    let n = c .before .before .before .before .before .before .before .note-name in
+    let v = noted-as (now (a .s)) (g .0 .0) (l .k) (l .places) (l .prints) _ _ (n .result) (n .ensures) (not-false _ (c .before .before .if1 .left)) in
+    let e = c .before .skip-value in
+    let x = c .next-member in (
+      (e .result, x .ensures .0),
+      n .kept .0 ∙ (l .inv .1) ∙ sym (n .kept .1 .0),
+      n .kept .0 ∙ (l .inv .2),
+      n .kept .1 .0 ∙ (l .inv .3),
+      omega (arith, v .0, n .kept .0),
+      noting-on (a .depth) (now (a .s)) (a .at) (l .places) (l .prints) (l .k) (l .m) (l .inv .5) (g .0 .0) (g .0 .1 .0) (g .1) _ _ v (e .result) (e .ensures .1 (a .depth)) (x .result) (x .ensures .1 .0),
     )
 
 pub note-names-spec : {M : Type 1} → statement M
 note-names-spec =
     tie.close
     (tie.spec
-    returns
-    skip-space-requires
-    look-requires
-    returns-2
-    add-skip-space
-    skip-space-requires-2
-    look-requires-2
-    returns-3
-    note-from-requires
+    Inv-loop
+    μ-loop
+    first-member-requires
+    loop-holds
+    enum-known-m
     same-length
     same-length-2
-    returns-4)
+    returns
+    note-name-requires
+    same-length-3
+    same-length-4
+    returns-2
+    add-k
+    skip-value-requires
+    next-member-requires
+    loop-less
+    loop-again)
