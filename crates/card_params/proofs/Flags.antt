@@ -13,7 +13,7 @@ use Rattle.text.specs.Bytes.{Bytes, each, parts, same}
 use Rattle.text.proofs.Cases.{byBool}
 use Rattle.text.proofs.Same.{same-swap}
 use Rattle.json.specs.Tree.{Json, jnull, jtrue, jfalse, jnum, jstr, jarr, jobj, member, asObject}
-use Rattle.json_strings.specs.Spelled.{spelled}
+use Rattle.json_strings.specs.Decoded.{decodedAt}
 use Rattle.json_access.specs.declared.Kind.{Kind}
 use Rattle.json_access.specs.Access.{EndsAt, TellsKind, kindOf}
 use Rattle.json_index.specs.Index.{jsonAt, placed, Slot}
@@ -126,8 +126,8 @@ module _ (s : Bytes) (slot base : ℕ) (names : Bytes) (row₀ : List ℕ) (ther
         let w = now-of (todo ts p u h .1) q a is-m in
         flags-as row₀ after false (w .fails (flag-false base names ts p (w .key) (w .val) (is-true (w .val) (w .is-val) ∙ ne-eqb v 1 n))) refl)
 
-    module _ (is-1 : v ≡ 1) (k : ℕ) (kp : k ≡ placed (spelled s q) (parts 44 names)) (count : ℕ) (cn : count ≡ length (parts 44 names)) where
-      at-k : (x : Bytes) → spelled s q ≡ some x → placed (some x) (parts 44 names) ≡ k
+    module _ (is-1 : v ≡ 1) (k : ℕ) (kp : k ≡ placed (decodedAt s q) (parts 44 names)) (count : ℕ) (cn : count ≡ length (parts 44 names)) where
+      at-k : (x : Bytes) → decodedAt s q ≡ some x → placed (some x) (parts 44 names) ≡ k
       at-k x e = sym (kp ∙ ap (λ (o : Option Bytes). placed o (parts 44 names)) e)
 
       pub flags-other : count ≤ k → (after : List ℕ) → TellsFlags s slot base names row₀ false after

@@ -6,7 +6,7 @@ use Prim.Native.Nat.{ℕ, suc}
 use Rattle.text.specs.Choice.{both, chain}
 use Rattle.text.specs.Bytes.{Bytes, each}
 use Rattle.json.specs.Tree.{Json, Member as Named, member, asObject}
-use Rattle.json_strings.specs.Spelled.{spelled}
+use Rattle.json_strings.specs.Decoded.{decodedAt}
 use Rattle.json_access.specs.Access.{EndsAt}
 use Rattle.json_walk.specs.declared.Member.{Member}
 use Rattle.json_walk.specs.declared.Member.the-variants.{At, End, NoObject}
@@ -47,7 +47,7 @@ far-first f d s at r h v e = let x = h d v e in record { members = asObject v; a
 pub record Now {A : Type 0} (f : Named → Option A) (d : ℕ) (s : Bytes) (want : Option (List A)) (q a : ℕ) (done : List A) : Type 0 where
   pub key : Bytes
   pub val : Json
-  pub is-key : spelled s q ≡ some key
+  pub is-key : decodedAt s q ≡ some key
   pub is-val : jsonAt d s a ≡ some val
   pub fails : f (member key val) ≡ none → want ≡ none
   pub goes : (y : A) → f (member key val) ≡ some y → (z : ℕ) → EndsAt d s a z → (next : Member) → NextOf s z next → Far f d s want next (done ++ (y ∷ []))

@@ -9,7 +9,7 @@ use lib.ListN.{length, take, set}
 use Rattle.text.specs.Choice.{with-some}
 use Rattle.text.specs.Bytes.{Bytes}
 use Rattle.json.specs.Tree.{Json, Member as Named, nameOf, asObject}
-use Rattle.json_strings.specs.Spelled.{spelled}
+use Rattle.json_strings.specs.Decoded.{decodedAt}
 use Rattle.json_prints.specs.Prints.{printOf, Names}
 use Rattle.json_prints.proofs.Prints.{names-noted, no-names}
 use Rattle.json_access.specs.Access.{EndsAt}

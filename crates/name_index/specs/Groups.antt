@@ -9,7 +9,7 @@ use lib.ListN.{length, getD, take, drop}
 use Rattle.text.specs.Choice.{pick, with-some}
 use Rattle.text.specs.Bytes.{Bytes, among}
 use Rattle.json.specs.Tree.{Json, nameOf, asObject}
-use Rattle.json_strings.specs.Spelled.{spelled}
+use Rattle.json_strings.specs.Decoded.{decodedAt}
 use Rattle.json_prints.specs.Prints.{Names}
 use Rattle.json_walk.specs.Walk.{jsonAt}
 use Rattle.name_index.specs.declared.Noted.{Noted}
