@@ -145,6 +145,41 @@ fn small<'a, 'b, 'c>(out: &'a mut [u8], json: &'b [u8], slots: &'c [usize]) -> O
     }
 }
 
+// Most cards are smaller still: the same with half the scratch.
+fn tiny<'a, 'b, 'c>(out: &'a mut [u8], json: &'b [u8], slots: &'c [usize]) -> Outcome
+    requires { ⌜ Reads (now json) ⌝ }
+    requires { ⌜ length (now json) ≤ 2048 ⌝ }
+    requires { ⌜ 14 ≤ length (now slots) ⌝ }
+    requires { ⌜ Indexes 15 (now json) 0 cardNames (now slots) true ⌝ }
+    ensures { λ r. ⌜ Serves (now (out .entry)) (fit (length (now (out .entry))) (inner (reading 16 (now (json .entry))))) r (now (out .exit)) ⌝ }
+{
+    let mut result = [0u8; 2048];
+    let mut buffer = [0u8; 2048];
+    let mut b = [0u8; 2048];
+    let mut t = [0usize; 264];
+    let mut scratch = [0u8; 2048];
+    let n = json.len();
+    match convert(
+        &mut result,
+        &mut buffer,
+        &mut b[0..n],
+        &mut t,
+        &mut scratch,
+        json,
+        slots,
+    ) {
+        Made::Refused { number: k, place } => {
+            return Outcome::Refused { number: k, place };
+        }
+        Made::Full => {
+            return small(out, json, slots);
+        }
+        Made::Card(k) => {
+            return put_served(out, &result[0..k]);
+        }
+    }
+}
+
 // JSON to card: 3 for a long text, 11, 12 where it is no object, then what its members say. A refusal leaves the lent output as it was.
 pub fn json_to_card(json: &[u8], out: &mut [u8]) -> Outcome
     ensures { λ r. ⌜ r ≡ outcomeOf (jsonToCard (length (now (out .entry))) (now (json .entry))) ⌝ }
@@ -175,6 +210,9 @@ pub fn json_to_card(json: &[u8], out: &mut [u8]) -> Outcome
             };
         }
         Opened::Object => {
+            if json.len() <= 2048 {
+                return tiny(out, json, &slots);
+            }
             if json.len() <= 4096 {
                 return small(out, json, &slots);
             }

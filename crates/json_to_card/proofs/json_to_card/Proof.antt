@@ -60,11 +60,11 @@ returns-3 c =
 enum-told-3 : tie.Need-enum-told-3
 enum-told-3 c = search needs
 
-slice-aggregate-small : tie.Need-slice-aggregate-small
-slice-aggregate-small c = search needs
+slice-aggregate-tiny : tie.Need-slice-aggregate-tiny
+slice-aggregate-tiny c = search needs
 
-small-requires : tie.Need-small-requires
-small-requires c κs =
+tiny-requires : tie.Need-tiny-requires
+tiny-requires c κs =
     let s = now (c .before .before .before .before .before .before .before .before .before .before .before .args .json) in
     let read = c .before .before .before .before .before .before .read-indexed in
     let v = asVerdict (read .result) in
@@ -81,6 +81,29 @@ returns-4 c =
     let read = c .before .before .before .before .before .before .before .before .before .read-indexed in
     let v = asVerdict (read .result) in
     let told = c .before .before .before .before .before .before .enum-told3 .given .1 in
+    seen s v (read .ensures .0) (read .ensures .1 .0) (ap asVerdict told) out (c .before .before .tiny .result) _ (c .before .before .tiny .ensures)
+
+slice-aggregate-small : tie.Need-slice-aggregate-small
+slice-aggregate-small c = search needs
+
+small-requires : tie.Need-small-requires
+small-requires c κs =
+    let s = now (c .before .before .before .before .before .before .before .before .before .before .before .before .args .json) in
+    let read = c .before .before .before .before .before .before .before .read-indexed in
+    let v = asVerdict (read .result) in
+    let told = c .before .before .before .before .enum-told3 .given .1 in
+    (read-sound s v (read .ensures .0) (read .ensures .1 .0) (ap asVerdict told), (omega (arith, c .before .before .if2 .taken), (search needs, subst (Opens s cardNames (read .last .0)) told (read .ensures .1 .1))))
+
+same-length-2 : tie.Need-same-length-2
+same-length-2 c = search needs
+
+returns-5 : tie.Need-returns-5
+returns-5 c =
+    let s = now (c .before .before .before .before .before .before .before .before .before .before .before .before .before .before .before .args .json) in
+    let out = now (c .before .before .before .before .before .before .before .before .before .before .before .before .before .before .before .args .out) in
+    let read = c .before .before .before .before .before .before .before .before .before .before .read-indexed in
+    let v = asVerdict (read .result) in
+    let told = c .before .before .before .before .before .before .before .enum-told3 .given .1 in
     seen s v (read .ensures .0) (read .ensures .1 .0) (ap asVerdict told) out (c .before .before .small .result) _ (c .before .before .small .ensures)
 
 slice-aggregate-large : tie.Need-slice-aggregate-large
@@ -88,23 +111,23 @@ slice-aggregate-large c = search needs
 
 large-requires : tie.Need-large-requires
 large-requires c κs =
-    let s = now (c .before .before .before .before .before .before .before .before .before .before .before .args .json) in
-    let read = c .before .before .before .before .before .before .read-indexed in
+    let s = now (c .before .before .before .before .before .before .before .before .before .before .before .before .args .json) in
+    let read = c .before .before .before .before .before .before .before .read-indexed in
     let v = asVerdict (read .result) in
-    let told = c .before .before .before .enum-told3 .given .1 in
+    let told = c .before .before .before .before .enum-told3 .given .1 in
     let short = read-short s v (read .ensures .0) (read .ensures .1 .0) (ap asVerdict told) in
     (read-sound s v (read .ensures .0) (read .ensures .1 .0) (ap asVerdict told), (short, (search needs, subst (Opens s cardNames (read .last .0)) told (read .ensures .1 .1))))
 
-same-length-2 : tie.Need-same-length-2
-same-length-2 c = search needs
+same-length-3 : tie.Need-same-length-3
+same-length-3 c = search needs
 
-returns-5 : tie.Need-returns-5
-returns-5 c =
-    let s = now (c .before .before .before .before .before .before .before .before .before .before .before .before .before .before .args .json) in
-    let out = now (c .before .before .before .before .before .before .before .before .before .before .before .before .before .before .args .out) in
-    let read = c .before .before .before .before .before .before .before .before .before .read-indexed in
+returns-6 : tie.Need-returns-6
+returns-6 c =
+    let s = now (c .before .before .before .before .before .before .before .before .before .before .before .before .before .before .before .args .json) in
+    let out = now (c .before .before .before .before .before .before .before .before .before .before .before .before .before .before .before .args .out) in
+    let read = c .before .before .before .before .before .before .before .before .before .before .read-indexed in
     let v = asVerdict (read .result) in
-    let told = c .before .before .before .before .before .before .enum-told3 .given .1 in
+    let told = c .before .before .before .before .before .before .before .enum-told3 .given .1 in
     seen s v (read .ensures .0) (read .ensures .1 .0) (ap asVerdict told) out (c .before .before .large .result) _ (c .before .before .large .ensures)
 
 pub json-to-card-spec : {M : Type 1} → statement M
@@ -121,11 +144,15 @@ json-to-card-spec =
     enum-told-2
     returns-3
     enum-told-3
-    slice-aggregate-small
-    small-requires
+    slice-aggregate-tiny
+    tiny-requires
     same-length
     returns-4
+    slice-aggregate-small
+    small-requires
+    same-length-2
+    returns-5
     slice-aggregate-large
     large-requires
-    same-length-2
-    returns-5)
+    same-length-3
+    returns-6)
