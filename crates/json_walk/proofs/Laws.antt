@@ -1,4 +1,6 @@
--- Laws for a caller's loop: what an answer tells, and that the walk ends.
+-- Laws for a caller's loop, which keeps the last answer m in a variable: `first_member` gives the first, and after each value `next_member` from where
+-- it ended. Its invariant is `InText` of m, and of whatever value stands there: some members o that m tells of (`TellsMembers d s o t m`), with what has
+-- been done beside them. Its measure is `ahead`. Where m is a member, `told-member` gives it and what is left after it; at the end, `told-end` and `told-none`.
 use mathlib.Core.Path.{_≡_, refl, sym, subst}
 use mathlib.Core.Logic.{_⊎_, inl, inr}
 use mathlib.Core.List.{List, []}

@@ -8,7 +8,7 @@ use native.Mathlib.Omega.{arith}
 use lib.Dec.{eqb}
 use lib.ListN.{length, drop, drop-of-length-le}
 use Rattle.text.specs.declared.Read.{Read}
-use Rattle.text.specs.declared.Read.the-variants.{Next, Bad}
+use Rattle.text.specs.declared.Read.the-variants.{Next as Read-Next, Bad as Read-Bad}
 use Rattle.text.specs.declared.Turn.the-variants.{Go, Stop}
 use Rattle.text.specs.Choice.{pick, both}
 use Rattle.text.specs.Bytes.{Bytes}
@@ -48,8 +48,8 @@ module _ {B : Type 0} (b : B) (k : Bytes → Got B) (s : Bytes) where
 
   stop-by : (p q : Bool) (t u : Bytes) (r : Read) → AgreeT s (pick p (got (last zero) t) (pick q (got (more suc) t) (bad u))) (Stop r)
       → (x : B) (y : Bytes) → pick p (got b t) (pick q (k t) (bad u)) ≡ got x y → (b ≡ x) × (y ≡ drop (placeOf r) s)
-  stop-by true q t u (Next e) h x y g = (got-what g, sym (got-rest g) ∙ h)
-  stop-by true q t u (Bad e) h x y g = absurd h
+  stop-by true q t u (Read-Next e) h x y g = (got-what g, sym (got-rest g) ∙ h)
+  stop-by true q t u (Read-Bad e) h x y g = absurd h
   stop-by false true t u r h x y g = absurd h
   stop-by false false t u r h x y g = absurd (not-bad g)
 
@@ -82,29 +82,36 @@ module _ (d : ℕ) (s t : Bytes) (a : ℕ) (h : skip t ≡ drop a s) (j : Json) 
 
 -- ---- members, decoded
 
-record Head (k : Bytes) (j : Json) (us ms : Members) : Type 0 where
-  key : Bytes
-  val : Json
-  others : Members
-  is-key : decode k ≡ some key
-  is-val : decoded j ≡ some val
-  is-others : decodedMembers us ≡ some others
-  is : mcons key val others ≡ ms
+pub record Next (k : Bytes) (j : Json) (us ms : Members) : Type 0 where
+  pub key : Bytes
+  pub val : Json
+  pub others : Members
+  pub is-key : decode k ≡ some key
+  pub is-val : decoded j ≡ some val
+  pub is-others : decodedMembers us ≡ some others
+  pub is : mcons key val others ≡ ms
 
-head-of : (k : Bytes) (j : Json) (us ms : Members) → decodedMembers (mcons k j us) ≡ some ms → Head k j us ms
+pub next-of : (k : Bytes) (j : Json) (us ms : Members) → decodedMembers (mcons k j us) ≡ some ms → Next k j us ms
 unfolding decodedMembers
-head-of k j us ms e =
+next-of k j us ms e =
     let i = both-inv (λ (f : Members → Members) rest. f rest) (both (λ n v rest. mcons n v rest) (decode k) (decoded j)) (decodedMembers us) e in
     let l = both-inv (λ n v rest. mcons n v rest) (decode k) (decoded j) (i .2) in
     record { key = l .0; val = l .1; others = i .1; is-key = l .2; is-val = l .3; is-others = i .3; is = ap (λ (f : Members → Members). f (i .1)) (l .4) ∙ i .4 }
 
-members-cons : (n : Bytes) (v : Json) (ms : Members) → membersOf (mcons n v ms) ≡ member n v ∷ membersOf ms
+pub members-cons : (n : Bytes) (v : Json) (ms : Members) → membersOf (mcons n v ms) ≡ member n v ∷ membersOf ms
 unfolding membersOf
 members-cons n v ms = refl
 
+pub members-nil : membersOf mnil ≡ []
+unfolding membersOf
+members-nil = refl
+
+pub nil-decoded : (ms : Members) → decodedMembers mnil ≡ some ms → mnil ≡ ms
+unfolding decodedMembers
+nil-decoded ms e = some-same e
+
 no-members : (us ms : Members) → mnil ≡ us → decodedMembers us ≡ some ms → membersOf ms ≡ []
-unfolding decodedMembers membersOf
-no-members us ms e f = ap membersOf (sym (some-same (ap decodedMembers e ∙ f)))
+no-members us ms e f = ap membersOf (sym (nil-decoded ms (ap decodedMembers e ∙ f))) ∙ members-nil
 
 -- the first of the members that are read from a name's place on
 pub first-in : (d : ℕ) (s : Bytes) (j : ℕ) (us ms : Members) (t : Bytes) (q a : ℕ) → loop (pair (value d)) (drop j s) ≡ got us t → decodedMembers us ≡ some ms
@@ -113,7 +120,7 @@ first-in d s j us ms t q a e f told =
     let n = bind-inv (name (drop j s)) _ (sym (members-by (value d) (value-fine d) (drop j s)) ∙ e) in
     let w = bind-inv (value d (n .1)) _ (n .3) in
     let o = under-inv (mcons (n .0) (w .0)) (membersAfter (value d) (w .1)) (w .3) in
-    let x = head-of (n .0) (w .0) (o .0) ms (ap decodedMembers (o .2) ∙ f) in
+    let x = next-of (n .0) (w .0) (o .0) ms (ap decodedMembers (o .2) ∙ f) in
     let h = told (n .0) (n .1) (n .2) in
     record {
       key = x .key;
