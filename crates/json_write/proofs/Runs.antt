@@ -35,6 +35,14 @@ pub run-bare : (s : Bytes) (at h : ℕ) → eqb h 0 ≡ true → runAt s at h �
 unfolding runAt
 run-bare s at h e = rw e
 
+not-bare : bare 92 ≡ false
+unfolding bare
+not-bare = refl
+
+-- none starts at an escape
+pub run-escape : (s : Bytes) (at h : ℕ) → eqb h 0 ≡ true → at < length s → getD s at 0 ≡ 92 → runAt s at h ≡ []
+run-escape s at h e l w = run-bare s at h e ∙ bare-stops s at l (ap bare w ∙ not-bare)
+
 -- a run is written as it stands
 spelled-run : (x t : Bytes) → spelledAll (taken bare x ++ t) ≡ taken bare x ++ spelledAll t
 unfolding spelledAll taken

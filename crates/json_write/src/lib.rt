@@ -244,11 +244,18 @@ pub fn put_number(out: &mut [u8], n: usize) -> Wrote
     Wrote::Bytes(ab)
 }
 
-// The bytes from a place on that stand for themselves, both where they are read and where they are written. None where bytes are held, which come first.
+// The bytes from a place on that stand for themselves, both where they are read and where they are written. None where bytes are held, which come first; none,
+// and no block is looked at, where an escape follows another.
 fn put_run(out: &mut [u8], s: &[u8], at: usize, hold: u32) -> Wrote
     ensures { λ r. ⌜ Puts (now (out .entry)) (runAt (now (s .entry)) at hold) r (now (out .exit)) ⌝ }
 {
     if hold != 0 {
+        return Wrote::Bytes(0);
+    }
+    if at >= s.len() {
+        return Wrote::Bytes(0);
+    }
+    if s[at] == b'\\' {
         return Wrote::Bytes(0);
     }
     put_bare(out, s, at)
