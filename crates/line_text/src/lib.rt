@@ -121,7 +121,8 @@ pub fn is_text(s: &[u8]) -> bool
 {
     let mut i = 0;
     loop {
-        let j = plain_end(s, i);
+        // Not s itself: its place and length then go over one by one, as they were just stored, and not as a pair that waits for both.
+        let j = plain_end(&s[0..], i);
         match next_char(s, j) {
             Char::Byte { next: e, .. } => {
                 i = e;

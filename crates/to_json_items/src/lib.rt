@@ -175,5 +175,9 @@ pub fn put_items(out: &mut [u8], v: &[u8], d: u8, o: &[u8], k: usize, begun: boo
         return put_noted(out, v, d, o, k, false);
     }
     let none = [0u16; 1];
-    put_own(out, v, d, o, k, begun, false, &none, &none)
+    // The answer is made anew: so it goes over in two halves, as it was just stored, and not as a whole that would wait for them.
+    let Wrote::Bytes(n) = put_own(out, v, d, o, k, begun, false, &none, &none) else {
+        return Wrote::Full;
+    };
+    Wrote::Bytes(n)
 }

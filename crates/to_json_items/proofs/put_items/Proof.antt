@@ -1,8 +1,10 @@
-use mathlib.Core.Path.{refl, sym, ap}
+use mathlib.Core.Path.{_≡_, refl, sym, ap, subst}
 use denote.Ref.{now}
 use lib.ListN.{length}
-use Rattle.text.specs.Bytes.{keep}
+use Rattle.text.specs.Bytes.{Bytes, keep}
 use Rattle.text.proofs.Cases.{not-both}
+use Rattle.output.specs.Put.{Puts}
+use Rattle.output.specs.declared.Wrote.{Wrote}
 use Rattle.output.proofs.Laws.{puts-as}
 use Rattle.convert_values.specs.Values.{textsOf}
 use Rattle.to_json_items.specs.Items.{listed, isOwn}
@@ -46,11 +48,26 @@ slice-aggregate-put-own-2 c = search needs
 put-own-requires : tie.Need-put-own-requires
 put-own-requires c κs = (c .before .before .before .before .before .before .before .pre .0, c .before .before .before .before .before .before .before .pre .1, λ e. not-both e refl)
 
+answered : {room bs after : Bytes} {r w : Wrote} → r ≡ w → Puts room bs r after → Puts room bs w after
+answered {room} {bs} {after} e p = subst (λ (u : Wrote). Puts room bs u after) e p
+
+enum-known-n : tie.Need-enum-known-n
+enum-known-n c = c .match .keys1
+
+enum-told : tie.Need-enum-told
+enum-told c = c .match .keys2
+
 same-length-3 : tie.Need-same-length-3
 same-length-3 c = search needs
 
 returns-3 : tie.Need-returns-3
-returns-3 c = search needs
+returns-3 c = answered (c .enum-told .given .1) (c .before .before .before .before .put-own .ensures)
+
+same-length-4 : tie.Need-same-length-4
+same-length-4 c = search needs
+
+returns-4 : tie.Need-returns-4
+returns-4 c = answered (c .before .n .given .1) (c .before .before .before .before .before .put-own .ensures)
 
 pub put-items-spec : {M : Type 1} → statement M
 put-items-spec =
@@ -65,5 +82,9 @@ put-items-spec =
     slice-aggregate-put-own
     slice-aggregate-put-own-2
     put-own-requires
+    enum-known-n
+    enum-told
     same-length-3
-    returns-3)
+    returns-3
+    same-length-4
+    returns-4)
