@@ -19,8 +19,7 @@ use Rattle.json.specs.Syntax.{sep}
 use Rattle.json_strings.specs.Decoded.{decodedAt}
 use Rattle.json_prints.specs.Prints.{meets, printed, printOf, Names, Sought}
 use Rattle.json_prints.proofs.Prints.{printed-below, meets-among, names-noted, no-names}
-use Rattle.json_access.specs.declared.Part.{Part}
-use Rattle.json_access.specs.Access.{TellsElement}
+use Rattle.json_access.specs.Access.{EndsAt}
 use Rattle.convert.specs.Value.{filled}
 use Rattle.convert.specs.Carry.{apart}
 use Rattle.convert.specs.FromJson.{Component, component, componentOf, ofKind}
@@ -28,7 +27,7 @@ use Rattle.to_card_head.specs.Head.{TellsFilled}
 use Rattle.to_card_parts.specs.declared.Found.{Found}
 use Rattle.to_card_parts.specs.declared.Found.the-variants.{Of, Wrong}
 use Rattle.to_card_parts.specs.Parts.{TellsComponent, Lists, valuesOf, valueIf}
-use Rattle.to_card_parts.proofs.Elements.{Far, far-first, now-of}
+use Rattle.to_card_parts.proofs.Elements.{Far, far-first, now-to, first-of}
 use Rattle.to_card_parts.proofs.Values.{values-none, values-more}
 use Rattle.to_card_parts.proofs.Passes.{found-none, found-some}
 use Rattle.to_card_order.specs.declared.Kept.{Kept}
@@ -92,25 +91,25 @@ pub parting-first : (s : Bytes) (at kind : ℕ) (places prints : List ℕ) (n : 
 parting-first s at kind places prints n cs l ws h =
     ([], far-first componentOf 13 s (l .units) (l .elems) (l .rest) at (l .read) (l .are), sym (ap (λ (vs : List Bytes). apart vs ws) (values-none kind) ∙ apart-none ws))
 
-module _ (s : Bytes) (at kind : ℕ) (places prints : List ℕ) (n i : ℕ) (ok : Bool) (going : Parting s at kind places prints n i ok) (r : Part) (told : TellsElement 13 s i r) (f : Found) (tells : TellsComponent s (r .start) f) where
+module _ (s : Bytes) (at kind : ℕ) (places prints : List ℕ) (n i : ℕ) (ok : Bool) (going : Parting s at kind places prints n i ok) (f : Found) (tells : TellsComponent s i f) where
   pub parts-wrong : f ≡ Wrong → ApartNoted s at kind places prints n ok
   parts-wrong e cs l ws h =
       let g = going cs l ws h in
-      let y = now-of (g .1) r told in
-      none-some (sym (y .fails (found-none s f (componentOf (y .val)) (tells (y .val) (y .is-val)) e)) ∙ l .is)
+      let y = first-of (g .1) in
+      none-some (sym (y .2 (found-none s f (componentOf (y .0)) (tells (y .0) (y .1)) e)) ∙ l .is)
 
-  module _ (k v : ℕ) (e : f ≡ Of k v) (c : Bool) (met : MeetsNoted s (eqb kind k) v places prints n c) where
-    pub parting-on : (j : ℕ) → GivesT s (r .end) (sep 93 zero suc (drop (r .end) s)) (Go j) → Parting s at kind places prints n j (ok && not c)
+  module _ (k v : ℕ) (e : f ≡ Of k v) (c : Bool) (met : MeetsNoted s (eqb kind k) v places prints n c) (end : ℕ) (told : EndsAt 13 s i end) where
+    pub parting-on : (j : ℕ) → GivesT s end (sep 93 zero suc (drop end s)) (Go j) → Parting s at kind places prints n j (ok && not c)
     parting-on j w cs l ws h =
         let g = going cs l ws h in
-        let y = now-of (g .1) r told in
+        let y = now-to (g .1) end told in
         let d = found-some s f (componentOf (y .val)) (tells (y .val) (y .is-val)) k v e in
         (g .0 ++ (component k (d .0) ∷ []), y .goes (component k (d .0)) (d .1) j w, parted kind k ok c (g .0) (d .0) ws (met ws h (d .0) (d .2)) (g .2))
 
-    pub parts-all : (u : Read) → GivesT s (r .end) (sep 93 zero suc (drop (r .end) s)) (Stop u) → ApartNoted s at kind places prints n (ok && not c)
+    pub parts-all : (u : Read) → GivesT s end (sep 93 zero suc (drop end s)) (Stop u) → ApartNoted s at kind places prints n (ok && not c)
     parts-all u w cs l ws h =
         let g = going cs l ws h in
-        let y = now-of (g .1) r told in
+        let y = now-to (g .1) end told in
         let d = found-some s f (componentOf (y .val)) (tells (y .val) (y .is-val)) k v e in
         let z : g .0 ++ (component k (d .0) ∷ []) ≡ cs = some-same (sym (y .ends (component k (d .0)) (d .1) u w) ∙ l .is) in
         parted kind k ok c (g .0) (d .0) ws (met ws h (d .0) (d .2)) (g .2) ∙ ap (λ (t : List Component). apart (valuesOf kind t) ws) z
@@ -208,31 +207,32 @@ noting-first s at one other places prints cs l = (
   record { gone = []; noted = []; these = sym (values-none other); told = sym (apart-nothing (valuesOf one cs)); are = no-names s places prints },
 )
 
-module _ (s : Bytes) (at one other i : ℕ) (places prints : List ℕ) (n : ℕ) (ok : Bool) (going : Noting s at one other i places prints n ok) (r : Part) (told : TellsElement 13 s i r) (f : Found) (tells : TellsComponent s (r .start) f) where
+module _ (s : Bytes) (at one other i : ℕ) (places prints : List ℕ) (n : ℕ) (ok : Bool) (going : Noting s at one other i places prints n ok) (f : Found) (tells : TellsComponent s i f) where
   pub notes-wrong : f ≡ Wrong → TellsApart s at one other ok
   notes-wrong e cs l =
       let g = going cs l in
-      let y = now-of (g .1) r told in
-      none-some (sym (y .fails (found-none s f (componentOf (y .val)) (tells (y .val) (y .is-val)) e)) ∙ l .is)
+      let y = first-of (g .1) in
+      none-some (sym (y .2 (found-none s f (componentOf (y .0)) (tells (y .0) (y .1)) e)) ∙ l .is)
 
-  module _ (k v : ℕ) (e : f ≡ Of k v) (places′ prints′ : List ℕ) (t : Kept) (notes : NotesValue s at one (eqb other k) v places prints n places′ prints′ t) where
-    more : (cs : List Component) → Lists s at cs → (past : List Component) (x : Bytes) → decodedAt s v ≡ some x → Keeps s (valuesOf one cs) (valuesOf other past) places prints (record { count = n; ok = ok })
+  module _ (k v : ℕ) (e : f ≡ Of k v) (places′ prints′ : List ℕ) (t : Kept) (notes : NotesValue s at one (eqb other k) v places prints n places′ prints′ t)
+      (end : ℕ) (told : EndsAt 13 s i end) where
+    more : (cs : List Component) → Lists s at cs → (past : List Component) (x : Bytes) → spelled s v ≡ some x → Keeps s (valuesOf one cs) (valuesOf other past) places prints (record { count = n; ok = ok })
         → Keeps s (valuesOf one cs) (valuesOf other (past ++ (component k x ∷ []))) places′ prints′ (record { count = t .count; ok = ok && t .ok })
     more cs l past x q so =
         subst (λ (ws : List Bytes). Keeps s (valuesOf one cs) ws places′ prints′ (record { count = t .count; ok = ok && t .ok })) (sym (values-more other past (component k x)))
         (keeps-then so (ofKind other (component k x)) t (λ us h. notes .says cs l us h x q))
 
-    pub noting-on : (j : ℕ) → GivesT s (r .end) (sep 93 zero suc (drop (r .end) s)) (Go j) → Noting s at one other j places′ prints′ (t .count) (ok && t .ok)
+    pub noting-on : (j : ℕ) → GivesT s end (sep 93 zero suc (drop end s)) (Go j) → Noting s at one other j places′ prints′ (t .count) (ok && t .ok)
     noting-on j w cs l =
         let g = going cs l in
-        let y = now-of (g .1) r told in
+        let y = now-to (g .1) end told in
         let d = found-some s f (componentOf (y .val)) (tells (y .val) (y .is-val)) k v e in
         (g .0 ++ (component k (d .0) ∷ []), y .goes (component k (d .0)) (d .1) j w, more cs l (g .0) (d .0) (d .2) (g .2))
 
-    pub notes-all : (u : Read) → GivesT s (r .end) (sep 93 zero suc (drop (r .end) s)) (Stop u) → (c : Bool) → ApartNoted s at one places′ prints′ (t .count) c → TellsApart s at one other ((ok && t .ok) && c)
+    pub notes-all : (u : Read) → GivesT s end (sep 93 zero suc (drop end s)) (Stop u) → (c : Bool) → ApartNoted s at one places′ prints′ (t .count) c → TellsApart s at one other ((ok && t .ok) && c)
     notes-all u w c met cs l =
         let g = going cs l in
-        let y = now-of (g .1) r told in
+        let y = now-to (g .1) end told in
         let d = found-some s f (componentOf (y .val)) (tells (y .val) (y .is-val)) k v e in
         let z : g .0 ++ (component k (d .0) ∷ []) ≡ cs = some-same (sym (y .ends (component k (d .0)) (d .1) u w) ∙ l .is) in
         keeps-end (more cs l (g .0) (d .0) (d .2) (g .2)) c (λ us h. met cs l us h) ∙ ap (λ (p : List Component). apart (valuesOf one cs) (valuesOf other p)) z

@@ -1,6 +1,5 @@
 // The values of a name's components in an order of kinds that is given as data, and whether two kinds have no value in common.
 use card_pen::Told;
-use json_access::element_at;
 use json_marks::separator;
 use json_prints::is_noted_wide;
 use json_prints::print_at;
@@ -9,9 +8,9 @@ use line_pen::pen_byte;
 use text::RIGHT_BRACKET;
 use text::Turn;
 use to_card_head::is_filled;
-use to_card_parts::Found;
+use to_card_parts::Ended;
 use to_card_parts::Inked;
-use to_card_parts::component_at;
+use to_card_parts::component_to_end;
 use to_card_parts::pen_listed;
 ghost use mathlib.Core.Path.{_≡_};
 ghost use mathlib.Core.Bool.{_&&_};
@@ -264,10 +263,7 @@ fn none_met<'a, 'b>(
     let mut i = at;
     let mut ok = true;
     loop {
-        let p = element_at(s, i, 13);
-        let a = p.start;
-        let e = p.end;
-        let Found::Of { kind: k, value: v } = component_at(s, a) else {
+        let Ended::Of(k, v, e) = component_to_end(s, i) else {
             return ok;
         };
         ok = ok & !is_met(s, kind == k, v, places, prints, count);
@@ -344,10 +340,7 @@ fn note_apart<'a, 'b>(
     let mut n = 0;
     let mut ok = true;
     loop {
-        let p = element_at(s, i, 13);
-        let a = p.start;
-        let e = p.end;
-        let Found::Of { kind: k, value: v } = component_at(s, a) else {
+        let Ended::Of(k, v, e) = component_to_end(s, i) else {
             return ok;
         };
         let t = note_value(places, prints, n, s, at, one, other == k, v);

@@ -30,10 +30,9 @@ use Rattle.json_scan.proofs.First.{as-array}
 use Rattle.json_access.specs.declared.Kind.{Kind}
 use Rattle.json_access.specs.declared.Kind.the-variants.{Null, True, False, Number, String, Array, Object}
 use Rattle.json_access.specs.declared.Part.{Part}
-use Rattle.json_access.specs.Access.{TellsElement, TellsKind, EndsAt, kindOf}
+use Rattle.json_access.specs.Access.{TellsKind, EndsAt, kindOf}
 use Rattle.json_access.proofs.First.{is-object, is-string, is-true, is-false, is-null, is-number}
 use Rattle.json_index.specs.Index.{meant, jsonAt}
-use Rattle.json_index.proofs.Laws.{stands-at}
 use Rattle.json_index.proofs.Objects.{at-inv}
 
 -- ---- whether a value is an array
@@ -249,10 +248,6 @@ module _ {A : Type 0} {f : Json → Option A} {d : ℕ} {s : Bytes} {js : List J
             h y q ∙ ap (λ (u : Elems). prepend (done ++ (y ∷ [])) (each f (elemsOf u))) (sym n) ∙ ap (λ (u : List Json). prepend (done ++ (y ∷ [])) (each f u)) elems-nil
             ∙ ap (prepend (done ++ (y ∷ []))) (each-none f) ∙ ap some (append-nil (done ++ (y ∷ [])));
       }
-
-  -- by where the element stands
-  pub now-of : Far f d s js t i done → (r : Part) → TellsElement d s i r → Now f d s js t i done r
-  now-of far r told = now-by far r (λ j u v e q. let w = told j u e in (stands-at d s (drop i s) u j v (r .start) (r .end) w e q, w .ends))
 
   -- by its end alone
   pub now-to : Far f d s js t i done → (e : ℕ) → EndsAt d s i e → Now f d s js t i done (record { start = i; end = e })

@@ -21,9 +21,8 @@ use Rattle.text.proofs.Choices.{none-some, some-same}
 use Rattle.json.specs.Tree.{Json, Elems, elemsOf}
 use Rattle.json.specs.Syntax.{sep, item, value}
 use Rattle.json.specs.Strings.{decodedElems}
-use Rattle.json_strings.specs.Decoded.{decodedAt}
-use Rattle.json_access.specs.declared.Part.{Part}
-use Rattle.json_access.specs.Access.{TellsElement, EndsAt}
+use Rattle.json_strings.specs.Spelled.{spelled}
+use Rattle.json_access.specs.Access.{EndsAt}
 use Rattle.json_index.specs.Index.{jsonAt, Clear}
 use Rattle.line_pen.specs.declared.Pen.{Pen}
 use Rattle.line_pen.specs.Pen.{Pens}
@@ -36,7 +35,7 @@ use Rattle.to_card_parts.specs.declared.Found.the-variants.{Of, Wrong}
 use Rattle.to_card_parts.specs.declared.Inked.{Inked}
 use Rattle.to_card_head.specs.Head.{TellsFilled}
 use Rattle.to_card_parts.specs.Parts.{foundOf, EndIn, KindIn, ComponentIs, TellsComponent, Lists, valuesOf, Marked, Marks, CheckedAs, ChecksFrom, Says, InksOne, InksKind}
-use Rattle.to_card_parts.proofs.Elements.{Far, far-first, Now, now-of, now-to, first-of}
+use Rattle.to_card_parts.proofs.Elements.{Far, far-first, Now, now-to, first-of}
 use Rattle.to_card_parts.proofs.Values.{values-none, values-more, says-none, says-then, says-as}
 
 -- ---- what was found
@@ -165,45 +164,46 @@ inking-first s at style mark kind begun room column = record {
 }
 
 module _ (s : Bytes) (at style mark kind : ℕ) (begun : Bool) (room : Bytes) (column i n c : ℕ) (b ok : Bool) (out : Bytes) (going : Inking s at style mark kind begun room column i n c b ok out)
-    (r : Part) (told : TellsElement 13 s i r) (f : Found) (tells : TellsComponent s (r .start) f) where
+    (f : Found) (tells : TellsComponent s i f) where
   pub inks-wrong : f ≡ Wrong → InksKind s at style mark kind begun room column (record { bytes = n; column = c; begun = b; carried = ok }) out
   inks-wrong e = record {
     text = going .text;
     pens = going .pens;
     says = λ cs l.
         let g = going .so cs l in
-        let x = now-of (g .1) r told in
-        none-some (sym (x .fails (found-none s f (componentOf (x .val)) (tells (x .val) (x .is-val)) e)) ∙ l .is);
+        let x = first-of (g .1) in
+        none-some (sym (x .2 (found-none s f (componentOf (x .0)) (tells (x .0) (x .1)) e)) ∙ l .is);
   }
 
-  module _ (k v : ℕ) (e : f ≡ Of k v) (w : Inked) (last : Bytes) (one : InksOne s v style mark (eqb kind k) b (midOf n (length out - n) out) c w last) where
-    more : (past : List Component) (x : Bytes) → decodedAt s v ≡ some x → Says style mark begun (valuesOf kind past) (going .text) b ok
+  module _ (k v : ℕ) (e : f ≡ Of k v) (w : Inked) (last : Bytes) (one : InksOne s v style mark (eqb kind k) b (midOf n (length out - n) out) c w last)
+      (end : ℕ) (told : EndsAt 13 s i end) where
+    more : (past : List Component) (x : Bytes) → spelled s v ≡ some x → Says style mark begun (valuesOf kind past) (going .text) b ok
         → Says style mark begun (valuesOf kind (past ++ (component k x ∷ []))) (going .text ++ one .text) (w .begun) (ok && w .carried)
     more past x q y = says-as (sym (values-more kind past (component k x))) (says-then style mark begun (valuesOf kind past) (ofKind kind (component k x)) y (one .says x q))
 
     pub inked : Pens room column (going .text ++ one .text) (record { bytes = n + w .bytes; column = w .column }) (putMid n (length out - n) out last)
     inked = pens-then (going .pens) (one .pens)
 
-    pub inking-on : (j : ℕ) → GivesT s (r .end) (sep 93 zero suc (drop (r .end) s)) (Go j)
+    pub inking-on : (j : ℕ) → GivesT s end (sep 93 zero suc (drop end s)) (Go j)
         → Inking s at style mark kind begun room column j (n + w .bytes) (w .column) (w .begun) (ok && w .carried) (putMid n (length out - n) out last)
     inking-on j z = record {
       text = going .text ++ one .text;
       pens = inked;
       so = λ cs l.
           let g = going .so cs l in
-          let x = now-of (g .1) r told in
+          let x = now-to (g .1) end told in
           let d = found-some s f (componentOf (x .val)) (tells (x .val) (x .is-val)) k v e in
           (g .0 ++ (component k (d .0) ∷ []), x .goes (component k (d .0)) (d .1) j z, more (g .0) (d .0) (d .2) (g .2));
     }
 
-    pub inks-all : (z : Read) → GivesT s (r .end) (sep 93 zero suc (drop (r .end) s)) (Stop z)
+    pub inks-all : (z : Read) → GivesT s end (sep 93 zero suc (drop end s)) (Stop z)
         → InksKind s at style mark kind begun room column (record { bytes = n + w .bytes; column = w .column; begun = w .begun; carried = ok && w .carried }) (putMid n (length out - n) out last)
     inks-all z q = record {
       text = going .text ++ one .text;
       pens = inked;
       says = λ cs l.
           let g = going .so cs l in
-          let x = now-of (g .1) r told in
+          let x = now-to (g .1) end told in
           let d = found-some s f (componentOf (x .val)) (tells (x .val) (x .is-val)) k v e in
           let y : g .0 ++ (component k (d .0) ∷ []) ≡ cs = some-same (sym (x .ends (component k (d .0)) (d .1) z q) ∙ l .is) in
           says-as (ap (valuesOf kind) y) (more (g .0) (d .0) (d .2) (g .2));

@@ -1,7 +1,6 @@
 // The components of a name: judged in one pass, and written kind by kind, in an order that is given as data.
 use card_pen::pen_string;
 use card_value::string_in;
-use json_access::element_at;
 use json_index::index_to_end;
 use json_index::which_name;
 use json_marks::separator;
@@ -98,18 +97,6 @@ pub fn component_to_end(s: &[u8], at: usize) -> Ended
         return Ended::Wrong;
     };
     Ended::Of(k, v, end)
-}
-
-// The component at a place.
-pub fn component_at(s: &[u8], at: usize) -> Found
-    requires { ⌜ at ≤ length (now s) ⌝ }
-    ensures { λ r. ⌜ KindIn r ⌝ }
-    ensures { λ r. ⌜ TellsComponent (now (s .entry)) at r ⌝ }
-{
-    match component_to_end(s, at) {
-        Ended::Of(k, v, e) => Found::Of { kind: k, value: v },
-        Ended::Wrong => Found::Wrong,
-    }
 }
 
 // The array at a place.
@@ -286,10 +273,7 @@ fn pen_kind<'a, 'b>(
     let mut b = begun;
     let mut ok = true;
     loop {
-        let p = element_at(s, i, 13);
-        let a = p.start;
-        let e = p.end;
-        let Found::Of { kind: k, value: v } = component_at(s, a) else {
+        let Ended::Of(k, v, e) = component_to_end(s, i) else {
             return Inked {
                 bytes: n,
                 column: c,

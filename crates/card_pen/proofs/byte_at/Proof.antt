@@ -23,16 +23,25 @@ in-range-requires : tie.Need-in-range-requires
 in-range-requires c κs = search needs
 
 cast-t10 : tie.Need-cast-t10
-cast-t10 c = let w = bare-next (now (c .before .before .before .before .before .args .s)) (c .before .before .before .before .before .args .at) (c .before .before .before .before .before .args .hold) (c .before .before .before .look .result) (c .before .before .before .look .ensures .0) (c .before .in-range .result) (c .before .in-range .ensures) (c .before .before .if1 .left) (c .if2 .taken) in omega (arith, w .0)
+cast-t10 c =
+    let args = c .before .before .before .before .before .args in
+    let look = c .before .before .before .look in
+    let in-range = c .before .in-range in
+    let if1 = c .before .before .if1 in
+    let w = bare-next (now (args .s)) (args .at) (args .hold) (look .result) (look .ensures .0) (in-range .result) (in-range .ensures) (if1 .left) (c .if2 .taken) in omega (arith, w .0)
 
 add-t11 : tie.Need-add-t11
 add-t11 c = search needs
 
 returns-2 : tie.Need-returns-2
 returns-2 c =
-    let w = bare-next (now (c .before .before .before .before .before .args .s)) (c .before .before .before .before .before .args .at) (c .before .before .before .before .before .args .hold) (c .before .before .before .look .result) (c .before .before .before .look .ensures .0) (c .before .in-range .result) (c .before .in-range .ensures) (c .before .before .if1 .left) (c .if2 .taken) in
-    let in-text : (c .before .before .before .before .before .args .at) + 1 ≤ length (now (c .before .before .before .before .before .args .s)) = omega (arith, w .0, c .before .before .before .look .ensures .1) in
-    (w .1, (in-text, weight-falls (now (c .before .before .before .before .before .args .s)) (c .before .before .before .before .before .args .at) _ (c .before .before .before .before .before .args .hold) 0 (omega arith) in-text))
+    let args = c .before .before .before .before .before .args in
+    let look = c .before .before .before .look in
+    let in-range = c .before .in-range in
+    let if1 = c .before .before .if1 in
+    let w = bare-next (now (args .s)) (args .at) (args .hold) (look .result) (look .ensures .0) (in-range .result) (in-range .ensures) (if1 .left) (c .if2 .taken) in
+    let in-text : (args .at) + 1 ≤ length (now (args .s)) = omega (arith, w .0, look .ensures .1) in
+    (w .1, (in-text, weight-falls (now (args .s)) (args .at) _ (args .hold) 0 (omega arith) in-text))
 
 next-byte-requires : tie.Need-next-byte-requires
 next-byte-requires c κs = search needs

@@ -19,39 +19,41 @@ Inv-loop s at i₀ i = BareTo s at i
 abbrev μ-loop : tie.MeasureT-loop
 μ-loop s at i₀ i = length s - i
 
--- src/lib.rt:51:5
 loop-holds : tie.Need-loop-holds Inv-loop μ-loop
 loop-holds c = bare-none (now (c .before .args .s)) (c .before .args .at)
 
--- src/lib.rt:52:17
 shared-slice-read-c : tie.Need-shared-slice-read-c Inv-loop μ-loop
 shared-slice-read-c c = search needs
 
--- src/lib.rt:53:13
 is-raw-requires : tie.Need-is-raw-requires Inv-loop μ-loop
 is-raw-requires c κs = tt
 
--- src/lib.rt:55:17
 returns : tie.Need-returns Inv-loop μ-loop
-returns c = λ h. bare-ends (now (c .before .before .before .before .before .before .before .args .s)) (c .before .before .before .before .before .before .before .args .at) (c .before .before .before .before .before .loop .inv) (c .before .before .before .before .loop-test .taken) (c .if2 .taken)
+returns c =
+    let args = c .before .before .before .before .before .before .before .args in
+    let loop = c .before .before .before .before .before .loop in
+    let loop-test = c .before .before .before .before .loop-test in
+    λ h. bare-ends (now (args .s)) (args .at) (loop .inv) (loop-test .taken) (c .if2 .taken)
 
--- src/lib.rt:57:13
 returns-2 : tie.Need-returns-2 Inv-loop μ-loop
 returns-2 c = λ h. absurd (omega (arith, h))
 
--- src/lib.rt:59:9
 add-i : tie.Need-add-i Inv-loop μ-loop
 add-i c = search needs
 
--- src/lib.rt:51:5
 loop-less : tie.Need-loop-less Inv-loop μ-loop
 loop-less c = search needs
 
--- src/lib.rt:51:5
 loop-again : tie.Need-loop-again Inv-loop μ-loop
-loop-again c = let s = now (c .before .before .before .before .before .before .args .s) in let raw = subst (RawByte (getD s (c .before .before .before .before .loop .i) 0)) (not-false (c .before .is-raw .result) (c .if1 .left)) (c .before .is-raw .ensures) in bare-more s (c .before .before .before .before .before .before .args .at) (c .before .before .before .before .loop .inv) (c .before .before .before .loop-test .taken) raw
+loop-again c =
+    let args = c .before .before .before .before .before .before .args in
+    let loop = c .before .before .before .before .loop in
+    let is-raw = c .before .is-raw in
+    let loop-test = c .before .before .before .loop-test in
+    let s = now (args .s) in
+    let raw = subst (RawByte (getD s (loop .i) 0)) (not-false (is-raw .result) (c .if1 .left)) (is-raw .ensures) in
+    bare-more s (args .at) (loop .inv) (loop-test .taken) raw
 
--- src/lib.rt:47:1
 returns-3 : tie.Need-returns-3 Inv-loop μ-loop
 returns-3 c = λ h. absurd (omega (arith, h))
 

@@ -56,25 +56,38 @@ same-length-2 c = search needs
 
 returns-2 : tie.Need-returns-2
 returns-2 c =
+    let bare-end = c .before .before .before .before .before .before .before .before .bare-end in
+    let if1 = c .before .before .before .before .before .before .before .if1 in
+    let pre = c .before .before .before .before .before .before .before .before .before .before .before .pre in
+    let put-text = c .before .before .before .before .put-text in
     let a = c .before .before .before .before .before .before .before .before .before .before .before .args in
-    let w = c .before .before .before .before .before .before .before .before .bare-end .ensures (c .before .before .before .before .before .before .before .if1 .left) in
-    no-room (now (a .b)) (a .n) (c .before .before .before .before .before .before .before .before .before .before .before .pre) (textAt (now (a .s)) (a .at)) _ (c .before .before .before .before .put-text .result) (bare-puts w (c .before .before .before .before .put-text .ensures)) (c .enum-told .given .1)
+    let w = bare-end .ensures (if1 .left) in
+    no-room (now (a .b)) (a .n) (pre) (textAt (now (a .s)) (a .at)) _ (put-text .result) (bare-puts w (put-text .ensures)) (c .enum-told .given .1)
 
 add-t7 : tie.Need-add-t7
 add-t7 c =
+    let bare-end = c .before .before .before .before .before .before .before .before .before .bare-end in
+    let if1 = c .before .before .before .before .before .before .before .before .if1 in
+    let pre = c .before .before .before .before .before .before .before .before .before .before .before .before .pre in
+    let put-text = c .before .before .before .before .before .put-text in
+    let good = c .before .before .before .before .before .before .before .before .before .before .before .before .good in
     let a = c .before .before .before .before .before .before .before .before .before .before .before .before .args in
-    let w = c .before .before .before .before .before .before .before .before .before .bare-end .ensures (c .before .before .before .before .before .before .before .before .if1 .left) in
-    let g = grew (now (a .b)) (a .n) (c .before .before .before .before .before .before .before .before .before .before .before .before .pre) (textAt (now (a .s)) (a .at)) _ (c .before .before .before .before .before .put-text .result) (bare-puts w (c .before .before .before .before .before .put-text .ensures)) (c .before .k .given .1) in
-    record { fits = omega (arith, g .within, c .before .before .before .before .before .before .before .before .before .before .before .before .good .0 .0) }
+    let w = bare-end .ensures (if1 .left) in
+    let g = grew (now (a .b)) (a .n) (pre) (textAt (now (a .s)) (a .at)) _ (put-text .result) (bare-puts w (put-text .ensures)) (c .before .k .given .1) in
+    record { fits = omega (arith, g .within, good .0 .0) }
 
 same-length-3 : tie.Need-same-length-3
 same-length-3 c = search needs
 
 returns-3 : tie.Need-returns-3
 returns-3 c =
+    let bare-end = c .before .before .before .before .before .before .before .before .before .bare-end in
+    let if1 = c .before .before .before .before .before .before .before .before .if1 in
+    let pre = c .before .before .before .before .before .before .before .before .before .before .before .before .pre in
+    let put-text = c .before .before .before .before .before .put-text in
     let a = c .before .before .before .before .before .before .before .before .before .before .before .before .args in
-    let w = c .before .before .before .before .before .before .before .before .before .bare-end .ensures (c .before .before .before .before .before .before .before .before .if1 .left) in
-    grew (now (a .b)) (a .n) (c .before .before .before .before .before .before .before .before .before .before .before .before .pre) (textAt (now (a .s)) (a .at)) _ (c .before .before .before .before .before .put-text .result) (bare-puts w (c .before .before .before .before .before .put-text .ensures)) (c .before .k .given .1)
+    let w = bare-end .ensures (if1 .left) in
+    grew (now (a .b)) (a .n) (pre) (textAt (now (a .s)) (a .at)) _ (put-text .result) (bare-puts w (put-text .ensures)) (c .before .k .given .1)
 
 pub put-decoded-spec : {M : Type 1} → statement M
 put-decoded-spec =

@@ -24,7 +24,10 @@ index-to-end-requires : tie.Need-index-to-end-requires
 index-to-end-requires c κs = (c .before .before .before .pre, (omega (arith, ap length names-are), clear-three))
 
 returns : tie.Need-returns
-returns c = (tt, (object-not (now (c .before .before .before .before .before .before .args .s)) (c .before .before .before .before .before .before .args .at) _ _ (c .before .before .index-to-end .ensures .1) (ap not (eq-eqb _ 0 (c .if1 .taken))), tt))
+returns c =
+    let args = c .before .before .before .before .before .before .args in
+    let index-to-end = c .before .before .index-to-end in
+    (tt, (object-not (now (args .s)) (args .at) _ _ (index-to-end .ensures .1) (ap not (eq-eqb _ 0 (c .if1 .taken))), tt))
 
 array-read-a : tie.Need-array-read-a
 array-read-a c = search needs
@@ -36,7 +39,10 @@ array-read-other : tie.Need-array-read-other
 array-read-other c = search needs
 
 returns-2 : tie.Need-returns-2
-returns-2 c = (tt, (object-strange (now (c .before .before .before .before .before .before .before .args .s)) (c .before .before .before .before .before .before .before .args .at) _ _ (c .before .before .before .index-to-end .ensures .1) (ap not (ne-eqb _ 0 (c .before .if1 .left))) (c .if2 .taken), tt))
+returns-2 c =
+    let args = c .before .before .before .before .before .before .before .args in
+    let index-to-end = c .before .before .before .index-to-end in
+    (tt, (object-strange (now (args .s)) (args .at) _ _ (index-to-end .ensures .1) (ap not (ne-eqb _ 0 (c .before .if1 .left))) (c .if2 .taken), tt))
 
 component-of-requires : tie.Need-component-of-requires
 component-of-requires c κs = search needs
@@ -48,12 +54,30 @@ enum-told : tie.Need-enum-told
 enum-told c = search needs
 
 returns-3 : tie.Need-returns-3
-returns-3 c = (tt, (subst (TellsComponent (now (c .before .before .before .before .before .before .before .before .before .before .args .s)) (c .before .before .before .before .before .before .before .before .before .before .args .at)) (c .enum-told .given .1) (object-of (now (c .before .before .before .before .before .before .before .before .before .before .args .s)) (c .before .before .before .before .before .before .before .before .before .before .args .at) _ _ (c .before .before .before .before .before .before .index-to-end .ensures .1) (ap not (ne-eqb _ 0 (c .before .before .before .before .if1 .left))) (c .before .before .before .if2 .left) (c .before .before .component-of .result) (c .before .before .component-of .ensures .1)), tt))
+returns-3 c =
+    let args = c .before .before .before .before .before .before .before .before .before .before .args in
+    let index-to-end = c .before .before .before .before .before .before .index-to-end in
+    let if1 = c .before .before .before .before .if1 in
+    let if2 = c .before .before .before .if2 in
+    let component-of = c .before .before .component-of in (
+      tt,
+      (
+        subst (TellsComponent (now (args .s)) (args .at)) (c .enum-told .given .1)
+            (object-of (now (args .s)) (args .at) _ _ (index-to-end .ensures .1) (ap not (ne-eqb _ 0 (if1 .left))) (if2 .left) (component-of .result) (component-of .ensures .1)),
+        tt,
+      ),
+    )
 
 returns-4 : tie.Need-returns-4
 returns-4 c =
-    let told = object-of (now (c .before .before .before .before .before .before .before .before .before .before .before .args .s)) (c .before .before .before .before .before .before .before .before .before .before .before .args .at) _ _ (c .before .before .before .before .before .before .before .index-to-end .ensures .1) (ap not (ne-eqb _ 0 (c .before .before .before .before .before .if1 .left))) (c .before .before .before .before .if2 .left) (c .before .before .before .component-of .result) (c .before .before .before .component-of .ensures .1) in
-    (subst KindIn (c .before .k .given .1) (c .before .before .before .component-of .ensures .0), (subst (TellsComponent (now (c .before .before .before .before .before .before .before .before .before .before .before .args .s)) (c .before .before .before .before .before .before .before .before .before .before .before .args .at)) (c .before .k .given .1) told, c .before .before .before .before .before .before .before .index-to-end .ensures .0 (c .before .before .before .before .before .if1 .left)))
+    let args = c .before .before .before .before .before .before .before .before .before .before .before .args in
+    let index-to-end = c .before .before .before .before .before .before .before .index-to-end in
+    let if1 = c .before .before .before .before .before .if1 in
+    let if2 = c .before .before .before .before .if2 in
+    let component-of = c .before .before .before .component-of in
+    let k = c .before .k in
+    let told = object-of (now (args .s)) (args .at) _ _ (index-to-end .ensures .1) (ap not (ne-eqb _ 0 (if1 .left))) (if2 .left) (component-of .result) (component-of .ensures .1) in
+    (subst KindIn (k .given .1) (component-of .ensures .0), (subst (TellsComponent (now (args .s)) (args .at)) (k .given .1) told, index-to-end .ensures .0 (if1 .left)))
 
 pub component-to-end-spec : {M : Type 1} → statement M
 component-to-end-spec =

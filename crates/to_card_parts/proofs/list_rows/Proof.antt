@@ -11,9 +11,7 @@ use Rattle.to_card_parts.proofs.list_rows.Statement.{statement}
 use Rattle.to_card_parts.proofs.list_rows.Tie as tie
 use Rattle.to_card_parts.proofs.list_rows.Reads as reads
 use Rattle.to_card_parts.proofs.list_rows.Lts as lts
-use Rattle.json_access.proofs.element_at.Reads as element-at-reads
 use Rattle.json_marks.proofs.separator.Reads as separator-reads
-use Rattle.to_card_parts.proofs.component_at.Reads as component-at-reads
 use Rattle.to_card_parts.proofs.mark_kind.Reads as mark-kind-reads
 use Rattle.to_card_parts.proofs.put_row.Reads as put-row-reads
 
@@ -56,12 +54,20 @@ same-length-3 c = c .before .before .before .loop .inv .3
 
 returns : tie.Need-returns Inv-loop μ-loop
 returns c =
-    let s = now (c .before .before .before .before .before .before .before .before .args .s) in
-    let wrong = checks-wrong s (c .before .before .before .before .before .before .before .before .args .at) (c .before .before .before .loop .i) (c .before .before .before .loop .marks) (c .before .before .before .loop .inv .4) _ (c .before .before .component-to-end .ensures .1 .0) (ended-found (c .enum-told .given .1)) (c .before .before .before .loop .marks) in
-    (wrong, no-rows s (c .before .before .before .before .before .before .before .before .args .at) (c .before .before .before .loop .marks) (c .before .before .before .loop .kinds) (c .before .before .before .loop .values) 0 wrong)
+    let args = c .before .before .before .before .before .before .before .before .args in
+    let loop = c .before .before .before .loop in
+    let component-to-end = c .before .before .component-to-end in
+    let s = now (args .s) in
+    let wrong = checks-wrong s (args .at) (loop .i) (loop .marks) (loop .inv .4) _ (component-to-end .ensures .1 .0) (ended-found (c .enum-told .given .1)) (loop .marks) in
+    (wrong, no-rows s (args .at) (loop .marks) (loop .kinds) (loop .values) 0 wrong)
 
 mark-kind-requires : tie.Need-mark-kind-requires Inv-loop μ-loop
-mark-kind-requires c κs = omega (arith, kind-in _ (c .before .before .before .before .component-to-end .ensures .0) (ended-found (c .before .before .k .given .1)), c .before .before .before .before .before .loop .inv .1, c .before .before .before .before .before .before .before .before .before .before .pre .1 .0)
+mark-kind-requires c κs =
+    let component-to-end = c .before .before .before .before .component-to-end in
+    let k = c .before .before .k in
+    let loop = c .before .before .before .before .before .loop in
+    let pre = c .before .before .before .before .before .before .before .before .before .before .pre in
+    omega (arith, kind-in _ (component-to-end .ensures .0) (ended-found (k .given .1)), loop .inv .1, pre .1 .0)
 
 put-row-requires : tie.Need-put-row-requires Inv-loop μ-loop
 put-row-requires c κs =
@@ -70,34 +76,50 @@ put-row-requires c κs =
     (omega (arith, loop .inv .2, pre .1 .1 .1 .0), omega (arith, loop .inv .3, pre .1 .1 .1 .1))
 
 separator-requires : tie.Need-separator-requires Inv-loop μ-loop
-separator-requires c κs = (ended-in (now (c .before .before .before .before .before .before .before .before .before .before .before .before .before .before .before .before .before .before .before .before .args .s)) (c .before .before .before .before .before .before .before .before .before .before .before .before .before .before .before .loop .i) (c .before .before .before .before .before .before .before .before .before .before .before .before .before .before .component-to-end .ensures .1 .1) (c .before .before .before .before .before .before .before .before .before .before .before .before .k .given .1) .within, omega arith)
+separator-requires c κs =
+    let args = c .before .before .before .before .before .before .before .before .before .before .before .before .before .before .before .before .before .before .before .before .args in
+    let loop = c .before .before .before .before .before .before .before .before .before .before .before .before .before .before .before .loop in
+    let component-to-end = c .before .before .before .before .before .before .before .before .before .before .before .before .before .before .component-to-end in
+    let k = c .before .before .before .before .before .before .before .before .before .before .before .before .k in
+    (ended-in (now (args .s)) (loop .i) (component-to-end .ensures .1 .1) (k .given .1) .within, omega arith)
 
 enum-known-j : tie.Need-enum-known-j Inv-loop μ-loop
 enum-known-j c = search needs
 
 loop-less : tie.Need-loop-less Inv-loop μ-loop
 loop-less c =
-    let h = turn-as (c .before .before .before .separator .ensures) (c .before .j .given .1) in
-    omega (arith, h .within .0, h .within .1, ended-in (now (c .before .before .before .before .before .before .before .before .before .before .before .before .before .before .before .before .before .before .before .before .before .before .before .before .args .s)) (c .before .before .before .before .before .before .before .before .before .before .before .before .before .before .before .before .before .before .before .loop .i) (c .before .before .before .before .before .before .before .before .before .before .before .before .before .before .before .before .before .before .component-to-end .ensures .1 .1) (c .before .before .before .before .before .before .before .before .before .before .before .before .before .before .before .before .k .given .1) .from)
+    let separator = c .before .before .before .separator in
+    let args = c .before .before .before .before .before .before .before .before .before .before .before .before .before .before .before .before .before .before .before .before .before .before .before .before .args in
+    let loop = c .before .before .before .before .before .before .before .before .before .before .before .before .before .before .before .before .before .before .before .loop in
+    let component-to-end = c .before .before .before .before .before .before .before .before .before .before .before .before .before .before .before .before .before .before .component-to-end in
+    let k = c .before .before .before .before .before .before .before .before .before .before .before .before .before .before .before .before .k in
+    let h = turn-as (separator .ensures) (c .before .j .given .1) in
+    omega (arith, h .within .0, h .within .1, ended-in (now (args .s)) (loop .i) (component-to-end .ensures .1 .1) (k .given .1) .from)
 
 loop-again : tie.Need-loop-again Inv-loop μ-loop
 loop-again c =
-    let s = now (c .before .before .before .before .before .before .before .before .before .before .before .before .before .before .before .before .before .before .before .before .before .before .before .before .args .s) in
-    let at = c .before .before .before .before .before .before .before .before .before .before .before .before .before .before .before .before .before .before .before .before .before .before .before .before .args .at in
+    let args = c .before .before .before .before .before .before .before .before .before .before .before .before .before .before .before .before .before .before .before .before .before .before .before .before .args in
+    let component-to-end = c .before .before .before .before .before .before .before .before .before .before .before .before .before .before .before .before .before .before .component-to-end in
+    let k = c .before .before .before .before .before .before .before .before .before .before .before .before .before .before .before .before .k in
+    let separator = c .before .before .before .separator in
+    let pre = c .before .before .before .before .before .before .before .before .before .before .before .before .before .before .before .before .before .before .before .before .before .before .before .before .pre in
+    let mark-kind = c .before .before .before .before .before .before .before .before .before .before .before .before .before .mark-kind in
+    let s = now (args .s) in
+    let at = args .at in
     let l = c .before .before .before .before .before .before .before .before .before .before .before .before .before .before .before .before .before .before .before .loop in
-    let tells = c .before .before .before .before .before .before .before .before .before .before .before .before .before .before .before .before .before .before .component-to-end .ensures .1 .0 in
-    let is = ended-found (c .before .before .before .before .before .before .before .before .before .before .before .before .before .before .before .before .k .given .1) in
-    let ends = ended-in s (l .i) (c .before .before .before .before .before .before .before .before .before .before .before .before .before .before .before .before .before .before .component-to-end .ensures .1 .1) (c .before .before .before .before .before .before .before .before .before .before .before .before .before .before .before .before .k .given .1) .ends in
+    let tells = component-to-end .ensures .1 .0 in
+    let is = ended-found (k .given .1) in
+    let ends = ended-in s (l .i) (component-to-end .ensures .1 .1) (k .given .1) .ends in
     let row = c .before .before .before .before .before .before .before .before .put-row in
-    let h = turn-as (c .before .before .before .separator .ensures) (c .before .j .given .1) in
-    let low : (c .before .before .before .before .before .before .before .before .before .before .before .before .before .before .before .before .k .given .0 .0) < length (l .marks) = omega (arith, kind-in _ (c .before .before .before .before .before .before .before .before .before .before .before .before .before .before .before .before .before .before .component-to-end .ensures .0) (ended-found (c .before .before .before .before .before .before .before .before .before .before .before .before .before .before .before .before .k .given .1)), l .inv .1, c .before .before .before .before .before .before .before .before .before .before .before .before .before .before .before .before .before .before .before .before .before .before .before .before .pre .1 .0) in
-    let lk : 16 ≤ length (l .kinds) = omega (arith, l .inv .2, c .before .before .before .before .before .before .before .before .before .before .before .before .before .before .before .before .before .before .before .before .before .before .before .before .pre .1 .1 .1 .0) in
-    let lv : 16 ≤ length (l .values) = omega (arith, l .inv .3, c .before .before .before .before .before .before .before .before .before .before .before .before .before .before .before .before .before .before .before .before .before .before .before .before .pre .1 .1 .1 .1) in (
+    let h = turn-as (separator .ensures) (c .before .j .given .1) in
+    let low : (k .given .0 .0) < length (l .marks) = omega (arith, kind-in _ (component-to-end .ensures .0) (ended-found (k .given .1)), l .inv .1, pre .1 .0) in
+    let lk : 16 ≤ length (l .kinds) = omega (arith, l .inv .2, pre .1 .1 .1 .0) in
+    let lv : 16 ≤ length (l .values) = omega (arith, l .inv .3, pre .1 .1 .1 .1) in (
       h .within .1,
-      c .before .before .before .before .before .before .before .before .before .before .before .before .before .mark-kind .ensures .long ∙ (l .inv .1),
+      mark-kind .ensures .long ∙ (l .inv .1),
       row .ensures .long-kinds ∙ (l .inv .2),
       row .ensures .long-values ∙ (l .inv .3),
-      checking-on s at (l .i) (l .marks) (l .inv .4) _ tells _ _ is _ low (c .before .before .before .before .before .before .before .before .before .before .before .before .before .mark-kind .ensures) _ ends _ h,
+      checking-on s at (l .i) (l .marks) (l .inv .4) _ tells _ _ is _ low (mark-kind .ensures) _ ends _ h,
       listing-on s at (l .i) (l .kinds) (l .values) (l .n) (l .inv .5) _ tells _ ends _ _ is lk lv _ _ (row .result) (row .ensures) _ h,
     )
 
@@ -111,25 +133,37 @@ same-length-4 c =
     mark-kind .ensures .long ∙ (loop .inv .1)
 
 same-length-5 : tie.Need-same-length-5 Inv-loop μ-loop
-same-length-5 c = c .before .before .before .before .before .before .before .before .put-row .ensures .long-kinds ∙ (c .before .before .before .before .before .before .before .before .before .before .before .before .before .before .before .before .before .before .before .loop .inv .2)
+same-length-5 c =
+    let put-row = c .before .before .before .before .before .before .before .before .put-row in
+    let loop = c .before .before .before .before .before .before .before .before .before .before .before .before .before .before .before .before .before .before .before .loop in
+    put-row .ensures .long-kinds ∙ (loop .inv .2)
 
 same-length-6 : tie.Need-same-length-6 Inv-loop μ-loop
-same-length-6 c = c .before .before .before .before .before .before .before .before .put-row .ensures .long-values ∙ (c .before .before .before .before .before .before .before .before .before .before .before .before .before .before .before .before .before .before .before .loop .inv .3)
+same-length-6 c =
+    let put-row = c .before .before .before .before .before .before .before .before .put-row in
+    let loop = c .before .before .before .before .before .before .before .before .before .before .before .before .before .before .before .before .before .before .before .loop in
+    put-row .ensures .long-values ∙ (loop .inv .3)
 
 returns-2 : tie.Need-returns-2 Inv-loop μ-loop
 returns-2 c =
-    let s = now (c .before .before .before .before .before .before .before .before .before .before .before .before .before .before .before .before .before .before .before .before .before .before .before .before .args .s) in
-    let at = c .before .before .before .before .before .before .before .before .before .before .before .before .before .before .before .before .before .before .before .before .before .before .before .before .args .at in
+    let args = c .before .before .before .before .before .before .before .before .before .before .before .before .before .before .before .before .before .before .before .before .before .before .before .before .args in
+    let component-to-end = c .before .before .before .before .before .before .before .before .before .before .before .before .before .before .before .before .before .before .component-to-end in
+    let k = c .before .before .before .before .before .before .before .before .before .before .before .before .before .before .before .before .k in
+    let separator = c .before .before .before .separator in
+    let pre = c .before .before .before .before .before .before .before .before .before .before .before .before .before .before .before .before .before .before .before .before .before .before .before .before .pre in
+    let mark-kind = c .before .before .before .before .before .before .before .before .before .before .before .before .before .mark-kind in
+    let s = now (args .s) in
+    let at = args .at in
     let l = c .before .before .before .before .before .before .before .before .before .before .before .before .before .before .before .before .before .before .before .loop in
-    let tells = c .before .before .before .before .before .before .before .before .before .before .before .before .before .before .before .before .before .before .component-to-end .ensures .1 .0 in
-    let is = ended-found (c .before .before .before .before .before .before .before .before .before .before .before .before .before .before .before .before .k .given .1) in
-    let ends = ended-in s (l .i) (c .before .before .before .before .before .before .before .before .before .before .before .before .before .before .before .before .before .before .component-to-end .ensures .1 .1) (c .before .before .before .before .before .before .before .before .before .before .before .before .before .before .before .before .k .given .1) .ends in
+    let tells = component-to-end .ensures .1 .0 in
+    let is = ended-found (k .given .1) in
+    let ends = ended-in s (l .i) (component-to-end .ensures .1 .1) (k .given .1) .ends in
     let row = c .before .before .before .before .before .before .before .before .put-row in
-    let h = turn-as (c .before .before .before .separator .ensures) (c .before .r .given .1) in
-    let low : (c .before .before .before .before .before .before .before .before .before .before .before .before .before .before .before .before .k .given .0 .0) < length (l .marks) = omega (arith, kind-in _ (c .before .before .before .before .before .before .before .before .before .before .before .before .before .before .before .before .before .before .component-to-end .ensures .0) (ended-found (c .before .before .before .before .before .before .before .before .before .before .before .before .before .before .before .before .k .given .1)), l .inv .1, c .before .before .before .before .before .before .before .before .before .before .before .before .before .before .before .before .before .before .before .before .before .before .before .before .pre .1 .0) in
-    let lk : 16 ≤ length (l .kinds) = omega (arith, l .inv .2, c .before .before .before .before .before .before .before .before .before .before .before .before .before .before .before .before .before .before .before .before .before .before .before .before .pre .1 .1 .1 .0) in
-    let lv : 16 ≤ length (l .values) = omega (arith, l .inv .3, c .before .before .before .before .before .before .before .before .before .before .before .before .before .before .before .before .before .before .before .before .before .before .before .before .pre .1 .1 .1 .1) in (
-      checks-all s at (l .i) (l .marks) (l .inv .4) _ tells _ _ is _ low (c .before .before .before .before .before .before .before .before .before .before .before .before .before .mark-kind .ensures) _ ends _ h (row .result) (row .ensures .some-row),
+    let h = turn-as (separator .ensures) (c .before .r .given .1) in
+    let low : (k .given .0 .0) < length (l .marks) = omega (arith, kind-in _ (component-to-end .ensures .0) (ended-found (k .given .1)), l .inv .1, pre .1 .0) in
+    let lk : 16 ≤ length (l .kinds) = omega (arith, l .inv .2, pre .1 .1 .1 .0) in
+    let lv : 16 ≤ length (l .values) = omega (arith, l .inv .3, pre .1 .1 .1 .1) in (
+      checks-all s at (l .i) (l .marks) (l .inv .4) _ tells _ _ is _ low (mark-kind .ensures) _ ends _ h (row .result) (row .ensures .some-row),
       lists-all s at (l .i) (l .kinds) (l .values) (l .n) (l .inv .5) _ tells _ ends _ _ is lk lv _ _ (row .result) (row .ensures) _ h,
     )
 

@@ -14,10 +14,16 @@ same-length : tie.Need-same-length
 same-length c = search needs
 
 returns : tie.Need-returns
-returns c = one-wanted (now (c .before .before .before .before .before .before .before .args .s)) (c .before .before .before .before .before .before .before .args .at) (c .before .before .before .before .before .before .before .args .style) (c .before .before .before .before .before .before .before .args .mark) (c .before .before .before .before .before .before .before .args .wanted) (c .before .before .before .before .before .before .before .args .begun) (now (c .before .before .before .before .before .before .before .args .out)) (c .before .before .before .before .before .before .before .args .column) (c .before .before .before .before .if1 .taken) (c .before .before .pen-wanted .ensures)
+returns c =
+    let args = c .before .before .before .before .before .before .before .args in
+    let if1 = c .before .before .before .before .if1 in
+    let pen-wanted = c .before .before .pen-wanted in
+    one-wanted (now (args .s)) (args .at) (args .style) (args .mark) (args .wanted) (args .begun) (now (args .out)) (args .column) (if1 .taken) (pen-wanted .ensures)
 
 returns-2 : tie.Need-returns-2
-returns-2 c = one-unwanted (now (c .before .before .before .args .s)) (c .before .before .before .args .at) (c .before .before .before .args .style) (c .before .before .before .args .mark) (c .before .before .before .args .wanted) (c .before .before .before .args .begun) (now (c .before .before .before .args .out)) (c .before .before .before .args .column) (c .if1 .left)
+returns-2 c =
+    let args = c .before .before .before .args in
+    one-unwanted (now (args .s)) (args .at) (args .style) (args .mark) (args .wanted) (args .begun) (now (args .out)) (args .column) (c .if1 .left)
 
 pub pen-value-spec : {M : Type 1} → statement M
 pen-value-spec = tie.close (tie.spec pen-wanted-requires same-length returns returns-2)

@@ -16,7 +16,10 @@ is-filled-requires : tie.Need-is-filled-requires
 is-filled-requires c κs = search needs
 
 returns : tie.Need-returns
-returns c = one-empty (now (c .before .before .before .before .args .s)) (c .before .before .before .before .args .at) (c .before .before .before .before .args .style) (c .before .before .before .before .args .mark) true (c .before .before .before .before .args .begun) (now (c .before .before .before .before .args .out)) (c .before .before .before .before .args .column) (c .before .is-filled .result) (c .before .is-filled .ensures) (not-true _ (c .if1 .taken))
+returns c =
+    let args = c .before .before .before .before .args in
+    let is-filled = c .before .is-filled in
+    one-empty (now (args .s)) (args .at) (args .style) (args .mark) true (args .begun) (now (args .out)) (args .column) (is-filled .result) (is-filled .ensures) (not-true _ (c .if1 .taken))
 
 pen-string-requires : tie.Need-pen-string-requires
 pen-string-requires c κs = search needs
@@ -25,7 +28,14 @@ same-length : tie.Need-same-length
 same-length c = search needs
 
 returns-2 : tie.Need-returns-2
-returns-2 c = one-first (now (c .before .before .before .before .before .before .before .before .before .args .s)) (c .before .before .before .before .before .before .before .before .before .args .at) (c .before .before .before .before .before .before .before .before .before .args .style) (c .before .before .before .before .before .before .before .before .before .args .mark) true (c .before .before .before .before .before .before .before .before .before .args .begun) (now (c .before .before .before .before .before .before .before .before .before .args .out)) (c .before .before .before .before .before .before .before .before .before .args .column) (c .before .before .before .before .before .before .is-filled .result) (c .before .before .before .before .before .before .is-filled .ensures) refl (not-false _ (c .before .before .before .before .before .if1 .left)) (not-true _ (c .before .before .before .before .if2 .taken)) (c .before .before .pen-string .result) _ (c .before .before .pen-string .ensures)
+returns-2 c =
+    let args = c .before .before .before .before .before .before .before .before .before .args in
+    let is-filled = c .before .before .before .before .before .before .is-filled in
+    let if1 = c .before .before .before .before .before .if1 in
+    let if2 = c .before .before .before .before .if2 in
+    let pen-string = c .before .before .pen-string in
+    one-first (now (args .s)) (args .at) (args .style) (args .mark) true (args .begun) (now (args .out)) (args .column) (is-filled .result) (is-filled .ensures) refl (not-false _ (if1 .left))
+    (not-true _ (if2 .taken)) (pen-string .result) _ (pen-string .ensures)
 
 pen-byte-requires : tie.Need-pen-byte-requires
 pen-byte-requires c κs = search needs
@@ -49,7 +59,15 @@ same-length-2 : tie.Need-same-length-2
 same-length-2 c = search needs
 
 returns-3 : tie.Need-returns-3
-returns-3 c = one-later (now (c .before .before .before .before .before .before .before .before .before .before .before .before .before .before .args .s)) (c .before .before .before .before .before .before .before .before .before .before .before .before .before .before .args .at) (c .before .before .before .before .before .before .before .before .before .before .before .before .before .before .args .style) (c .before .before .before .before .before .before .before .before .before .before .before .before .before .before .args .mark) true (c .before .before .before .before .before .before .before .before .before .before .before .before .before .before .args .begun) (now (c .before .before .before .before .before .before .before .before .before .before .before .before .before .before .args .out)) (c .before .before .before .before .before .before .before .before .before .before .before .before .before .before .args .column) (c .before .before .before .before .before .before .before .before .before .before .before .is-filled .result) (c .before .before .before .before .before .before .before .before .before .before .before .is-filled .ensures) refl (not-false _ (c .before .before .before .before .before .before .before .before .before .before .if1 .left)) (not-false _ (c .before .before .before .before .before .before .before .before .before .if2 .left)) (c .before .before .before .before .before .before .before .pen-byte .result) _ (c .before .before .before .before .before .before .before .pen-byte .ensures) (c .before .before .before .pen-string2 .result) _ (c .before .before .before .pen-string2 .ensures)
+returns-3 c =
+    let args = c .before .before .before .before .before .before .before .before .before .before .before .before .before .before .args in
+    let is-filled = c .before .before .before .before .before .before .before .before .before .before .before .is-filled in
+    let if1 = c .before .before .before .before .before .before .before .before .before .before .if1 in
+    let if2 = c .before .before .before .before .before .before .before .before .before .if2 in
+    let pen-byte = c .before .before .before .before .before .before .before .pen-byte in
+    let pen-string2 = c .before .before .before .pen-string2 in
+    one-later (now (args .s)) (args .at) (args .style) (args .mark) true (args .begun) (now (args .out)) (args .column) (is-filled .result) (is-filled .ensures) refl (not-false _ (if1 .left))
+    (not-false _ (if2 .left)) (pen-byte .result) _ (pen-byte .ensures) (pen-string2 .result) _ (pen-string2 .ensures)
 
 pub pen-wanted-spec : {M : Type 1} → statement M
 pen-wanted-spec =
