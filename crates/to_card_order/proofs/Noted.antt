@@ -216,7 +216,7 @@ module _ (s : Bytes) (at one other i : ℕ) (places prints : List ℕ) (n : ℕ)
 
   module _ (k v : ℕ) (e : f ≡ Of k v) (places′ prints′ : List ℕ) (t : Kept) (notes : NotesValue s at one (eqb other k) v places prints n places′ prints′ t)
       (end : ℕ) (told : EndsAt 13 s i end) where
-    more : (cs : List Component) → Lists s at cs → (past : List Component) (x : Bytes) → spelled s v ≡ some x → Keeps s (valuesOf one cs) (valuesOf other past) places prints (record { count = n; ok = ok })
+    more : (cs : List Component) → Lists s at cs → (past : List Component) (x : Bytes) → decodedAt s v ≡ some x → Keeps s (valuesOf one cs) (valuesOf other past) places prints (record { count = n; ok = ok })
         → Keeps s (valuesOf one cs) (valuesOf other (past ++ (component k x ∷ []))) places′ prints′ (record { count = t .count; ok = ok && t .ok })
     more cs l past x q so =
         subst (λ (ws : List Bytes). Keeps s (valuesOf one cs) ws places′ prints′ (record { count = t .count; ok = ok && t .ok })) (sym (values-more other past (component k x)))

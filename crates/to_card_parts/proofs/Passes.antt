@@ -21,7 +21,7 @@ use Rattle.text.proofs.Choices.{none-some, some-same}
 use Rattle.json.specs.Tree.{Json, Elems, elemsOf}
 use Rattle.json.specs.Syntax.{sep, item, value}
 use Rattle.json.specs.Strings.{decodedElems}
-use Rattle.json_strings.specs.Spelled.{spelled}
+use Rattle.json_strings.specs.Decoded.{decodedAt}
 use Rattle.json_access.specs.Access.{EndsAt}
 use Rattle.json_index.specs.Index.{jsonAt, Clear}
 use Rattle.line_pen.specs.declared.Pen.{Pen}
@@ -177,7 +177,7 @@ module _ (s : Bytes) (at style mark kind : ℕ) (begun : Bool) (room : Bytes) (c
 
   module _ (k v : ℕ) (e : f ≡ Of k v) (w : Inked) (last : Bytes) (one : InksOne s v style mark (eqb kind k) b (midOf n (length out - n) out) c w last)
       (end : ℕ) (told : EndsAt 13 s i end) where
-    more : (past : List Component) (x : Bytes) → spelled s v ≡ some x → Says style mark begun (valuesOf kind past) (going .text) b ok
+    more : (past : List Component) (x : Bytes) → decodedAt s v ≡ some x → Says style mark begun (valuesOf kind past) (going .text) b ok
         → Says style mark begun (valuesOf kind (past ++ (component k x ∷ []))) (going .text ++ one .text) (w .begun) (ok && w .carried)
     more past x q y = says-as (sym (values-more kind past (component k x))) (says-then style mark begun (valuesOf kind past) (ofKind kind (component k x)) y (one .says x q))
 
