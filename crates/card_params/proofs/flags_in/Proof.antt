@@ -43,10 +43,12 @@ same-length c = c .before .before .before .before .before .before .loop .inv .1
 
 returns-2 : tie.Need-returns-2 Inv-loop μ-loop
 returns-2 c =
+    let kind-at = c .before .before .kind-at in
+    let kind-code = c .before .kind-code in
     let a = c .before .before .before .before .before .before .before .before .before .before .before .before .args in
     let l = c .before .before .before .before .before .before .loop in
     let g = c .before .before .before .before .m .given in
-    (l .inv .1, flags-not (now (a .s)) (a .slot) (a .base) (now (a .names)) (now (a .row)) (c .before .before .before .before .before .before .before .before .if1 .left) (l .m) (l .row) (l .inv .2) (g .0 .0) (g .0 .1 .0) (g .1) (c .before .before .kind-at .result) (c .before .before .kind-at .ensures) (c .before .kind-code .result) (c .before .kind-code .ensures) (c .if2 .taken) _)
+    (l .inv .1, flags-not (now (a .s)) (a .slot) (a .base) (now (a .names)) (now (a .row)) (c .before .before .before .before .before .before .before .before .if1 .left) (l .m) (l .row) (l .inv .2) (g .0 .0) (g .0 .1 .0) (g .1) (kind-at .result) (kind-at .ensures) (kind-code .result) (kind-code .ensures) (c .if2 .taken) _)
 
 which-name-requires : tie.Need-which-name-requires Inv-loop μ-loop
 which-name-requires c κs = tt
@@ -56,12 +58,14 @@ same-length-2 c = c .before .before .before .before .before .before .before .bef
 
 returns-3 : tie.Need-returns-3 Inv-loop μ-loop
 returns-3 c =
+    let kind-at = c .before .before .before .before .kind-at in
+    let kind-code = c .before .before .before .kind-code in
     let a = c .before .before .before .before .before .before .before .before .before .before .before .before .before .before .args in
     let l = c .before .before .before .before .before .before .before .before .loop in
     let g = c .before .before .before .before .before .before .m .given in
     let w = c .before .which-name in (
       l .inv .1,
-      flags-other (now (a .s)) (a .slot) (a .base) (now (a .names)) (now (a .row)) (c .before .before .before .before .before .before .before .before .before .before .if1 .left) (l .m) (l .row) (l .inv .2) (g .0 .0) (g .0 .1 .0) (g .1) (c .before .before .before .before .kind-at .result) (c .before .before .before .before .kind-at .ensures) (c .before .before .before .kind-code .result) (c .before .before .before .kind-code .ensures) (c .before .before .if2 .left)
+      flags-other (now (a .s)) (a .slot) (a .base) (now (a .names)) (now (a .row)) (c .before .before .before .before .before .before .before .before .before .before .if1 .left) (l .m) (l .row) (l .inv .2) (g .0 .0) (g .0 .1 .0) (g .1) (kind-at .result) (kind-at .ensures) (kind-code .result) (kind-code .ensures) (c .before .before .if2 .left)
           (w .result) (w .ensures) (a .count) (c .before .before .before .before .before .before .before .before .before .before .before .before .before .before .pre .0) (c .if3 .taken) _,
     )
 
@@ -79,11 +83,16 @@ next-member-requires c κs = tt
 
 loop-less : tie.Need-loop-less Inv-loop μ-loop
 loop-less c =
+    let loop = c .before .before .before .before .before .before .before .before .before .before .loop in
+    let next-member = c .next-member in
+    let skip-value = c .before .skip-value in
     let g = c .before .before .before .before .before .before .before .before .m .given in
-    less-ahead (length (now (c .before .before .before .before .before .before .before .before .before .before .before .before .before .before .before .before .args .s))) (c .before .before .before .before .before .before .before .before .before .before .loop .m) (c .next-member .result) (g .0 .0) (g .0 .1 .0) (c .before .skip-value .result) (g .1) (c .before .before .before .before .before .before .before .before .before .before .loop .inv .0) (c .before .skip-value .ensures .0 .0) (c .next-member .ensures .0)
+    less-ahead (length (now (c .before .before .before .before .before .before .before .before .before .before .before .before .before .before .before .before .args .s))) (loop .m) (next-member .result) (g .0 .0) (g .0 .1 .0) (skip-value .result) (g .1) (loop .inv .0) (skip-value .ensures .0 .0) (next-member .ensures .0)
 
 loop-again : tie.Need-loop-again Inv-loop μ-loop
 loop-again c =
+    let kind-at = c .before .before .before .before .before .before .kind-at in
+    let kind-code = c .before .before .before .before .before .kind-code in
     let a = c .before .before .before .before .before .before .before .before .before .before .before .before .before .before .before .before .args in
     let l = c .before .before .before .before .before .before .before .before .before .before .loop in
     let g = c .before .before .before .before .before .before .before .before .m .given in
@@ -92,7 +101,7 @@ loop-again c =
     let n = c .next-member in (
       (e .result, n .ensures .0),
       length-set (l .row) (a .base + w .result) 1 ∙ (l .inv .1),
-      flags-on (now (a .s)) (a .slot) (a .base) (now (a .names)) (now (a .row)) (c .before .before .before .before .before .before .before .before .before .before .before .before .if1 .left) (l .m) (l .row) (l .inv .2) (g .0 .0) (g .0 .1 .0) (g .1) (c .before .before .before .before .before .before .kind-at .result) (c .before .before .before .before .before .before .kind-at .ensures) (c .before .before .before .before .before .kind-code .result) (c .before .before .before .before .before .kind-code .ensures) (c .before .before .before .before .if2 .left)
+      flags-on (now (a .s)) (a .slot) (a .base) (now (a .names)) (now (a .row)) (c .before .before .before .before .before .before .before .before .before .before .before .before .if1 .left) (l .m) (l .row) (l .inv .2) (g .0 .0) (g .0 .1 .0) (g .1) (kind-at .result) (kind-at .ensures) (kind-code .result) (kind-code .ensures) (c .before .before .before .before .if2 .left)
           (w .result) (w .ensures) (a .count) (c .before .before .before .before .before .before .before .before .before .before .before .before .before .before .before .before .pre .0) (omega (arith, c .before .before .if3 .left)) (e .result) (e .ensures .1 12) (n .result) (n .ensures .1 .0),
     )
 

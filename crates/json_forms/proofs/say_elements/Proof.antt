@@ -34,16 +34,21 @@ say-requires c κs = search needs
 
 say-value-requires : tie.Need-say-value-requires Inv-loop μ-loop
 say-value-requires c κs =
+    let skip-value = c .before .before .skip-value in
+    let loop = c .before .before .before .before .before .before .loop in
     let g = c .before .before .before .before .m .given in
-    (c .before .before .skip-value .ensures .0 .0 (array-in-text (length (now (c .before .before .before .before .before .before .before .before .before .args .s))) (c .before .before .before .before .before .before .loop .m) (g .0 .0) (g .1) (c .before .before .before .before .before .before .loop .inv)), c .before .before .skip-value .ensures .0 .1)
+    (skip-value .ensures .0 .0 (array-in-text (length (now (c .before .before .before .before .before .before .before .before .before .args .s))) (loop .m) (g .0 .0) (g .1) (loop .inv)), skip-value .ensures .0 .1)
 
 next-element-requires : tie.Need-next-element-requires Inv-loop μ-loop
 next-element-requires c κs = search needs
 
 loop-less : tie.Need-loop-less Inv-loop μ-loop
 loop-less c =
+    let loop = c .before .before .before .before .before .before .before .before .loop in
+    let next-element = c .next-element in
+    let skip-value = c .before .before .before .before .skip-value in
     let g = c .before .before .before .before .before .before .m .given in
-    less-ahead-of (length (now (c .before .before .before .before .before .before .before .before .before .before .before .args .s))) (c .before .before .before .before .before .before .before .before .loop .m) (c .next-element .result) (g .0 .0) (c .before .before .before .before .skip-value .result) (g .1) (c .before .before .before .before .before .before .before .before .loop .inv) (c .before .before .before .before .skip-value .ensures .0 .0) (c .next-element .ensures .0)
+    less-ahead-of (length (now (c .before .before .before .before .before .before .before .before .before .before .before .args .s))) (loop .m) (next-element .result) (g .0 .0) (skip-value .result) (g .1) (loop .inv) (skip-value .ensures .0 .0) (next-element .ensures .0)
 
 loop-again : tie.Need-loop-again Inv-loop μ-loop
 loop-again c = (c .before .before .before .before .skip-value .result, c .next-element .ensures .0)

@@ -43,16 +43,21 @@ say-requires-2 c κs = search needs
 
 say-value-requires : tie.Need-say-value-requires Inv-loop μ-loop
 say-value-requires c κs =
+    let skip-value = c .before .before .before .before .before .skip-value in
+    let loop = c .before .before .before .before .before .before .before .before .before .loop in
     let g = c .before .before .before .before .before .before .before .m .given in
-    (c .before .before .before .before .before .skip-value .ensures .0 .0 (in-text (length (now (c .before .before .before .before .before .before .before .before .before .before .before .before .args .s))) (c .before .before .before .before .before .before .before .before .before .loop .m) (g .0 .0) (g .0 .1 .0) (g .1) (c .before .before .before .before .before .before .before .before .before .loop .inv) .1), c .before .before .before .before .before .skip-value .ensures .0 .1)
+    (skip-value .ensures .0 .0 (in-text (length (now (c .before .before .before .before .before .before .before .before .before .before .before .before .args .s))) (loop .m) (g .0 .0) (g .0 .1 .0) (g .1) (loop .inv) .1), skip-value .ensures .0 .1)
 
 next-member-requires : tie.Need-next-member-requires Inv-loop μ-loop
 next-member-requires c κs = search needs
 
 loop-less : tie.Need-loop-less Inv-loop μ-loop
 loop-less c =
+    let loop = c .before .before .before .before .before .before .before .before .before .before .before .loop in
+    let next-member = c .next-member in
+    let skip-value = c .before .before .before .before .before .before .before .skip-value in
     let g = c .before .before .before .before .before .before .before .before .before .m .given in
-    less-ahead (length (now (c .before .before .before .before .before .before .before .before .before .before .before .before .before .before .args .s))) (c .before .before .before .before .before .before .before .before .before .before .before .loop .m) (c .next-member .result) (g .0 .0) (g .0 .1 .0) (c .before .before .before .before .before .before .before .skip-value .result) (g .1) (c .before .before .before .before .before .before .before .before .before .before .before .loop .inv) (c .before .before .before .before .before .before .before .skip-value .ensures .0 .0) (c .next-member .ensures .0)
+    less-ahead (length (now (c .before .before .before .before .before .before .before .before .before .before .before .before .before .before .args .s))) (loop .m) (next-member .result) (g .0 .0) (g .0 .1 .0) (skip-value .result) (g .1) (loop .inv) (skip-value .ensures .0 .0) (next-member .ensures .0)
 
 loop-again : tie.Need-loop-again Inv-loop μ-loop
 loop-again c = (c .before .before .before .before .before .before .before .skip-value .result, c .next-member .ensures .0)

@@ -48,17 +48,21 @@ next-member-requires c κs = tt
 
 loop-less : tie.Need-loop-less Inv-loop μ-loop
 loop-less c =
+    let loop = c .before .before .before .before .before .before .before .loop in
+    let next-member = c .next-member in
+    let skip-value = c .before .skip-value in
     let g = c .before .before .before .before .before .m .given in
-    less-ahead (length (now (c .before .before .before .before .before .before .before .before .before .before .before .args .s))) (c .before .before .before .before .before .before .before .loop .m) (c .next-member .result) (g .0 .0) (g .0 .1 .0) (c .before .skip-value .result) (g .1) (c .before .before .before .before .before .before .before .loop .inv .0) (c .before .skip-value .ensures .0 .0) (c .next-member .ensures .0)
+    less-ahead (length (now (c .before .before .before .before .before .before .before .before .before .before .before .args .s))) (loop .m) (next-member .result) (g .0 .0) (g .0 .1 .0) (skip-value .result) (g .1) (loop .inv .0) (skip-value .ensures .0 .0) (next-member .ensures .0)
 
 loop-again : tie.Need-loop-again Inv-loop μ-loop
 loop-again c =
+    let loop = c .before .before .before .before .before .before .before .loop in
     let a = c .before .before .before .before .before .before .before .before .before .before .before .args in
     let g = c .before .before .before .before .before .m .given in
     let q = c .before .before .before .equals in
     let e = c .before .skip-value in
     let n = c .next-member in
-    ((e .result, n .ensures .0), seeking-on (a .depth) (now (a .s)) (a .at) (now (a .name)) (c .before .before .before .before .before .before .before .loop .m) (c .before .before .before .before .before .before .before .loop .inv .1) (g .0 .0) (g .0 .1 .0) (g .1) (q .result) (q .ensures) (c .before .before .if1 .left) (e .result) (e .ensures .1 (a .depth)) (n .result) (n .ensures .1 .0))
+    ((e .result, n .ensures .0), seeking-on (a .depth) (now (a .s)) (a .at) (now (a .name)) (loop .m) (loop .inv .1) (g .0 .0) (g .0 .1 .0) (g .1) (q .result) (q .ensures) (c .before .before .if1 .left) (e .result) (e .ensures .1 (a .depth)) (n .result) (n .ensures .1 .0))
 
 pub has-member-spec : {M : Type 1} → statement M
 has-member-spec =

@@ -52,18 +52,22 @@ next-member-requires c κs = tt
 
 loop-less : tie.Need-loop-less Inv-loop μ-loop
 loop-less c =
+    let loop = c .before .before .before .before .before .before .before .loop in
+    let next-member = c .next-member in
+    let skip-value = c .before .before .before .skip-value in
     let g = c .before .before .before .before .before .m .given in
-    less-ahead (length (now (c .before .before .before .before .before .before .before .before .before .before .before .args .s))) (c .before .before .before .before .before .before .before .loop .m) (c .next-member .result) (g .0 .0) (g .0 .1 .0) (c .before .before .before .skip-value .result) (g .1) (c .before .before .before .before .before .before .before .loop .inv .0) (c .before .before .before .skip-value .ensures .0 .0) (c .next-member .ensures .0)
+    less-ahead (length (now (c .before .before .before .before .before .before .before .before .before .before .before .args .s))) (loop .m) (next-member .result) (g .0 .0) (g .0 .1 .0) (skip-value .result) (g .1) (loop .inv .0) (skip-value .ensures .0 .0) (next-member .ensures .0)
 
 loop-again : tie.Need-loop-again Inv-loop μ-loop
 loop-again c =
+    let loop = c .before .before .before .before .before .before .before .loop in
     let a = c .before .before .before .before .before .before .before .before .before .before .before .args in
     let g = c .before .before .before .before .before .m .given in
     let q = c .before .before .equals in
     let e = c .before .before .before .skip-value in
     let n = c .next-member in (
       (e .result, n .ensures .0),
-      seeking-on (now (a .s)) (now (a .name)) (c .before .before .before .before .before .before .before .loop .m) (c .before .before .before .before .before .before .before .loop .inv .1) (g .0 .0) (g .0 .1 .0) (g .1) (q .result) (q .ensures) (e .result) (e .ensures .1 15) (c .before .if1 .left) (e .ensures .0 .1) (n .result) (n .ensures .1 .1),
+      seeking-on (now (a .s)) (now (a .name)) (loop .m) (loop .inv .1) (g .0 .0) (g .0 .1 .0) (g .1) (q .result) (q .ensures) (e .result) (e .ensures .1 15) (c .before .if1 .left) (e .ensures .0 .1) (n .result) (n .ensures .1 .1),
     )
 
 pub find-in-spec : {M : Type 1} → statement M

@@ -36,17 +36,22 @@ add-t8 c = search needs
 
 returns-3 : tie.Need-returns-3
 returns-3 c =
+    let args = c .before .before .before .before .before .before .before .before .args in
+    let look = c .before .before .before .before .look in
+    let look2 = c .before .look2 in
     let i = c .before .before .before .before .before .skip-space in
     let j = c .before .before .skip-space2 in
-    let o = opens-here (now (c .before .before .before .before .before .before .before .before .args .s)) (c .before .before .before .before .before .before .before .before .args .at) (i .result) (c .before .before .before .before .look .result) (i .ensures) (c .before .before .before .before .look .ensures .0) 91 (c .before .before .before .if2 .left) (j .result) (j .ensures) in
-    (((λ l. omega (arith, i .ensures .from, j .ensures .from)), omega (arith, c .before .look2 .ensures .1, c .if3 .taken)), element-none (now (c .before .before .before .before .before .before .before .before .args .s)) (c .before .before .before .before .before .before .before .before .args .at) (j .result) o (sym (c .before .look2 .ensures .0) ∙ (c .if3 .taken)))
+    let o = opens-here (now (args .s)) (args .at) (i .result) (look .result) (i .ensures) (look .ensures .0) 91 (c .before .before .before .if2 .left) (j .result) (j .ensures) in
+    (((λ l. omega (arith, i .ensures .from, j .ensures .from)), omega (arith, look2 .ensures .1, c .if3 .taken)), element-none (now (args .s)) (args .at) (j .result) o (sym (look2 .ensures .0) ∙ (c .if3 .taken)))
 
 returns-4 : tie.Need-returns-4
 returns-4 c =
+    let args = c .before .before .before .before .before .before .before .before .args in
+    let look = c .before .before .before .before .look in
     let i = c .before .before .before .before .before .skip-space in
     let j = c .before .before .skip-space2 in
-    let o = opens-here (now (c .before .before .before .before .before .before .before .before .args .s)) (c .before .before .before .before .before .before .before .before .args .at) (i .result) (c .before .before .before .before .look .result) (i .ensures) (c .before .before .before .before .look .ensures .0) 91 (c .before .before .before .if2 .left) (j .result) (j .ensures) in
-    ((omega (arith, i .ensures .from, j .ensures .from), j .ensures .to), element-first (now (c .before .before .before .before .before .before .before .before .args .s)) (c .before .before .before .before .before .before .before .before .args .at) (j .result) o (λ x. c .if3 .left (c .before .look2 .ensures .0 ∙ x)))
+    let o = opens-here (now (args .s)) (args .at) (i .result) (look .result) (i .ensures) (look .ensures .0) 91 (c .before .before .before .if2 .left) (j .result) (j .ensures) in
+    ((omega (arith, i .ensures .from, j .ensures .from), j .ensures .to), element-first (now (args .s)) (args .at) (j .result) o (λ x. c .if3 .left (c .before .look2 .ensures .0 ∙ x)))
 
 pub first-element-spec : {M : Type 1} → statement M
 first-element-spec =

@@ -72,8 +72,11 @@ next-member-requires c κs = tt
 
 loop-less : tie.Need-loop-less Inv-loop μ-loop
 loop-less c =
+    let loop = c .before .before .before .before .before .before .before .before .before .before .before .before .before .loop in
+    let next-member = c .next-member in
+    let skip-value = c .before .skip-value in
     let g = c .before .before .before .before .before .before .before .before .before .before .before .m .given in
-    less-ahead (length (now (c .before .before .before .before .before .before .before .before .before .before .before .before .before .before .before .before .before .before .args .s))) (c .before .before .before .before .before .before .before .before .before .before .before .before .before .loop .m) (c .next-member .result) (g .0 .0) (g .0 .1 .0) (c .before .skip-value .result) (g .1) (c .before .before .before .before .before .before .before .before .before .before .before .before .before .loop .inv .0) (c .before .skip-value .ensures .0 .0) (c .next-member .ensures .0)
+    less-ahead (length (now (c .before .before .before .before .before .before .before .before .before .before .before .before .before .before .before .before .before .before .args .s))) (loop .m) (next-member .result) (g .0 .0) (g .0 .1 .0) (skip-value .result) (g .1) (loop .inv .0) (skip-value .ensures .0 .0) (next-member .ensures .0)
 
 loop-again : tie.Need-loop-again Inv-loop μ-loop
 loop-again c =
