@@ -1,19 +1,14 @@
--- What a filled table holds is classed as the line that was read.
+-- The number of a line's name, from its table.
 use mathlib.Core.Path.{_≡_, refl, sym, ap, _∙_}
-use mathlib.Core.Bool.{Bool}
 use mathlib.Core.List.{List}
 use Prim.Native.Nat.{ℕ, _<_}
 use native.Mathlib.Omega.{arith}
 use lib.ListN.{getD}
 use Rattle.text.specs.Bytes.{Bytes, lowered}
-use Rattle.convert.specs.Classify.{Seen}
-use Rattle.line_table.specs.Table.{part, lineIn, Holds}
+use Rattle.line_table.specs.Table.{part, lineIn}
 use Rattle.class_names.specs.Names.{nameNumber}
 use Rattle.class_names.proofs.Numbers.{number-small}
-use Rattle.class_line.specs.Class.{Classes, Numbered}
-use Rattle.class_line.specs.declared.Class.{Class as Answer}
-
--- ---- the number of its name
+use Rattle.class_line.specs.Class.{Numbered}
 
 name-is : (s : Bytes) (t : List ℕ) → lineIn s t .name ≡ part s (getD t 2 0) (getD t 3 0)
 unfolding lineIn
@@ -34,7 +29,3 @@ third n k e l z a b c d f =
     let small : nameNumber n < 16 = rw (sym e) l in
     let less : k < 7 = rw e (number-small n small) in
     is-three k (below-four k less a b c) z d f
-
--- ---- the line that was read
-
-module _ {s t : List ℕ} {full parts : Bool} (r : Answer) (h : Holds s t) (c : Classes s t full parts r) (seen : Seen) (f : seen .full ≡ full) (p : seen .parts ≡ parts) where
