@@ -148,33 +148,17 @@ fn read_in<'a, 'b, 'c, 'd>(
     answer(verdict_on(s, r), Opened::Other)
 }
 
-// Most texts are short: their scratch is quick to clear.
-fn read_short<'a, 'b, 'c>(slots: &'a mut [usize], s: &'b [u8], names: &'c [u8]) -> Opened
-    requires { ⌜ length (now s) ≤ 2048 ⌝ }
-    requires { ⌜ length (parts (code ",") (now names)) < length (now slots) ⌝ }
-    requires { ⌜ Clear (now slots) ⌝ }
-    ensures { λ r. ⌜ asVerdict r ≡ verdictOf (reading 16 (now (s .entry))) ⌝ }
-    ensures { λ r. ⌜ Opens (now (s .entry)) (now (names .entry)) (now (slots .exit)) r ⌝ }
-{
-    let mut places = [0u16; 512];
-    let mut prints = [0u16; 512];
-    read_in(slots, s, names, &mut places, &mut prints)
-}
-
-fn read_long<'a, 'b, 'c>(slots: &'a mut [usize], s: &'b [u8], names: &'c [u8]) -> Opened
-    requires { ⌜ length (now s) ≤ 65536 ⌝ }
-    requires { ⌜ length (parts (code ",") (now names)) < length (now slots) ⌝ }
-    requires { ⌜ Clear (now slots) ⌝ }
-    ensures { λ r. ⌜ asVerdict r ≡ verdictOf (reading 16 (now (s .entry))) ⌝ }
-    ensures { λ r. ⌜ Opens (now (s .entry)) (now (names .entry)) (now (slots .exit)) r ⌝ }
-{
-    let mut places = [0u16; 16384];
-    let mut prints = [0u16; 16384];
-    read_in(slots, s, names, &mut places, &mut prints)
-}
-
-// The verdict of `json_read::read` at depth 16; and where the text is an object, the slots are its index, as `json_index::index_object` makes it.
-pub fn read_indexed<'a, 'b, 'c>(slots: &'a mut [usize], s: &'b [u8], names: &'c [u8]) -> Opened
+// The verdict of `json_read::read` at depth 16; and where the text is an object, the slots are its index, as `json_index::index_object` makes it. Names of the
+// open objects are noted in what is lent: each takes four bytes of the text at least.
+pub fn read_indexed<'a, 'b, 'c, 'd>(
+    slots: &'a mut [usize],
+    s: &'b [u8],
+    names: &'c [u8],
+    places: &'d mut [u16],
+    prints: &'d mut [u16],
+) -> Opened
+    requires { ⌜ length (now s) ≤ 4 * length (now places) ⌝ }
+    requires { ⌜ length (now prints) ≡ length (now places) ⌝ }
     requires { ⌜ length (parts (code ",") (now names)) < length (now slots) ⌝ }
     requires { ⌜ Clear (now slots) ⌝ }
     ensures { λ r. ⌜ asVerdict r ≡ verdict 16 (now (s .entry)) ⌝ }
@@ -184,8 +168,5 @@ pub fn read_indexed<'a, 'b, 'c>(slots: &'a mut [usize], s: &'b [u8], names: &'c 
     if s.len() > 65536 {
         return Opened::Large;
     }
-    if s.len() <= 2048 {
-        return read_short(slots, s, names);
-    }
-    read_long(slots, s, names)
+    read_in(slots, s, names, places, prints)
 }

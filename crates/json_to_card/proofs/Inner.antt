@@ -1,6 +1,6 @@
 -- The definition of JSON to card goes by these two steps.
 use mathlib.Core.Path.{_≡_, refl, ap, _∙_}
-use mathlib.Core.Bool.{true, false, not}
+use mathlib.Core.Bool.{Bool, true, false, not}
 use mathlib.Core.List.{List, [], _∷_}
 use mathlib.Core.Option.{Option, none, some}
 use Prim.Native.Nat.{ℕ, _≤_, _<_}
@@ -14,9 +14,9 @@ use Rattle.convert.specs.Model.{Card}
 use Rattle.convert.specs.FromJson.{cardFromJson}
 use Rattle.convert.specs.Carry.{carried}
 use Rattle.convert.specs.ToCard.{cardLines, printCard}
-use Rattle.convert.specs.Answers.{no, yes, Test, fine, fails, seek, given, fitted, lineRoom, cardRoom, jsonRoom, convertModel, convertTree, jsonToCard}
+use Rattle.convert.specs.Answers.{Answer, no, yes, Test, fine, fails, seek, given, fitted, lineRoom, cardRoom, jsonRoom, convertModel, convertTree, jsonToCard}
 use Rattle.served_put.specs.Lent.{fitLent}
-use Rattle.json_to_card.specs.Inner.{ofCard, inner, fit}
+use Rattle.json_to_card.specs.Inner.{ofCard, inner, becomes, fit}
 
 seek-fit : (lent : ℕ) (ts : List Test) (r : Bytes) → seek ts (fitted cardRoom lent r) ≡ fit lent (seek ts (yes r))
 unfolding seek
@@ -33,16 +33,24 @@ tree-fit : (lent : ℕ) (x : Reading) → convertTree lent x ≡ fit lent (inner
 tree-fit lent (refused p) = refl
 tree-fit lent (tree j) = card-fit lent (cardFromJson j)
 
--- 3 (bytes), then the rest
-answer-is : (lent : ℕ) (s : Bytes) → jsonToCard lent s ≡ pick (ltb jsonRoom (length s)) (no 3 0) (fit lent (inner (reading 16 s)))
-unfolding jsonToCard
-answer-is lent s = ap (λ a. pick (ltb jsonRoom (length s)) (no 3 0) a) (tree-fit lent (reading 16 s))
+pick-fit : (lent : ℕ) (b : Bool) (a : Answer) → pick b (no 3 0) (fit lent a) ≡ fit lent (pick b (no 3 0) a)
+pick-fit lent true a = refl
+pick-fit lent false a = refl
 
-pub too-long : (lent : ℕ) (s : Bytes) → jsonRoom < length s → jsonToCard lent s ≡ no 3 0
-too-long lent s h = answer-is lent s ∙ ap (λ b. pick b (no 3 0) (fit lent (inner (reading 16 s)))) (lt-ltb jsonRoom (length s) h)
+-- what the text becomes, and whether that has room
+pub answer-is : (lent : ℕ) (s : Bytes) → jsonToCard lent s ≡ fit lent (becomes s)
+unfolding jsonToCard becomes
+answer-is lent s =
+    let long : Bool = ltb jsonRoom (length s) in
+    ap (λ a. pick long (no 3 0) a) (tree-fit lent (reading 16 s)) ∙ pick-fit lent long (inner (reading 16 s))
 
-pub the-rest : (lent : ℕ) (s : Bytes) → length s ≤ jsonRoom → jsonToCard lent s ≡ fit lent (inner (reading 16 s))
-the-rest lent s h = answer-is lent s ∙ ap (λ b. pick b (no 3 0) (fit lent (inner (reading 16 s)))) (le-ltb jsonRoom (length s) h)
+pub too-long : (s : Bytes) → jsonRoom < length s → becomes s ≡ no 3 0
+unfolding becomes
+too-long s h = ap (λ b. pick b (no 3 0) (inner (reading 16 s))) (lt-ltb jsonRoom (length s) h)
+
+pub the-rest : (s : Bytes) → length s ≤ jsonRoom → becomes s ≡ inner (reading 16 s)
+unfolding becomes
+the-rest s h = ap (λ b. pick b (no 3 0) (inner (reading 16 s))) (le-ltb jsonRoom (length s) h)
 
 -- ---- 13 and 3 (lines)
 

@@ -24,12 +24,12 @@ use Rattle.served_put.proofs.Serving.{serves-refused, serves-as}
 use Rattle.to_card_lines.specs.declared.Lines.the-variants.{Wrong}
 use Rattle.to_card_card.specs.Whole.{cardNames}
 use Rattle.to_card_card.proofs.Names.{card-other}
-use Rattle.json_to_card.specs.Inner.{Reads, inner, fit}
+use Rattle.json_to_card.specs.Inner.{Reads, inner, becomes, fit}
 use Rattle.json_to_card.specs.Making.{Makes}
 use Rattle.json_to_card.specs.declared.Made.{Made}
 use Rattle.json_to_card.specs.declared.Made.the-variants.{Card, Refused, Full}
 use Rattle.json_to_card.proofs.Making.{made-wrong}
-use Rattle.json_to_card.proofs.Inner.{too-long, the-rest, fit-large, fit-lent}
+use Rattle.json_to_card.proofs.Inner.{answer-is, too-long, the-rest, fit-large, fit-lent}
 
 -- ---- the result
 
@@ -63,18 +63,18 @@ module _ (s : Bytes) (r : Verdict) (said : r ≡ verdict 16 s) (words : InWords 
   judged h = said ∙ ap (λ b. pick b (verdictOf (reading 16 s)) Large) (le-leb (length s) jsonRoom h)
 
   -- 3
-  pub read-large : r ≡ Large → (lent : ℕ) → jsonToCard lent s ≡ no 3 0
-  read-large e lent = too-long lent s (words .over-room .0 (ap number e))
+  pub read-large : r ≡ Large → becomes s ≡ no 3 0
+  read-large e = too-long s (words .over-room .0 (ap number e))
 
   -- 11
   no-json : (p : ℕ) (x : Reading) → verdictOf x ≡ NotJson p → inner x ≡ no 11 p
   no-json p (tree j) q = let z : _≡_ {A = ℕ} 0 1 = cc in absurd (omega (arith, z))
   no-json p (refused n) q = let z : n ≡ p = cc in ap (no 11) z
 
-  pub read-not-json : (p : ℕ) → r ≡ NotJson p → (lent : ℕ) → jsonToCard lent s ≡ no 11 p
-  read-not-json p e lent =
+  pub read-not-json : (p : ℕ) → r ≡ NotJson p → becomes s ≡ no 11 p
+  read-not-json p e =
       let h : length s ≤ jsonRoom = words .no-json .0 (ap number e) .0 in
-      the-rest lent s h ∙ ap (fit lent) (no-json p (reading 16 s) (sym (judged h) ∙ e))
+      the-rest s h ∙ no-json p (reading 16 s) (sym (judged h) ∙ e)
 
   is-tree : (x : Reading) → verdictOf x ≡ Sound → (j : Json) × (x ≡ tree j)
   is-tree (tree j) q = (j, refl)
@@ -87,14 +87,23 @@ module _ (s : Bytes) (r : Verdict) (said : r ≡ verdict 16 s) (words : InWords 
     pub read-sound : Reads s
     read-sound = let t = is-tree (reading 16 s) (sym (judged read-short) ∙ e) in record { value = t .0; is = t .1 }
 
-    -- then the rest: both promises
-    pub seen : (out : Bytes) (o : Outcome) (after : Bytes) → Serves out (fit (length out) (inner (reading 16 s))) o after
-        → (o ≡ outcomeOf (jsonToCard (length out) s)) × (after ≡ leftBy out (jsonToCard (length out) s))
-    seen out o after v = let w = serves-as out _ _ o after (sym (the-rest (length out) s read-short)) v in (w .said, w .left)
+    -- 12: no object
+    pub read-not-object : (xs : List ℕ) → Indexes 15 s 0 cardNames xs false → becomes s ≡ no 12 0
+    read-not-object xs index = the-rest s read-short ∙ made-wrong s [] Wrong [] read-sound (card-other s [] xs false index refl []) refl
 
--- 12: no object
-pub read-not-object : (s : Bytes) (xs : List ℕ) → Reads s → length s ≤ jsonRoom → Indexes 15 s 0 cardNames xs false → (lent : ℕ) → jsonToCard lent s ≡ no 12 0
-read-not-object s xs reads short index lent = the-rest lent s short ∙ ap (fit lent) (made-wrong s [] Wrong [] reads (card-other s [] xs false index refl []) refl)
+    -- then what its members say
+    pub read-object : becomes s ≡ inner (reading 16 s)
+    read-object = the-rest s read-short
 
-pub seen-refused : (out : Bytes) (a : Answer) (n p : ℕ) → a ≡ no n p → (Outcome-Refused n p ≡ outcomeOf a) × (out ≡ leftBy out a)
-seen-refused out a n p e = let w = serves-refused out a n p e in (w .said, w .left)
+-- ---- what is seen
+
+pub served-no : (out s : Bytes) (n p : ℕ) → becomes s ≡ no n p → Serves out (fit (length out) (becomes s)) (Outcome-Refused n p) out
+served-no out s n p e = serves-refused out _ n p (ap (fit (length out)) e)
+
+pub served-as : (out : Bytes) (a b : Answer) (o : Outcome) (after : Bytes) → b ≡ a → Serves out (fit (length out) a) o after → Serves out (fit (length out) b) o after
+served-as out a b o after e v = serves-as out _ _ o after (ap (fit (length out)) (sym e)) v
+
+-- both promises of the service
+pub seen : (s out : Bytes) (o : Outcome) (after : Bytes) → Serves out (fit (length out) (becomes s)) o after
+    → (o ≡ outcomeOf (jsonToCard (length out) s)) × (after ≡ leftBy out (jsonToCard (length out) s))
+seen s out o after v = let w = serves-as out _ _ o after (sym (answer-is (length out) s)) v in (w .said, w .left)

@@ -5,7 +5,7 @@ use mathlib.Core.List.{[], _∷_}
 use Prim.Native.Nat.{ℕ}
 use lib.ListN.{length}
 use lib.Dec.{ltb}
-use Rattle.text.specs.Choice.{with-some}
+use Rattle.text.specs.Choice.{pick, with-some}
 use Rattle.text.specs.Bytes.{Bytes}
 use Rattle.json.specs.Tree.{Json}
 use Rattle.json.specs.Read.{Reading, tree, refused, reading}
@@ -13,7 +13,7 @@ use Rattle.convert.specs.Model.{Card}
 use Rattle.convert.specs.FromJson.{cardFromJson}
 use Rattle.convert.specs.Carry.{carried}
 use Rattle.convert.specs.ToCard.{cardLines, printCard}
-use Rattle.convert.specs.Answers.{Answer, no, yes, seek, given, fitted, lineRoom, cardRoom}
+use Rattle.convert.specs.Answers.{Answer, no, yes, seek, given, fitted, lineRoom, cardRoom, jsonRoom}
 
 -- the text is JSON
 pub record Reads (s : Bytes) : Type 0 where
@@ -28,6 +28,10 @@ ofCard c = seek (given 13 (not (carried c)) ∷ given 3 (ltb lineRoom (length (c
 abbrev pub inner : Reading → Answer
 inner (refused p) = no 11 p
 inner (tree j) = with-some (cardFromJson j) ofCard (no 12 0)
+
+-- 3 (bytes), then these
+unfoldable pub becomes : Bytes → Answer
+becomes s = pick (ltb jsonRoom (length s)) (no 3 0) (inner (reading 16 s))
 
 -- refusals 3 (result) and 14
 abbrev pub fit : ℕ → Answer → Answer

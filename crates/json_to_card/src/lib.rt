@@ -1,17 +1,19 @@
 // JSON to card: the service.
 ghost use mathlib.Core.Path.{_≡_};
 ghost use mathlib.Core.Bool.{true};
-ghost use Prim.Native.Nat.{_≤_};
+ghost use Prim.Native.Nat.{_*_, _≤_};
 ghost use lib.ListN.{length};
 ghost use Rattle.json.specs.Read.{reading};
-ghost use Rattle.json_index.specs.Index.{Indexes};
+ghost use Rattle.json_index.specs.Index.{Clear, Indexes};
+ghost use Rattle.json_open.specs.Opened.{asVerdict, Opens};
+ghost use Rattle.json_read.specs.Verdict.{verdict, InWords};
 ghost use Rattle.convert.specs.Answers.{jsonRoom, jsonToCard};
 ghost use Rattle.convert.specs.Served.{leftBy};
 ghost use Rattle.served.specs.Served.{outcomeOf};
 ghost use Rattle.served_put.specs.Lent.{Serves};
-ghost use Rattle.to_card_kept.specs.Kept.{Lent};
+ghost use Rattle.to_card_kept.specs.Kept.{LentText, Lent};
 ghost use Rattle.to_card_card.specs.Whole.{cardNames};
-ghost use Rattle.json_to_card.specs.Inner.{Reads, inner, fit};
+ghost use Rattle.json_to_card.specs.Inner.{Reads, inner, becomes, fit};
 ghost use Rattle.json_to_card.specs.Making.{Makes};
 use json_open::Opened;
 use json_open::read_indexed;
@@ -72,8 +74,32 @@ fn convert<'a, 'b, 'c, 'd, 'e, 'f, 'g>(
     Made::Card(n)
 }
 
+// The text, read, and its members by the reserved names. Names are noted in the last two.
+fn read_members<'a, 'b, 'c>(
+    slots: &'a mut [usize],
+    json: &'b [u8],
+    places: &'c mut [u16],
+    prints: &'c mut [u16],
+) -> Opened
+    requires { ⌜ length (now slots) ≡ 14 ⌝ }
+    requires { ⌜ Clear (now slots) ⌝ }
+    requires { ⌜ length (now json) ≤ 4 * length (now places) ⌝ }
+    requires { ⌜ length (now prints) ≡ length (now places) ⌝ }
+    ensures { λ r. ⌜ asVerdict r ≡ verdict 16 (now (json .entry)) ⌝ }
+    ensures { λ r. ⌜ InWords 16 (now (json .entry)) (asVerdict r) ⌝ }
+    ensures { λ r. ⌜ Opens (now (json .entry)) cardNames (now (slots .exit)) r ⌝ }
+{
+    read_indexed(
+        slots,
+        json,
+        b"@type,version,uid,kind,name,nicknames,emails,phones,links,notes,titles,organizations,vCardProps",
+        places,
+        prints,
+    )
+}
+
 // Scratch for every text that has room: 65,536 bytes, and a result of one byte more than a card's 32,768.
-fn large<'a, 'b, 'c>(out: &'a mut [u8], json: &'b [u8], slots: &'c [usize]) -> Outcome
+fn convert_long<'a, 'b, 'c>(out: &'a mut [u8], json: &'b [u8], slots: &'c [usize]) -> Outcome
     requires { ⌜ Reads (now json) ⌝ }
     requires { ⌜ length (now json) ≤ jsonRoom ⌝ }
     requires { ⌜ 14 ≤ length (now slots) ⌝ }
@@ -110,87 +136,15 @@ fn large<'a, 'b, 'c>(out: &'a mut [u8], json: &'b [u8], slots: &'c [usize]) -> O
     }
 }
 
-// Most texts are short: their scratch is quick to clear. A card that is too long for it goes the large way.
-fn small<'a, 'b, 'c>(out: &'a mut [u8], json: &'b [u8], slots: &'c [usize]) -> Outcome
-    requires { ⌜ Reads (now json) ⌝ }
-    requires { ⌜ length (now json) ≤ 4096 ⌝ }
-    requires { ⌜ 14 ≤ length (now slots) ⌝ }
-    requires { ⌜ Indexes 15 (now json) 0 cardNames (now slots) true ⌝ }
-    ensures { λ r. ⌜ Serves (now (out .entry)) (fit (length (now (out .entry))) (inner (reading 16 (now (json .entry))))) r (now (out .exit)) ⌝ }
+// 3 for a long text, 11, 12 where it is no object, then what its members say. A long text is read before the scratch of a long card is cleared.
+fn large(out: &mut [u8], json: &[u8]) -> Outcome
+    requires { ⌜ length (now json) ≤ jsonRoom ⌝ }
+    ensures { λ r. ⌜ Serves (now (out .entry)) (fit (length (now (out .entry))) (becomes (now (json .entry)))) r (now (out .exit)) ⌝ }
 {
-    let mut result = [0u8; 4096];
-    let mut buffer = [0u8; 4096];
-    let mut b = [0u8; 4096];
-    let mut t = [0usize; 264];
-    let mut scratch = [0u8; 4096];
-    let n = json.len();
-    match convert(
-        &mut result,
-        &mut buffer,
-        &mut b[0..n],
-        &mut t,
-        &mut scratch,
-        json,
-        slots,
-    ) {
-        Made::Refused { number: k, place } => {
-            return Outcome::Refused { number: k, place };
-        }
-        Made::Full => {
-            return large(out, json, slots);
-        }
-        Made::Card(k) => {
-            return put_served(out, &result[0..k]);
-        }
-    }
-}
-
-// Most cards are smaller still: the same with half the scratch.
-fn tiny<'a, 'b, 'c>(out: &'a mut [u8], json: &'b [u8], slots: &'c [usize]) -> Outcome
-    requires { ⌜ Reads (now json) ⌝ }
-    requires { ⌜ length (now json) ≤ 2048 ⌝ }
-    requires { ⌜ 14 ≤ length (now slots) ⌝ }
-    requires { ⌜ Indexes 15 (now json) 0 cardNames (now slots) true ⌝ }
-    ensures { λ r. ⌜ Serves (now (out .entry)) (fit (length (now (out .entry))) (inner (reading 16 (now (json .entry))))) r (now (out .exit)) ⌝ }
-{
-    let mut result = [0u8; 2048];
-    let mut buffer = [0u8; 2048];
-    let mut b = [0u8; 2048];
-    let mut t = [0usize; 264];
-    let mut scratch = [0u8; 2048];
-    let n = json.len();
-    match convert(
-        &mut result,
-        &mut buffer,
-        &mut b[0..n],
-        &mut t,
-        &mut scratch,
-        json,
-        slots,
-    ) {
-        Made::Refused { number: k, place } => {
-            return Outcome::Refused { number: k, place };
-        }
-        Made::Full => {
-            return small(out, json, slots);
-        }
-        Made::Card(k) => {
-            return put_served(out, &result[0..k]);
-        }
-    }
-}
-
-// JSON to card: 3 for a long text, 11, 12 where it is no object, then what its members say. A refusal leaves the lent output as it was.
-pub fn json_to_card(json: &[u8], out: &mut [u8]) -> Outcome
-    ensures { λ r. ⌜ r ≡ outcomeOf (jsonToCard (length (now (out .entry))) (now (json .entry))) ⌝ }
-    ensures { λ r. ⌜ now (out .exit) ≡ leftBy (now (out .entry)) (jsonToCard (length (now (out .entry))) (now (json .entry))) ⌝ }
-{
+    let mut places = [0u16; 16384];
+    let mut prints = [0u16; 16384];
     let mut slots = [0usize; 14];
-    match read_indexed(
-        &mut slots,
-        json,
-        b"@type,version,uid,kind,name,nicknames,emails,phones,links,notes,titles,organizations,vCardProps",
-    ) {
+    match read_members(&mut slots, json, &mut places, &mut prints) {
         Opened::Large => {
             return Outcome::Refused {
                 number: 3,
@@ -210,13 +164,140 @@ pub fn json_to_card(json: &[u8], out: &mut [u8]) -> Outcome
             };
         }
         Opened::Object => {
-            if json.len() <= 2048 {
-                return tiny(out, json, &slots);
-            }
-            if json.len() <= 4096 {
-                return small(out, json, &slots);
-            }
-            return large(out, json, &slots);
+            return convert_long(out, json, &slots);
         }
     }
+}
+
+// The same with the scratch of a short text and a short card, which is lent at once.
+fn make<'a, 'b, 'c, 'd, 'e, 'f, 'g>(
+    result: &'a mut [u8],
+    buffer: &'b mut [u8],
+    b: &'c mut [u8],
+    t: &'d mut [usize],
+    scratch: &'e mut [u8],
+    places: &'f mut [u16],
+    prints: &'f mut [u16],
+    json: &'g [u8],
+) -> Made
+    requires { ⌜ length (now result) ≤ length (now buffer) ⌝ }
+    requires { ⌜ LentText (now b) (now t) (now scratch) (now json) ⌝ }
+    requires { ⌜ length (now json) ≤ 4 * length (now places) ⌝ }
+    requires { ⌜ length (now prints) ≡ length (now places) ⌝ }
+    ensures { λ r. ⌜ Makes (becomes (now (json .entry))) (now (result .entry)) r (now (result .exit)) ⌝ }
+{
+    let mut slots = [0usize; 14];
+    match read_members(&mut slots, json, places, prints) {
+        Opened::Large => {
+            return Made::Refused {
+                number: 3,
+                place: 0,
+            };
+        }
+        Opened::NotJson(p) => {
+            return Made::Refused {
+                number: 11,
+                place: p,
+            };
+        }
+        Opened::Other => {
+            return Made::Refused {
+                number: 12,
+                place: 0,
+            };
+        }
+        Opened::Object => {
+            return convert(result, buffer, b, t, scratch, json, &slots);
+        }
+    }
+}
+
+// Most texts are short: their scratch is quick to clear. A card that is too long for it goes the large way.
+fn small(out: &mut [u8], json: &[u8]) -> Outcome
+    requires { ⌜ length (now json) ≤ 4096 ⌝ }
+    ensures { λ r. ⌜ Serves (now (out .entry)) (fit (length (now (out .entry))) (becomes (now (json .entry)))) r (now (out .exit)) ⌝ }
+{
+    let mut result = [0u8; 4096];
+    let mut buffer = [0u8; 4096];
+    let mut b = [0u8; 4096];
+    let mut t = [0usize; 264];
+    let mut scratch = [0u8; 4096];
+    let mut places = [0u16; 1024];
+    let mut prints = [0u16; 1024];
+    let n = json.len();
+    match make(
+        &mut result,
+        &mut buffer,
+        &mut b[0..n],
+        &mut t,
+        &mut scratch,
+        &mut places,
+        &mut prints,
+        json,
+    ) {
+        Made::Refused { number: k, place } => {
+            return Outcome::Refused { number: k, place };
+        }
+        Made::Full => {
+            return large(out, json);
+        }
+        Made::Card(k) => {
+            return put_served(out, &result[0..k]);
+        }
+    }
+}
+
+// Most cards are smaller still: the same with half the scratch.
+fn tiny(out: &mut [u8], json: &[u8]) -> Outcome
+    requires { ⌜ length (now json) ≤ 2048 ⌝ }
+    ensures { λ r. ⌜ Serves (now (out .entry)) (fit (length (now (out .entry))) (becomes (now (json .entry)))) r (now (out .exit)) ⌝ }
+{
+    let mut result = [0u8; 2048];
+    let mut buffer = [0u8; 2048];
+    let mut b = [0u8; 2048];
+    let mut t = [0usize; 264];
+    let mut scratch = [0u8; 2048];
+    let mut places = [0u16; 512];
+    let mut prints = [0u16; 512];
+    let n = json.len();
+    match make(
+        &mut result,
+        &mut buffer,
+        &mut b[0..n],
+        &mut t,
+        &mut scratch,
+        &mut places,
+        &mut prints,
+        json,
+    ) {
+        Made::Refused { number: k, place } => {
+            return Outcome::Refused { number: k, place };
+        }
+        Made::Full => {
+            return small(out, json);
+        }
+        Made::Card(k) => {
+            return put_served(out, &result[0..k]);
+        }
+    }
+}
+
+// JSON to card. The scratch goes by the size of the text, and so does the stack that a call takes. A refusal leaves the lent output as it was.
+pub fn json_to_card(json: &[u8], out: &mut [u8]) -> Outcome
+    ensures { λ r. ⌜ r ≡ outcomeOf (jsonToCard (length (now (out .entry))) (now (json .entry))) ⌝ }
+    ensures { λ r. ⌜ now (out .exit) ≡ leftBy (now (out .entry)) (jsonToCard (length (now (out .entry))) (now (json .entry))) ⌝ }
+{
+    if json.len() <= 2048 {
+        return tiny(out, json);
+    }
+    if json.len() <= 4096 {
+        return small(out, json);
+    }
+    if json.len() > 65536 {
+        return Outcome::Refused {
+            number: 3,
+            place: 0,
+        };
+    }
+    large(out, json)
 }

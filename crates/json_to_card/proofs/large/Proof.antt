@@ -1,105 +1,109 @@
-use borrow.Author.Needs.{needs}
 use native.Mathlib.Omega.{arith}
 use denote.Ref.{now}
-use lib.ListN.{length-take, length-drop}
-use Rattle.json.specs.Read.{reading}
-use Rattle.json_to_card.specs.Inner.{inner}
-use Rattle.json_to_card.proofs.Serving.{of-refused, of-full, of-card, card-fits}
+use mathlib.Core.Path.{refl, ap, sym, subst}
+use Rattle.json_open.specs.Opened.{asVerdict, Opens}
+use Rattle.to_card_card.specs.Whole.{cardNames}
+use Rattle.to_card_card.proofs.Names.{clear-fourteen}
+use Rattle.json_to_card.proofs.Serving.{read-large, read-not-json, read-not-object, read-short, read-sound, read-object, served-no, served-as}
+use borrow.Author.Needs.{needs}
 use Rattle.json_to_card.proofs.large.Statement.{statement}
 use Rattle.json_to_card.proofs.large.Tie as tie
 
-slice-aggregate-convert : tie.Need-slice-aggregate-convert
-slice-aggregate-convert c = search needs
+slice-aggregate-read-members : tie.Need-slice-aggregate-read-members
+slice-aggregate-read-members c = search needs
 
-slice-aggregate-convert-2 : tie.Need-slice-aggregate-convert-2
-slice-aggregate-convert-2 c = search needs
+slice-aggregate-read-members-2 : tie.Need-slice-aggregate-read-members-2
+slice-aggregate-read-members-2 c = search needs
 
-sub-convert : tie.Need-sub-convert
-sub-convert c = search needs
+slice-aggregate-read-members-3 : tie.Need-slice-aggregate-read-members-3
+slice-aggregate-read-members-3 c = search needs
 
-part-b-start : tie.Need-part-b-start
-part-b-start c = search needs
-
-part-b-end : tie.Need-part-b-end
-part-b-end c = search needs
-
-slice-aggregate-convert-3 : tie.Need-slice-aggregate-convert-3
-slice-aggregate-convert-3 c = search needs
-
-slice-aggregate-convert-4 : tie.Need-slice-aggregate-convert-4
-slice-aggregate-convert-4 c = search needs
-
-convert-requires : tie.Need-convert-requires
-convert-requires c κs =
-    let pre = c .before .before .before .before .before .before .before .before .pre in
-    (pre .0, (search needs, (record { all = record { small = omega (arith, pre .1 .0); buffer = simp (length-take, length-drop) (omega arith); table = search needs; text = search needs }; index = pre .1 .1 .0 }, pre .1 .1 .1)))
-
-enum-known-k : tie.Need-enum-known-k
-enum-known-k c = search needs
-
-returns : tie.Need-returns
-returns c =
-    let a = c .before .before .before .before .before .before .before .before .before .before .before .before .before .before .before .before .before .args in
-    let v = c .before .before .before .before .before .before .before .before .convert in
-    of-refused (now (a .out)) (inner (reading 16 (now (a .json)))) _ (v .result) (v .last .0) (v .ensures) _ _ (c .before .k .given .1)
+read-members-requires : tie.Need-read-members-requires
+read-members-requires c κs = (refl, (clear-fourteen, (omega (arith, c .before .before .before .before .before .pre), search needs)))
 
 enum-told : tie.Need-enum-told
 enum-told c = search needs
 
+returns : tie.Need-returns
+returns c =
+    let a = c .before .before .before .before .before .before .before .before .before .before .before .args in
+    let s = now (a .json) in
+    let read = c .before .before .before .before .before .read-members in
+    let v = asVerdict (read .result) in
+    let told = c .enum-told .given .1 in
+    served-no (now (a .out)) s 3 0 (read-large s v (read .ensures .0) (read .ensures .1 .0) (ap asVerdict told))
+
+enum-known-p : tie.Need-enum-known-p
+enum-known-p c = search needs
+
 returns-2 : tie.Need-returns-2
 returns-2 c =
-    let a = c .before .before .before .before .before .before .before .before .before .before .before .before .before .before .before .before .args in
-    let v = c .before .before .before .before .before .before .before .convert in
-    of-full (now (a .out)) (inner (reading 16 (now (a .json)))) _ (v .result) (v .last .0) (v .ensures) (c .enum-told .given .1) (search needs)
+    let a = c .before .before .before .before .before .before .before .before .before .before .before .before .args in
+    let s = now (a .json) in
+    let read = c .before .before .before .before .before .before .read-members in
+    let v = asVerdict (read .result) in
+    let told = c .before .p .given .1 in
+    served-no (now (a .out)) s 11 _ (read-not-json s v (read .ensures .0) (read .ensures .1 .0) _ (ap asVerdict told))
 
-enum-known-k-2 : tie.Need-enum-known-k-2
-enum-known-k-2 c = search needs
+enum-told-2 : tie.Need-enum-told-2
+enum-told-2 c = search needs
 
-sub-put-served : tie.Need-sub-put-served
-sub-put-served c = search needs
+returns-3 : tie.Need-returns-3
+returns-3 c =
+    let a = c .before .before .before .before .before .before .before .before .before .before .before .args in
+    let s = now (a .json) in
+    let read = c .before .before .before .before .before .read-members in
+    let v = asVerdict (read .result) in
+    let told = c .enum-told2 .given .1 in
+    let index = subst (Opens s cardNames (read .last .0)) told (read .ensures .1 .1) in
+    served-no (now (a .out)) s 12 0 (read-not-object s v (read .ensures .0) (read .ensures .1 .0) (ap asVerdict told) (read .last .0) index)
 
-part-put-served-start : tie.Need-part-put-served-start
-part-put-served-start c = search needs
+enum-told-3 : tie.Need-enum-told-3
+enum-told-3 c = search needs
 
-part-put-served-end : tie.Need-part-put-served-end
-part-put-served-end c =
-    let a = c .before .before .before .before .before .before .before .before .before .before .before .before .before .before .before .before .before .before .before .args in
-    let v = c .before .before .before .before .before .before .before .before .before .before .convert in
-    card-fits (now (a .out)) (inner (reading 16 (now (a .json)))) _ (v .result) (v .last .0) (v .ensures) _ (c .before .before .before .k2 .given .1)
+slice-aggregate-convert-long : tie.Need-slice-aggregate-convert-long
+slice-aggregate-convert-long c = search needs
 
-put-served-requires : tie.Need-put-served-requires
-put-served-requires c κs = search needs
+convert-long-requires : tie.Need-convert-long-requires
+convert-long-requires c κs =
+    let a = c .before .before .before .before .before .before .before .before .before .before .before .before .before .args in
+    let s = now (a .json) in
+    let read = c .before .before .before .before .before .before .before .read-members in
+    let v = asVerdict (read .result) in
+    let told = c .before .before .enum-told3 .given .1 in
+    let index = subst (Opens s cardNames (read .last .0)) told (read .ensures .1 .1) in
+    (read-sound s v (read .ensures .0) (read .ensures .1 .0) (ap asVerdict told), (c .before .before .before .before .before .before .before .before .before .before .before .before .before .pre, (search needs, index)))
 
 same-length : tie.Need-same-length
 same-length c = search needs
 
-returns-3 : tie.Need-returns-3
-returns-3 c =
-    let a = c .before .before .before .before .before .before .before .before .before .before .before .before .before .before .before .before .before .before .before .before .before .before .before .args in
-    let v = c .before .before .before .before .before .before .before .before .before .before .before .before .before .before .convert in
-    let p = c .before .before .put-served in
-    of-card (now (a .out)) (inner (reading 16 (now (a .json)))) _ (v .result) (v .last .0) (v .ensures) _ (c .before .before .before .before .before .before .before .k2 .given .1) (p .result) _ (search needs) (p .ensures)
+returns-4 : tie.Need-returns-4
+returns-4 c =
+    let a = c .before .before .before .before .before .before .before .before .before .before .before .before .before .before .before .before .args in
+    let s = now (a .json) in
+    let read = c .before .before .before .before .before .before .before .before .before .before .read-members in
+    let v = asVerdict (read .result) in
+    let told = c .before .before .before .before .before .enum-told3 .given .1 in
+    let made = c .before .before .convert-long in
+    let object = read-object s v (read .ensures .0) (read .ensures .1 .0) (ap asVerdict told) in
+    served-as (now (a .out)) _ _ (made .result) _ object (made .ensures)
 
 pub large-spec : {M : Type 1} → statement M
 large-spec =
     tie.close
     (tie.spec
-    slice-aggregate-convert
-    slice-aggregate-convert-2
-    sub-convert
-    part-b-start
-    part-b-end
-    slice-aggregate-convert-3
-    slice-aggregate-convert-4
-    convert-requires
-    enum-known-k
-    returns
+    slice-aggregate-read-members
+    slice-aggregate-read-members-2
+    slice-aggregate-read-members-3
+    read-members-requires
     enum-told
+    returns
+    enum-known-p
     returns-2
-    enum-known-k-2
-    sub-put-served
-    part-put-served-start
-    part-put-served-end
-    put-served-requires
+    enum-told-2
+    returns-3
+    enum-told-3
+    slice-aggregate-convert-long
+    convert-long-requires
     same-length
-    returns-3)
+    returns-4)
