@@ -7,13 +7,13 @@ use Prim.Native.Nat.{ℕ, suc, _+_, _-_, _≤_, _<_}
 use native.Mathlib.Omega.{arith}
 use lib.Dec.{eqb, ltb}
 use lib.ListN.{length, take, drop, set}
+use lib.Seq.{take-all}
 use borrow.Author.Tests.{eq-eqb, ne-eqb, lt-ltb, le-ltb, ltb-true, ltb-false}
 use Rattle.text.specs.Choice.{pick, with-some, chain, provided}
 use Rattle.text.specs.Bytes.{Bytes, each, parts, same}
 use Rattle.text.proofs.Cases.{byBool}
 use Rattle.text.proofs.Same.{same-swap}
 use Rattle.json.specs.Tree.{Json, jnull, jtrue, jfalse, jnum, jstr, jarr, jobj, member, asObject}
-use Rattle.json_skip.proofs.Ends.{all-of}
 use Rattle.json_strings.specs.Decoded.{decodedAt}
 use Rattle.json_access.specs.declared.Kind.{Kind}
 use Rattle.json_access.specs.Access.{EndsAt, TellsKind, kindOf}
@@ -31,7 +31,7 @@ use Rattle.card_params.proofs.Walk.{slot-none, slot-some, kind-told}
 
 -- sought in all of the names, as a part of them
 pub placed-in : (o : Option Bytes) (names : Bytes) {k : ℕ} → k ≡ placed o (parts 44 (take (length names - 0) (drop 0 names))) → k ≡ placed o (parts 44 names)
-placed-in o names {k} = subst (λ (t : Bytes). k ≡ placed o (parts 44 t)) (all-of names)
+placed-in o names {k} = subst (λ (t : Bytes). k ≡ placed o (parts 44 t)) (take-all (length names - 0) names (omega arith))
 
 pub position-placed : (x : Bytes) (ks : List Bytes) → position (same x) ks ≡ pick (ltb (placed (some x) ks) (length ks)) (some (placed (some x) ks)) none
 unfolding position placed

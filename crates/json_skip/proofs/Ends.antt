@@ -1,13 +1,11 @@
 -- Where a value ends, by its first byte.
-use mathlib.Core.Path.{_≡_, refl, sym, ap, subst, _∙_}
+use mathlib.Core.Path.{_≡_, refl, sym, ap, _∙_}
 use mathlib.Core.Bool.{false}
 use mathlib.Core.List.{[], _∷_}
 use Prim.Native.Nat.{ℕ, zero, suc, _+_, _-_, _<_}
 use native.Mathlib.Omega.{arith}
-use lib.ListN.{length, take, drop, drop-of-length-le}
-use lib.Seq.{take-all}
+use lib.ListN.{length, drop, drop-of-length-le}
 use borrow.Author.Tests.{eq-eqb}
-use Rattle.text.specs.declared.Read.{Read}
 use Rattle.text.specs.declared.Read.the-variants.{Next, Bad}
 use Rattle.text.specs.Bytes.{Bytes, is, between}
 use Rattle.text.specs.Reader.{bad, on, when, past, some-of}
@@ -33,14 +31,6 @@ pub skips-past : (s : Bytes) (at r : ℕ) → length s < at → Skips s at r
 skips-past s at r l d j u e =
     let z : drop at s ≡ [] = drop-of-length-le s {i = at} (omega arith) in
     absurd (not-bad (sym (ap (value d) z ∙ no-value d) ∙ e))
-
--- all of the bytes, as a part of them
-pub all-of : (s : Bytes) → take (length s - 0) (drop 0 s) ≡ s
-all-of s = take-all (length s - 0) s (omega arith)
-
--- a scalar read from such a part
-pub scalar-in : (s : Bytes) (i : ℕ) {r : Read} → let t = take (length s - 0) (drop 0 s) in Gives t i (scalar (drop i t)) r → Gives s i (scalar (drop i s)) r
-scalar-in s i {r} = subst (λ (t : Bytes). Gives t i (scalar (drop i t)) r) (all-of s)
 
 -- no scalar begins with a bracket
 no-bracket : (t : Bytes) → scalar (91 ∷ t) ≡ bad (91 ∷ t)

@@ -2,7 +2,8 @@ use denote.Ref.{now}
 use native.Mathlib.Omega.{arith}
 use lib.ListN.{length}
 use Rattle.text.proofs.Places.{gives-as}
-use Rattle.json_skip.proofs.Ends.{skips-past, skips-string, skips-array, skips-object, scalar-in, skips-scalar, skips-none}
+use Rattle.json_scan.proofs.First.{scalar-in}
+use Rattle.json_skip.proofs.Ends.{skips-past, skips-string, skips-array, skips-object, skips-scalar, skips-none}
 use borrow.Author.Needs.{needs}
 use Rattle.json_skip.proofs.skip_value.Statement.{statement}
 use Rattle.json_skip.proofs.skip_value.Tie as tie
