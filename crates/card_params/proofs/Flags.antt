@@ -3,10 +3,11 @@ use mathlib.Core.Path.{_≡_, refl, sym, ap, subst, _∙_}
 use mathlib.Core.Bool.{Bool, true, false}
 use mathlib.Core.List.{List, [], _∷_, _++_, map}
 use mathlib.Core.Option.{Option, none, some, Option·map}
-use Prim.Native.Nat.{ℕ, suc, _+_, _≤_, _<_}
+use Prim.Native.Nat.{ℕ, suc, _+_, _-_, _≤_, _<_}
 use native.Mathlib.Omega.{arith}
 use lib.Dec.{eqb, ltb}
-use lib.ListN.{length, set}
+use lib.ListN.{length, take, drop, set}
+use lib.Seq.{take-all}
 use borrow.Author.Tests.{eq-eqb, ne-eqb, lt-ltb, le-ltb, ltb-true, ltb-false}
 use Rattle.text.specs.Choice.{pick, with-some, chain, provided}
 use Rattle.text.specs.Bytes.{Bytes, each, parts, same}
@@ -27,6 +28,10 @@ use Rattle.card_params.specs.Params.{codeOf, markAll, flagsIn, FlagsAs, 
 use Rattle.card_params.proofs.Walk.{slot-none, slot-some, kind-told}
 
 -- ---- a name's place
+
+-- sought in all of the names, as a part of them
+pub placed-in : (o : Option Bytes) (names : Bytes) {k : ℕ} → k ≡ placed o (parts 44 (take (length names - 0) (drop 0 names))) → k ≡ placed o (parts 44 names)
+placed-in o names {k} = subst (λ (t : Bytes). k ≡ placed o (parts 44 t)) (take-all (length names - 0) names (omega arith))
 
 pub position-placed : (x : Bytes) (ks : List Bytes) → position (same x) ks ≡ pick (ltb (placed (some x) ks) (length ks)) (some (placed (some x) ks)) none
 unfolding position placed

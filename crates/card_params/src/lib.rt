@@ -66,7 +66,8 @@ pub fn flags_in<'a, 'b, 'c>(
                 if v != 1 {
                     return false;
                 }
-                let k = which_name(s, q, names);
+                // Not names itself: as in skip_value, its place and length go over one by one.
+                let k = which_name(s, q, &names[0..]);
                 if k >= count {
                     return false;
                 }

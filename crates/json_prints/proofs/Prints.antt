@@ -4,8 +4,8 @@ use mathlib.Core.Logic.{_⊎_, ⊎-elim}
 use mathlib.Core.Bool.{Bool, true, false, _||_}
 use mathlib.Core.List.{List, [], _∷_, _++_, map, map-append}
 use mathlib.Core.Option.{Option, none, some}
-use Prim.Native.Nat.{ℕ, zero, suc, _+_, _-_, _≤_, _<_}
-use native.Mathlib.Nat.{eq-or-lt-of-le}
+use Prim.Native.Nat.{ℕ, zero, suc, _+_, _-_, _*_, _/_, _%_, _≤_, _<_}
+use native.Mathlib.Nat.{eq-or-lt-of-le, div-add-mod', mul-add-mod-self-right}
 use native.Mathlib.Numerals.{add-one}
 use native.Mathlib.Omega.{arith}
 use lib.ListN.{length, getD, take, drop, set, length-take, drop-of-length-le}
@@ -60,6 +60,18 @@ last-or : (i k : ℕ) → i < k + 1 → (i ≡ k) ⊎ (i < k)
 last-or i k m = eq-or-lt-of-le (omega (arith, m))
 
 -- ---- prints
+-- a step needs the print before it only up to a number of times 65536
+stir-over : (x c : ℕ) → stir (x % 65536) c ≡ stir x c
+stir-over x c =
+    let e : x / 65536 * 40503 * 65536 + (x % 65536 * 40503 + c) ≡ x * 40503 + c = omega (arith, div-add-mod' x 65536) in
+    sym (mul-add-mod-self-right (x / 65536 * 40503) 65536 (x % 65536 * 40503 + c)) ∙ ap (λ (n : ℕ). n % 65536) e
+
+-- two steps are one
+pub stir-twice : (p b c : ℕ) → (p * 61393 + (b * 40503 + c)) % 65536 ≡ stir (stir p b) c
+stir-twice p b c =
+    let e : p * 25031 * 65536 + (p * 61393 + (b * 40503 + c)) ≡ (p * 40503 + b) * 40503 + c = omega arith in
+    sym (mul-add-mod-self-right (p * 25031) 65536 (p * 61393 + (b * 40503 + c))) ∙ ap (λ (n : ℕ). n % 65536) e ∙ sym (stir-over (p * 40503 + b) c)
+
 -- THE law: what agrees has the same print
 differing : (o x : Option Bytes) → (printOf 0 x ≡ printOf 0 o → ⊥) → agree o x ≡ false
 differing none x n = refl

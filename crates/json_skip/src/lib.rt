@@ -116,7 +116,8 @@ pub fn skip_value(s: &[u8], at: usize) -> usize
         return bracket_stop(s, i + 1);
     }
     // A number or a literal: a few bytes, and they end by the grammar (in 1x the value is 1).
-    match scalar_end(s, i) {
+    // Not s itself: its place and length then go over one by one, as they were just stored, and not as a pair that waits for both.
+    match scalar_end(&s[0..], i) {
         Read::Next(e) => e,
         Read::Bad(x) => x,
     }

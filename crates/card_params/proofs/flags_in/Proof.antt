@@ -5,7 +5,7 @@ use mathlib.Core.Path.{_≡_, refl, _∙_}
 use Prim.Native.Nat.{_+_}
 use lib.ListN.{length, length-set}
 use Rattle.json_walk.proofs.Laws.{ahead, InText, less-ahead}
-use Rattle.card_params.proofs.Flags.{Todo, todo-first, flags-absent, flags-not, flags-other, flags-on, flags-all, flags-none}
+use Rattle.card_params.proofs.Flags.{placed-in, Todo, todo-first, flags-absent, flags-not, flags-other, flags-on, flags-all, flags-none}
 use Rattle.card_params.proofs.flags_in.Statement.{statement}
 use Rattle.card_params.proofs.flags_in.Tie as tie
 
@@ -50,30 +50,39 @@ returns-2 c =
     let g = c .before .before .before .before .m .given in
     (l .inv .1, flags-not (now (a .s)) (a .slot) (a .base) (now (a .names)) (now (a .row)) (c .before .before .before .before .before .before .before .before .if1 .left) (l .m) (l .row) (l .inv .2) (g .0 .0) (g .0 .1 .0) (g .1) (kind-at .result) (kind-at .ensures) (kind-code .result) (kind-code .ensures) (c .if2 .taken) _)
 
+sub-which-name : tie.Need-sub-which-name Inv-loop μ-loop
+sub-which-name c = search needs
+
+part-which-name-start : tie.Need-part-which-name-start Inv-loop μ-loop
+part-which-name-start c = search needs
+
+part-which-name-end : tie.Need-part-which-name-end Inv-loop μ-loop
+part-which-name-end c = search needs
+
 which-name-requires : tie.Need-which-name-requires Inv-loop μ-loop
 which-name-requires c κs = tt
 
 same-length-2 : tie.Need-same-length-2 Inv-loop μ-loop
-same-length-2 c = c .before .before .before .before .before .before .before .before .loop .inv .1
+same-length-2 c = c .before .before .before .before .before .before .before .before .before .loop .inv .1
 
 returns-3 : tie.Need-returns-3 Inv-loop μ-loop
 returns-3 c =
-    let kind-at = c .before .before .before .before .kind-at in
-    let kind-code = c .before .before .before .kind-code in
-    let a = c .before .before .before .before .before .before .before .before .before .before .before .before .before .before .args in
-    let l = c .before .before .before .before .before .before .before .before .loop in
-    let g = c .before .before .before .before .before .before .m .given in
+    let kind-at = c .before .before .before .before .before .kind-at in
+    let kind-code = c .before .before .before .before .kind-code in
+    let a = c .before .before .before .before .before .before .before .before .before .before .before .before .before .before .before .args in
+    let l = c .before .before .before .before .before .before .before .before .before .loop in
+    let g = c .before .before .before .before .before .before .before .m .given in
     let w = c .before .which-name in (
       l .inv .1,
-      flags-other (now (a .s)) (a .slot) (a .base) (now (a .names)) (now (a .row)) (c .before .before .before .before .before .before .before .before .before .before .if1 .left) (l .m) (l .row) (l .inv .2) (g .0 .0) (g .0 .1 .0) (g .1) (kind-at .result) (kind-at .ensures) (kind-code .result) (kind-code .ensures) (c .before .before .if2 .left)
-          (w .result) (w .ensures) (a .count) (c .before .before .before .before .before .before .before .before .before .before .before .before .before .before .pre .0) (c .if3 .taken) _,
+      flags-other (now (a .s)) (a .slot) (a .base) (now (a .names)) (now (a .row)) (c .before .before .before .before .before .before .before .before .before .before .before .if1 .left) (l .m) (l .row) (l .inv .2) (g .0 .0) (g .0 .1 .0) (g .1) (kind-at .result) (kind-at .ensures) (kind-code .result) (kind-code .ensures) (c .before .before .before .if2 .left)
+          (w .result) (placed-in _ (now (a .names)) (w .ensures)) (a .count) (c .before .before .before .before .before .before .before .before .before .before .before .before .before .before .before .pre .0) (c .if3 .taken) _,
     )
 
 add-c : tie.Need-add-c Inv-loop μ-loop
-add-c c = omega (arith, c .before .before .before .before .before .before .before .before .before .before .before .before .before .before .pre .1, c .if3 .left)
+add-c c = omega (arith, c .before .before .before .before .before .before .before .before .before .before .before .before .before .before .before .pre .1, c .if3 .left)
 
 slice-write-row : tie.Need-slice-write-row Inv-loop μ-loop
-slice-write-row c = omega (arith, c .before .before .before .before .before .before .before .before .before .before .before .before .before .before .pre .1, c .if3 .left, c .before .before .before .before .before .before .before .before .loop .inv .1)
+slice-write-row c = omega (arith, c .before .before .before .before .before .before .before .before .before .before .before .before .before .before .before .pre .1, c .if3 .left, c .before .before .before .before .before .before .before .before .before .loop .inv .1)
 
 skip-value-requires : tie.Need-skip-value-requires Inv-loop μ-loop
 skip-value-requires c κs = tt
@@ -83,26 +92,26 @@ next-member-requires c κs = tt
 
 loop-less : tie.Need-loop-less Inv-loop μ-loop
 loop-less c =
-    let loop = c .before .before .before .before .before .before .before .before .before .before .loop in
+    let loop = c .before .before .before .before .before .before .before .before .before .before .before .loop in
     let next-member = c .next-member in
     let skip-value = c .before .skip-value in
-    let g = c .before .before .before .before .before .before .before .before .m .given in
-    less-ahead (length (now (c .before .before .before .before .before .before .before .before .before .before .before .before .before .before .before .before .args .s))) (loop .m) (next-member .result) (g .0 .0) (g .0 .1 .0) (skip-value .result) (g .1) (loop .inv .0) (skip-value .ensures .0 .0) (next-member .ensures .0)
+    let g = c .before .before .before .before .before .before .before .before .before .m .given in
+    less-ahead (length (now (c .before .before .before .before .before .before .before .before .before .before .before .before .before .before .before .before .before .args .s))) (loop .m) (next-member .result) (g .0 .0) (g .0 .1 .0) (skip-value .result) (g .1) (loop .inv .0) (skip-value .ensures .0 .0) (next-member .ensures .0)
 
 loop-again : tie.Need-loop-again Inv-loop μ-loop
 loop-again c =
-    let kind-at = c .before .before .before .before .before .before .kind-at in
-    let kind-code = c .before .before .before .before .before .kind-code in
-    let a = c .before .before .before .before .before .before .before .before .before .before .before .before .before .before .before .before .args in
-    let l = c .before .before .before .before .before .before .before .before .before .before .loop in
-    let g = c .before .before .before .before .before .before .before .before .m .given in
+    let kind-at = c .before .before .before .before .before .before .before .kind-at in
+    let kind-code = c .before .before .before .before .before .before .kind-code in
+    let a = c .before .before .before .before .before .before .before .before .before .before .before .before .before .before .before .before .before .args in
+    let l = c .before .before .before .before .before .before .before .before .before .before .before .loop in
+    let g = c .before .before .before .before .before .before .before .before .before .m .given in
     let w = c .before .before .before .which-name in
     let e = c .before .skip-value in
     let n = c .next-member in (
       (e .result, n .ensures .0),
       length-set (l .row) (a .base + w .result) 1 ∙ (l .inv .1),
-      flags-on (now (a .s)) (a .slot) (a .base) (now (a .names)) (now (a .row)) (c .before .before .before .before .before .before .before .before .before .before .before .before .if1 .left) (l .m) (l .row) (l .inv .2) (g .0 .0) (g .0 .1 .0) (g .1) (kind-at .result) (kind-at .ensures) (kind-code .result) (kind-code .ensures) (c .before .before .before .before .if2 .left)
-          (w .result) (w .ensures) (a .count) (c .before .before .before .before .before .before .before .before .before .before .before .before .before .before .before .before .pre .0) (omega (arith, c .before .before .if3 .left)) (e .result) (e .ensures .1 12) (n .result) (n .ensures .1 .0),
+      flags-on (now (a .s)) (a .slot) (a .base) (now (a .names)) (now (a .row)) (c .before .before .before .before .before .before .before .before .before .before .before .before .before .if1 .left) (l .m) (l .row) (l .inv .2) (g .0 .0) (g .0 .1 .0) (g .1) (kind-at .result) (kind-at .ensures) (kind-code .result) (kind-code .ensures) (c .before .before .before .before .before .if2 .left)
+          (w .result) (placed-in _ (now (a .names)) (w .ensures)) (a .count) (c .before .before .before .before .before .before .before .before .before .before .before .before .before .before .before .before .before .pre .0) (omega (arith, c .before .before .if3 .left)) (e .result) (e .ensures .1 12) (n .result) (n .ensures .1 .0),
     )
 
 enum-known-m-2 : tie.Need-enum-known-m-2 Inv-loop μ-loop
@@ -143,6 +152,9 @@ flags-in-spec =
     kind-code-requires
     same-length
     returns-2
+    sub-which-name
+    part-which-name-start
+    part-which-name-end
     which-name-requires
     same-length-2
     returns-3

@@ -2,6 +2,7 @@ use denote.Ref.{now}
 use native.Mathlib.Omega.{arith}
 use lib.ListN.{length}
 use Rattle.text.proofs.Places.{gives-as}
+use Rattle.json_scan.proofs.First.{scalar-in}
 use Rattle.json_skip.proofs.Ends.{skips-past, skips-string, skips-array, skips-object, skips-scalar, skips-none}
 use borrow.Author.Needs.{needs}
 use Rattle.json_skip.proofs.skip_value.Statement.{statement}
@@ -55,6 +56,15 @@ returns-4 c = (
   skips-object _ _ _ _ (c .before .before .before .before .before .skip-space .ensures) (c .before .before .before .before .look .ensures .0) _ (c .before .before .if3 .left) (c .before .if4 .taken) (c .bracket-stop2 .ensures),
 )
 
+sub-scalar-end : tie.Need-sub-scalar-end
+sub-scalar-end c = search needs
+
+part-scalar-end-start : tie.Need-part-scalar-end-start
+part-scalar-end-start c = search needs
+
+part-scalar-end-end : tie.Need-part-scalar-end-end
+part-scalar-end-end c = search needs
+
 scalar-end-requires : tie.Need-scalar-end-requires
 scalar-end-requires c κs = search needs
 
@@ -66,16 +76,22 @@ enum-known-x c = search needs
 
 returns-5 : tie.Need-returns-5
 returns-5 c =
-    let g = gives-as (c .before .before .before .scalar-end .ensures) (c .before .e .given .1) in (
-      (λ l. omega (arith, c .before .before .before .before .before .before .before .before .skip-space .ensures .from, g .within .0), g .within .1),
-      skips-scalar _ _ _ _ (c .before .before .before .before .before .before .before .before .skip-space .ensures) (c .before .before .before .before .before .before .before .look .ensures .0) _ (c .before .before .before .before .before .if3 .left) (c .before .before .before .before .if4 .left) g,
+    let p = c .before .before .before .before .before in
+    let h = p .before .before .before .before .skip-space .ensures in
+    let s = now (p .before .before .before .before .before .before .before .args .s) in
+    let g = gives-as (scalar-in s _ (c .before .before .before .scalar-end .ensures)) (c .before .e .given .1) in (
+      (λ l. omega (arith, h .from, g .within .0), g .within .1),
+      skips-scalar _ _ _ _ h (p .before .before .before .look .ensures .0) _ (p .before .if3 .left) (p .if4 .left) g,
     )
 
 returns-6 : tie.Need-returns-6
 returns-6 c =
-    let g = gives-as (c .before .before .before .scalar-end .ensures) (c .before .x .given .1) in (
-      (λ l. omega (arith, c .before .before .before .before .before .before .before .before .skip-space .ensures .from, g .within .0), g .within .1),
-      skips-none _ _ _ _ (c .before .before .before .before .before .before .before .before .skip-space .ensures) (c .before .before .before .before .before .before .before .look .ensures .0) _ (c .before .before .before .before .before .if3 .left) (c .before .before .before .before .if4 .left) g,
+    let p = c .before .before .before .before .before in
+    let h = p .before .before .before .before .skip-space .ensures in
+    let s = now (p .before .before .before .before .before .before .before .args .s) in
+    let g = gives-as (scalar-in s _ (c .before .before .before .scalar-end .ensures)) (c .before .x .given .1) in (
+      (λ l. omega (arith, h .from, g .within .0), g .within .1),
+      skips-none _ _ _ _ h (p .before .before .before .look .ensures .0) _ (p .before .if3 .left) (p .if4 .left) g,
     )
 
 pub skip-value-spec : {M : Type 1} → statement M
@@ -94,6 +110,9 @@ skip-value-spec =
     add-bracket-stop-2
     bracket-stop-requires-2
     returns-4
+    sub-scalar-end
+    part-scalar-end-start
+    part-scalar-end-end
     scalar-end-requires
     enum-known-e
     enum-known-x
