@@ -8,7 +8,7 @@ use native.Mathlib.Omega.{arith}
 use native.Mathlib.Numerals.{add-one}
 use native.Mathlib.Nat.{add-zero}
 use lib.ListN.{length, take, drop}
-use lib.Seq.{drop-cons}
+use lib.Seq.{drop-cons, take-all}
 use lib.Dec.{eqb, ltb}
 use borrow.Author.Tests.{ne-eqb, le-ltb, ltb-true, eqb-true, eqb-false}
 use borrow.Rule.Slice.PartMut.{midOf, putMid}
@@ -20,8 +20,9 @@ use Rattle.text.proofs.Cases.{byBool, split, in-between, between-true, and-left
 use Rattle.json.specs.Strings.{before}
 use Rattle.json_escapes.specs.Units.{unit}
 use Rattle.json_escapes.specs.declared.Piece.the-variants.{Of}
+use Rattle.json_strings.specs.declared.Byte.{Byte}
 use Rattle.json_strings.specs.declared.Byte.the-variants.{One}
-use Rattle.json_strings.specs.Decoded.{decodedAt, left, weight, byteOf}
+use Rattle.json_strings.specs.Decoded.{decodedAt, left, weight, byteOf, ByteIn}
 use Rattle.json_strings.proofs.Laws.{left-none, left-raw, raw-is, quote-at, bare-at}
 use Rattle.json_strings.proofs.NextByte.{one-left}
 use Rattle.line.specs.Class.{isControl}
@@ -32,6 +33,21 @@ use Rattle.line_pen.proofs.Laws.{pens-as, pens-then}
 use Rattle.card_pen.specs.Styles.{byteIn, writtenIn, standsIn, allStandIn, PlainByte, PlainRun}
 use Rattle.card_pen.proofs.Styles.{control-low, escape-none}
 use Rattle.card_pen.proofs.Strings.{Far, written-both, stand-both}
+
+-- ---- all of the bytes, as a part that is made of them
+
+whole : (s : Bytes) → take (length s - 0) (drop 0 s) ≡ s
+whole s = take-all (length s - 0) s (omega arith)
+
+pub in-whole : (s : Bytes) {at : ℕ} → at ≤ length s → at ≤ length (take (length s - 0) (drop 0 s))
+in-whole s {at} h = subst (λ (t : Bytes). at ≤ length t) (sym (whole s)) h
+
+pub byte-whole : (s : Bytes) (at hold : ℕ) (r : Byte)
+    → let t = take (length s - 0) (drop 0 s) in (left t at hold ≡ byteOf t r) × ByteIn t at hold r
+    → (left s at hold ≡ byteOf s r) × ByteIn s at hold r
+byte-whole s at hold r = subst (λ (t : Bytes). (left t at hold ≡ byteOf t r) × ByteIn t at hold r) (whole s)
+
+-- ---- plain bytes
 
 pub plain-high : (b : ℕ) (r : Bool) → 92 < b → r ≡ ltb b 256 && not (eqb b 127) → PlainByte b r
 plain-high b r l e = subst (PlainByte b) (sym e) (go (ltb b 256) (eqb b 127) (ltb-true b 256) (eqb-false b 127))

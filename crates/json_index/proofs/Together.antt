@@ -5,18 +5,21 @@ use mathlib.Core.List.{[], _∷_}
 use mathlib.Core.Option.{Option, none, some}
 use Prim.Native.Nat.{ℕ, suc, _+_, _-_, _≤_, _<_}
 use native.Mathlib.Omega.{arith}
+use native.Mathlib.Numerals.{add-one}
 use lib.Dec.{eqb}
 use lib.ListN.{length, take, drop, getD, List·getD-eq-default}
+use lib.Seq.{drop-cons}
 use borrow.Author.Tests.{eq-eqb, ne-eqb, eqb-true, eqb-false}
 use Rattle.text.specs.Bytes.{Bytes, between, same}
 use Rattle.text.specs.Places.{byteAt}
 use Rattle.text.proofs.Cases.{byBool, between-true, beyond}
 use Rattle.text.proofs.Places.{byte-default}
 use Rattle.json.specs.Strings.{before}
+use Rattle.json_skip.specs.Skip.{quoted}
 use Rattle.json_strings.specs.Decoded.{decodedAt, spells}
 use Rattle.json_strings.proofs.Laws.{quote-at, bare-at, nothing-at}
 use Rattle.json_index.specs.declared.Tried.{Tried}
-use Rattle.json_index.specs.Index.{NameEnds, nameIn, RawByte, Together, Alike, Differs, Tries}
+use Rattle.json_index.specs.Index.{NameEnds, nameIn, RawByte, Together, Skims, Alike, Differs, Tries}
 use Rattle.json_index.proofs.Names.{front, ends-on, name-full}
 
 pub raw-low : (c : ℕ) {r : Bool} → 32 ≤ c → c ≤ 92 → (c ≡ 34 → ⊥) → r ≡ not (eqb c 92) → RawByte c r
@@ -28,6 +31,18 @@ raw-low c l u n e = subst (RawByte c) (sym e) (go (eqb c 92) (eqb-false c 92))
 
 pub raw-as : (c : ℕ) {r q : Bool} → RawByte c r → r ≡ q → RawByte c q
 raw-as c h e = subst (RawByte c) e h
+
+-- ---- bytes that are no quote and no backslash
+
+pub skims-first : (s : Bytes) (at : ℕ) → Skims s at at
+skims-first s at = record { from = omega arith; within = λ l. l; same = refl }
+
+pub skims-on : (s : Bytes) (at i : ℕ) → Skims s at i → i < length s → {c : ℕ} → getD s i 0 ≡ c → RawByte c true → Skims s at (i + 1)
+unfolding quoted
+skims-on s at i k l {c} e r =
+    let one : quoted false (drop i s) ≡ quoted false (drop (i + 1) s) =
+    rw (drop-cons s i 0 l, e, ne-eqb c 34 (r .2), ne-eqb c 92 (r .3), add-one) refl in
+    record { from = omega (arith, k .from); within = λ h. omega arith; same = k .same ∙ one }
 
 -- ---- with a name
 

@@ -3,7 +3,7 @@ use lib.ListN.{length}
 use native.Mathlib.Omega.{arith}
 use denote.Ref.{now}
 use Rattle.json_strings.proofs.Laws.{weight-falls}
-use Rattle.card_pen.proofs.Plain.{quote-next, bare-next}
+use Rattle.card_pen.proofs.Plain.{quote-next, bare-next, in-whole, byte-whole}
 use borrow.Author.Needs.{needs}
 use Rattle.card_pen.proofs.byte_at.Statement.{statement}
 use Rattle.card_pen.proofs.byte_at.Tie as tie
@@ -43,11 +43,22 @@ returns-2 c =
     let in-text : (args .at) + 1 ≤ length (now (args .s)) = omega (arith, w .0, look .ensures .1) in
     (w .1, (in-text, weight-falls (now (args .s)) (args .at) _ (args .hold) 0 (omega arith) in-text))
 
+sub-next-byte : tie.Need-sub-next-byte
+sub-next-byte c = search needs
+
+part-next-byte-start : tie.Need-part-next-byte-start
+part-next-byte-start c = search needs
+
+part-next-byte-end : tie.Need-part-next-byte-end
+part-next-byte-end c = search needs
+
 next-byte-requires : tie.Need-next-byte-requires
-next-byte-requires c κs = search needs
+next-byte-requires c κs = in-whole (now (c .before .before .before .before .before .before .args .s)) (c .before .before .before .before .before .before .pre)
 
 returns-3 : tie.Need-returns-3
-returns-3 c = search needs
+returns-3 c =
+    let args = c .before .before .before .before .before .before .before .args in
+    byte-whole (now (args .s)) (args .at) (args .hold) (c .next-byte .result) (c .next-byte .ensures)
 
 pub byte-at-spec : {M : Type 1} → statement M
 byte-at-spec =
@@ -59,5 +70,8 @@ byte-at-spec =
     cast-t10
     add-t11
     returns-2
+    sub-next-byte
+    part-next-byte-start
+    part-next-byte-end
     next-byte-requires
     returns-3)

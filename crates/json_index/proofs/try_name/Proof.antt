@@ -40,7 +40,7 @@ returns-2 : tie.Need-returns-2
 returns-2 c =
     let h = c .before .before .before .alike .ensures .so-far in
     let n = c .before .before .name-stop2 in
-    (n .result, h .ends _ (n .ensures), h .same _ (n .ensures .from) ∙ sym (c .before .is-part .ensures) ∙ (c .if2 .taken))
+    (c .before .before .before .alike .ensures .skims, n .result, h .ends _ (n .ensures), h .same _ (n .ensures .from) ∙ sym (c .before .is-part .ensures) ∙ (c .if2 .taken))
 
 returns-3 : tie.Need-returns-3
 returns-3 c =
