@@ -181,14 +181,14 @@ pub fn put_spelled(out: &mut [u8], s: &[u8]) -> Wrote
     }
 }
 
-// A string.
+// A string. (A slice that is made for a call goes over as two words; one that is handed on waits until it is copied.)
 pub fn put_string(out: &mut [u8], s: &[u8]) -> Wrote
     ensures { λ r. ⌜ Puts (now (out .entry)) (quoted (now (s .entry)) []) r (now (out .exit)) ⌝ }
 {
     let Wrote::Bytes(a) = put_byte(out, b'"') else {
         return Wrote::Full;
     };
-    let Wrote::Bytes(b) = put_spelled(&mut out[a..], s) else {
+    let Wrote::Bytes(b) = put_spelled(&mut out[a..], &s[0..]) else {
         return Wrote::Full;
     };
     let ab = a + b;
