@@ -44,7 +44,31 @@ proper-example =
       full = refl;
       seven = refl;
       parts = refl;
-      entries = (tt, refl, (tt, refl, ((record { proper = record { key = refl; texts = refl; one-each = refl; codes = refl; order = refl; row = refl; pref = refl }; which = refl; texts-utf8 = refl }, tt), refl, (tt, refl, (tt, refl, ((record { proper = record { key = refl; texts = refl; one-each = refl; codes = refl; order = refl; row = refl; pref = refl }; which = refl; texts-utf8 = refl }, tt), refl, ((record { proper = record { key = refl; texts = refl; one-each = refl; codes = refl; order = refl; row = refl; pref = refl }; which = refl; texts-utf8 = refl }, tt), refl, tt)))))));
+      entries = (
+        tt,
+        refl,
+        (
+          tt,
+          refl,
+          (
+            (record { proper = record { key = refl; texts = refl; one-each = refl; codes = refl; order = refl; row = refl; pref = refl }; which = refl; texts-utf8 = refl }, tt),
+            refl,
+            (
+              tt,
+              refl,
+              (
+                tt,
+                refl,
+                (
+                  (record { proper = record { key = refl; texts = refl; one-each = refl; codes = refl; order = refl; row = refl; pref = refl }; which = refl; texts-utf8 = refl }, tt),
+                  refl,
+                  ((record { proper = record { key = refl; texts = refl; one-each = refl; codes = refl; order = refl; row = refl; pref = refl }; which = refl; texts-utf8 = refl }, tt), refl, tt),
+                ),
+              ),
+            ),
+          ),
+        ),
+      );
       members = (record { name = refl; value = (14, refl, (refl, tt)) }, tt);
       names = refl;
       kept = (record { group = refl; params = (refl, refl, tt); no-group = refl; values = refl; params-utf8 = refl; value-utf8 = refl }, tt);

@@ -25,7 +25,22 @@ returns : tie.Need-returns
 returns c =
     let at-settle = c .before .before .before .before in
     let start = at-settle .before .before .before .before .before .before .before .before in
-    record { ready = record { table = at-settle .settle .ensures .table; few = omega (arith, at-settle .settle .ensures .few, start .pre .1 .few); keys = simp length-set (omega (arith, at-settle .settle .kept .0, start .pre .1 .keys)); printed = simp length-set (omega (arith, at-settle .settle .kept .1 .0, start .pre .1 .printed)) }; judged = refl; settled = at-settle .settle .result; settles = at-settle .settle .ensures; stored = refl; full = refl; parts = refl; count = refl }
+    let settled = at-settle .settle in
+    record {
+      ready = record {
+        table = settled .ensures .table;
+        few = omega (arith, settled .ensures .few, start .pre .1 .few);
+        keys = simp length-set (omega (arith, settled .kept .0, start .pre .1 .keys));
+        printed = simp length-set (omega (arith, settled .kept .1 .0, start .pre .1 .printed));
+      };
+      judged = refl;
+      settled = settled .result;
+      settles = settled .ensures;
+      stored = refl;
+      full = refl;
+      parts = refl;
+      count = refl;
+    }
 
 pub pass-line-spec : {M : Type 1} → statement M
 pass-line-spec =

@@ -51,7 +51,13 @@ returns c =
     let pen-head = c .before .before .before .before .before .before .before .before .pen-head in
     let put-value = c .before .before .before .before .put-value in (
       tt,
-      (bounds (pen-head .result .bytes) 0 (now (args .out)) (pen-head .last .0) (put-value .last .0) (pens-length (pen-head .ensures .pens)) (pens-in (pen-head .ensures .pens)) (omega arith) (put-value .ensures .1 .0) .1, line-none (now (args .s)) (now (args .heads)) (args .which) (args .key) (now (args .row)) (args .a) (args .e) (args .content) (args .units) (args .form) _ _ (pen-head .result) (pen-head .ensures) _ (put-value .result) (put-value .ensures .1 .1) _ (c .enum-told .given .1)),
+      (
+        bounds (pen-head .result .bytes) 0 (now (args .out)) (pen-head .last .0) (put-value .last .0) (pens-length (pen-head .ensures .pens))
+            (pens-in (pen-head .ensures .pens)) (omega arith) (put-value .ensures .1 .0) .1,
+        line-none (now (args .s)) (now (args .heads)) (args .which) (args .key) (now (args .row)) (args .a) (args .e) (args .content)
+            (args .units) (args .form) _ _ (pen-head .result) (pen-head .ensures) _ (put-value .result) (put-value .ensures .1 .1) _
+            (c .enum-told .given .1),
+      ),
     )
 
 -- src/lib.rt:218:14
@@ -132,7 +138,14 @@ returns-2 c =
     let m = c .before .before .before .before .before .before .m in
     let fill = c .before .before .fill in (
       all-in (pen-head .result .bytes) (m .given .0 .0) (now (args .out)) (pen-head .last .0) (put-value .last .0) (pens-length (pen-head .ensures .pens)) (pens-in (pen-head .ensures .pens)) (put-in (put-value .ensures .0) (m .given .1)) (put-value .ensures .1 .0) (fill .ensures) .0,
-      (all-in (pen-head .result .bytes) (m .given .0 .0) (now (args .out)) (pen-head .last .0) (put-value .last .0) (pens-length (pen-head .ensures .pens)) (pens-in (pen-head .ensures .pens)) (put-in (put-value .ensures .0) (m .given .1)) (put-value .ensures .1 .0) (fill .ensures) .1, line-all (now (args .s)) (now (args .heads)) (args .which) (args .key) (now (args .row)) (args .a) (args .e) (args .content) (args .units) (args .form) _ _ (pen-head .result) (pen-head .ensures) _ (put-value .result) (put-value .ensures .1 .1) _ _ (m .given .1) _ _ (fill .ensures)),
+      (
+        all-in (pen-head .result .bytes) (m .given .0 .0) (now (args .out)) (pen-head .last .0) (put-value .last .0)
+            (pens-length (pen-head .ensures .pens)) (pens-in (pen-head .ensures .pens)) (put-in (put-value .ensures .0) (m .given .1))
+            (put-value .ensures .1 .0) (fill .ensures) .1,
+        line-all (now (args .s)) (now (args .heads)) (args .which) (args .key) (now (args .row)) (args .a) (args .e) (args .content) (args .units)
+            (args .form) _ _ (pen-head .result) (pen-head .ensures) _ (put-value .result) (put-value .ensures .1 .1) _ _ (m .given .1) _ _
+            (fill .ensures),
+      ),
     )
 
 pub put-line-spec : {M : Type 1} → statement M

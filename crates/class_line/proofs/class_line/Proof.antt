@@ -28,7 +28,13 @@ name-code-requires : tie.Need-name-code-requires
 name-code-requires c κs = search needs
 
 class-numbered-requires : tie.Need-class-numbered-requires
-class-numbered-requires c κs = (c .before .before .before .before .before .before .before .before .before .before .before .pre .0, c .before .before .before .before .before .before .before .before .before .before .before .pre .1, numbered (now (c .before .before .before .before .before .before .before .before .before .before .before .args .s)) (now (c .before .before .before .before .before .before .before .before .before .before .before .args .t)) (c .before .name-code .result) _ (c .before .name-code .ensures) refl)
+class-numbered-requires c κs = (
+  c .before .before .before .before .before .before .before .before .before .before .before .pre .0,
+  c .before .before .before .before .before .before .before .before .before .before .before .pre .1,
+  numbered (now (c .before .before .before .before .before .before .before .before .before .before .before .args .s))
+      (now (c .before .before .before .before .before .before .before .before .before .before .before .args .t)) (c .before .name-code .result) _
+      (c .before .name-code .ensures) refl,
+)
 
 same-length : tie.Need-same-length
 same-length c = search needs

@@ -111,7 +111,12 @@ returns-2 c =
     let k = c .before .before .before .before .before .before .before .before .before .before .k in
     let put-value = c .before .before .before .before .before .before .put-value in (
       record { long = put-value .ensures .0 .long ∙ part-same (now (args .b)) (args .n) (pre .0) (ascii "value") _ (put-text .result) (put-text .ensures); wide = put-value .ensures .0 .wide },
-      (tt, typed-wrong (now (args .b)) (args .n) (now (args .t)) (args .m) (now (args .s)) (args .at) (pre .0) _ _ (grew (now (args .b)) (args .n) (pre .0) (ascii "value") _ (put-text .result) (put-text .ensures) (k .given .1)) (put-value .result) _ _ (put-value .ensures .1 .1) (c .enum-told2 .given .1)),
+      (
+        tt,
+        typed-wrong (now (args .b)) (args .n) (now (args .t)) (args .m) (now (args .s)) (args .at) (pre .0) _ _
+            (grew (now (args .b)) (args .n) (pre .0) (ascii "value") _ (put-text .result) (put-text .ensures) (k .given .1)) (put-value .result) _ _
+            (put-value .ensures .1 .1) (c .enum-told2 .given .1),
+      ),
     )
 
 -- src/lib.rt:134:17
@@ -148,7 +153,12 @@ returns-3 c =
     let put-value = c .before .before .before .before .before .before .before .before .before .before .before .put-value in
     let end = c .before .before .before .before .before .end in (
       record { long = put-value .ensures .0 .long ∙ part-same (now (args .b)) (args .n) (pre .0) (ascii "value") _ (put-text .result) (put-text .ensures); wide = put-value .ensures .0 .wide },
-      (tt, typed-other (now (args .b)) (args .n) (now (args .t)) (args .m) (now (args .s)) (args .at) (pre .0) _ _ (grew (now (args .b)) (args .n) (pre .0) (ascii "value") _ (put-text .result) (put-text .ensures) (k .given .1)) (put-value .result) _ _ (put-value .ensures .1 .1) _ _ (end .given .1) (sym (c .before .is-word .ensures) ∙ not-true _ (c .if1 .taken))),
+      (
+        tt,
+        typed-other (now (args .b)) (args .n) (now (args .t)) (args .m) (now (args .s)) (args .at) (pre .0) _ _
+            (grew (now (args .b)) (args .n) (pre .0) (ascii "value") _ (put-text .result) (put-text .ensures) (k .given .1)) (put-value .result) _ _
+            (put-value .ensures .1 .1) _ _ (end .given .1) (sym (c .before .is-word .ensures) ∙ not-true _ (c .if1 .taken)),
+      ),
     )
 
 -- src/lib.rt:113:1
@@ -170,7 +180,12 @@ returns-4 c =
     let end = c .before .before .before .before .before .end in
     let g = grew (now (args .b)) (args .n) (pre .0) (ascii "value") _ (put-text .result) (put-text .ensures) (k .given .1) in (
       record { long = put-value .ensures .0 .long ∙ part-same (now (args .b)) (args .n) (pre .0) (ascii "value") _ (put-text .result) (put-text .ensures); wide = put-value .ensures .0 .wide },
-      (typed-rows g (rows-in (put-value .ensures .1 .0) (end .given .1)), typed-all (now (args .b)) (args .n) (now (args .t)) (args .m) (now (args .s)) (args .at) (pre .0) _ _ (grew (now (args .b)) (args .n) (pre .0) (ascii "value") _ (put-text .result) (put-text .ensures) (k .given .1)) (put-value .result) _ _ (put-value .ensures .1 .1) _ _ (end .given .1) (sym (c .before .is-word .ensures) ∙ not-false _ (c .if1 .left))),
+      (
+        typed-rows g (rows-in (put-value .ensures .1 .0) (end .given .1)),
+        typed-all (now (args .b)) (args .n) (now (args .t)) (args .m) (now (args .s)) (args .at) (pre .0) _ _
+            (grew (now (args .b)) (args .n) (pre .0) (ascii "value") _ (put-text .result) (put-text .ensures) (k .given .1)) (put-value .result) _ _
+            (put-value .ensures .1 .1) _ _ (end .given .1) (sym (c .before .is-word .ensures) ∙ not-false _ (c .if1 .left)),
+      ),
     )
 
 pub put-typed-spec : {M : Type 1} → statement M

@@ -69,7 +69,12 @@ returns c =
     let element-at = c .before .before .before .before .before .before .before .before .before .element-at in
     let put-value = c .before .before .before .before .before .before .put-value in (
       record { long = put-value .ensures .0 .long ∙ (loop .inv .2); wide = put-value .ensures .0 .wide ∙ (loop .inv .3) },
-      (tt, from-wrong (now (args .b)) (args .n) (now (args .t)) (args .m) (args .a) (args .e) (now (args .s)) (args .at) (loop .i) (loop .k) (loop .rows) (loop .b) (loop .t) (loop .inv .5) (element-at .result) (element-at .ensures .1) (put-value .result) _ _ (put-value .ensures .1 .1) (c .enum-told .given .1) _ _),
+      (
+        tt,
+        from-wrong (now (args .b)) (args .n) (now (args .t)) (args .m) (args .a) (args .e) (now (args .s)) (args .at) (loop .i) (loop .k)
+            (loop .rows) (loop .b) (loop .t) (loop .inv .5) (element-at .result) (element-at .ensures .1) (put-value .result) _ _
+            (put-value .ensures .1 .1) (c .enum-told .given .1) _ _,
+      ),
     )
 
 -- src/lib.rt:127:15
@@ -104,7 +109,9 @@ loop-again c =
       put-value .ensures .0 .long ∙ (loop .inv .2),
       put-value .ensures .0 .wide ∙ (loop .inv .3),
       omega (arith, g .0, loop .inv .4),
-      from-on (now (args .b)) (args .n) (now (args .t)) (args .m) (args .a) (args .e) (now (args .s)) (args .at) (loop .i) (loop .k) (loop .rows) (loop .b) (loop .t) (loop .inv .5) (element-at .result) (element-at .ensures .1) (put-value .result) _ _ (put-value .ensures .1 .1) _ _ (end .given .1) _ h,
+      from-on (now (args .b)) (args .n) (now (args .t)) (args .m) (args .a) (args .e) (now (args .s)) (args .at) (loop .i) (loop .k) (loop .rows)
+          (loop .b) (loop .t) (loop .inv .5) (element-at .result) (element-at .ensures .1) (put-value .result) _ _ (put-value .ensures .1 .1) _ _
+          (end .given .1) _ h,
     )
 
 -- src/lib.rt:131:24
@@ -130,7 +137,12 @@ returns-2 c =
     let separator = c .before .before .before .separator in
     let g = rows-in (put-value .ensures .1 .0) (end .given .1) in (
       record { long = put-value .ensures .0 .long ∙ (loop .inv .2); wide = put-value .ensures .0 .wide ∙ (loop .inv .3) },
-      ((omega (arith, g .0, loop .inv .4), omega (arith, g .1, loop .inv .2), g .2), from-all (now (args .b)) (args .n) (now (args .t)) (args .m) (args .a) (args .e) (now (args .s)) (args .at) (loop .i) (loop .k) (loop .rows) (loop .b) (loop .t) (loop .inv .5) (element-at .result) (element-at .ensures .1) (put-value .result) _ _ (put-value .ensures .1 .1) _ _ (end .given .1) _ (turn-as (separator .ensures) (c .before .r .given .1))),
+      (
+        (omega (arith, g .0, loop .inv .4), omega (arith, g .1, loop .inv .2), g .2),
+        from-all (now (args .b)) (args .n) (now (args .t)) (args .m) (args .a) (args .e) (now (args .s)) (args .at) (loop .i) (loop .k)
+            (loop .rows) (loop .b) (loop .t) (loop .inv .5) (element-at .result) (element-at .ensures .1) (put-value .result) _ _
+            (put-value .ensures .1 .1) _ _ (end .given .1) _ (turn-as (separator .ensures) (c .before .r .given .1)),
+      ),
     )
 
 pub put-elements-spec : {M : Type 1} → statement M

@@ -73,7 +73,12 @@ returns-3 c =
     let k = c .before .before .before .before .before .k in
     let put-row = c .before .before .put-row in (
       record { long = put-string .ensures .0; wide = ap length (put-row .ensures .1) ∙ stored-long (now (args .t)) (args .m) (args .a) (args .e) (args .n) _ },
-      (value-rows (args .n) (length (now (args .b))) _ (args .m) (put-string .result) (put-string .ensures .1 .0) (k .given .1) (if1 .left) (put-row .result) (put-row .ensures .0), value-one (now (args .b)) (args .n) (now (args .t)) (args .m) (args .a) (args .e) (now (args .s)) (args .at) (if1 .left) (put-string .result) _ (put-string .ensures .1 .1) (pre .1) _ (k .given .1) (pre .0) (put-row .ensures .0) (put-row .ensures .1)),
+      (
+        value-rows (args .n) (length (now (args .b))) _ (args .m) (put-string .result) (put-string .ensures .1 .0) (k .given .1) (if1 .left)
+            (put-row .result) (put-row .ensures .0),
+        value-one (now (args .b)) (args .n) (now (args .t)) (args .m) (args .a) (args .e) (now (args .s)) (args .at) (if1 .left)
+            (put-string .result) _ (put-string .ensures .1 .1) (pre .1) _ (k .given .1) (pre .0) (put-row .ensures .0) (put-row .ensures .1),
+      ),
     )
 
 pub put-value-spec : {M : Type 1} → statement M

@@ -282,4 +282,13 @@ returns-9 : tie.Need-returns-9
 returns-9 c = all (s₈ c .left)
 
 pub put-entry-spec : {M : Type 1} → statement M
-put-entry-spec = tie.close (tie.spec put-name-requires enum-known-a1 enum-told same-length returns sub-put-byte part-put-byte-start part-put-byte-end put-byte-requires enum-known-a2 enum-told-2 same-length-2 returns-2 add-b2 sub-put-kind part-put-kind-start part-put-kind-end put-kind-requires enum-known-a3 enum-told-3 same-length-3 returns-3 add-b3 sub-put-strings part-put-strings-start part-put-strings-end put-strings-requires enum-known-a4 enum-told-4 same-length-4 returns-4 add-b4 sub-put-flags part-put-flags-start part-put-flags-end put-flags-requires enum-known-a5 enum-told-5 same-length-5 returns-5 add-b5 sub-put-flags-2 part-put-flags-start-2 part-put-flags-end-2 put-flags-requires-2 enum-known-a6 enum-told-6 same-length-6 returns-6 add-b6 sub-put-pref part-put-pref-start part-put-pref-end put-pref-requires enum-known-a7 enum-told-7 same-length-7 returns-7 add-b7 sub-put-byte-2 part-put-byte-start-2 part-put-byte-end-2 put-byte-requires-2 enum-known-a8 enum-told-8 same-length-8 returns-8 add-b8 same-length-9 returns-9)
+put-entry-spec =
+    tie.close
+    (tie.spec put-name-requires enum-known-a1 enum-told same-length returns sub-put-byte part-put-byte-start part-put-byte-end
+    put-byte-requires enum-known-a2 enum-told-2 same-length-2 returns-2 add-b2 sub-put-kind part-put-kind-start part-put-kind-end
+    put-kind-requires enum-known-a3 enum-told-3 same-length-3 returns-3 add-b3 sub-put-strings part-put-strings-start part-put-strings-end
+    put-strings-requires enum-known-a4 enum-told-4 same-length-4 returns-4 add-b4 sub-put-flags part-put-flags-start part-put-flags-end
+    put-flags-requires enum-known-a5 enum-told-5 same-length-5 returns-5 add-b5 sub-put-flags-2 part-put-flags-start-2 part-put-flags-end-2
+    put-flags-requires-2 enum-known-a6 enum-told-6 same-length-6 returns-6 add-b6 sub-put-pref part-put-pref-start part-put-pref-end
+    put-pref-requires enum-known-a7 enum-told-7 same-length-7 returns-7 add-b7 sub-put-byte-2 part-put-byte-start-2 part-put-byte-end-2
+    put-byte-requires-2 enum-known-a8 enum-told-8 same-length-8 returns-8 add-b8 same-length-9 returns-9)

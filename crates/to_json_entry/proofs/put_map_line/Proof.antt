@@ -132,4 +132,7 @@ returns-2 c =
 pub put-map-line-spec : {M : Type 1} → statement M
 put-map-line-spec =
     tie.close
-    (tie.spec value-kind-requires slice-aggregate-mark-rows mark-rows-requires shared-slice-read-a shared-slice-read-b shared-slice-read-k sub-put-entry part-put-entry-start part-put-entry-end slice-aggregate-put-entry sub-put-entry-2 part-put-entry-start-2 part-put-entry-end-2 put-entry-requires same-length returns shared-slice-read-c shared-slice-read-d sub-put-entry-3 part-put-entry-start-3 part-put-entry-end-3 slice-aggregate-put-entry-2 sub-put-entry-4 part-put-entry-start-4 part-put-entry-end-4 put-entry-requires-2 same-length-2 returns-2)
+    (tie.spec value-kind-requires slice-aggregate-mark-rows mark-rows-requires shared-slice-read-a shared-slice-read-b shared-slice-read-k
+    sub-put-entry part-put-entry-start part-put-entry-end slice-aggregate-put-entry sub-put-entry-2 part-put-entry-start-2 part-put-entry-end-2
+    put-entry-requires same-length returns shared-slice-read-c shared-slice-read-d sub-put-entry-3 part-put-entry-start-3 part-put-entry-end-3
+    slice-aggregate-put-entry-2 sub-put-entry-4 part-put-entry-start-4 part-put-entry-end-4 put-entry-requires-2 same-length-2 returns-2)
