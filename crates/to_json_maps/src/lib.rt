@@ -16,7 +16,7 @@ use line_unfold::line_at;
 use output::Wrote;
 use output::put_byte;
 use output::put_text;
-use table_marks::scan_rows;
+use table_params::scan_rows;
 use to_json_entry::kind_of_line;
 use to_json_entry::put_map_line;
 use to_json_keys::mark_key;

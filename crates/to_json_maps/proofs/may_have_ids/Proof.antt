@@ -65,7 +65,9 @@ loop-again-2 c =
     let this = not-false _ (c .before .before .before .if1 .left) in
     let line = c .before .before .line-at in
     let none = line-dashless [] (now (line .result)) (replicate 1025 0) (c .before .has-dash .ensures (c .if2 .left)) in
-    (omega (arith, c .before .before .before .before .before .before .loop-test .taken), λ cs h. marking-line h (loop .k) (c .before .before .before .before .before .before .loop-test .taken) (c .before .before .before .before .before .before .before .before .before .before .before .args .i) (of .result) (of .ensures) this (c .before .before .before .before .before .before .before .before .before .before .before .pre .1) [] false false _ _ (line .ensures) none (loop .inv .1 cs h))
+    let more = c .before .before .before .before .before .before .loop-test .taken in
+    let start = c .before .before .before .before .before .before .before .before .before .before .before in
+    (omega (arith, more), λ cs h. marking-line h (loop .k) more (start .args .i) (of .result) (of .ensures) this (start .pre .1) [] false false _ _ (line .ensures) none (loop .inv .1 cs h))
 
 returns-2 : tie.Need-returns-2 Inv-loop μ-loop
 returns-2 c = λ e cs h. marking-end h [] (c .before .before .before .before .before .args .i) (c .before .loop .k) false (replicate 1025 0) (c .loop-test .left) (c .before .loop .inv .1 cs h)
