@@ -25,7 +25,7 @@ use class_line::class_numbered;
 use class_names::name_code;
 use line_table::fill;
 use line_unfold::line_at;
-use table_marks::scan_rows;
+use table_params::scan_rows;
 
 // What is carried from line to line: what refusals 6 to 10 ask, whether FN and N have converted, how many keys are noted.
 pub struct Pass {

@@ -17,7 +17,7 @@ use Rattle.line.proofs.Named.{valuesNamed-append, lacking-append, valuesNamed-o
 use Rattle.convert.specs.Answers.{isNamed, onlyUri, valueFits, misused, emptied, isVersionLine}
 use Rattle.convert.specs.Table.{position}
 use Rattle.line_table.specs.Table.{part, nameAt, valueAt, Span, Sound, rowsIn, lineIn}
-use Rattle.convert_marks.specs.Row.{kindNames, kindOf, isKind, valuesKind, First, Held, Row}
+use Rattle.convert_params.specs.Row.{kindNames, kindOf, isKind, valuesKind, First, Held, Row}
 use Rattle.convert_entry.specs.Rows.{typeNumber}
 use Rattle.convert_entry.proofs.Named.{kind-same, values}
 use Rattle.convert_entry.proofs.Tests.{number-uri}

@@ -136,7 +136,7 @@ fn jsprop_class(
     }
 }
 
-// The line whose name has the number k. The rows are those of its parameters (`table_marks::scan_rows`); the flags say whether FN and N have converted.
+// The line whose name has the number k. The rows are those of its parameters (`table_params::scan_rows`); the flags say whether FN and N have converted.
 // The scratch is for the value of JSPROP.
 pub fn class_numbered(
     k: usize,

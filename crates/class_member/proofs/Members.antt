@@ -17,8 +17,8 @@ use Rattle.convert.specs.Table.{reserved}
 use Rattle.convert.specs.Pointer.{pointed}
 use Rattle.convert.specs.Classify.{Seen, as-member, as-kept, bare, sole, memberName, memberValue, memberClass}
 use Rattle.line_table.specs.Table.{part, Span, lineIn}
-use Rattle.convert_marks.specs.Row.{valuesKind, Row}
-use Rattle.convert_marks.proofs.Which.{kind-4}
+use Rattle.convert_params.specs.Row.{valuesKind, Row}
+use Rattle.convert_params.proofs.Which.{kind-4}
 use Rattle.convert_entry.specs.Rows.{zeros}
 use Rattle.convert_entry.proofs.Named.{only-kinds, values-kind, values-besides}
 use Rattle.convert_entry.proofs.Tests.{held-one}

@@ -15,8 +15,8 @@ use Rattle.line.specs.Grammar.{Param, param, paramName, paramValues}
 use Rattle.line.specs.Params.{named, valuesNamed, onlyNamed, lacking, besidesValue}
 use Rattle.convert.specs.Classify.{isDerived}
 use Rattle.line_table.specs.Table.{part, rowsIn, lineIn, nameAt, valueAt}
-use Rattle.convert_marks.specs.Row.{valuesKind, Row}
-use Rattle.convert_marks.proofs.Which.{kind-5}
+use Rattle.convert_params.specs.Row.{valuesKind, Row}
+use Rattle.convert_params.proofs.Which.{kind-5}
 use Rattle.convert_entry.specs.Rows.{zeros}
 use Rattle.convert_entry.proofs.Named.{only-kinds, values-kind, values-besides}
 use Rattle.convert_entry.proofs.Tests.{held-one}

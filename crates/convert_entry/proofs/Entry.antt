@@ -19,7 +19,7 @@ use Rattle.convert.specs.Model.{Entry, singly}
 use Rattle.convert.specs.Value.{takesType, readAs}
 use Rattle.convert.specs.Classify.{Seen, keyFrom, prefFrom, typesFrom, entryOf}
 use Rattle.convert_types.specs.Marks.{typeAt, marks, told, split}
-use Rattle.convert_marks.specs.Row.{Clear}
+use Rattle.convert_params.specs.Row.{Clear}
 use Rattle.convert_entry.proofs.Named.{types}
 
 -- ---- TYPE

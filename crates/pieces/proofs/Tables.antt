@@ -7,7 +7,7 @@ use native.Mathlib.Omega.{arith}
 use lib.ListN.{getD}
 use Rattle.text.proofs.Cases.{not-both}
 use Rattle.line_table.specs.Table.{Sound, Filled}
-use Rattle.convert_marks.specs.Row.{Clear}
+use Rattle.convert_params.specs.Row.{Clear}
 
 abbrev pub eight : List ℕ
 eight = 0 ∷ 0 ∷ 0 ∷ 0 ∷ 0 ∷ 0 ∷ 0 ∷ 0 ∷ []

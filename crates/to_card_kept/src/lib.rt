@@ -9,7 +9,7 @@ use kept_fill::fill_kept;
 use kept_line::put_kept_line;
 use kept_used::is_kept_class;
 use name_index::note_groups;
-use table_marks::scan_rows;
+use table_params::scan_rows;
 use table_sound::is_sound;
 use text::LEFT_BRACKET;
 use text::RIGHT_BRACKET;

@@ -8,7 +8,7 @@ use line_table::fill;
 use line_unfold::line_at;
 use output::Wrote;
 use output::put_byte;
-use table_marks::scan_rows;
+use table_params::scan_rows;
 use to_json_maps::is_of;
 use to_json_maps::put_maps;
 use to_json_member::put_member_line;

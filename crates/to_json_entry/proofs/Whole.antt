@@ -21,7 +21,7 @@ use Rattle.convert.specs.Model.{Entry}
 use Rattle.convert.specs.Classify.{Seen, prefFrom, typesFrom, entryOf}
 use Rattle.convert.specs.ToJson.{where′, contentJson, entryJson}
 use Rattle.convert_types.specs.Marks.{marks, told, split}
-use Rattle.convert_marks.specs.Row.{valuesKind, First, Row}
+use Rattle.convert_params.specs.Row.{valuesKind, First, Row}
 use Rattle.line_table.specs.Table.{part, lineIn}
 use Rattle.convert_entry.specs.Rows.{Is, typeNumber, formNumber}
 use Rattle.convert_entry.proofs.Named.{prefs}

@@ -25,7 +25,7 @@ use line_name::is_named;
 use line_text::part_end;
 use output::Wrote;
 use output::put_byte;
-use table_marks::mark_rows;
+use table_params::mark_rows;
 use to_json_items::put_items;
 
 // The member that holds the string of the map i: raw, or TEXT.

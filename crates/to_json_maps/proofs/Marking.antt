@@ -20,7 +20,7 @@ use Rattle.line_unfold.specs.Table.{lineAt}
 use Rattle.convert.specs.Model.{Entry}
 use Rattle.convert.specs.Classify.{as-entry, Classed}
 use Rattle.convert.specs.Keys.{numbered}
-use Rattle.convert_marks.specs.Row.{Row}
+use Rattle.convert_params.specs.Row.{Row}
 use Rattle.convert_entry.specs.Rows.{codeOf}
 use Rattle.card_lines.specs.Classified.{Classified}
 use Rattle.card_lines.proofs.Lines.{LineOf, line-of, count-is}

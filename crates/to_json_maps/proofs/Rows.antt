@@ -19,7 +19,7 @@ use Rattle.convert.specs.Table.{Map, maps, Slot, slotOf, slotFrom, position}
 use Rattle.convert.specs.Model.{Entry, singly}
 use Rattle.convert.specs.Value.{isKeyText, takesType, readAs, filled}
 use Rattle.convert.specs.Classify.{Seen, Class, as-entry, Classed, isId, keyFrom, prefFrom, typesFrom, entryOf, classify}
-use Rattle.convert_marks.specs.Row.{valuesKind, Row}
+use Rattle.convert_params.specs.Row.{valuesKind, Row}
 use Rattle.convert_entry.specs.Rows.{namesIn, formNumber, Is, codeOf}
 use Rattle.convert_entry.proofs.Named.{prop-ids}
 use Rattle.convert_entry.proofs.Tests.{first-id}

@@ -116,6 +116,10 @@ pub record Unmarked (row : List ℕ) : Type 0 where
 abbrev pub HasLines : List ℕ → List ℕ → List ℕ → ℕ → Type 0
 HasLines scratch starts codes n = (cs : List Classed) × Classified scratch starts codes n cs
 
+-- no line of the map i has a PROP-ID
+abbrev pub NoIds : List ℕ → List ℕ → List ℕ → ℕ → ℕ → Type 0
+NoIds scratch starts codes n i = (cs : List Classed) → Classified scratch starts codes n cs → idsOf (entriesOf i cs) ≡ []
+
 -- the marks of all PROP-IDs of the map i
 abbrev pub MarksIds : Bytes → List ℕ → List ℕ → List ℕ → ℕ → ℕ → List ℕ → Bool → Type 0
 MarksIds prefix scratch starts codes n i row r = (cs : List Classed) → Classified scratch starts codes n cs → Blocked prefix (idsOf (entriesOf i cs)) r row

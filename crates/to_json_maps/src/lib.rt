@@ -8,7 +8,7 @@ ghost use lib.ListN.{length};
 ghost use Rattle.text.specs.Bytes.{code, is, any};
 ghost use Rattle.output.specs.Put.{Puts};
 ghost use Rattle.convert.specs.Keys.{numbered};
-ghost use Rattle.to_json_maps.specs.Maps.{mapAt, prefixOf, headPiece, Entering, MarksLine, Unmarked, HasLines, MarksIds, HasEntry, PutsKeyed, HasTurn, PutsTurn, HasMap, PutsMap, PutsMaps};
+ghost use Rattle.to_json_maps.specs.Maps.{mapAt, prefixOf, headPiece, Entering, MarksLine, Unmarked, HasLines, NoIds, MarksIds, HasEntry, PutsKeyed, HasTurn, PutsTurn, HasMap, PutsMap, PutsMaps};
 use class_names::form_of;
 use class_names::types_of;
 use line_table::fill;
@@ -16,7 +16,7 @@ use line_unfold::line_at;
 use output::Wrote;
 use output::put_byte;
 use output::put_text;
-use table_marks::scan_rows;
+use table_params::scan_rows;
 use to_json_entry::kind_of_line;
 use to_json_entry::put_map_line;
 use to_json_keys::mark_key;
@@ -154,6 +154,25 @@ fn mark_ids(
         k += 1;
     }
     any
+}
+
+// Whether a line of the map i may have a PROP-ID: none has where there is no dash.
+fn may_have_ids(scratch: &[u8], starts: &[usize], codes: &[u8], n: usize, i: usize) -> bool
+    requires { ⌜ HasLines (now scratch) (now starts) (now codes) n × (i < 16) ⌝ }
+    ensures { λ r. ⌜ (r ≡ false → NoIds (now (scratch .entry)) (now (starts .entry)) (now (codes .entry)) n i) ⌝ }
+{
+    let mut k = 0;
+    while k < n {
+        if !is_of(codes[k], i) {
+            k += 1;
+            continue;
+        }
+        if has_dash(line_at(scratch, starts, k)) {
+            return true;
+        }
+        k += 1;
+    }
+    false
 }
 
 // ---- writing
@@ -331,7 +350,7 @@ fn put_entries(
     Wrote::Bytes(all)
 }
 
-// The member of the map i.
+// The member of the map i. A row is cleared only where there are PROP-IDs to mark in it.
 fn put_map(
     out: &mut [u8],
     t: &mut [usize],
@@ -344,11 +363,26 @@ fn put_map(
     requires { ⌜ (264 ≤ length (now t)) × HasLines (now scratch) (now starts) (now codes) n × (i < 7) ⌝ }
     ensures { λ r. ⌜ PutsMap (now (out .entry)) (now (scratch .entry)) (now (starts .entry)) (now (codes .entry)) n i r (now (out .exit)) ⌝ }
 {
-    let mut row = [0u8; 1025];
     let mut prefix = [0u8; 16];
     let Wrote::Bytes(p) = put_prefix(&mut prefix, i) else {
         return Wrote::Full;
     };
+    if !may_have_ids(scratch, starts, codes, n, i) {
+        let none = [0u8; 1];
+        return put_entries(
+            out,
+            t,
+            scratch,
+            starts,
+            codes,
+            n,
+            i,
+            &prefix[0..p],
+            &none,
+            false,
+        );
+    }
+    let mut row = [0u8; 1025];
     let taken = mark_ids(&mut row, t, &prefix[0..p], scratch, starts, codes, n, i);
     put_entries(
         out,

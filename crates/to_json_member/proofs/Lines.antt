@@ -29,7 +29,7 @@ use Rattle.convert.specs.Table.{reserved, position}
 use Rattle.convert.specs.Pointer.{pointed}
 use Rattle.convert.specs.Classify.{Seen, Class, as-member, as-kept, bare, sole, treeOf, memberName, memberValue, memberClass}
 use Rattle.line_table.specs.Table.{part, lineIn}
-use Rattle.convert_marks.specs.Row.{kindOf, kindNames, isKind, valuesKind, First, Held, Row}
+use Rattle.convert_params.specs.Row.{kindOf, kindNames, isKind, valuesKind, First, Held, Row}
 use Rattle.convert_entry.proofs.Named.{kind-same}
 use Rattle.table_kept.proofs.Names.{values-besides}
 use Rattle.convert_put.specs.Pieces.{memberBytes}

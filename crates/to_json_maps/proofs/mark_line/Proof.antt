@@ -10,7 +10,7 @@ use Rattle.to_json_maps.proofs.mark_line.Tie as tie
 use Rattle.to_json_maps.proofs.mark_line.Reads as reads
 use Rattle.to_json_maps.proofs.mark_line.Lts as lts
 use Rattle.line_table.proofs.fill.Reads as fill-reads
-use Rattle.table_marks.proofs.scan_rows.Reads as scan-rows-reads
+use Rattle.table_params.proofs.scan_rows.Reads as scan-rows-reads
 use Rattle.to_json_keys.proofs.mark_key.Reads as mark-key-reads
 
 has-dash-requires : tie.Need-has-dash-requires

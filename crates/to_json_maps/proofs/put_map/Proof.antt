@@ -33,48 +33,28 @@ returns c =
     let put-prefix = c .before .before .before .put-prefix in
     λ cs h. never-full _ _ _ _ (put-prefix .ensures) (c .enum-told .given .1) (prefix-fits (args .i) (pre .2))
 
-slice-aggregate-mark-ids : tie.Need-slice-aggregate-mark-ids
-slice-aggregate-mark-ids c = search needs
-
-sub-mark-ids : tie.Need-sub-mark-ids
-sub-mark-ids c = omega (arith, fits-front _ _ _ _ _ (c .before .before .before .before .before .before .put-prefix .ensures) (c .before .before .before .p .given .1))
-
-part-mark-ids-start : tie.Need-part-mark-ids-start
-part-mark-ids-start c = omega (arith, fits-front _ _ _ _ _ (c .before .before .before .before .before .before .before .put-prefix .ensures) (c .before .before .before .before .p .given .1))
-
-part-mark-ids-end : tie.Need-part-mark-ids-end
-part-mark-ids-end c = omega (arith, fits-front _ _ _ _ _ (c .before .before .before .before .before .before .before .put-prefix .ensures) (c .before .before .before .before .p .given .1))
-
-mark-ids-requires : tie.Need-mark-ids-requires
-mark-ids-requires c κs =
-    let pre = c .before .before .before .before .before .before .before .before .before .before .before .before .before .before .before .pre in
-    (unmarked, pre .0, pre .1, omega (arith, pre .2))
+may-have-ids-requires : tie.Need-may-have-ids-requires
+may-have-ids-requires c κs =
+    let pre = c .before .before .before .before .before .before .before .before .before .before .before .pre in
+    (pre .1, omega (arith, pre .2))
 
 sub-put-entries : tie.Need-sub-put-entries
-sub-put-entries c = omega (arith, fits-front _ _ _ _ _ (c .before .before .before .before .before .before .before .before .before .before .before .before .before .before .put-prefix .ensures) (c .before .before .before .before .before .before .before .before .before .before .before .p .given .1))
+sub-put-entries c = omega (arith, fits-front _ _ _ _ _ (c .before .before .before .before .before .before .before .before .put-prefix .ensures) (c .before .before .before .before .before .p .given .1))
 
 part-put-entries-start : tie.Need-part-put-entries-start
-part-put-entries-start c =
-    let put-prefix = c .before .before .before .before .before .before .before .before .before .before .before .before .before .before .before .put-prefix in
-    let p = c .before .before .before .before .before .before .before .before .before .before .before .before .p in
-    omega (arith, fits-front _ _ _ _ _ (put-prefix .ensures) (p .given .1))
+part-put-entries-start c = omega (arith, fits-front _ _ _ _ _ (c .before .before .before .before .before .before .before .before .before .put-prefix .ensures) (c .before .before .before .before .before .before .p .given .1))
 
 part-put-entries-end : tie.Need-part-put-entries-end
-part-put-entries-end c =
-    let put-prefix = c .before .before .before .before .before .before .before .before .before .before .before .before .before .before .before .put-prefix in
-    let p = c .before .before .before .before .before .before .before .before .before .before .before .before .p in
-    omega (arith, fits-front _ _ _ _ _ (put-prefix .ensures) (p .given .1))
+part-put-entries-end c = omega (arith, fits-front _ _ _ _ _ (c .before .before .before .before .before .before .before .before .before .put-prefix .ensures) (c .before .before .before .before .before .before .p .given .1))
 
 slice-aggregate-put-entries : tie.Need-slice-aggregate-put-entries
 slice-aggregate-put-entries c = search needs
 
 put-entries-requires : tie.Need-put-entries-requires
 put-entries-requires c κs =
-    let pre = c .before .before .before .before .before .before .before .before .before .before .before .before .before .before .before .before .before .before .before .before .before .before .before .before .pre in
-    let put-prefix = c .before .before .before .before .before .before .before .before .before .before .before .before .before .before .before .before .before .put-prefix in
-    let p = c .before .before .before .before .before .before .before .before .before .before .before .before .before .before .p in
-    let mark-ids = c .before .before .before .before .before .before .before .before .mark-ids in
-    (search needs, record { lines = pre .1; small = pre .2; is = (put-front _ _ _ _ _ (put-prefix .ensures) (p .given .1)); ids = mark-ids .ensures })
+    let pre = c .before .before .before .before .before .before .before .before .before .before .before .before .before .before .before .before .before .before .pre in
+    let none = c .before .before .before .before .before .before .may-have-ids .ensures (not-true _ (c .before .before .before .before .before .if1 .taken)) in
+    (search needs, record { lines = pre .1; small = pre .2; is = put-front _ _ _ _ _ (c .before .before .before .before .before .before .before .before .before .before .before .put-prefix .ensures) (c .before .before .before .before .before .before .before .before .p .given .1); ids = none })
 
 same-length : tie.Need-same-length
 same-length c = search needs
@@ -85,6 +65,58 @@ same-length-2 c = search needs
 returns-2 : tie.Need-returns-2
 returns-2 c = c .before .before .before .before .put-entries .ensures
 
+slice-aggregate-mark-ids : tie.Need-slice-aggregate-mark-ids
+slice-aggregate-mark-ids c = search needs
+
+sub-mark-ids : tie.Need-sub-mark-ids
+sub-mark-ids c = omega (arith, fits-front _ _ _ _ _ (c .before .before .before .before .before .before .before .before .put-prefix .ensures) (c .before .before .before .before .before .p .given .1))
+
+part-mark-ids-start : tie.Need-part-mark-ids-start
+part-mark-ids-start c = omega (arith, fits-front _ _ _ _ _ (c .before .before .before .before .before .before .before .before .before .put-prefix .ensures) (c .before .before .before .before .before .before .p .given .1))
+
+part-mark-ids-end : tie.Need-part-mark-ids-end
+part-mark-ids-end c = omega (arith, fits-front _ _ _ _ _ (c .before .before .before .before .before .before .before .before .before .put-prefix .ensures) (c .before .before .before .before .before .before .p .given .1))
+
+mark-ids-requires : tie.Need-mark-ids-requires
+mark-ids-requires c κs =
+    let pre = c .before .before .before .before .before .before .before .before .before .before .before .before .before .before .before .before .before .pre in
+    (unmarked, pre .0, pre .1, omega (arith, pre .2))
+
+sub-put-entries-2 : tie.Need-sub-put-entries-2
+sub-put-entries-2 c = omega (arith, fits-front _ _ _ _ _ (c .before .before .before .before .before .before .before .before .before .before .before .before .before .before .before .before .put-prefix .ensures) (c .before .before .before .before .before .before .before .before .before .before .before .before .before .p .given .1))
+
+part-put-entries-start-2 : tie.Need-part-put-entries-start-2
+part-put-entries-start-2 c =
+    let put-prefix = c .before .before .before .before .before .before .before .before .before .before .before .before .before .before .before .before .before .put-prefix in
+    let p = c .before .before .before .before .before .before .before .before .before .before .before .before .before .before .p in
+    omega (arith, fits-front _ _ _ _ _ (put-prefix .ensures) (p .given .1))
+
+part-put-entries-end-2 : tie.Need-part-put-entries-end-2
+part-put-entries-end-2 c =
+    let put-prefix = c .before .before .before .before .before .before .before .before .before .before .before .before .before .before .before .before .before .put-prefix in
+    let p = c .before .before .before .before .before .before .before .before .before .before .before .before .before .before .p in
+    omega (arith, fits-front _ _ _ _ _ (put-prefix .ensures) (p .given .1))
+
+slice-aggregate-put-entries-2 : tie.Need-slice-aggregate-put-entries-2
+slice-aggregate-put-entries-2 c = search needs
+
+put-entries-requires-2 : tie.Need-put-entries-requires-2
+put-entries-requires-2 c κs =
+    let pre = c .before .before .before .before .before .before .before .before .before .before .before .before .before .before .before .before .before .before .before .before .before .before .before .before .before .before .pre in
+    let put-prefix = c .before .before .before .before .before .before .before .before .before .before .before .before .before .before .before .before .before .before .before .put-prefix in
+    let p = c .before .before .before .before .before .before .before .before .before .before .before .before .before .before .before .before .p in
+    let mark-ids = c .before .before .before .before .before .before .before .before .mark-ids in
+    (search needs, record { lines = pre .1; small = pre .2; is = (put-front _ _ _ _ _ (put-prefix .ensures) (p .given .1)); ids = mark-ids .ensures })
+
+same-length-3 : tie.Need-same-length-3
+same-length-3 c = search needs
+
+same-length-4 : tie.Need-same-length-4
+same-length-4 c = search needs
+
+returns-3 : tie.Need-returns-3
+returns-3 c = c .before .before .before .before .put-entries2 .ensures
+
 pub put-map-spec : {M : Type 1} → statement M
 put-map-spec =
     tie.close
@@ -94,11 +126,7 @@ put-map-spec =
     enum-known-p
     enum-told
     returns
-    slice-aggregate-mark-ids
-    sub-mark-ids
-    part-mark-ids-start
-    part-mark-ids-end
-    mark-ids-requires
+    may-have-ids-requires
     sub-put-entries
     part-put-entries-start
     part-put-entries-end
@@ -106,4 +134,17 @@ put-map-spec =
     put-entries-requires
     same-length
     same-length-2
-    returns-2)
+    returns-2
+    slice-aggregate-mark-ids
+    sub-mark-ids
+    part-mark-ids-start
+    part-mark-ids-end
+    mark-ids-requires
+    sub-put-entries-2
+    part-put-entries-start-2
+    part-put-entries-end-2
+    slice-aggregate-put-entries-2
+    put-entries-requires-2
+    same-length-3
+    same-length-4
+    returns-3)

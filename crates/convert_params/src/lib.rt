@@ -2,7 +2,7 @@
 ghost use mathlib.Core.Path.{_≡_};
 ghost use Prim.Native.Nat.{_<_};
 ghost use Rattle.text.specs.Bytes.{lowered};
-ghost use Rattle.convert_marks.specs.Row.{kindOf};
+ghost use Rattle.convert_params.specs.Row.{kindOf};
 use line_name::is_named;
 
 // Which of the parameters that the converter looks at it is.
