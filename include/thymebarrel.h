@@ -57,8 +57,8 @@ extern "C" {
 uint8_t thymebarrel_card_to_json(const uint8_t *stem, size_t stem_length, size_t number, const uint8_t *card, size_t card_length, uint8_t *out,
                                  size_t out_length, size_t *place, size_t *written);
 
-/* JSON to card, likewise: the card is written to the front of `out`, and THYMEBARREL_CARD_BYTES of output are always enough. A call took up to 330 KiB of
- * stack (docs/PERFORMANCE.md).
+/* JSON to card, likewise: the card is written to the front of `out`, and THYMEBARREL_CARD_BYTES of output are always enough. A call took 99 KiB of stack
+ * for a small text and 406 KiB for the largest one tried (docs/PERFORMANCE.md).
  *
  *     uint8_t number = thymebarrel_json_to_card(json, json_length, out, sizeof out, &place, &written);
  */
