@@ -180,7 +180,7 @@ pointer-taken : (ps : List Param) → onlyNamed (ascii "jsptr" ∷ []) (besidesV
 unfolding among any same
 pointer-taken ps h = with-value (ascii "jsptr" ∷ []) (ascii "jsptr" ∷ ascii "value" ∷ []) (λ n e. byBool (same n (ascii "jsptr")) (λ q. rw q) (λ q. not-both e (rw q))) refl ps h
 
-tree-read : (r : Reading) (j : Json) → treeOf r ≡ some j → r ≡ tree j
+pub tree-read : (r : Reading) (j : Json) → treeOf r ≡ some j → r ≡ tree j
 tree-read (tree i) j e = ap tree (some-same e)
 tree-read (refused n) j e = none-some e
 

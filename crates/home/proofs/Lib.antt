@@ -100,5 +100,15 @@ pub mod HomeAgain
 pub mod MemberHome
 pub mod StandsPlainly
 pub mod AllowedExample
+pub mod PairedTypes
+pub mod PairedEntries
+pub mod PairedLines
+pub mod PairedWhole
+pub mod ReasonsSeen
+pub mod ReasonsEntries
+pub mod ReasonsLines
+pub mod JsonStands
+pub mod StandsOnce
+pub mod WrongPairs
 pub mod Demand2
 pub mod WrongConverters

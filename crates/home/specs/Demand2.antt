@@ -1,5 +1,5 @@
 -- DEMAND 2, as a statement about any two converters: what goes out comes home. `normalCard` and `normalJson` are 01's section 'Normal forms' (convert/specs); what
--- must stand is said apart from them and from the converter's tables in `Allowed`, `Turns`, `Members`; how lines may be spelled in `Spelled`.
+-- must stand is said apart from them and from the converter's tables in `Allowed`, `Turns`, `Members`, `StandsFor`, `Reasons`; how lines may be spelled in `Spelled`.
 use mathlib.Core.Path.{_≡_}
 use mathlib.Core.Bool.{true, false}
 use mathlib.Core.List.{List, [], _∷_, map}
@@ -20,6 +20,7 @@ use Rattle.convert.specs.Answers.{Answer, no, yes, seek, given, cardRoom, lineR
 use Rattle.convert.specs.Worked.{givenBy, wanted}
 use Rattle.convert.specs.ProvedCases.{proved-cases}
 use Rattle.home.specs.Allowed.{AllStand, carriedLines, newLines}
+use Rattle.home.specs.JsonStands.{JsonStands}
 use Rattle.home.specs.Members.{TextStands}
 use Rattle.home.specs.Spelled.{Spells}
 use Rattle.home.specs.Turns.{InTurn}
@@ -63,6 +64,8 @@ pub record Demand2 (toJson : (stem : Bytes) (n lent : ℕ) (card : Bytes) → An
   -- Every line of the card stands in the card that comes home, as often as it came, changed only as `Allowed` says; no other is there but the new ones.
   pub every-line : (stem : Bytes) (n lent lent′ : ℕ) (s j b : Bytes) → toJson stem n lent s ≡ yes j → toCard lent′ j ≡ yes b
       → AllStand (map upperLine (newLines stem n (lines s))) (carriedLines (lines s)) (lines b)
+  -- What stands for each line in the JSON is what 01's table says (`StandsFor`), a line is kept exactly where 01 has a reason (`Reasons`), and nothing else is in the JSON.
+  pub json-stands : (stem : Bytes) (n lent : ℕ) (s j : Bytes) → toJson stem n lent s ≡ yes j → JsonStands stem n (lines s) j
   -- They stand in 01's order of sections, and in each section in their own.
   pub in-turn : (stem : Bytes) (n lent lent′ : ℕ) (s j b : Bytes) → toJson stem n lent s ≡ yes j → toCard lent′ j ≡ yes b → InTurn (carriedLines (lines s)) (lines b)
   -- Every member of the JSON, at every level, stands in the JSON that comes home, and no other, but for what 01 lets go or come (`Members`).
