@@ -109,6 +109,7 @@ pub mod ReasonsEntries
 pub mod ReasonsLines
 pub mod JsonStands
 pub mod StandsOnce
+pub mod OneCard
 pub mod WrongPairs
 pub mod Demand2
 pub mod WrongConverters
