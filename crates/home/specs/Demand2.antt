@@ -63,9 +63,10 @@ pub record Demand2 (toJson : (stem : Bytes) (n lent : ℕ) (card : Bytes) → An
       → (toJson stem n jsonRoom b ≡ yes (normalJson s)) ⊎ (toJson stem n jsonRoom b ≡ no 3 0)
   -- Every line of the card stands in the card that comes home, as often as it came, changed only as `Allowed` says; no other is there but the new ones.
   pub every-line : (stem : Bytes) (n lent lent′ : ℕ) (s j b : Bytes) → toJson stem n lent s ≡ yes j → toCard lent′ j ≡ yes b
-      → AllStand (map upperLine (newLines stem n (lines s))) (carriedLines (lines s)) (lines b)
-  -- They stand in 01's order of sections, and in each section in their own.
-  pub in-turn : (stem : Bytes) (n lent lent′ : ℕ) (s j b : Bytes) → toJson stem n lent s ≡ yes j → toCard lent′ j ≡ yes b → InTurn (carriedLines (lines s)) (lines b)
+      → AllStand (newLines stem n (lines s)) (carriedLines (lines s)) (lines b)
+  -- They stand in 01's order of sections, and in each section in their own; those that 01 keeps, and no other, are kept lines, by what stands for each in the JSON (below).
+  pub in-turn : (stem : Bytes) (n lent lent′ : ℕ) (s j b : Bytes) → toJson stem n lent s ≡ yes j → toCard lent′ j ≡ yes b
+      → (h : JsonStands stem n (lines s) j) → InTurn (lines s) (h .stands) (lines b)
   -- Every member of the JSON, at every level, stands in the JSON that comes home, and no other, but for what 01 lets go or come (`Members`).
   pub every-member : (stem : Bytes) (n lent lent′ : ℕ) (s b r : Bytes) → toCard lent s ≡ yes b → toJson stem n lent′ b ≡ yes r → TextStands s r
   -- What stands for each line in the JSON is what 01's table says (`StandsFor`), a line is kept exactly where 01 has a reason (`Reasons`), and nothing else is in the JSON.

@@ -1,21 +1,21 @@
 -- What of a card's JSON stands for each line of the card: 01's table 'Converted lines', 'N', 'JSPROP', 'JSON' and the last sentence of 'Kept', word for word. The names
 -- of both sides are written out once more on purpose: nothing here is taken from the converter's tables, readers or model, so that a wrong pair of words cannot make it true.
 use mathlib.Core.Path.{_≡_}
-use mathlib.Core.Bool.{true, false, _&&_, _||_, not}
+use mathlib.Core.Bool.{true, false, _&&_, _||_}
 use mathlib.Core.List.{List, [], _∷_, _++_, map}
 use mathlib.Core.Option.{Option, none, some}
 use Prim.Native.Nat.{ℕ, _≤_, _<_}
 use Prim.Native.Char.{code}
 use lib.Dec.{eqb}
 use Rattle.text.specs.Choice.{pick}
-use Rattle.text.specs.Bytes.{Bytes, ascii, same, among, lowered, flat, keep, each}
+use Rattle.text.specs.Bytes.{Bytes, ascii, same, among, lowered, flat, each}
 use Rattle.text.specs.Decimal.{decimal}
 use Rattle.json.specs.Tree.{Json, jstr, jnum, jtrue, Member, member, object, array}
 use Rattle.json.specs.Read.{tree, reading}
 use Rattle.line.specs.Grammar.{Param, param, Line}
 use Rattle.line.specs.Params.{valuesNamed, valueType, besidesValue, merged}
 use Rattle.line.specs.Text.{readText, splitText}
-use Rattle.home.specs.Allowed.{called, untyped, plain, filledOnly, nameStrings, partOf, typesOf, onlyDerived}
+use Rattle.home.specs.Allowed.{called, untyped, plain, filledOnly, nameStrings, partOf, notAmong, typesOf, onlyDerived}
 
 -- ---- what stands for a line
 
@@ -65,10 +65,6 @@ pref l = map (λ p. member (ascii "pref") (jnum p)) (valuesNamed (ascii "pref") 
 
 unfoldable pub ofKind : Bytes → List Bytes → List Json
 ofKind k vs = map (λ v. object (member (ascii "kind") (jstr k) ∷ member (ascii "value") (jstr v) ∷ [])) vs
-
--- "Reading ignores a family value also among the secondary surnames, and a suffix also among the generations."
-abbrev pub notAmong : List Bytes → List Bytes → List Bytes
-notAmong others vs = keep (λ v. not (among v others)) vs
 
 unfoldable pub nameComponents : List (List Bytes) → List Json
 nameComponents ps =
