@@ -42,7 +42,13 @@ module _ (f : Bytes → ℕ → ℕ → Bytes → Answer) (g : ℕ → Bytes →
   abbrev private : Bytes
   private = json ",'name':{'full':'a'},'emails':{'k':{'address':'m','contexts':{'private':true}}}"
 
-  pub private-is-work : g 32768 private ≡ yes (homeLines "FN:a^|EMAIL;PROP-ID=k;TYPE=work:m") → ⊥
+  -- its card, and another one
+  abbrev home : Bytes
+  home = homeLines "FN:a^|EMAIL;PROP-ID=k;TYPE=home:m"
+
+  abbrev work : Bytes
+  work = homeLines "FN:a^|EMAIL;PROP-ID=k;TYPE=work:m"
+
+  pub private-is-work : g 32768 private ≡ yes work → ⊥
   unfolding convert-opened worked-opened
-  private-is-work =
-      other-card private (homeLines "FN:a^|EMAIL;PROP-ID=k;TYPE=home:m") (homeLines "FN:a^|EMAIL;PROP-ID=k;TYPE=work:m") (json ",'name':{'full':'a'},'emails':{'k':{'address':'m','contexts':{'work':true}}}") refl refl refl
+  private-is-work = other-card private home work (json ",'name':{'full':'a'},'emails':{'k':{'address':'m','contexts':{'work':true}}}") refl refl refl
