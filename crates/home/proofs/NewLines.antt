@@ -2,15 +2,15 @@
 use mathlib.Core.Path.{_≡_, refl, sym, ap, ap₂, _∙_}
 use mathlib.Core.Bool.{Bool, true, false, _&&_, not}
 use mathlib.Core.List.{List, [], _∷_, _++_, map, map-append}
-use mathlib.Core.Option.{Option, none, some}
+use mathlib.Core.Option.{none, some}
 use Prim.Native.Nat.{ℕ}
 use lib.ListN.{length}
 use lib.Dec.{eqb, leb}
-use Rattle.text.specs.Choice.{pick, with-some, is-some, chain, provided}
-use Rattle.text.specs.Bytes.{Bytes, ascii, any, empty, same, among, lowered, lower, upper, uppered, between, joined, flat, keep, each}
+use Rattle.text.specs.Choice.{pick, is-some}
+use Rattle.text.specs.Bytes.{Bytes, ascii, any, empty, same, lowered, upper, uppered, between, joined, flat, keep, each}
 use Rattle.text.specs.Decimal.{decimal}
 use Rattle.text.proofs.Cases.{byBool, not-both, and-left, and-right}
-use Rattle.text.proofs.Choices.{none-some, some-same}
+use Rattle.text.proofs.Choices.{some-same}
 use Rattle.text.proofs.Lists.{each-length}
 use Rattle.text.proofs.Same.{same-true}
 use Rattle.line.specs.Grammar.{Param, param, Line}
@@ -21,7 +21,7 @@ use Rattle.convert.specs.Table.{nameRow}
 use Rattle.convert.specs.Value.{partValues, without, ownParts, readParts, readName}
 use Rattle.convert.specs.Classify.{Class, as-version, as-uid, as-kind, as-dropped, as-full, as-parts, as-entry, as-member, as-kept, Seen, nothing, see, isDerived, fullClass, partsClass, classify, Classed, classedAfter, classed}
 use Rattle.convert.specs.Property.{property}
-use Rattle.convert.specs.NormalCard.{nameValues, uids, fulls, names, sectionOf, sectionNumber, section, nameStrings as namesOf, derivedForm}
+use Rattle.convert.specs.NormalCard.{uids, fulls, names, sectionOf, sectionNumber, section, nameStrings as namesOf, derivedForm}
 use Rattle.convert.specs.Answers.{isNamed}
 use Rattle.home.specs.Allowed.{called, plain, untyped, partStrings, nameStrings, whereNone, canFull, canName, componentValues, valuesOfName, newLines}
 use Rattle.home.proofs.Known.{onSome, onProvided, onChain}

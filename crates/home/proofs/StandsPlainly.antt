@@ -2,13 +2,12 @@
 use mathlib.Core.Path.{_≡_, refl, sym, subst}
 use mathlib.Core.Logic.{inl, inr}
 use mathlib.Core.Bool.{true, false}
-use mathlib.Core.List.{List, [], _∷_, map}
+use mathlib.Core.List.{List, [], _∷_}
 use Prim.Native.Nat.{ℕ, _+_}
 use lib.ListN.{length}
 use Rattle.text.specs.Bytes.{Bytes, ascii, any, same, among, lowered}
 use Rattle.text.proofs.Cases.{not-both, or-left, or-right}
 use Rattle.line.specs.Grammar.{Line}
-use Rattle.line.proofs.Lines.{upperLine}
 use Rattle.convert.specs.Answers.{yes, isNamed, cardToJson, jsonToCard}
 use Rattle.home.specs.Allowed.{entryNames, SameKept, Allowed, converted, uid, kind, full, parts, entry, member, kept, Into, here, later, AllStand, no-more, one-more, carries, carriedLines, newLines}
 use Rattle.home.proofs.Alls.{In, keep-there}
