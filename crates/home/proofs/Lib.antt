@@ -93,6 +93,7 @@ pub mod AllowedUpper
 pub mod InSections
 pub mod SectionsStand
 pub mod EveryLine
+pub mod NewLines
 pub mod TurnsKept
 pub mod InTurn
 pub mod OwnEntry
