@@ -108,6 +108,12 @@ pub mod ReasonsSeen
 pub mod ReasonsEntries
 pub mod ReasonsLines
 pub mod JsonStands
+pub mod CardJsonTests
+pub mod CardJsonEntries
+pub mod CardJsonName
+pub mod CardJsonKept
+pub mod CardJsonWhole
+pub mod Twelve
 pub mod StandsOnce
 pub mod WrongPairs
 pub mod Demand2
