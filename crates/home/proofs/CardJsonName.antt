@@ -35,10 +35,10 @@ component-is j =
 
 -- ---- the name
 
-pub name-is : (j : Json) → is-some (nameFrom j) ≡ C.anObject C.isName′ j
-unfolding nameFrom C.isName′ C.shaped all onlyMembers
+pub name-is : (j : Json) → is-some (nameFrom j) ≡ C.anObject C.aName j
+unfolding nameFrom C.aName C.shaped all onlyMembers
 name-is j =
-    some-chain (asObject j) _ C.isName′ λ ms.
+    some-chain (asObject j) _ C.aName λ ms.
     let only : Bool = all (λ m. among (nameOf m) (ascii "full" ∷ ascii "components" ∷ ascii "isOrdered" ∷ [])) ms in
     let there : Bool = is-some (field (ascii "full") ms) || is-some (field (ascii "components") ms) in
     let o : Bool = C.obeyed ms (C.may (ascii "isOrdered") C.aFalse) in

@@ -258,14 +258,14 @@ module _ (ms : List Member) where
       let c : Bool = all (λ m. C.filled (nameOf m)) ms in
       let u : Bool = C.obeyed ms (C.must (ascii "uid") (C.aString C.filled)) in
       let k : Bool = C.obeyed ms (C.may (ascii "kind") (C.aString C.lowerName)) in
-      let n : Bool = C.obeyed ms (C.may (ascii "name") (C.anObject C.isName′)) in
+      let n : Bool = C.obeyed ms (C.may (ascii "name") (C.anObject C.aName)) in
       let m : Bool = all (C.obeyed ms) mapRules in
       let v : Bool = C.obeyed ms propRule in
       some-provided (a && b && c) _
       ∙ ap (λ (x : Bool). (a && b && c) && x)
       (chain-and readUid _ u (k && (n && (m && v))) uid-is λ uid e₁.
       chain-and readKind _ k (n && (m && v)) kind-is λ kind e₂.
-      chain-and (optional (ascii "name") nameless nameFrom ms) _ n (m && v) (some-optional (field (ascii "name") ms) nameFrom nameless (C.anObject C.isName′) name-is) λ name e₃.
+      chain-and (optional (ascii "name") nameless nameFrom ms) _ n (m && v) (some-optional (field (ascii "name") ms) nameFrom nameless (C.anObject C.aName) name-is) λ name e₃.
       chain-and (each (mapFrom ms) maps) _ m v maps-are λ es e₄.
       kept-is uid kind name es (knows name es e₃ e₄))
       ∙ front a b c (u && (k && (n && (m && v))))

@@ -114,6 +114,7 @@ pub mod CardJsonName
 pub mod CardJsonKept
 pub mod CardJsonWhole
 pub mod Twelve
+pub mod CardJsonExamples
 pub mod StandsOnce
 pub mod WrongPairs
 pub mod Demand2

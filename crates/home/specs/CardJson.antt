@@ -82,17 +82,16 @@ lowerName s = filled s && all isName s && same (lowered s) s
 -- ---- name
 
 -- "Kinds: surname, given, given2, title, credential, surname2, generation."
-abbrev pub isComponent : List Member → Bool
-isComponent ms =
-    shaped (
-    must (ascii "kind") (aString λ k. among k (ascii "surname" ∷ ascii "given" ∷ ascii "given2" ∷ ascii "title" ∷ ascii "credential" ∷ ascii "surname2" ∷ ascii "generation" ∷ []))
-    ∷ must (ascii "value") anyString ∷ []
-    )
-    ms
+abbrev pub kinds : List Bytes
+kinds = ascii "surname" ∷ ascii "given" ∷ ascii "given2" ∷ ascii "title" ∷ ascii "credential" ∷ ascii "surname2" ∷ ascii "generation" ∷ []
 
--- "one of .. name's members may be absent", "isOrdered true" is 12
-unfoldable pub isName′ : List Member → Bool
-isName′ ms =
+-- "an unlisted .. component kind"
+abbrev pub isComponent : List Member → Bool
+isComponent ms = shaped (must (ascii "kind") (aString λ k. among k kinds) ∷ must (ascii "value") anyString ∷ []) ms
+
+-- full and components: "one of .. name's members may be absent"; "isOrdered true" is 12
+unfoldable pub aName : List Member → Bool
+aName ms =
     shaped (may (ascii "full") anyString ∷ may (ascii "components") (anArray (all (anObject isComponent))) ∷ may (ascii "isOrdered") aFalse ∷ []) ms
     && (is-some (field (ascii "full") ms) || is-some (field (ascii "components") ms))
 
@@ -138,7 +137,7 @@ isUnit ms = shaped (must (ascii "name") anyString ∷ []) ms
 abbrev pub hasText : Bytes → List Member → Bool
 hasText n ms = obeyed ms (must n (aString filled))
 
--- "An organisation left empty is 12": so one of its members at most is absent
+-- name and units: "one of ORG's .. members may be absent"; "An organisation left empty is 12", so with neither it is too
 unfoldable pub organization : List Member → Bool
 organization ms =
     shaped (may (ascii "name") anyString ∷ may (ascii "units") (anArray (all (anObject isUnit))) ∷ []) ms
@@ -156,7 +155,7 @@ tableRules =
     ∷ must (ascii "version") (aString (same (ascii "1.0")))
     ∷ must (ascii "uid") (aString filled)
     ∷ may (ascii "kind") (aString lowerName)  -- "a kind no KIND line gives"
-    ∷ may (ascii "name") (anObject isName′)
+    ∷ may (ascii "name") (anObject aName)
     ∷ may (ascii "nicknames") (underKeys nickname)
     ∷ may (ascii "emails") (underKeys email)
     ∷ may (ascii "phones") (underKeys phone)
@@ -172,8 +171,8 @@ others ms = keep (λ m. not (among (nameOf m) (map ruleName tableRules ++ ascii 
 
 -- ---- vCardProps: "an entry of vCardProps that no kept line in its place gives (13, group's place and one-value arrays aside)"
 
--- The lines before it: those of the other members, all in a converted card's order. Of each line only the PROP-ID is said, and of what it stands for only what a later line
--- may not repeat, since a reason looks at no more.
+-- "in its place": after the lines that all other members become, each with what it stands for. Of these lines only the PROP-ID is said, and of what stands for them only what
+-- a later line may not repeat, since a reason (`hasReason`) looks at no more.
 abbrev pub lineOf : List Param → Stand → Paired
 lineOf ps t = record { line = record { group = []; name = []; params = ps; value = [] }; stand = t }
 
