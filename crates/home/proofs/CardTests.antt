@@ -80,7 +80,7 @@ not-kind : (n : Bytes) → among n heads ≡ false → same n (ascii "kind") ≡
 unfolding among
 not-kind n h = any-head (same n) (ascii "kind") _ (any-tail (same n) (ascii "uid") _ (any-tail (same n) (ascii "version") _ h))
 
-plain-misused : (l : Line) → Plain l → misused l ≡ false
+pub plain-misused : (l : Line) → Plain l → misused l ≡ false
 unfolding misused
 plain-misused l p = rw (not-uid (lowered (l .name)) (p .own), not-kind (lowered (l .name)) (p .own), p .group, p .value)
 

@@ -6,6 +6,7 @@ use Rattle.home.proofs.WayHome.{card-comes-home, json-comes-home}
 use Rattle.home.proofs.PlainCases.{card-or-3, json-or-3, own-normal, same-card-from-normal}
 use Rattle.home.proofs.HomeAgain.{every-line-comes-home, lines-come-home-in-turn, same-json-again, home-again}
 use Rattle.home.proofs.JsonStands.{card-stands, json-gives-stands, members-stand}
+use Rattle.home.proofs.Twelve.{twelve, only-twelve}
 use Rattle.home.proofs.MemberHome.{every-member-comes-home}
 use Rattle.home.proofs.Respelled.{refolded-same, respelled-same}
 
@@ -27,6 +28,8 @@ demand-2 =
       home-again = home-again;
       own-normal = own-normal;
       same-card = same-card-from-normal;
+      twelve = twelve;
+      only-twelve = only-twelve;
       refolded = refolded-same;
       respelled = respelled-same;
     }

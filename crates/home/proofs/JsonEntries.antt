@@ -168,7 +168,7 @@ entry-proper d m r (member k j) e h q =
       texts-utf8 = rw (flat-singly (vs .0)) (t .1);
     })
 
-entry-key : (m : Map) (o : Member) (e : Entry) → entryFrom m o ≡ some e → e .key ≡ nameOf o
+pub entry-key : (m : Map) (o : Member) (e : Entry) → entryFrom m o ≡ some e → e .key ≡ nameOf o
 unfolding entryFrom
 entry-key m (member k j) e q =
     let a = chain-inv (provided (isKeyText k) (asObject j)) _ q in

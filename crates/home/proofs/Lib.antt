@@ -109,6 +109,13 @@ pub mod ReasonsSeen
 pub mod ReasonsEntries
 pub mod ReasonsLines
 pub mod JsonStands
+pub mod CardJsonTests
+pub mod CardJsonEntries
+pub mod CardJsonName
+pub mod CardJsonKept
+pub mod CardJsonWhole
+pub mod Twelve
+pub mod CardJsonExamples
 pub mod StandsOnce
 pub mod OneCard
 pub mod WrongPairs

@@ -1,6 +1,6 @@
 -- DEMAND 2, as a statement about any two converters: what goes out comes home. `normalCard` and `normalJson` are 01's section 'Normal forms' (convert/specs); what
--- must stand is said apart from them and from the converter's tables in `Allowed`, `Turns`, `Members`, `StandsFor`, `Reasons`; how lines may be spelled in `Spelled`.
--- The lines of a card, answers, rooms and the proved cases are convert's words.
+-- must stand is said apart from them and from the converter's tables in `Allowed`, `Turns`, `Members`, `StandsFor`, `Reasons`; which JSON is a card in `CardJson`; how lines
+-- may be spelled in `Spelled`. The lines of a card, answers, rooms and the proved cases are convert's words.
 use mathlib.Core.Path.{_≡_}
 use mathlib.Core.Bool.{true, false}
 use mathlib.Core.List.{List, [], _∷_, map}
@@ -21,6 +21,7 @@ use Rattle.convert.specs.Answers.{Answer, no, yes, seek, given, cardRoom, lineR
 use Rattle.convert.specs.Worked.{givenBy, wanted}
 use Rattle.convert.specs.ProvedCases.{proved-cases}
 use Rattle.home.specs.Allowed.{AllStand, carriedLines, newLines}
+use Rattle.home.specs.CardJson.{NoCard}
 use Rattle.home.specs.JsonStands.{JsonStands}
 use Rattle.home.specs.Members.{TextStands}
 use Rattle.home.specs.Spelled.{Spells}
@@ -84,6 +85,9 @@ pub record Demand2 (toJson : (stem : Bytes) (n lent : ℕ) (card : Bytes) → An
   pub own-normal : (stem : Bytes) (n lent : ℕ) (s b : Bytes) → toCard lent s ≡ yes b → normalCard stem n b ≡ b
   pub same-card : (lent lent′ : ℕ) (s b : Bytes) → toCard lent s ≡ yes b
       → toCard lent′ (normalJson s) ≡ pick (ltb jsonRoom (length (normalJson s))) (no 3 0) (toCard lent′ s)
+  -- 12 is given exactly where the JSON is no card of 01 (`CardJson`): JSON that 01 accepts is not refused by it, and all other JSON that reads is.
+  pub twelve : (lent : ℕ) (s : Bytes) → NoCard s → toCard lent s ≡ no 12 0
+  pub only-twelve : (lent place : ℕ) (s : Bytes) → toCard lent s ≡ no 12 place → NoCard s
   -- Refolding, other line ends and other letter case in names and groups change no byte.
   pub refolded : (stem : Bytes) (n lent : ℕ) (ls : List Bytes) (s t : Bytes) → Spells ls s → Spells ls t → ltb cardRoom (sizeOf s) ≡ ltb cardRoom (sizeOf t)
       → toJson stem n lent s ≡ toJson stem n lent t

@@ -5,4 +5,5 @@ pub mod Spelled
 pub mod StandsFor
 pub mod Reasons
 pub mod JsonStands
+pub mod CardJson
 pub mod Demand2
