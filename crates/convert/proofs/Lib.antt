@@ -1,4 +1,6 @@
 pub mod Opened
+pub mod InWords
+pub mod Listed
 pub mod ProvedCases
 pub mod Figures
 pub mod Refusals

@@ -4,9 +4,10 @@ use mathlib.Core.Path.{_≡_}
 use mathlib.Core.Bool.{Bool, true, _||_}
 use mathlib.Core.List.{List, [], _∷_, _++_, map}
 use Prim.Native.Nat.{ℕ}
-use lib.Dec.{eqb, ltb}
+use lib.Dec.{eqb}
 use Rattle.text.specs.Choice.{pick}
 use Rattle.text.specs.Bytes.{Bytes, ascii, any, all, same, empty, uppered, joined, flat}
+use Rattle.text.specs.Listed.{ofBytes}
 use Rattle.line.specs.Grammar.{Param, param, Line, paramValues}
 use Rattle.line.specs.Write.{writeLine}
 
@@ -26,8 +27,8 @@ shownLine l =
     pick (empty (l .group)) [] (l .group ++ ascii ".") ++ uppered (l .name) ++ flat (map shownParam (l .params)) ++ ascii ":" ++ l .value
 
 -- every line whose parameter values are bytes is written so
-abbrev pub ofBytes : Line → Bool
-ofBytes l = all (λ p. all (all (λ c. ltb c 256)) (paramValues p)) (l .params)
+abbrev pub inBytes : Line → Bool
+inBytes l = all (λ p. all ofBytes (paramValues p)) (l .params)
 
 abbrev pub WrittenInWords : Type 0
-WrittenInWords = (l : Line) → ofBytes l ≡ true → writeLine l ≡ shownLine l
+WrittenInWords = (l : Line) → inBytes l ≡ true → writeLine l ≡ shownLine l

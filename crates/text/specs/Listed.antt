@@ -3,8 +3,13 @@ use mathlib.Core.Path.{_≡_}
 use mathlib.Core.Bool.{Bool, not}
 use mathlib.Core.List.{List, [], _∷_, _++_, map}
 use Prim.Native.Nat.{ℕ, zero, suc}
-use Rattle.text.specs.Bytes.{Bytes, ascii, same, joined, keep, isDigit, isUpper, isLower, isLetter, lower, upper}
+use lib.Dec.{ltb}
+use Rattle.text.specs.Bytes.{Bytes, ascii, all, same, joined, keep, isDigit, isUpper, isLower, isLetter, lower, upper}
 use Rattle.text.specs.Decimal.{decimal}
+
+-- every number is a byte
+abbrev pub ofBytes : Bytes → Bool
+ofBytes s = all (λ c. ltb c 256) s
 
 -- n numbers from lo on
 abbrev pub countFrom : ℕ → ℕ → List ℕ
