@@ -17,6 +17,9 @@ rows =
     ∷ converts (card "VERSION:4.0|FN;X=1:b|g.FN:c|FN;VALUE=text:d|FN:\\x|FN;VALUE=unknown:e|FN:f|FN:g")
     (text "{'@type':'Card','version':'1.0','uid':'reg-1','name':{'full':'e'},'vCardProps':[['fn',{'x':'1'},'unknown','b'],['fn',{'group':'g'},'unknown','c'],['fn',{},'text','d'],['fn',{},'unknown','\\\\x'],['fn',{},'unknown','f'],['fn',{},'unknown','g']]}")
     ∷ converts (card "VERSION:4.0|FN;PREF=1:b|FN;TYPE=home:c|FN;PROP-ID=k:d|FN:") (text "{'@type':'Card','version':'1.0','uid':'reg-1','name':{'full':''},'vCardProps':[['fn',{'pref':'1'},'unknown','b'],['fn',{'type':'home'},'unknown','c'],['fn',{'prop-id':'k'},'unknown','d']]}")
+    -- none that can is no refusal: a grouped FN and a kept one are FN lines
+    ∷ converts (card "VERSION:4.0|g.FN:b") (text "{'@type':'Card','version':'1.0','uid':'reg-1','vCardProps':[['fn',{'group':'g'},'unknown','b']]}")
+    ∷ converts (card "VERSION:4.0|FN;X=1:b") (text "{'@type':'Card','version':'1.0','uid':'reg-1','vCardProps':[['fn',{'x':'1'},'unknown','b']]}")
     -- N: the first that can
     ∷ converts (lines "N;X=1:b|g.N:c|N;VALUE=text:d|N:\\x|N;PREF=1:e|N;PROP-ID=k:e|N;VALUE=unknown:f|N:h")
     (text "{'@type':'Card','version':'1.0','uid':'reg-1','name':{'full':'a','components':[{'kind':'surname','value':'f'}]},'vCardProps':[['n',{'x':'1'},'unknown','b'],['n',{'group':'g'},'unknown','c'],['n',{},'text','d'],['n',{},'unknown','\\\\x'],['n',{'pref':'1'},'unknown','e'],['n',{'prop-id':'k'},'unknown','e'],['n',{},'unknown','h']]}")

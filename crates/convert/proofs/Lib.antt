@@ -7,11 +7,7 @@ pub mod Refusals
 pub mod Limits
 pub mod Unknown
 pub mod Readings
-pub mod CasesLines
 pub mod CasesMaps
-pub mod CasesValues
-pub mod CasesToCard
-pub mod CasesNormal
 pub mod Pointers
 pub mod Forms
 pub mod Names
