@@ -78,7 +78,7 @@ and-none false = refl
 is-full : (s : Seen) (l : Line) → s .full ≡ false → canFull l ≡ true → (v : Bytes) × (classify s l ≡ as-full v)
 unfolding canFull classify fullClass same
 is-full s l f e =
-    let np : isNamed (ascii "fn") l && plain l ≡ true = and-left (isNamed (ascii "fn") l && plain l) _ e in
+    let np : isNamed (ascii "fn") l && plain l ≡ true = and-left (isNamed (ascii "fn") l && plain l) (is-some (readText (l .value))) e in
     let n : isNamed (ascii "fn") l ≡ true = and-left (isNamed (ascii "fn") l) _ np in
     let p : plain l ≡ true = and-right (isNamed (ascii "fn") l) _ np in
     let d : untyped l && isDerived (besidesValue (l .params)) ≡ false = ap (λ (b : Bool). untyped l && b) (none-derived (besidesValue (l .params)) (and-right (untyped l) _ p)) ∙ and-none (untyped l) in

@@ -20,10 +20,10 @@ use Rattle.convert.specs.Table.{Map, maps}
 use Rattle.convert.specs.Value.{isKeyText}
 use Rattle.convert.specs.Classify.{Class, as-version, as-uid, as-kind, as-dropped, as-full, as-parts, as-entry, as-member, as-kept, nothing, Classed}
 use Rattle.convert.specs.Property.{property}
-use Rattle.convert.specs.NormalCard.{renewed, nameValues, nameText, entryForm, keptForm, Section, nowhere, uids, kinds, fulls, names, members, kepts, map-at, sectionOf, sectionNumber, section, propId, entryForms, mapForms, memberForm, derivedForm, normalLines}
+use Rattle.convert.specs.NormalCard.{renewed, nameValues, nameText, entryForm, keptForm, Section, nowhere, uids, kinds, fulls, names, members, kepts, map-at, sectionOf, sectionNumber, section, propId, entryForms, mapForms, memberForm, orMade, derivedForm, normalLines}
 use Rattle.convert.specs.Keys.{fresh, keysAfter, keys}
 use Rattle.convert.proofs.Entries.{coherent}
-use Rattle.home.specs.Allowed.{SameKept, Converted, converted, kept, here, AllStand, no-more, one-more, whereNone}
+use Rattle.home.specs.Allowed.{SameKept, Converted, here, AllStand, no-more, one-more, whereNone}
 use Rattle.home.specs.Members.{Pairwise, no-pair, pair}
 use Rattle.home.proofs.Alls.{All}
 use Rattle.home.proofs.Classes.{elsewhere}
@@ -150,7 +150,7 @@ ids-text m (l ∷ ls) h = and-true (h .0 .0) (ids-text m ls (h .1))
 
 pair-stand : {ls hs : List Line} → Pairwise Converted ls hs → AllStand [] ls hs
 pair-stand no-pair = no-more
-pair-stand (pair a s) = one-more (converted a) (pair-stand s) here
+pair-stand (pair a s) = one-more a (pair-stand s) here
 
 forms-stand : (m : Map) (ks : List Bytes) (ls : List Line) → All (RowLine m) ls → all isKeyText ks ≡ true → KeysFit (map propId ls) ks → Pairwise Converted ls (entryForms m ks ls)
 unfolding entryForms all
@@ -216,20 +216,33 @@ members-stand (c ∷ cs) h = rw (section-first members (c .line) (c .class) cs) 
 abbrev pub newOf : Bytes → ℕ → List Classed → List Line
 newOf stem n cs = property (ascii "version") [] (ascii "4.0") ∷ (whereNone (section uids cs) (property (ascii "uid") [] (stem ++ 45 ∷ decimal n)) ++ whereNone (section fulls cs) (derivedForm (section names cs)))
 
-no-new : (v : Line) (u f : List Line) → v ∷ (u ++ [] ++ f ++ [] ++ [] ++ [] ++ []) ≡ v ∷ (u ++ f)
+no-new : (v : Line) (u f : List Line) → v ∷ (u ++ [] ++ f ++ [] ++ [] ++ []) ≡ v ∷ (u ++ f)
 no-new v u f = simp append-nil
 
-pub sections-stand : (stem : Bytes) (n : ℕ) (cs : List Classed) → All ClassedFine cs → length cs ≤ 512 → AllStand (newOf stem n cs) (sectioned cs) (normalLines stem n cs)
+-- the normal form without the kept lines
+abbrev pub convertedForms : Bytes → ℕ → List Classed → List Line
+convertedForms stem n cs =
+    property (ascii "version") [] (ascii "4.0")
+    ∷ (orMade (map (λ (l : Line). property (ascii "uid") [] (l .value)) (section uids cs)) (property (ascii "uid") [] (stem ++ 45 ∷ decimal n))
+    ++ map (λ (l : Line). property (ascii "kind") [] (lowered (l .value))) (section kinds cs)
+    ++ orMade (map (λ (l : Line). property (ascii "fn") [] (renewed false (l .value))) (section fulls cs)) (derivedForm (section names cs))
+    ++ map (λ (l : Line). property (ascii "n") [] (nameText (nameValues (l .value)))) (section names cs)
+    ++ mapForms 0 maps cs
+    ++ flat (map memberForm cs))
+
+pub normal-parted : (stem : Bytes) (n : ℕ) (cs : List Classed) → normalLines stem n cs ≡ convertedForms stem n cs ++ map keptForm (section kepts cs)
 unfolding normalLines
+normal-parted stem n cs = refl
+
+pub sections-stand : (stem : Bytes) (n : ℕ) (cs : List Classed) → All ClassedFine cs → length cs ≤ 512 → AllStand (newOf stem n cs) (sectioned cs) (convertedForms stem n cs)
 sections-stand stem n cs h few =
     let version : Line = property (ascii "version") [] (ascii "4.0") in
     let vs : AllStand (version ∷ []) [] (version ∷ []) = no-more in
     let us = stand-made (λ (l : Line). property (ascii "uid") [] (l .value)) (property (ascii "uid") [] (stem ++ 45 ∷ decimal n)) (section uids cs) (section-fits uids cs h) in
-    let ks = stand-each Converted (λ l h. converted) (λ (l : Line). property (ascii "kind") [] (lowered (l .value))) (section kinds cs) (section-fits kinds cs h) in
+    let ks = stand-each (λ (l : Line). property (ascii "kind") [] (lowered (l .value))) (section kinds cs) (section-fits kinds cs h) in
     let fs = stand-made (λ (l : Line). property (ascii "fn") [] (renewed false (l .value))) (derivedForm (section names cs)) (section fulls cs) (section-fits fulls cs h) in
-    let ns = stand-each Converted (λ l h. converted) (λ (l : Line). property (ascii "n") [] (nameText (nameValues (l .value)))) (section names cs) (section-fits names cs h) in
+    let ns = stand-each (λ (l : Line). property (ascii "n") [] (nameText (nameValues (l .value)))) (section names cs) (section-fits names cs h) in
     let ms = maps-stand cs h few 0 maps (refl, (refl, (refl, (refl, (refl, (refl, (refl, tt))))))) in
     let js = pair-stand (members-stand cs h) in
-    let xs = stand-each SameKept (λ l h. kept) keptForm (section kepts cs) (section-fits kepts cs h) in
     rw (← no-new version (whereNone (section uids cs) (property (ascii "uid") [] (stem ++ 45 ∷ decimal n))) (whereNone (section fulls cs) (derivedForm (section names cs))))
-    (stand-both vs (stand-both (stand-both (stand-both (stand-both (stand-both (stand-both us ks) fs) ns) ms) js) xs))
+    (stand-both vs (stand-both (stand-both (stand-both (stand-both (stand-both us ks) fs) ns) ms) js))

@@ -20,12 +20,12 @@ use Rattle.convert.specs.NormalJson.{normalJson}
 use Rattle.convert.specs.Answers.{Answer, no, yes, seek, given, cardRoom, lineRoom, jsonRoom, isStemText, isCardNumber, rawLines, linesOf, orNone, fitted}
 use Rattle.convert.specs.Worked.{givenBy, wanted}
 use Rattle.convert.specs.ProvedCases.{proved-cases}
-use Rattle.home.specs.Allowed.{AllStand, carriedLines, newLines}
+use Rattle.home.specs.Allowed.{newLines}
 use Rattle.home.specs.CardJson.{NoCard}
 use Rattle.home.specs.JsonStands.{JsonStands}
 use Rattle.home.specs.Members.{TextStands}
 use Rattle.home.specs.Spelled.{Spells}
-use Rattle.home.specs.Turns.{InTurn}
+use Rattle.home.specs.Turns.{LinesStand, InTurn}
 
 -- ---- words
 
@@ -63,12 +63,13 @@ pub record Demand2 (toJson : (stem : Bytes) (n lent : ℕ) (card : Bytes) → An
       → (toCard cardRoom j ≡ yes (normalCard stem n s)) ⊎ (toCard cardRoom j ≡ no 3 0)
   pub json-only-3 : (stem : Bytes) (n lent : ℕ) (s b : Bytes) → isStemText stem ≡ true → isCardNumber n ≡ true → toCard lent s ≡ yes b
       → (toJson stem n jsonRoom b ≡ yes (normalJson s)) ⊎ (toJson stem n jsonRoom b ≡ no 3 0)
-  -- Every line of the card stands in the card that comes home, as often as it came, changed only as `Allowed` says; no other is there but the new ones.
-  pub every-line : (stem : Bytes) (n lent lent′ : ℕ) (s j b : Bytes) → toJson stem n lent s ≡ yes j → toCard lent′ j ≡ yes b
-      → AllStand (newLines stem n (lines s)) (carriedLines (lines s)) (lines b)
   -- What stands for each line in the JSON is what 01's table says (`StandsFor`), a line is kept exactly where 01 has a reason (`Reasons`), and nothing else is in the JSON.
   pub json-stands : (stem : Bytes) (n lent : ℕ) (s j : Bytes) → toJson stem n lent s ≡ yes j → JsonStands stem n (lines s) j
-  -- The lines come home in 01's order of sections, and in each section in their own; kept lines are those that 01 keeps, by what stands for each in the JSON, and no other.
+  -- Every line of the card stands in the card that comes home, as often as it came, changed only as `Allowed` says; no other is there but the new ones. Kept lines are
+  -- those that 01 keeps, by what stands for each in the JSON, and no other.
+  pub every-line : (stem : Bytes) (n lent lent′ : ℕ) (s j b : Bytes) → toJson stem n lent s ≡ yes j → toCard lent′ j ≡ yes b
+      → (h : JsonStands stem n (lines s) j) → LinesStand (newLines stem n (lines s)) (lines s) (h .stands) (lines b)
+  -- They come home in 01's order of sections, and in each section in their own.
   pub in-turn : (stem : Bytes) (n lent lent′ : ℕ) (s j b : Bytes) → toJson stem n lent s ≡ yes j → toCard lent′ j ≡ yes b
       → (h : JsonStands stem n (lines s) j) → InTurn (lines s) (h .stands) (lines b)
   -- The other way: in the same sense the JSON's normal form is what stands for the lines of the card that it gives, whatever stem and number (the card has a UID). With
