@@ -11,7 +11,7 @@ use Rattle.line.specs.Grammar.{Param, param, Line}
 use Rattle.convert.specs.Value.{headOr}
 use Rattle.line.specs.Params.{named}
 use Rattle.convert.proofs.Opened.{convert-opened}
-use Rattle.home.specs.Allowed.{stringsOf, Allowed, uid, kind, full, parts, entry, member, kept, here, AllStand, no-more, one-more, carries, carriedLines}
+use Rattle.home.specs.Allowed.{stringsOf, Allowed, converted, uid, kind, full, parts, entry, member, kept, here, AllStand, no-more, one-more, carries, carriedLines}
 
 abbrev line : Bytes → List Param → Bytes → Line
 line n ps v = record { group = []; name = n; params = ps; value = v }
@@ -27,7 +27,7 @@ telHome k = line (ascii "TEL") (param (ascii "PROP-ID") (k ∷ []) ∷ param (as
 tel-allowed : (k : Bytes) → Allowed tel (telHome k)
 unfolding convert-opened stringsOf
 tel-allowed k =
-    entry
+    converted (entry
     (record {
       name = refl;
       listed = refl;
@@ -40,7 +40,7 @@ tel-allowed k =
       types = λ t. refl;
       strings = ascii "+41 1" ∷ [];
       said = (refl, refl);
-    })
+    }))
 
 both-stand : AllStand [] (tel ∷ tel ∷ []) (telHome (ascii "PHONE-1") ∷ telHome (ascii "PHONE-2") ∷ [])
 both-stand = one-more (tel-allowed (ascii "PHONE-1")) (one-more (tel-allowed (ascii "PHONE-2")) no-more here) here
@@ -55,12 +55,12 @@ isA o = with-some o (λ vs. same (headOr [] vs) (ascii "a")) false
 
 other-value : Allowed (note (ascii "a")) (note (ascii "b")) → ⊥
 unfolding convert-opened stringsOf
-other-value (uid b p q e) = not-both (b .0) refl
-other-value (kind b p q e) = not-both (b .0) refl
-other-value (full b p q v x y) = not-both (b .0) refl
-other-value (parts b p q s) = not-both (b .0) refl
-other-value (entry s) = not-both (sym (ap isA (s .said .0))) (sym (ap isA (s .said .1)))
-other-value (member b s) = not-both (b .0) refl
+other-value (converted (uid b p q e)) = not-both (b .0) refl
+other-value (converted (kind b p q e)) = not-both (b .0) refl
+other-value (converted (full b p q v x y)) = not-both (b .0) refl
+other-value (converted (parts b p q s)) = not-both (b .0) refl
+other-value (converted (entry s)) = not-both (sym (ap isA (s .said .0))) (sym (ap isA (s .said .1)))
+other-value (converted (member b s)) = not-both (b .0) refl
 other-value (kept s) = not-both (ap (λ (v : Bytes). same v (ascii "a")) (s .value)) refl
 
 -- ---- a parameter or a group may not go
@@ -79,22 +79,22 @@ isUser ps = any (named (ascii "username")) ps
 
 lost-parameter : Allowed telUser telPlain → ⊥
 unfolding convert-opened
-lost-parameter (uid b p q e) = not-both (b .0) refl
-lost-parameter (kind b p q e) = not-both (b .0) refl
-lost-parameter (full b p q v x y) = not-both (b .0) refl
-lost-parameter (parts b p q s) = not-both (b .0) refl
-lost-parameter (entry s) = not-both (s .takes .0 .1) refl
-lost-parameter (member b s) = not-both (b .0) refl
+lost-parameter (converted (uid b p q e)) = not-both (b .0) refl
+lost-parameter (converted (kind b p q e)) = not-both (b .0) refl
+lost-parameter (converted (full b p q v x y)) = not-both (b .0) refl
+lost-parameter (converted (parts b p q s)) = not-both (b .0) refl
+lost-parameter (converted (entry s)) = not-both (s .takes .0 .1) refl
+lost-parameter (converted (member b s)) = not-both (b .0) refl
 lost-parameter (kept s) = not-both (ap isUser (s .params)) refl
 
 lost-group : Allowed telGroup telPlain → ⊥
 unfolding convert-opened
-lost-group (uid b p q e) = not-both (b .0) refl
-lost-group (kind b p q e) = not-both (b .0) refl
-lost-group (full b p q v x y) = not-both (b .0) refl
-lost-group (parts b p q s) = not-both (b .0) refl
-lost-group (entry s) = not-both (s .takes .0 .0) refl
-lost-group (member b s) = not-both (b .0) refl
+lost-group (converted (uid b p q e)) = not-both (b .0) refl
+lost-group (converted (kind b p q e)) = not-both (b .0) refl
+lost-group (converted (full b p q v x y)) = not-both (b .0) refl
+lost-group (converted (parts b p q s)) = not-both (b .0) refl
+lost-group (converted (entry s)) = not-both (s .takes .0 .0) refl
+lost-group (converted (member b s)) = not-both (b .0) refl
 lost-group (kept s) = not-both refl (ap (λ (g : Bytes). empty g) (s .group))
 
 -- ---- a derived FN and VERSION are the only lines that need not stand

@@ -213,7 +213,7 @@ module _ (c : Card) (p : ProperCard c) where
   versioned : versionFirst (map upperLine (cardLines c)) ≡ true
   versioned = rw (card-parted c) (version-first (uidLine c ∷ (kindLines c ++ laterLines c)))
 
-  none-misused : atLine 7 misused (map upperLine (cardLines c)) ≡ fine
+  pub none-misused : atLine 7 misused (map upperLine (cardLines c)) ≡ fine
   unfolding Passes
   none-misused = no-line 7 misused upperLine (cardLines c) (all-mono Passes (λ l. misused (upperLine l) ≡ false) (λ l q. q .0) (cardLines c) (card-passes c p))
 

@@ -93,6 +93,7 @@ pub mod AllowedUpper
 pub mod InSections
 pub mod SectionsStand
 pub mod EveryLine
+pub mod NewLines
 pub mod TurnsKept
 pub mod InTurn
 pub mod OwnEntry
@@ -116,6 +117,7 @@ pub mod CardJsonWhole
 pub mod Twelve
 pub mod CardJsonExamples
 pub mod StandsOnce
+pub mod OneCard
 pub mod WrongPairs
 pub mod Demand2
 pub mod WrongConverters

@@ -6,7 +6,7 @@ use native.Mathlib.Omega.{arith}
 use lib.ListN.{length}
 use Rattle.line.specs.Grammar.{Line}
 use Rattle.convert.specs.NormalCard.{orMade}
-use Rattle.home.specs.Allowed.{Allowed, Into, here, later, AllStand, no-more, one-more, whereNone}
+use Rattle.home.specs.Allowed.{Converted, converted, Allowed, Into, here, later, AllStand, no-more, one-more, whereNone}
 use Rattle.home.proofs.Alls.{All}
 
 -- ---- put in somewhere
@@ -51,14 +51,14 @@ as-many (one-more a s i) = omega (arith, into-length i, as-many s)
 
 -- ---- each by itself
 
-pub stand-each : (f : Line → Line) (ls : List Line) → All (λ l. Allowed l (f l)) ls → AllStand [] ls (map f ls)
-stand-each f [] a = no-more
-stand-each f (l ∷ ls) a = one-more (a .0) (stand-each f ls (a .1)) here
+pub stand-each : (R : Line → Line → Type 0) → ((l h : Line) → R l h → Allowed l h) → (f : Line → Line) (ls : List Line) → All (λ l. R l (f l)) ls → AllStand [] ls (map f ls)
+stand-each R g f [] a = no-more
+stand-each R g f (l ∷ ls) a = one-more (g l (f l) (a .0)) (stand-each R g f ls (a .1)) here
 
 -- or one made where there is none
-pub stand-made : (f : Line → Line) (made : Line) (ls : List Line) → All (λ l. Allowed l (f l)) ls → AllStand (whereNone ls made) ls (orMade (map f ls) made)
+pub stand-made : (f : Line → Line) (made : Line) (ls : List Line) → All (λ l. Converted l (f l)) ls → AllStand (whereNone ls made) ls (orMade (map f ls) made)
 stand-made f made [] a = no-more
-stand-made f made (l ∷ ls) a = stand-each f (l ∷ ls) a
+stand-made f made (l ∷ ls) a = stand-each Converted (λ l h. converted) f (l ∷ ls) a
 
 -- changed again
 pub stand-map : (f : Line → Line) → ((l h : Line) → Allowed l h → Allowed l (f h)) → {new ls hs : List Line} → AllStand new ls hs → AllStand (map f new) ls (map f hs)

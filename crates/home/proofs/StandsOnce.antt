@@ -8,7 +8,7 @@ use Prim.Native.Nat.{ℕ, _≤_, _<_}
 use native.Mathlib.Omega.{arith}
 use lib.ListN.{length}
 use Rattle.text.specs.Choice.{pick}
-use Rattle.text.specs.Bytes.{Bytes, ascii, empty, same, among, lowered, flat, each}
+use Rattle.text.specs.Bytes.{Bytes, ascii, any, empty, same, among, lowered, flat, each}
 use Rattle.text.proofs.Cases.{byBool, not-both, and-right, split}
 use Rattle.text.proofs.Same.{same-true}
 use Rattle.json.specs.Tree.{Json, jnull, jstr, Member, member, object}
@@ -18,14 +18,18 @@ use Rattle.line.specs.Grammar.{Param, Line}
 use Rattle.line.specs.Params.{valuesNamed, valueType, besidesValue}
 use Rattle.line.specs.Text.{readText, splitText}
 use Rattle.convert.specs.Keys.{numbered, fresh}
-use Rattle.convert.specs.Answers.{Answer, yes, cardToJson}
+use Rattle.convert.specs.Classify.{nothing, classedAfter}
+use Rattle.convert.specs.Answers.{Answer, yes, misused, cardToJson}
 use Rattle.convert.proofs.Fresh.{numberFrom, fresh-numbered, fresh-unused, fresh-least}
 use Rattle.home.specs.Allowed.{untyped, plain, nameStrings, onlyDerived, carries}
 use Rattle.home.specs.StandsFor as S
 use Rattle.home.specs.Reasons.{Paired, isProp, hasReason, KeptByReason, no-line, next-line}
 use Rattle.home.specs.JsonStands.{JsonStands}
 use Rattle.home.specs.Demand2.{lines, Demand2}
+use Rattle.home.proofs.PairedLines.{standsOf, lines-stand}
 use Rattle.home.proofs.PairedWhole.{positive}
+use Rattle.home.proofs.ReasonsSeen.{nothing-known}
+use Rattle.home.proofs.ReasonsLines.{lines-by}
 use Rattle.home.proofs.JsonStands.{card-stands}
 
 -- ---- one thing stands for a line that is not kept
@@ -146,6 +150,10 @@ same-stands before (l ∷ ls) ts us a b p q =
     let e : x .0 ≡ y .0 = same-stand l (x .0) (y .0) (x .3) (y .3) (v .0 ∙ sym (w .0)) in
     let r : KeptByReason (record { line = l; stand = y .0 } ∷ before) ls (x .1) = subst (λ (t : S.Stand). KeptByReason (record { line = l; stand = t } ∷ before) ls (x .1)) e (v .1) in
     x .2 ∙ ap₂ _∷_ e (same-stands (record { line = l; stand = y .0 } ∷ before) ls (x .1) (y .1) (x .4) (y .4) r (w .1)) ∙ sym (y .2)
+
+-- what stands for the lines is what the converter's classes say
+pub the-stands : (stem : Bytes) (n : ℕ) (ls : List Line) (j : Bytes) (h : JsonStands stem n ls j) → any misused ls ≡ false → h .stands ≡ standsOf (classedAfter nothing ls)
+the-stands stem n ls j h u = same-stands [] ls (h .stands) (standsOf (classedAfter nothing ls)) (h .each-line) (lines-stand nothing ls) (h .reasons) (lines-by nothing [] nothing-known ls u)
 
 -- ---- keys
 

@@ -2,15 +2,14 @@
 use mathlib.Core.Path.{_≡_, refl, sym, subst}
 use mathlib.Core.Logic.{inl, inr}
 use mathlib.Core.Bool.{true, false}
-use mathlib.Core.List.{List, [], _∷_, map}
+use mathlib.Core.List.{List, [], _∷_}
 use Prim.Native.Nat.{ℕ, _+_}
 use lib.ListN.{length}
 use Rattle.text.specs.Bytes.{Bytes, ascii, any, same, among, lowered}
 use Rattle.text.proofs.Cases.{not-both, or-left, or-right}
 use Rattle.line.specs.Grammar.{Line}
-use Rattle.line.proofs.Lines.{upperLine}
 use Rattle.convert.specs.Answers.{yes, isNamed, cardToJson, jsonToCard}
-use Rattle.home.specs.Allowed.{entryNames, SameKept, Allowed, uid, kind, full, parts, entry, member, kept, Into, here, later, AllStand, no-more, one-more, carries, carriedLines, newLines}
+use Rattle.home.specs.Allowed.{entryNames, SameKept, Allowed, converted, uid, kind, full, parts, entry, member, kept, Into, here, later, AllStand, no-more, one-more, carries, carriedLines, newLines}
 use Rattle.home.proofs.Alls.{In, keep-there}
 use Rattle.home.proofs.Respelled.{lines}
 use Rattle.home.proofs.Standing.{as-many}
@@ -55,12 +54,12 @@ not-named l u =
     (or-left _ _ (u .0), or-left _ _ a, or-left _ _ b, or-left _ _ c, or-left _ _ d, or-left _ _ e)
 
 pub unknown-kept : (l h : Line) → Unknown l → Allowed l h → SameKept l h
-unknown-kept l h u (uid b p q e) = not-both (b .0) (not-named l u .1)
-unknown-kept l h u (kind b p q e) = not-both (b .0) (not-named l u .2)
-unknown-kept l h u (full b p q v x y) = not-both (b .0) (not-named l u .3)
-unknown-kept l h u (parts b p q s) = not-both (b .0) (not-named l u .4)
-unknown-kept l h u (entry s) = not-both (s .listed) (u .1)
-unknown-kept l h u (member b s) = not-both (b .0) (not-named l u .5)
+unknown-kept l h u (converted (uid b p q e)) = not-both (b .0) (not-named l u .1)
+unknown-kept l h u (converted (kind b p q e)) = not-both (b .0) (not-named l u .2)
+unknown-kept l h u (converted (full b p q v x y)) = not-both (b .0) (not-named l u .3)
+unknown-kept l h u (converted (parts b p q s)) = not-both (b .0) (not-named l u .4)
+unknown-kept l h u (converted (entry s)) = not-both (s .listed) (u .1)
+unknown-kept l h u (converted (member b s)) = not-both (b .0) (not-named l u .5)
 unknown-kept l h u (kept s) = s
 
 unknown-carries : (l : Line) → Unknown l → carries l ≡ true
@@ -70,7 +69,7 @@ unknown-carries l u = let n = not-named l u in rw (n .0, n .3)
 -- ---- of a card that came home
 
 module _ (stem : Bytes) (n lent lent′ : ℕ) (s j b : Bytes) (out : cardToJson stem n lent s ≡ yes j) (back : jsonToCard lent′ j ≡ yes b) where
-  stand : AllStand (map upperLine (newLines stem n (lines s))) (carriedLines (lines s)) (lines b)
+  stand : AllStand (newLines stem n (lines s)) (carriedLines (lines s)) (lines b)
   stand = every-line-comes-home stem n lent lent′ s j b out back
 
   -- each line but VERSION and a derived FN has a line allowed for it
@@ -83,5 +82,5 @@ module _ (stem : Bytes) (n lent lent′ : ℕ) (s j b : Bytes) (out : cardToJson
   unknown-comes-home l i u = let t = line-comes-home l i (unknown-carries l u) in (t .0, t .1, unknown-kept l (t .0) u (t .2))
 
   -- as many lines as came, and the new ones
-  pub as-many-come-home : length (lines b) ≡ length (carriedLines (lines s)) + length (map upperLine (newLines stem n (lines s)))
+  pub as-many-come-home : length (lines b) ≡ length (carriedLines (lines s)) + length (newLines stem n (lines s))
   as-many-come-home = as-many stand

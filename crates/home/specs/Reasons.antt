@@ -148,8 +148,8 @@ allEmpty o = with-some o (all empty) false
 
 abbrev pub memberNames : List Bytes
 memberNames =
-    ascii "@type" ∷ ascii "version" ∷ ascii "uid" ∷ ascii "kind" ∷ ascii "name" ∷ ascii "nicknames" ∷ ascii "emails" ∷ ascii "phones" ∷ ascii "links" ∷ ascii "notes" ∷ ascii "titles"
-    ∷ ascii "organizations" ∷ ascii "vCardProps" ∷ []
+    ascii "@type" ∷ ascii "version" ∷ ascii "uid" ∷ ascii "kind" ∷ ascii "name" ∷ ascii "nicknames" ∷ ascii "emails" ∷ ascii "phones" ∷ ascii "links" ∷ ascii "notes"
+    ∷ ascii "titles" ∷ ascii "organizations" ∷ ascii "vCardProps" ∷ []
 
 -- exactly one JSPTR value, one non-empty RFC 6901 part, that names no member of the table, and is new
 abbrev pub pointsNew : List Paired → List Bytes → Bool

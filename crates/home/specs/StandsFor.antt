@@ -1,21 +1,24 @@
 -- What of a card's JSON stands for each line of the card: 01's table 'Converted lines', 'N', 'JSPROP', 'JSON' and the last sentence of 'Kept', word for word. The names
--- of both sides are written out once more on purpose: nothing here is taken from the converter's tables, readers or model, so that a wrong pair of words cannot make it true.
+-- of both sides are written out once more on purpose: nothing here is taken from the converter's tables, classes, readers, keys or model, so that a wrong pair of words
+-- cannot make it true. Parameters by name, TEXT and JSON are read by the rules for lines and for JSON (crates line and json).
+--
+-- This file says what a line stands for where it is converted and where it is kept; which of the two it is, `Reasons` says.
 use mathlib.Core.Path.{_≡_}
-use mathlib.Core.Bool.{true, false, _&&_, _||_, not}
+use mathlib.Core.Bool.{true, false, _&&_, _||_}
 use mathlib.Core.List.{List, [], _∷_, _++_, map}
 use mathlib.Core.Option.{Option, none, some}
 use Prim.Native.Nat.{ℕ, _≤_, _<_}
 use Prim.Native.Char.{code}
 use lib.Dec.{eqb}
 use Rattle.text.specs.Choice.{pick}
-use Rattle.text.specs.Bytes.{Bytes, ascii, same, among, lowered, flat, keep, each}
+use Rattle.text.specs.Bytes.{Bytes, ascii, same, among, lowered, flat, each}
 use Rattle.text.specs.Decimal.{decimal}
 use Rattle.json.specs.Tree.{Json, jstr, jnum, jtrue, Member, member, object, array}
 use Rattle.json.specs.Read.{tree, reading}
 use Rattle.line.specs.Grammar.{Param, param, Line}
 use Rattle.line.specs.Params.{valuesNamed, valueType, besidesValue, merged}
 use Rattle.line.specs.Text.{readText, splitText}
-use Rattle.home.specs.Allowed.{called, untyped, plain, filledOnly, nameStrings, partOf, typesOf, onlyDerived}
+use Rattle.home.specs.Allowed.{called, untyped, plain, filledOnly, nameStrings, partOf, notAmong, typesOf, onlyDerived}
 
 -- ---- what stands for a line
 
@@ -29,7 +32,10 @@ pub data Stand : Type 0 where
   a-member : Bytes → Json → Stand  -- a top-level member
   a-prop : Json → Stand  -- an entry of vCardProps: the line is kept
 
--- ---- members that are there or not
+-- ---- members, and members that are there or not
+
+abbrev pub string : Bytes → Bytes → Member
+string n v = member n (jstr v)
 
 -- an object under this name, where it has a member
 abbrev pub whereAny : Bytes → List Member → List Member
@@ -38,7 +44,7 @@ whereAny n (m ∷ ms) = member n (object (m ∷ ms)) ∷ []
 
 abbrev pub whereText : Bytes → Bytes → List Member
 whereText n [] = []
-whereText n (c ∷ s) = member n (jstr (c ∷ s)) ∷ []
+whereText n (c ∷ s) = string n (c ∷ s) ∷ []
 
 -- ---- TYPE and PREF
 
@@ -64,11 +70,7 @@ pref l = map (λ p. member (ascii "pref") (jnum p)) (valuesNamed (ascii "pref") 
 -- ---- N and ORG
 
 unfoldable pub ofKind : Bytes → List Bytes → List Json
-ofKind k vs = map (λ v. object (member (ascii "kind") (jstr k) ∷ member (ascii "value") (jstr v) ∷ [])) vs
-
--- "Reading ignores a family value also among the secondary surnames, and a suffix also among the generations."
-abbrev pub notAmong : List Bytes → List Bytes → List Bytes
-notAmong others vs = keep (λ v. not (among v others)) vs
+ofKind k vs = map (λ v. object (string (ascii "kind") k ∷ string (ascii "value") v ∷ [])) vs
 
 unfoldable pub nameComponents : List (List Bytes) → List Json
 nameComponents ps =
@@ -78,7 +80,7 @@ nameComponents ps =
 
 abbrev pub whereUnits : List Bytes → List Member
 whereUnits [] = []
-whereUnits (u ∷ us) = member (ascii "units") (array (map (λ v. object (member (ascii "name") (jstr v) ∷ [])) (u ∷ us))) ∷ []
+whereUnits (u ∷ us) = member (ascii "units") (array (map (λ v. object (string (ascii "name") v ∷ [])) (u ∷ us))) ∷ []
 
 -- "ORG splits at semicolons into the name, then units; empty ones vanish."
 abbrev pub organization : List Bytes → List Member
@@ -127,9 +129,16 @@ Is n l = called n l ≡ true
 abbrev pub Text : Line → Bytes → Type 0
 Text l v = readText (l .value) ≡ some v
 
--- VALUE in lower case
-abbrev pub Type′ : Line → Bytes → Type 0
-Type′ l t = valueType (l .params) ≡ t
+-- VALUE in lower case, "unknown" where there is none
+abbrev pub ValueIs : Line → Bytes → Type 0
+ValueIs l t = valueType (l .params) ≡ t
+
+-- the entries of nicknames, emails and links end so; those of phones
+abbrev pub ending : Line → List Member
+ending l = contexts l ++ pref l
+
+abbrev pub phoneEnding : Line → List Member
+phoneEnding l = contexts l ++ features l ++ pref l
 
 pub data StandsFor (l : Line) : Stand → Type 0 where
   version : Is (ascii "version") l → StandsFor l nothing-stands
@@ -138,16 +147,17 @@ pub data StandsFor (l : Line) : Stand → Type 0 where
   kind : Is (ascii "kind") l → StandsFor l (a-kind (lowered (l .value)))
   full : {v : Bytes} → Is (ascii "fn") l → plain l ≡ true → Text l v → StandsFor l (a-full v)
   parts : {ps : List (List Bytes)} → Is (ascii "n") l → nameStrings (l .value) ≡ some ps → StandsFor l (components (nameComponents ps))
-  nickname : {v : Bytes} → Is (ascii "nickname") l → Text l v → StandsFor l (entryOf (ascii "nicknames") l (member (ascii "name") (jstr v) ∷ (contexts l ++ pref l)))
-  email : {v : Bytes} → Is (ascii "email") l → Text l v → StandsFor l (entryOf (ascii "emails") l (member (ascii "address") (jstr v) ∷ (contexts l ++ pref l)))
-  tel : {v : Bytes} → Is (ascii "tel") l → Type′ l (ascii "unknown") → Text l v → StandsFor l (entryOf (ascii "phones") l (member (ascii "number") (jstr v) ∷ (contexts l ++ features l ++ pref l)))
-  tel-uri : Is (ascii "tel") l → Type′ l (ascii "uri") → StandsFor l (entryOf (ascii "phones") l (member (ascii "number") (jstr (l .value)) ∷ (contexts l ++ features l ++ pref l)))
-  url : Is (ascii "url") l → StandsFor l (entryOf (ascii "links") l (member (ascii "uri") (jstr (l .value)) ∷ (contexts l ++ pref l)))
-  note : {v : Bytes} → Is (ascii "note") l → Text l v → StandsFor l (entryOf (ascii "notes") l (member (ascii "note") (jstr v) ∷ []))
-  title : {v : Bytes} → Is (ascii "title") l → Text l v → StandsFor l (entryOf (ascii "titles") l (member (ascii "kind") (jstr (ascii "title")) ∷ member (ascii "name") (jstr v) ∷ []))
-  role : {v : Bytes} → Is (ascii "role") l → Text l v → StandsFor l (entryOf (ascii "titles") l (member (ascii "kind") (jstr (ascii "role")) ∷ member (ascii "name") (jstr v) ∷ []))
+  nickname : {v : Bytes} → Is (ascii "nickname") l → Text l v → StandsFor l (entryOf (ascii "nicknames") l (string (ascii "name") v ∷ ending l))
+  email : {v : Bytes} → Is (ascii "email") l → Text l v → StandsFor l (entryOf (ascii "emails") l (string (ascii "address") v ∷ ending l))
+  tel : {v : Bytes} → Is (ascii "tel") l → ValueIs l (ascii "unknown") → Text l v → StandsFor l (entryOf (ascii "phones") l (string (ascii "number") v ∷ phoneEnding l))
+  tel-uri : Is (ascii "tel") l → ValueIs l (ascii "uri") → StandsFor l (entryOf (ascii "phones") l (string (ascii "number") (l .value) ∷ phoneEnding l))
+  url : Is (ascii "url") l → StandsFor l (entryOf (ascii "links") l (string (ascii "uri") (l .value) ∷ ending l))
+  note : {v : Bytes} → Is (ascii "note") l → Text l v → StandsFor l (entryOf (ascii "notes") l (string (ascii "note") v ∷ []))
+  title : {v : Bytes} → Is (ascii "title") l → Text l v → StandsFor l (entryOf (ascii "titles") l (string (ascii "kind") (ascii "title") ∷ string (ascii "name") v ∷ []))
+  role : {v : Bytes} → Is (ascii "role") l → Text l v → StandsFor l (entryOf (ascii "titles") l (string (ascii "kind") (ascii "role") ∷ string (ascii "name") v ∷ []))
   org : {vs : List Bytes} → Is (ascii "org") l → each readText (splitText (code ";") (l .value)) ≡ some vs → StandsFor l (entryOf (ascii "organizations") l (organization vs))
-  jsprop : {p n t : Bytes} {j : Json} → Is (ascii "jsprop") l → valuesNamed (ascii "jsptr") (l .params) ≡ p ∷ [] → partName p ≡ some n → Text l t → reading 15 t ≡ tree j → StandsFor l (a-member n j)
+  jsprop : {p n t : Bytes} {j : Json} → Is (ascii "jsprop") l → valuesNamed (ascii "jsptr") (l .params) ≡ p ∷ [] → partName p ≡ some n → Text l t → reading 15 t ≡ tree j
+      → StandsFor l (a-member n j)
   kept-line : StandsFor l (a-prop (kept l))
 
 -- every line, in order, one for one
@@ -182,7 +192,7 @@ abbrev pub fullIn : Stand → List Member
 fullIn nothing-stands = []
 fullIn (a-uid v) = []
 fullIn (a-kind v) = []
-fullIn (a-full v) = member (ascii "full") (jstr v) ∷ []
+fullIn (a-full v) = string (ascii "full") v ∷ []
 fullIn (components js) = []
 fullIn (an-entry m ids ms) = []
 fullIn (a-member n j) = []
@@ -245,7 +255,8 @@ numbered prefix n = prefix ++ code "-" ∷ decimal n
 -- "Without PROP-ID the key is the prefix, hyphen, smallest positive number no converted line of that map has as PROP-ID or earlier key."; used: those
 pub data KeysFor (prefix : Bytes) : (used : List Bytes) → List Unkeyed → List Bytes → Type 0 where
   no-entry : {used : List Bytes} → KeysFor prefix used [] []
-  given-key : {used ks : List Bytes} {es : List Unkeyed} {k : Bytes} {ms : List Member} → KeysFor prefix (k ∷ used) es ks → KeysFor prefix used (record { ids = k ∷ []; entry = ms } ∷ es) (k ∷ ks)
+  given-key : {used ks : List Bytes} {es : List Unkeyed} {k : Bytes} {ms : List Member} → KeysFor prefix (k ∷ used) es ks
+      → KeysFor prefix used (record { ids = k ∷ []; entry = ms } ∷ es) (k ∷ ks)
   made-key : {used ks : List Bytes} {es : List Unkeyed} {n : ℕ} {ms : List Member} → 1 ≤ n → among (numbered prefix n) used ≡ false
       → ((i : ℕ) → 1 ≤ i → i < n → among (numbered prefix i) used ≡ true) → KeysFor prefix (numbered prefix n ∷ used) es ks
       → KeysFor prefix used (record { ids = []; entry = ms } ∷ es) (numbered prefix n ∷ ks)
@@ -294,11 +305,11 @@ whereProps [] = []
 whereProps (j ∷ js) = member (ascii "vCardProps") (array (j ∷ js)) ∷ []
 
 abbrev pub strings : Bytes → List Bytes → List Member
-strings n vs = map (λ v. member n (jstr v)) vs
+strings n vs = map (string n) vs
 
 unfoldable pub jsonOf : Bytes → ℕ → List Stand → List Member → List Member
 jsonOf stem n ts maps =
-    member (ascii "@type") (jstr (ascii "Card")) ∷ member (ascii "version") (jstr (ascii "1.0"))
+    string (ascii "@type") (ascii "Card") ∷ string (ascii "version") (ascii "1.0")
     ∷ (strings (ascii "uid") (orMade (stem ++ code "-" ∷ decimal n) (allOf uidIn ts))
     ++ strings (ascii "kind") (allOf kindIn ts)
     ++ whereAny (ascii "name") (allOf fullIn ts ++ allOf componentsIn ts)

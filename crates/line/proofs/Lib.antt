@@ -1,4 +1,6 @@
 pub mod Opened
+pub mod Listed
+pub mod Shown
 pub mod Shapes
 pub mod Examples
 pub mod Texts

@@ -6,3 +6,5 @@ pub mod Params
 pub mod Text
 pub mod Write
 pub mod Upper
+pub mod Listed
+pub mod Shown

@@ -11,7 +11,7 @@ ghost use Rattle.convert.specs.FromCard.{keptLine};
 ghost use Rattle.convert.specs.ToJson.{keptJson, paramJson};
 ghost use Rattle.output.specs.Put.{Puts};
 ghost use Rattle.line_table.specs.Table.{part, Span, Sound, nameAt, lineIn};
-ghost use Rattle.table_kept.proofs.Names.{member-at};
+ghost use Rattle.table_kept.specs.Kept.{hasMember};
 ghost use Rattle.convert_put.specs.Pieces.{inside};
 ghost use Rattle.to_json_kept.specs.Entry.{paramPiece, groupPiece, headPiece, tailPiece, ValueRow};
 use json_write::put_string;
@@ -86,7 +86,7 @@ fn is_value(s: &[u8], t: &[usize], k: usize) -> bool
 // Whether the row k begins a parameter of the entry: it is not VALUE, and the first of its name.
 fn is_param(s: &[u8], t: &[usize], k: usize) -> bool
     requires { ⌜ Sound (now s) (now t) × (k < getD (now t) 6 0) ⌝ }
-    ensures { λ r. ⌜ r ≡ member-at (now (s .entry)) (now (t .entry)) k ⌝ }
+    ensures { λ r. ⌜ r ≡ hasMember (now (s .entry)) (now (t .entry)) k ⌝ }
 {
     if is_value(s, t, k) {
         return false;

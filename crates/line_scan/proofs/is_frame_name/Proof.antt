@@ -1,4 +1,3 @@
-use Prim.Native.Nat.{_-_}
 use mathlib.Core.Path.{sym, _∙_}
 use borrow.Author.Needs.{needs}
 use denote.Ref.{now}
@@ -27,10 +26,4 @@ returns-2 c = c .is-named2 .ensures ∙ sym (frame-end (now (c .before .before .
 pub is-frame-name-spec : {M : Type 1} → statement M
 is-frame-name-spec =
     tie.close
-    (tie.spec
-    slice-aggregate-is-named
-    is-named-requires
-    returns
-    slice-aggregate-is-named-2
-    is-named-requires-2
-    returns-2)
+    (tie.spec slice-aggregate-is-named is-named-requires returns slice-aggregate-is-named-2 is-named-requires-2 returns-2)

@@ -1,4 +1,4 @@
-use Prim.Native.Nat.{_+_, _-_}
+use Prim.Native.Nat.{_+_}
 use native.Mathlib.Omega.{arith}
 use borrow.Author.Needs.{needs}
 use denote.Ref.{now}
@@ -49,13 +49,4 @@ returns-3 c = bare (now (c .before .before .before .before .args .s)) (c .before
 pub value-at-spec : {M : Type 1} → statement M
 value-at-spec =
     tie.close
-    (tie.spec
-    look-requires
-    add-a
-    run-end-requires
-    look-requires-2
-    add-t11
-    returns
-    returns-2
-    run-end-requires-2
-    returns-3)
+    (tie.spec look-requires add-a run-end-requires look-requires-2 add-t11 returns returns-2 run-end-requires-2 returns-3)

@@ -1,0 +1,48 @@
+-- The classes of bytes and the escapes of TEXT said once more from 01, each as the list of its bytes, over all of 0 to 255.
+use mathlib.Core.Path.{_≡_}
+use mathlib.Core.Bool.{true, false, not}
+use mathlib.Core.List.{[], _∷_, map}
+use Prim.Native.Char.{code}
+use lib.ListN.{replicate}
+use Rattle.text.specs.Choice.{with-some}
+use Rattle.text.specs.Bytes.{ascii, same}
+use Rattle.text.specs.Listed.{bytesThat, changes}
+use Rattle.line.specs.Class.{isName, isLowerName, isQuotable, isBare, isControl, isBlank, isKey, isStem}
+use Rattle.line.specs.Grammar.{param, fits, isFrameName}
+use Rattle.line.specs.Text.{readText, writeText}
+use Rattle.line.specs.Write.{writeValue}
+
+pub record ListedLine : Type 0 where
+  -- "groups and names are letters, digits, hyphens"
+  pub names : bytesThat isName ≡ ascii "-0123456789ABCDEFGHIJKLMNOPQRSTUVWXYZabcdefghijklmnopqrstuvwxyz"
+  pub lower-names : bytesThat isLowerName ≡ ascii "-0123456789abcdefghijklmnopqrstuvwxyz"
+  -- "a parameter value is bare (no `"` `;` `:` `,`) or quoted (no `"`)": the bytes that each lacks
+  pub not-bare : bytesThat (λ c. not (isBare c)) ≡ ascii "\",:;"
+  pub not-quotable : bytesThat (λ c. not (isQuotable c)) ≡ ascii "\""
+  -- "quotes only where needed (JSPTR always)": the bytes that are written in quotes, and those that are not where quotes are always written
+  pub quoted : bytesThat (λ c. same (writeValue false (c ∷ []) []) (code "\"" ∷ c ∷ code "\"" ∷ [])) ≡ ascii "\",:;"
+  pub always-quoted : bytesThat (λ c. not (same (writeValue true (c ∷ []) []) (code "\"" ∷ c ∷ code "\"" ∷ []))) ≡ []
+  -- "a control (0-31 but tab, 127)"
+  pub controls : bytesThat isControl
+      ≡ 0 ∷ 1 ∷ 2 ∷ 3 ∷ 4 ∷ 5 ∷ 6 ∷ 7 ∷ 8 ∷ 10 ∷ 11 ∷ 12 ∷ 13 ∷ 14 ∷ 15 ∷ 16 ∷ 17 ∷ 18 ∷ 19 ∷ 20 ∷ 21 ∷ 22 ∷ 23 ∷ 24 ∷ 25 ∷ 26 ∷ 27 ∷ 28 ∷ 29 ∷ 30 ∷ 31
+      ∷ 127 ∷ []
+  -- "a line end followed by space or tab vanishes"
+  pub blanks : bytesThat isBlank ≡ ascii "\t "
+  -- "keys are .. of A-Z a-z 0-9 - _", "UID stem .. of A-Z a-z 0-9 : - _"
+  pub keys : bytesThat isKey ≡ ascii "-0123456789ABCDEFGHIJKLMNOPQRSTUVWXYZ_abcdefghijklmnopqrstuvwxyz"
+  pub stems : bytesThat isStem ≡ ascii "-0123456789:ABCDEFGHIJKLMNOPQRSTUVWXYZ_abcdefghijklmnopqrstuvwxyz"
+  -- "TEXT reads `\\` `\,` `\;` `\n` `\N`": what stands for something after a backslash, with what it stands for; the others are bad
+  pub escapes-read : changes (λ c. with-some (readText (code "\\" ∷ c ∷ [])) (λ s. s) (c ∷ []))
+      ≡ ascii "N\n" ∷ ascii "n\n" ∷ []
+  pub escapes-known : bytesThat (λ c. with-some (readText (code "\\" ∷ c ∷ [])) (λ s. true) false) ≡ ascii ",;N\\n"
+  -- alone, every byte but the backslash stands for itself
+  pub stands : changes (λ c. with-some (readText (c ∷ [])) (λ s. s) []) ≡ ascii "\\" ∷ []
+  -- "writing escapes backslash, LF and comma, and semicolon in N and ORG"
+  pub escapes-written : changes (λ c. writeText false (c ∷ [])) ≡ ascii "\n\\n" ∷ ascii ",\\," ∷ ascii "\\\\\\" ∷ []
+  pub escapes-in-parts : changes (λ c. writeText true (c ∷ [])) ≡ ascii "\n\\n" ∷ ascii ",\\," ∷ ascii ";\\;" ∷ ascii "\\\\\\" ∷ []
+  -- "at most 32 parameters and 64 parameter values"
+  pub parameters : map (λ n. fits (replicate n (param [] []))) (0 ∷ 1 ∷ 31 ∷ 32 ∷ 33 ∷ 34 ∷ []) ≡ true ∷ true ∷ true ∷ true ∷ false ∷ false ∷ []
+  pub values : map (λ n. fits (param [] (replicate n []) ∷ param [] ([] ∷ []) ∷ [])) (0 ∷ 62 ∷ 63 ∷ 64 ∷ []) ≡ true ∷ true ∷ true ∷ false ∷ []
+  -- "named BEGIN or END"
+  pub frames : map isFrameName (ascii "BEGIN" ∷ ascii "bEgIn" ∷ ascii "END" ∷ ascii "enD" ∷ ascii "BEGI" ∷ ascii "BEGINS" ∷ ascii "ENDE" ∷ [] ∷ [])
+      ≡ true ∷ true ∷ true ∷ true ∷ false ∷ false ∷ false ∷ false ∷ []
