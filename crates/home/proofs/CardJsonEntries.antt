@@ -1,24 +1,21 @@
 -- An entry of each map is read exactly where `CardJson` takes it: one lemma a row.
 use mathlib.Core.Path.{_≡_, refl, sym, ap, ap₂, _∙_}
-use mathlib.Core.Bool.{Bool, true, false, _&&_, _||_, not}
+use mathlib.Core.Bool.{Bool, true, false, _&&_, _||_}
 use mathlib.Core.List.{List, [], _∷_, map}
 use mathlib.Core.Option.{Option, none, some, Option·map}
 use Prim.Native.Nat.{ℕ, _+_}
 use lib.ListN.{take, drop}
-use lib.Dec.{eqb}
-use Rattle.text.specs.Choice.{pick, with-some, is-some, both, chain, provided}
-use Rattle.text.specs.Bytes.{Bytes, ascii, all, any, empty, same, among, keep, each}
-use Rattle.text.proofs.Cases.{byBool}
+use Rattle.text.specs.Choice.{with-some, is-some, chain, provided}
+use Rattle.text.specs.Bytes.{Bytes, ascii, all, any, same, among, keep, each}
 use Rattle.json.specs.Tree.{Json, Member, member, nameOf, valueOf, field, asString, asNumber, asArray, asObject}
-use Rattle.convert.specs.Table.{Form, text, single, uri, phone, organization, Map, maps, TypeName, typeNames, jsonType, position}
-use Rattle.convert.specs.Model.{Entry}
+use Rattle.convert.specs.Table.{uri, phone, organization, Map, TypeName, typeNames, jsonType, position}
 use Rattle.convert.specs.Value.{isKeyText, isPref}
 use Rattle.convert.specs.FromJson.{onlyMembers, optional, required, isTrue, flagOf, flagsFrom, unitFrom, organizationFrom, contentFrom, entryMembers, entryFrom, mapFrom}
 use Rattle.home.specs.Reasons.{keyFits, prefNumber}
 use Rattle.home.specs.CardJson as C
 use Rattle.home.proofs.Known.{onProvided, onChain, onSome}
 use Rattle.home.proofs.PairedEntries.{mapAt}
-use Rattle.home.proofs.CardJsonTests.{and-one, and-none, and-swap, and-again, and-where, some-provided, provided-one, some-map, some-both, some-chain, some-optional, chain-and, some-each, any-each, all-same, found, found-name, is-true, absent, key-fits, pref-fits}
+use Rattle.home.proofs.CardJsonTests.{and-one, and-again, and-where, some-provided, provided-one, some-map, some-chain, some-optional, chain-and, some-each, any-each, all-same, found, found-name, is-true, absent, key-fits, pref-fits}
 
 -- ---- an entry: its key, the members that it may have, and five readings
 

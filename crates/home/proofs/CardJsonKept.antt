@@ -1,17 +1,17 @@
 -- An entry of vCardProps is read, and stands in its place, exactly where `CardJson` takes it.
 use mathlib.Core.Path.{_≡_, refl, sym, ap, ap₂, _∙_}
-use mathlib.Core.Bool.{Bool, true, false, _&&_, _||_, not}
-use mathlib.Core.List.{List, [], _∷_, _++_, map}
+use mathlib.Core.Bool.{Bool, true, false, _&&_, not}
+use mathlib.Core.List.{List, [], _∷_, map}
 use mathlib.Core.Option.{Option, none, some, Option·map}
-use Rattle.text.specs.Choice.{pick, with-some, is-some, both, chain, provided}
+use Rattle.text.specs.Choice.{with-some, both, provided}
 use Rattle.text.specs.Bytes.{Bytes, ascii, all, any, empty, same, among, lower, lowered, between, keep, each}
 use Rattle.text.proofs.Cases.{byBool, not-true}
 use Rattle.text.proofs.Lists.{any-none, any-neither, all-not, keep-passes}
 use Rattle.text.proofs.Same.{same-true}
 use Rattle.json.specs.Tree.{Json, jnull, jtrue, jfalse, jnum, jstr, jarr, jobj, Member, member, nameOf, valueOf, field, asString, asArray, asObject, elemsOf}
 use Rattle.line.specs.Class.{isName}
-use Rattle.line.specs.Grammar.{Param, param, paramName, Line, fits}
-use Rattle.line.specs.Params.{named, valuesNamed, firstOr}
+use Rattle.line.specs.Grammar.{Param, param, Line, fits}
+use Rattle.line.specs.Params.{named, firstOr}
 use Rattle.line.proofs.Named.{valuesNamed-append}
 use Rattle.convert.specs.Model.{Kept}
 use Rattle.convert.specs.Classify.{Class, as-version, as-uid, as-kind, as-dropped, as-full, as-parts, as-entry, as-member, as-kept, Seen, classify, classedAfter}
@@ -25,8 +25,8 @@ use Rattle.home.specs.CardJson as C
 use Rattle.home.proofs.CardTests.{plain-misused}
 use Rattle.home.proofs.KeptFacts.{no-value}
 use Rattle.home.proofs.Known.{onSome}
-use Rattle.home.proofs.PairedLines.{standOf, standsOf}
-use Rattle.home.proofs.PlainLines.{Plain, never-own, no-group, value-group, type-fits}
+use Rattle.home.proofs.PairedLines.{standOf}
+use Rattle.home.proofs.PlainLines.{never-own, no-group, value-group, type-fits}
 use Rattle.home.proofs.ReasonsLines.{lines-by}
 use Rattle.home.proofs.ReasonsSeen.{Knows}
 use Rattle.home.proofs.Stands.{lowerParam}
@@ -126,7 +126,7 @@ first-by : {before : List Paired} {l : Line} {t : Stand} {ts : List Stand} → K
 first-by (next-line e r) = e
 
 -- it is kept where it has a reason, by what was seen before
-line-kept : (s : Seen) (before : List Paired) → Knows s before → (l : Line) → misused l ≡ false → isKept (classify s l) ≡ carries l && hasReason before l
+pub line-kept : (s : Seen) (before : List Paired) → Knows s before → (l : Line) → misused l ≡ false → isKept (classify s l) ≡ carries l && hasReason before l
 unfolding classedAfter any
 line-kept s before h l u = sym (prop-kept l (classify s l)) ∙ first-by (lines-by s before h (l ∷ []) (any-none misused l [] u refl))
 
@@ -202,7 +202,7 @@ module _ (s : Seen) (before : List Paired) (h : Knows s before) where
   four-or-not (n ∷ (ps ∷ (t ∷ (v ∷ [])))) = four-fit n ps t v
   four-or-not (n ∷ (ps ∷ (t ∷ (v ∷ (w ∷ ws))))) = refl
 
-  prop-is : (j : Json) → with-some (keptFrom j) stands false ≡ C.isProp before j
+  pub prop-is : (j : Json) → with-some (keptFrom j) stands false ≡ C.isProp before j
   unfolding keptFrom C.isProp
   prop-is j = onSome (asArray j) (λ e. rw e) (λ js e. rw e (four-or-not js))
 

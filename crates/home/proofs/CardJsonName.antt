@@ -1,14 +1,13 @@
 -- A name is read exactly where `CardJson` takes it, and what is read of it is there or not as `CardJson` says.
 use mathlib.Core.Path.{_≡_, refl, sym, ap, ap₂, _∙_}
 use mathlib.Core.Bool.{Bool, true, false, _&&_, _||_, not}
-use mathlib.Core.List.{List, [], _∷_, _++_, map}
+use mathlib.Core.List.{List, [], _∷_, map}
 use mathlib.Core.Option.{Option, none, some, Option·map}
 use Prim.Native.Nat.{ℕ, suc}
 use lib.Dec.{eqb, ltb}
-use Rattle.text.specs.Choice.{pick, with-some, is-some, both, chain, provided}
+use Rattle.text.specs.Choice.{with-some, is-some, chain}
 use Rattle.text.specs.Bytes.{Bytes, ascii, all, any, empty, same, among, flat, each}
 use Rattle.text.proofs.Cases.{byBool, byBelow, upTo, not-both}
-use Rattle.text.proofs.Choices.{some-same}
 use Rattle.json.specs.Tree.{Json, Member, nameOf, field, asString, asArray, asObject}
 use Rattle.convert.specs.Table.{Part, nameRow, kindsOf, position}
 use Rattle.convert.specs.Model.{hasParts}
@@ -16,7 +15,7 @@ use Rattle.convert.specs.FromJson.{onlyMembers, optional, required, Component, 
 use Rattle.home.specs.CardJson as C
 use Rattle.home.proofs.Known.{onProvided, onChain, onMap, onBoth, onOptional}
 use Rattle.home.proofs.Positions.{position-inside}
-use Rattle.home.proofs.CardJsonTests.{and-one, and-none, and-swap, and-again, some-provided, some-map, some-both, some-chain, some-optional, chain-and, some-each, any-each, found-name, is-false}
+use Rattle.home.proofs.CardJsonTests.{and-one, and-none, and-swap, and-again, some-provided, some-map, some-both, some-chain, some-optional, chain-and, some-each, any-each, any-nothing, found-name, is-false}
 
 -- ---- components
 
@@ -104,11 +103,6 @@ in-row : (i : ℕ) (row : List Part) (cs : List Component) → any (λ vs. not (
 unfolding any
 in-row i [] cs = refl
 in-row i (p ∷ row) cs = ap₂ _||_ (of-kind i cs) (in-row (suc i) row cs)
-
-any-nothing : {A : Type 0} (xs : List A) → any (λ x. false) xs ≡ false
-unfolding any
-any-nothing [] = refl
-any-nothing (x ∷ xs) = any-nothing xs
 
 any-or : {A : Type 0} (p q : A → Bool) (xs : List A) → any (λ x. p x || q x) xs ≡ any p xs || any q xs
 unfolding any

@@ -1,32 +1,28 @@
 -- A reading has a value exactly where a test holds: the small steps for `CardJson`.
 use mathlib.Core.Path.{_≡_, refl, sym, ap, ap₂, _∙_}
-use mathlib.Core.Bool.{Bool, true, false, _&&_, _||_, not}
+use mathlib.Core.Bool.{Bool, true, false, _&&_}
 use mathlib.Core.List.{List, [], _∷_, map}
 use mathlib.Core.Option.{Option, none, some, Option·map}
-use Prim.Native.Nat.{ℕ, suc, _+_}
+use Prim.Native.Nat.{ℕ, suc}
 use lib.Dec.{eqb, ltb}
 use borrow.Author.Tests.{ne-eqb}
-use Rattle.text.specs.Choice.{pick, with-some, is-some, both, chain, provided}
-use Rattle.text.specs.Bytes.{Bytes, ascii, all, any, empty, same, among, lower, lowered, between, each}
+use Rattle.text.specs.Choice.{with-some, is-some, both, chain, provided}
+use Rattle.text.specs.Bytes.{Bytes, all, any, same, among, lower, lowered, between, each}
 use Rattle.text.proofs.Cases.{byBool, byBelow, upTo, beyond, tests, not-both}
-use Rattle.text.proofs.Choices.{some-same}
 use Rattle.text.proofs.Lists.{all-head, all-tail}
 use Rattle.text.proofs.Same.{same-true}
-use Rattle.json.specs.Tree.{Json, jnull, jtrue, jfalse, jnum, jstr, jarr, jobj, Member, member, nameOf, valueOf, field, asString, asNumber, asArray, asObject, elemsOf}
+use Rattle.json.specs.Tree.{Json, jnull, jtrue, jfalse, jnum, jstr, jarr, jobj, Member, member, nameOf, field}
 use Rattle.line.specs.Class.{isName, isLowerName}
 use Rattle.convert.specs.Table.{position}
 use Rattle.convert.specs.Value.{isKeyText, isPref}
-use Rattle.convert.specs.FromJson.{isLowerWord, isTrue, isFalse, optional, required}
+use Rattle.convert.specs.FromJson.{isLowerWord, isTrue, isFalse}
 use Rattle.home.specs.Reasons.{keyFits, prefNumber}
-use Rattle.home.specs.CardJson.{Rule, must, may, obeyed, aString, aNumber, anObject, anArray, aTrue, aFalse, lowerName, filled}
+use Rattle.home.specs.CardJson.{may, aTrue, aFalse, lowerName, filled}
 use Rattle.home.proofs.Known.{onNone, onEach}
+pub use Rattle.home.proofs.ReasonsEntries.{and-one, or-none, some-provided}
 use Rattle.home.proofs.Words.{no-name}
 
 -- ---- bools
-
-pub and-one : (b : Bool) → b && true ≡ b
-and-one true = refl
-and-one false = refl
 
 pub and-none : (b : Bool) → b && false ≡ false
 and-none true = refl
@@ -52,10 +48,6 @@ and-where true b c h = h refl
 and-where false b c h = refl
 
 -- ---- values
-
-pub some-provided : {A : Type 0} (b : Bool) (x : Option A) → is-some (provided b x) ≡ b && is-some x
-some-provided true x = refl
-some-provided false x = refl
 
 pub provided-one : {A : Type 0} (b : Bool) (a : A) → is-some (provided b (some a)) ≡ b
 provided-one true a = refl
@@ -97,34 +89,30 @@ unfolding any
 any-each f p q h [] ys e = onNone f e λ i. rw (← i)
 any-each f p q h (x ∷ xs) ys e = onEach f x xs e λ z zs a b i. rw (← i, h x z a, any-each f p q h xs zs b)
 
+pub any-nothing : {A : Type 0} (xs : List A) → any (λ x. false) xs ≡ false
+unfolding any
+any-nothing [] = refl
+any-nothing (x ∷ xs) = any-nothing xs
+
 pub all-same : {A : Type 0} (p q : A → Bool) → ((a : A) → p a ≡ q a) → (xs : List A) → all p xs ≡ all q xs
 unfolding all
 all-same p q h [] = refl
 all-same p q h (x ∷ xs) = ap₂ _&&_ (h x) (all-same p q h xs)
 
-pub all-two : {A : Type 0} (p q : A → Bool) (xs : List A) → all (λ x. p x && q x) xs ≡ all p xs && all q xs
-unfolding all
-all-two p q [] = refl
-all-two p q (x ∷ xs) = ap (λ (b : Bool). (p x && q x) && b) (all-two p q xs) ∙ crossed (p x) (q x) (all p xs) (all q xs)
+one-later : (o : Option ℕ) → is-some (with-some o (λ n. some (suc n)) none) ≡ is-some o
+one-later none = refl
+one-later (some n) = refl
 
 -- a place is found where the name is among those of the list
 pub found : {A : Type 0} (f : A → Bytes) (n : Bytes) (ts : List A) → is-some (position (λ t. same n (f t)) ts) ≡ among n (map f ts)
 unfolding position among any
 found f n [] = refl
-found f n (t ∷ ts) = byBool (same n (f t)) (λ q. rw q) (λ q. rw q (later (position (λ t. same n (f t)) ts) ∙ found f n ts))
-  where
-    later : (o : Option ℕ) → is-some (with-some o (λ n. some (suc n)) none) ≡ is-some o
-    later none = refl
-    later (some n) = refl
+found f n (t ∷ ts) = byBool (same n (f t)) (λ q. rw q) (λ q. rw q (one-later (position (λ t. same n (f t)) ts) ∙ found f n ts))
 
 pub found-name : (n : Bytes) (ns : List Bytes) → is-some (position (same n) ns) ≡ among n ns
 unfolding position among any
 found-name n [] = refl
-found-name n (m ∷ ns) = byBool (same n m) (λ q. rw q) (λ q. rw q (later (position (same n) ns) ∙ found-name n ns))
-  where
-    later : (o : Option ℕ) → is-some (with-some o (λ n. some (suc n)) none) ≡ is-some o
-    later none = refl
-    later (some n) = refl
+found-name n (m ∷ ns) = byBool (same n m) (λ q. rw q) (λ q. rw q (one-later (position (same n) ns) ∙ found-name n ns))
 
 -- ---- JSON types
 

@@ -1,21 +1,21 @@
 -- JSON is read as a card exactly where `CardJson` takes it: refusal 12.
 use mathlib.Core.Path.{_≡_, refl, sym, ap, ap₂, _∙_}
-use mathlib.Core.Bool.{Bool, true, false, _&&_, _||_, not}
+use mathlib.Core.Bool.{Bool, true, false, _&&_, _||_}
 use mathlib.Core.List.{List, [], _∷_, _++_, map}
-use mathlib.Core.Option.{Option, none, some}
+use mathlib.Core.Option.{Option, some}
 use Prim.Native.Nat.{ℕ, suc}
 use lib.Dec.{eqb}
-use Rattle.text.specs.Choice.{pick, with-some, is-some, chain, provided}
-use Rattle.text.specs.Bytes.{Bytes, ascii, all, any, empty, same, among, lower, lowered, between, flat, keep, each}
+use Rattle.text.specs.Choice.{pick, is-some, chain, provided}
+use Rattle.text.specs.Bytes.{Bytes, ascii, all, any, same, among, lower, lowered, between, flat, keep, each}
 use Rattle.text.proofs.Lists.{any-append, all-append}
 use Rattle.json.specs.Tree.{Json, Member, nameOf, valueOf, field, asString, asArray, asObject}
-use Rattle.line.specs.Grammar.{Line, param}
+use Rattle.line.specs.Grammar.{param}
 use Rattle.line.specs.Params.{named, valuesNamed}
-use Rattle.convert.specs.Table.{Map, maps, reserved}
-use Rattle.convert.specs.Model.{Entry, Kept, Card, hasParts, noParts}
-use Rattle.convert.specs.Classify.{Id, id, isId, Seen}
-use Rattle.convert.specs.FromJson.{optional, required, isText, isLowerWord, nameless, Name, nameFrom, entryFrom, mapFrom, keptFrom, keptStands, idsFrom, seenIn, standing, otherMembers, cardFromMembers, cardFromJson}
-use Rattle.home.specs.StandsFor.{Stand, a-full, components, an-entry, a-member}
+use Rattle.convert.specs.Table.{Map, maps}
+use Rattle.convert.specs.Model.{Entry, Kept, Card, hasParts}
+use Rattle.convert.specs.Classify.{id, isId, Seen}
+use Rattle.convert.specs.FromJson.{optional, required, isLowerWord, nameless, Name, nameFrom, entryFrom, mapFrom, keptFrom, keptStands, idsFrom, seenIn, standing, otherMembers, cardFromMembers, cardFromJson}
+use Rattle.home.specs.StandsFor.{a-full, components, an-entry, a-member}
 use Rattle.home.specs.Reasons.{Paired, isFull, isComponents, isEntryOf, isMember, earlier, usedIn}
 use Rattle.home.specs.CardJson as C
 use Rattle.home.proofs.Alls.{each-called}
@@ -24,7 +24,7 @@ use Rattle.home.proofs.Known.{onChain, onNone, onEach, onOptional, onSo
 use Rattle.home.proofs.PairedEntries.{nameAt}
 use Rattle.home.proofs.PairedWhole.{Named}
 use Rattle.home.proofs.ReasonsSeen.{Knows}
-use Rattle.home.proofs.CardJsonTests.{and-one, and-none, and-again, provided-one, some-provided, some-chain, some-optional, some-each, chain-and, lower-word}
+use Rattle.home.proofs.CardJsonTests.{and-one, and-none, or-none, any-nothing, provided-one, some-provided, some-chain, some-optional, some-each, chain-and, lower-word}
 use Rattle.home.proofs.CardJsonEntries.{map-is, nickname-row, email-row, phone-row, link-row, note-row, title-row, organization-row}
 use Rattle.home.proofs.CardJsonName.{name-is, full-left, parts-left}
 use Rattle.home.proofs.CardJsonKept.{props-are}
@@ -46,17 +46,8 @@ unfolding any
 any-same p q h [] = refl
 any-same p q h (x ∷ xs) = ap₂ _||_ (h x) (any-same p q h xs)
 
-any-nothing : {A : Type 0} (xs : List A) → any (λ x. false) xs ≡ false
-unfolding any
-any-nothing [] = refl
-any-nothing (x ∷ xs) = any-nothing xs
-
 any-no : {A : Type 0} (p : A → Bool) → ((a : A) → p a ≡ false) → (xs : List A) → any p xs ≡ false
 any-no p h xs = any-same p (λ x. false) h xs ∙ any-nothing xs
-
-or-none : (b : Bool) → b || false ≡ b
-or-none true = refl
-or-none false = refl
 
 any-pick : {A : Type 0} (p : A → Bool) (b : Bool) (a : A) → any p (pick b (a ∷ []) []) ≡ b && p a
 unfolding any
@@ -240,7 +231,7 @@ module _ (ms : List Member) where
   abbrev seenBy : Name → List (List Entry) → Seen
   seenBy n es = record { full = is-some (n .full); parts = hasParts (n .parts); ids = idsFrom 0 es; members = map nameOf (otherMembers ms) }
 
-  knows : (n : Name) (es : List (List Entry)) → optional (ascii "name") nameless nameFrom ms ≡ some n → each (mapFrom ms) maps ≡ some es → Knows (seenBy n es) (C.before ms)
+  pub knows : (n : Name) (es : List (List Entry)) → optional (ascii "name") nameless nameFrom ms ≡ some n → each (mapFrom ms) maps ≡ some es → Knows (seenBy n es) (C.before ms)
   knows n es e f = record { full = full-seen ms n e; parts = parts-seen ms n e; ids = λ i x h k. ids-seen ms i x h k es f; members = members-seen ms }
 
   kept-is : (u k : Bytes) (n : Name) (es : List (List Entry)) → Knows (seenBy n es) (C.before ms) → is-some (chain readKept λ ks. standing (cardOf u k n es ks)) ≡ C.obeyed ms propRule

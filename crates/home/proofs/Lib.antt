@@ -115,6 +115,7 @@ pub mod CardJsonName
 pub mod CardJsonKept
 pub mod CardJsonWhole
 pub mod Twelve
+pub mod KeptGiven
 pub mod CardJsonExamples
 pub mod StandsOnce
 pub mod OneCard

@@ -57,7 +57,7 @@ group-paired : (g : Bytes) → where′ (filled g) (member (ascii "group") (jstr
 group-paired [] = refl
 group-paired (c ∷ g) = refl
 
-kept-paired : (l : Line) → keptJson (keptLine l) ≡ S.kept l
+pub kept-paired : (l : Line) → keptJson (keptLine l) ≡ S.kept l
 unfolding keptJson keptLine S.kept
 kept-paired l =
     ap (λ (ms : List Member). array (jstr (lowered (l .name)) ∷ object ms ∷ jstr (valueType (l .params)) ∷ jstr (l .value) ∷ []))

@@ -1,12 +1,11 @@
 -- Refusal 12 of JSON to card: given exactly where the JSON is no card.
 use mathlib.Core.Path.{_≡_, refl, sym, ap, _∙_}
 use mathlib.Core.Bool.{Bool, true, false, not}
-use mathlib.Core.List.{[], _∷_}
 use mathlib.Core.Option.{Option, none, some}
 use Prim.Native.Nat.{ℕ}
 use lib.ListN.{length}
 use lib.Dec.{eqb, ltb}
-use Rattle.text.specs.Choice.{pick, with-some, is-some}
+use Rattle.text.specs.Choice.{with-some, is-some}
 use Rattle.text.specs.Bytes.{Bytes}
 use Rattle.text.proofs.Cases.{byBool, not-both}
 use Rattle.json.specs.Tree.{Json}
@@ -17,6 +16,7 @@ use Rattle.convert.specs.Carry.{carried}
 use Rattle.convert.specs.ToCard.{cardLines, printCard}
 use Rattle.convert.specs.Answers.{Answer, no, yes, seek, fitted, cardRoom, lineRoom, jsonRoom, convertModel, convertTree, jsonToCard}
 use Rattle.home.specs.CardJson.{isCard, NoCard}
+use Rattle.home.specs.Demand2.{Demand2}
 use Rattle.home.proofs.CardJsonWhole.{card-json}
 
 abbrev isTwelve : Answer → Bool
@@ -52,3 +52,13 @@ only-twelve lent place s e =
     by : (r : Reading) → reading 16 s ≡ r → isTwelve (convertTree lent r) ≡ true → ltb jsonRoom (length s) ≡ false → NoCard s
     by (refused p) q t o = not-both t refl
     by (tree j) q t o = record { within = o; json = j; read = q; no-card = sym (card-json j) ∙ some-model lent (cardFromJson j) t }
+
+-- So for any converters that meet demand 2: JSON that 01 takes for a card is not refused by 12.
+pub card-taken : (toJson : (stem : Bytes) (n lent : ℕ) (card : Bytes) → Answer) (toCard : (lent : ℕ) (json : Bytes) → Answer) → Demand2 toJson toCard
+    → (lent place : ℕ) (s : Bytes) (j : Json) → reading 16 s ≡ tree j → isCard j ≡ true → toCard lent s ≡ no 12 place → ⊥
+card-taken f g d lent place s j r c e =
+    let n = d .only-twelve lent place s e in
+    not-both c (ap isCard (same-tree (sym r ∙ n .read)) ∙ n .no-card)
+  where
+    same-tree : {i j : Json} → tree i ≡ tree j → i ≡ j
+    same-tree q = cc
