@@ -36,4 +36,11 @@ line-listed =
       parameters = refl;
       values = refl;
       frames = refl;
+      line-ends = refl;
+      sizes = refl;
+      begins = refl;
+      ends = refl;
+      cards = refl;
+      merging = refl;
+      card-written = refl;
     }

@@ -2,6 +2,7 @@
 use mathlib.Core.Path.{_≡_}
 use mathlib.Core.Bool.{true, false, not}
 use mathlib.Core.List.{[], _∷_, _++_, map}
+use mathlib.Core.Option.{none, some}
 use Prim.Native.Char.{code}
 use lib.ListN.{replicate}
 use Rattle.text.specs.Choice.{with-some, is-some}
@@ -9,8 +10,10 @@ use Rattle.text.specs.Bytes.{Bytes, ascii, same}
 use Rattle.text.specs.Listed.{bytesThat, changes}
 use Rattle.line.specs.Class.{isName, isLowerName, isQuotable, isBare, isControl, isBlank, isKey, isStem}
 use Rattle.line.specs.Grammar.{param, fits, isFrameName, readLine}
+use Rattle.line.specs.Params.{merged}
+use Rattle.line.specs.Physical.{physical, sizeOf, isBegin, isEnd, framed}
 use Rattle.line.specs.Text.{readText, writeText}
-use Rattle.line.specs.Write.{writeValue}
+use Rattle.line.specs.Write.{writeValue, writeCard}
 
 -- the bytes that may stand between these two parts of a line
 abbrev pub fitting : Bytes → Bytes → Bytes
@@ -62,3 +65,20 @@ pub record ListedLine : Type 0 where
   -- "named BEGIN or END"
   pub frames : map isFrameName (ascii "BEGIN" ∷ ascii "bEgIn" ∷ ascii "END" ∷ ascii "enD" ∷ ascii "BEGI" ∷ ascii "BEGINS" ∷ ascii "ENDE" ∷ [] ∷ [])
       ≡ true ∷ true ∷ true ∷ true ∷ false ∷ false ∷ false ∷ false ∷ []
+  -- "a line ends at LF; a CR just before belongs to the end; missing at the end of input, one LF is supposed and counted"
+  pub line-ends : physical (ascii "a\r\r\nb\rc\n\r\n\nd") ≡ ascii "a\r" ∷ ascii "b\rc" ∷ [] ∷ [] ∷ ascii "d" ∷ []
+  pub sizes : map sizeOf ([] ∷ ascii "a" ∷ ascii "a\r" ∷ ascii "a\n" ∷ ascii "a\r\n" ∷ ascii "\n\n" ∷ []) ≡ 1 ∷ 2 ∷ 3 ∷ 2 ∷ 3 ∷ 2 ∷ []
+  -- "BEGIN:VCARD and END:VCARD are physical lines in any letter case"
+  pub begins : map isBegin (ascii "BEGIN:VCARD" ∷ ascii "bEgIn:VcArD" ∷ ascii "BEGIN:VCARD " ∷ ascii " BEGIN:VCARD" ∷ ascii "BEGIN:VCARDS" ∷ ascii "BEGIN;X=1:VCARD" ∷ ascii "END:VCARD" ∷ [])
+      ≡ true ∷ true ∷ false ∷ false ∷ false ∷ false ∷ false ∷ []
+  pub ends : map isEnd (ascii "END:VCARD" ∷ ascii "eNd:VcArD" ∷ ascii "END:VCARD " ∷ ascii " END:VCARD" ∷ ascii "END:VCARDS" ∷ ascii "END;X=1:VCARD" ∷ ascii "BEGIN:VCARD" ∷ [])
+      ≡ true ∷ true ∷ false ∷ false ∷ false ∷ false ∷ false ∷ []
+  -- "BEGIN first, END last, no other such line"
+  pub cards : map framed ((ascii "begin:vcard" ∷ ascii "a" ∷ ascii "end:vcard" ∷ []) ∷ (ascii "begin:vcard" ∷ ascii "begin:vcard" ∷ ascii "end:vcard" ∷ []) ∷ (ascii "begin:vcard" ∷ ascii "end:vcard" ∷ ascii "end:vcard" ∷ [])
+      ∷ (ascii "a" ∷ ascii "end:vcard" ∷ []) ∷ (ascii "begin:vcard" ∷ ascii "a" ∷ []) ∷ (ascii "begin:vcard" ∷ ascii "end:vcard" ∷ [] ∷ []) ∷ [])
+      ≡ some (ascii "a" ∷ []) ∷ none ∷ none ∷ none ∷ none ∷ none ∷ []
+  -- "equal-named kept parameters merged": at the place of the first, its values first
+  pub merging : merged (param (ascii "A") (ascii "1" ∷ []) ∷ param (ascii "b") (ascii "2" ∷ []) ∷ param (ascii "a") (ascii "3" ∷ ascii "1" ∷ []) ∷ [])
+      ≡ param (ascii "a") (ascii "1" ∷ ascii "3" ∷ ascii "1" ∷ []) ∷ param (ascii "b") (ascii "2" ∷ []) ∷ []
+  -- "CR LF ends"
+  pub card-written : writeCard (record { group = []; name = ascii "x"; params = []; value = ascii "v" } ∷ []) ≡ ascii "BEGIN:VCARD\r\nX:v\r\nEND:VCARD\r\n"
