@@ -8,3 +8,4 @@ pub mod Write
 pub mod Upper
 pub mod Listed
 pub mod Shown
+pub mod Folded

@@ -55,15 +55,15 @@ due-there low high k (b ∷ t) e =
     byBool (between low high b) (λ q. let m = between-true low high b q in (b, t, refl, m .0, m .1, rw q at e)) (λ q. absurd (not-start t (rw q at e)))
 
 -- the first character of a text, and what follows
-record First (s : Bytes) : Type 0 where
-  number : ℕ
-  octets : Bytes
-  rest : Bytes
-  is : s ≡ octets ++ rest
-  scalar : Scalar number
-  by : Octets number octets
-  goes-on : run start rest ≡ start
-  shorter : length rest < length s
+pub record First (s : Bytes) : Type 0 where
+  pub number : ℕ
+  pub octets : Bytes
+  pub rest : Bytes
+  pub is : s ≡ octets ++ rest
+  pub scalar : Scalar number
+  pub by : Octets number octets
+  pub goes-on : run start rest ≡ start
+  pub shorter : length rest < length s
 
 -- What a row must promise of a first byte c and a second byte b, with so many tails to come: the number is in the range of so many octets, and no surrogate.
 abbrev Right : ℕ → ℕ → ℕ → Type 0
@@ -184,7 +184,7 @@ rows-right = (
   ),
 )
 
-first-of : (c : ℕ) (s : Bytes) → run (lead c) s ≡ start → First (c ∷ s)
+pub first-of : (c : ℕ) (s : Bytes) → run (lead c) s ≡ start → First (c ∷ s)
 unfolding lead
 first-of c s e =
     byBool (ltb c 128)
