@@ -1,6 +1,6 @@
 -- Worked cases of 01's table 'Converted lines', by hand and row by row: what each line becomes, which parameters it takes and which keep it, keys, and the order of the JSON.
 use mathlib.Core.Path.{_≡_, refl}
-use mathlib.Core.List.{List, [], _∷_, map}
+use mathlib.Core.List.{List, [], _∷_, _++_, map}
 use Rattle.convert.proofs.Opened.{convert-opened}
 use Rattle.convert.specs.Worked.{text, card, lines, made, homeLines, Case, converts, returns-as, given, wanted, worked-opened}
 
@@ -72,11 +72,15 @@ parameters =
     -- PREF from 1 to 100, no leading zero, one value
     converts (lines "EMAIL;PREF=1:a|TEL;pref='9':b|URL;Pref=10:c|NICKNAME;PREF=99:d|EMAIL;PREF=100:e")
     (made ",'nicknames':{'NICK-1':{'name':'d','pref':99}},'emails':{'EMAIL-1':{'address':'a','pref':1},'EMAIL-2':{'address':'e','pref':100}},'phones':{'PHONE-1':{'number':'b','pref':9}},'links':{'LINK-1':{'uri':'c','pref':10}}")
-    ∷ converts (lines "TEL;PREF=0:a|TEL;PREF=101:b|TEL;PREF=01:c|TEL;PREF=:d|TEL;PREF=1.0:e|TEL;PREF=+1:f|TEL;PREF= 1:g|TEL;PREF=1a:h|TEL;PREF=1,1:i|TEL;PREF=1;PREF=2:j|TEL;PREF=001:k|TEL;PREF=1000:l|TEL;PREF=-1:m")
-    (made ",'vCardProps':[['tel',{'pref':'0'},'unknown','a'],['tel',{'pref':'101'},'unknown','b'],['tel',{'pref':'01'},'unknown','c'],['tel',{'pref':''},'unknown','d'],['tel',{'pref':'1.0'},'unknown','e'],['tel',{'pref':'+1'},'unknown','f'],['tel',{'pref':' 1'},'unknown','g'],['tel',{'pref':'1a'},'unknown','h'],['tel',{'pref':['1','1']},'unknown','i'],['tel',{'pref':['1','2']},'unknown','j'],['tel',{'pref':'001'},'unknown','k'],['tel',{'pref':'1000'},'unknown','l'],['tel',{'pref':'-1'},'unknown','m']]")
+    ∷ converts (lines "TEL;PREF=0:a|TEL;PREF=101:b|TEL;PREF=01:c|TEL;PREF=:d|TEL;PREF=1.0:e|TEL;PREF=+1:f|TEL;PREF= 1:g|TEL;PREF=1a:h")
+    (made ",'vCardProps':[['tel',{'pref':'0'},'unknown','a'],['tel',{'pref':'101'},'unknown','b'],['tel',{'pref':'01'},'unknown','c'],['tel',{'pref':''},'unknown','d'],['tel',{'pref':'1.0'},'unknown','e'],['tel',{'pref':'+1'},'unknown','f'],['tel',{'pref':' 1'},'unknown','g'],['tel',{'pref':'1a'},'unknown','h']]")
+    ∷ converts (lines "TEL;PREF=1,1:i|TEL;PREF=1;PREF=2:j|TEL;PREF=001:k|TEL;PREF=1000:l|TEL;PREF=-1:m")
+    (made ",'vCardProps':[['tel',{'pref':['1','1']},'unknown','i'],['tel',{'pref':['1','2']},'unknown','j'],['tel',{'pref':'001'},'unknown','k'],['tel',{'pref':'1000'},'unknown','l'],['tel',{'pref':'-1'},'unknown','m']]")
     -- TYPE on TEL: each value by itself, in any case
-    ∷ converts (lines "TEL;TYPE=Fax:a|TEL;TYPE=CELL:b|TEL;TYPE=pagEr:c|TEL;TYPE=Text:d|TEL;TYPE=TextPhone:e|TEL;TYPE=VIDEO:f|TEL;TYPE=voicE:g|TEL;TYPE=Home:h|TEL;TYPE=WORK:i")
-    (made ",'phones':{'PHONE-1':{'number':'a','features':{'fax':true}},'PHONE-2':{'number':'b','features':{'mobile':true}},'PHONE-3':{'number':'c','features':{'pager':true}},'PHONE-4':{'number':'d','features':{'text':true}},'PHONE-5':{'number':'e','features':{'textphone':true}},'PHONE-6':{'number':'f','features':{'video':true}},'PHONE-7':{'number':'g','features':{'voice':true}},'PHONE-8':{'number':'h','contexts':{'private':true}},'PHONE-9':{'number':'i','contexts':{'work':true}}}")
+    ∷ converts (lines "TEL;TYPE=Fax:a|TEL;TYPE=CELL:b|TEL;TYPE=pagEr:c|TEL;TYPE=Text:d|TEL;TYPE=TextPhone:e")
+    (made ",'phones':{'PHONE-1':{'number':'a','features':{'fax':true}},'PHONE-2':{'number':'b','features':{'mobile':true}},'PHONE-3':{'number':'c','features':{'pager':true}},'PHONE-4':{'number':'d','features':{'text':true}},'PHONE-5':{'number':'e','features':{'textphone':true}}}")
+    ∷ converts (lines "TEL;TYPE=VIDEO:f|TEL;TYPE=voicE:g|TEL;TYPE=Home:h|TEL;TYPE=WORK:i")
+    (made ",'phones':{'PHONE-1':{'number':'f','features':{'video':true}},'PHONE-2':{'number':'g','features':{'voice':true}},'PHONE-3':{'number':'h','contexts':{'private':true}},'PHONE-4':{'number':'i','contexts':{'work':true}}}")
     -- JSON's own names are no values of TYPE
     ∷ converts (lines "TEL;TYPE=mobile:a|TEL;TYPE=private:b|TEL;TYPE=main-number:c|TEL;TYPE=msg:d|TEL;TYPE=home,x:e|TEL;TYPE=work;TYPE=y:f|EMAIL;TYPE=private:g")
     (made ",'vCardProps':[['tel',{'type':'mobile'},'unknown','a'],['tel',{'type':'private'},'unknown','b'],['tel',{'type':'main-number'},'unknown','c'],['tel',{'type':'msg'},'unknown','d'],['tel',{'type':['home','x']},'unknown','e'],['tel',{'type':['work','y']},'unknown','f'],['email',{'type':'private'},'unknown','g']]")
@@ -130,7 +134,8 @@ made-keys-hold = refl
 unfoldable pub order : List Case
 order =
     converts (card "VERSION:4.0|X-Z:z|JSPROP;JSPTR='j':1|JSPROP;JSPTR='i':2|ORG:o|ROLE:r|TITLE:t|NOTE:n|URL:l|TEL:p|EMAIL:e|NICKNAME:i|N:s|FN:f|KIND:org|UID:u")
-    (text "{'@type':'Card','version':'1.0','uid':'u','kind':'org','name':{'full':'f','components':[{'kind':'surname','value':'s'}]},'nicknames':{'NICK-1':{'name':'i'}},'emails':{'EMAIL-1':{'address':'e'}},'phones':{'PHONE-1':{'number':'p'}},'links':{'LINK-1':{'uri':'l'}},'notes':{'NOTE-1':{'note':'n'}},'titles':{'TITLE-1':{'kind':'role','name':'r'},'TITLE-2':{'kind':'title','name':'t'}},'organizations':{'ORG-1':{'name':'o'}},'j':1,'i':2,'vCardProps':[['x-z',{},'unknown','z']]}")
+    (text "{'@type':'Card','version':'1.0','uid':'u','kind':'org','name':{'full':'f','components':[{'kind':'surname','value':'s'}]},'nicknames':{'NICK-1':{'name':'i'}},'emails':{'EMAIL-1':{'address':'e'}},'phones':{'PHONE-1':{'number':'p'}},'links':{'LINK-1':{'uri':'l'}},"
+    ++ text "'notes':{'NOTE-1':{'note':'n'}},'titles':{'TITLE-1':{'kind':'role','name':'r'},'TITLE-2':{'kind':'title','name':'t'}},'organizations':{'ORG-1':{'name':'o'}},'j':1,'i':2,'vCardProps':[['x-z',{},'unknown','z']]}")
     ∷ returns-as (card "VERSION:4.0|X-Z:z|JSPROP;JSPTR='j':1|JSPROP;JSPTR='i':2|ORG:o|ROLE:r|TITLE:t|NOTE:n|URL:l|TEL:p|EMAIL:e|NICKNAME:i|N:s|FN:f|KIND:Org|UID:u")
     (homeLines "KIND:org^|FN:f^|N:s;;;;;;^|NICKNAME;PROP-ID=NICK-1:i^|EMAIL;PROP-ID=EMAIL-1:e^|TEL;PROP-ID=PHONE-1:p^|URL;PROP-ID=LINK-1:l^|NOTE;PROP-ID=NOTE-1:n^|ROLE;PROP-ID=TITLE-1:r^|TITLE;PROP-ID=TITLE-2:t^|ORG;PROP-ID=ORG-1:o^|JSPROP;JSPTR='j':1^|JSPROP;JSPTR='i':2^|X-Z:z")
     -- inside each section the order of the lines

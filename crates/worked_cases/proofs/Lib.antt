@@ -3,3 +3,4 @@ pub mod Values
 pub mod ToCard
 pub mod Normal
 pub mod Stream
+pub mod Json

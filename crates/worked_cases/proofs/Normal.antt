@@ -87,7 +87,8 @@ folds-hold = refl
 unfoldable pub normal-jsons : List Case
 normal-jsons =
     -- the stated order, compact, numbers as spelled
-    settles-as (text " { 'vCardProps' : [ [ 'x' , { } , 'unknown' , 'y' ] ] , 'b' : [ 1.0E1 , -0 ] , 'organizations' : { 'k' : { 'name' : 'o' } } , 'titles' : { 'k' : { 'name' : 't' , 'kind' : 'role' } } , 'notes' : { 'k' : { 'note' : 'n' } } , 'a' : { } , 'links' : { 'k' : { 'uri' : 'l' } } , 'phones' : { 'k' : { 'number' : 'p' } } , 'emails' : { 'k' : { 'address' : 'e' } } , 'nicknames' : { 'k' : { 'name' : 'i' } } , 'name' : { 'full' : 'f' } , 'kind' : 'org' , 'uid' : 'u' , 'version' : '1.0' , '@type' : 'Card' } ")
+    settles-as (text " { 'vCardProps' : [ [ 'x' , { } , 'unknown' , 'y' ] ] , 'b' : [ 1.0E1 , -0 ] , 'organizations' : { 'k' : { 'name' : 'o' } } , 'titles' : { 'k' : { 'name' : 't' , 'kind' : 'role' } } , 'notes' : { 'k' : { 'note' : 'n' } } , "
+    ++ text "'a' : { } , 'links' : { 'k' : { 'uri' : 'l' } } , 'phones' : { 'k' : { 'number' : 'p' } } , 'emails' : { 'k' : { 'address' : 'e' } } , 'nicknames' : { 'k' : { 'name' : 'i' } } , 'name' : { 'full' : 'f' } , 'kind' : 'org' , 'uid' : 'u' , 'version' : '1.0' , '@type' : 'Card' } ")
     (json ",'kind':'org','name':{'full':'f'},'nicknames':{'k':{'name':'i'}},'emails':{'k':{'address':'e'}},'phones':{'k':{'number':'p'}},'links':{'k':{'uri':'l'}},'notes':{'k':{'note':'n'}},'titles':{'k':{'kind':'role','name':'t'}},'organizations':{'k':{'name':'o'}},'b':[1.0E1,-0],'a':{},'vCardProps':[['x',{},'unknown','y']]")
     -- inside maps the order given; inside entries kind, the table's members, contexts, features, pref
     ∷ settles-as (json ",'phones':{'z':{'pref':1,'features':{'voice':true,'video':true,'textphone':true,'text':true,'pager':true,'mobile':true,'fax':true},'contexts':{'work':true,'private':true},'number':'a'},'b':{'number':'c'}}")

@@ -206,7 +206,8 @@ homes =
     ∷ comes-home (json ",'name':{'full':'a','components':[{'kind':'given','value':'b'}]},'notes':{'k':{'note':'c'}},'d':1,'vCardProps':[['fn',{},'unknown','e'],['n',{},'unknown','f'],['note',{'prop-id':'k'},'unknown','g'],['jsprop',{'jsptr':'d'},'unknown','2'],['jsprop',{'jsptr':'kind'},'unknown','3'],['jsprop',{},'unknown','4']]")
     (homeLines "FN:a^|N:;b;;;;;^|NOTE;PROP-ID=k:c^|JSPROP;JSPTR='d':1^|FN:e^|N:f^|NOTE;PROP-ID=k:g^|JSPROP;JSPTR='d':2^|JSPROP;JSPTR='kind':3^|JSPROP:4")
     -- all sections, the members in reverse
-    ∷ comes-home (text "{'vCardProps':[['x',{},'unknown','y']],'b':1,'organizations':{'k':{'name':'o'}},'titles':{'k':{'kind':'role','name':'r'},'j':{'name':'t'}},'notes':{'k':{'note':'n'}},'a':2,'links':{'k':{'uri':'l'}},'phones':{'k':{'number':'p'}},'emails':{'k':{'address':'e'}},'nicknames':{'k':{'name':'i'}},'name':{'components':[{'value':'s','kind':'surname'}],'full':'f'},'kind':'org','uid':'u','version':'1.0','@type':'Card'}")
+    ∷ comes-home (text "{'vCardProps':[['x',{},'unknown','y']],'b':1,'organizations':{'k':{'name':'o'}},'titles':{'k':{'kind':'role','name':'r'},'j':{'name':'t'}},'notes':{'k':{'note':'n'}},'a':2,"
+    ++ text "'links':{'k':{'uri':'l'}},'phones':{'k':{'number':'p'}},'emails':{'k':{'address':'e'}},'nicknames':{'k':{'name':'i'}},'name':{'components':[{'value':'s','kind':'surname'}],'full':'f'},'kind':'org','uid':'u','version':'1.0','@type':'Card'}")
     (homeLines "KIND:org^|FN:f^|N:s;;;;;;^|NICKNAME;PROP-ID=k:i^|EMAIL;PROP-ID=k:e^|TEL;PROP-ID=k:p^|URL;PROP-ID=k:l^|NOTE;PROP-ID=k:n^|ROLE;PROP-ID=k:r^|TITLE;PROP-ID=j:t^|ORG;PROP-ID=k:o^|JSPROP;JSPTR='b':1^|JSPROP;JSPTR='a':2^|X:y")
     ∷ []
 

@@ -54,8 +54,10 @@ structured =
     named "N:a;b;c;d;e;f;g"
     "{'kind':'surname','value':'a'},{'kind':'given','value':'b'},{'kind':'given2','value':'c'},{'kind':'title','value':'d'},{'kind':'credential','value':'e'},{'kind':'surname2','value':'f'},{'kind':'generation','value':'g'}"
     -- several values of each part, in their order; repeats stay
-    ∷ named "N:a,b,a;c,d;e,f;g,h;i,j;k,l;m,n"
-    "{'kind':'surname','value':'a'},{'kind':'surname','value':'b'},{'kind':'surname','value':'a'},{'kind':'given','value':'c'},{'kind':'given','value':'d'},{'kind':'given2','value':'e'},{'kind':'given2','value':'f'},{'kind':'title','value':'g'},{'kind':'title','value':'h'},{'kind':'credential','value':'i'},{'kind':'credential','value':'j'},{'kind':'surname2','value':'k'},{'kind':'surname2','value':'l'},{'kind':'generation','value':'m'},{'kind':'generation','value':'n'}"
+    ∷ named "N:a,b,a;c,d;e,f;g,h"
+    "{'kind':'surname','value':'a'},{'kind':'surname','value':'b'},{'kind':'surname','value':'a'},{'kind':'given','value':'c'},{'kind':'given','value':'d'},{'kind':'given2','value':'e'},{'kind':'given2','value':'f'},{'kind':'title','value':'g'},{'kind':'title','value':'h'}"
+    ∷ named "N:;;;;i,j,i;k,l,k;m,n,m"
+    "{'kind':'credential','value':'i'},{'kind':'credential','value':'j'},{'kind':'credential','value':'i'},{'kind':'surname2','value':'k'},{'kind':'surname2','value':'l'},{'kind':'surname2','value':'k'},{'kind':'generation','value':'m'},{'kind':'generation','value':'n'},{'kind':'generation','value':'m'}"
     -- empty values vanish, missing parts are empty; escaped separators do not split
     ∷ named "N:,a,,b,;;,c" "{'kind':'surname','value':'a'},{'kind':'surname','value':'b'},{'kind':'given2','value':'c'}"
     ∷ named "N:;b" "{'kind':'given','value':'b'}"
@@ -101,8 +103,10 @@ members =
     ∷ converts (lines "JSPROP:1|JSPROP;JSPTR=a,b:1|JSPROP;JSPTR=a;JSPTR=b:1|JSPROP;JSPTR=a;X=1:1|JSPROP;JSPTR=a;PROP-ID=k:1|JSPROP;JSPTR=a;VALUE=text:1|g.JSPROP;JSPTR=a:1|JSPROP;JSPTR=a:2|JSPROP;JSPTR='a':3")
     (made ",'a':2,'vCardProps':[['jsprop',{},'unknown','1'],['jsprop',{'jsptr':['a','b']},'unknown','1'],['jsprop',{'jsptr':['a','b']},'unknown','1'],['jsprop',{'jsptr':'a','x':'1'},'unknown','1'],['jsprop',{'jsptr':'a','prop-id':'k'},'unknown','1'],['jsprop',{'jsptr':'a'},'text','1'],['jsprop',{'group':'g','jsptr':'a'},'unknown','1'],['jsprop',{'jsptr':'a'},'unknown','3']]")
     -- TEXT that is no JSON: a bad escape, nothing, grammar, equal names, a surrogate alone
-    ∷ converts (lines "JSPROP;JSPTR=a:[1\\]|JSPROP;JSPTR=a:|JSPROP;JSPTR=a:tru|JSPROP;JSPTR=a:1 2|JSPROP;JSPTR=a:{'b':1\\,'b':1}|JSPROP;JSPTR=a:'\\\\ud800'|JSPROP;JSPTR=a:01|JSPROP;JSPTR=a:'x\\ny'")
-    (made ",'vCardProps':[['jsprop',{'jsptr':'a'},'unknown','[1\\\\]'],['jsprop',{'jsptr':'a'},'unknown',''],['jsprop',{'jsptr':'a'},'unknown','tru'],['jsprop',{'jsptr':'a'},'unknown','1 2'],['jsprop',{'jsptr':'a'},'unknown','{\\'b\\':1\\\\,\\'b\\':1}'],['jsprop',{'jsptr':'a'},'unknown','\\'\\\\\\\\ud800\\''],['jsprop',{'jsptr':'a'},'unknown','01'],['jsprop',{'jsptr':'a'},'unknown','\\'x\\\\ny\\'']]")
+    ∷ converts (lines "JSPROP;JSPTR=a:[1\\]|JSPROP;JSPTR=a:|JSPROP;JSPTR=a:tru|JSPROP;JSPTR=a:1 2|JSPROP;JSPTR=a:01")
+    (made ",'vCardProps':[['jsprop',{'jsptr':'a'},'unknown','[1\\\\]'],['jsprop',{'jsptr':'a'},'unknown',''],['jsprop',{'jsptr':'a'},'unknown','tru'],['jsprop',{'jsptr':'a'},'unknown','1 2'],['jsprop',{'jsptr':'a'},'unknown','01']]")
+    ∷ converts (lines "JSPROP;JSPTR=a:{'b':1\\,'b':1}|JSPROP;JSPTR=a:'\\\\ud800'|JSPROP;JSPTR=a:'x\\ny'")
+    (made ",'vCardProps':[['jsprop',{'jsptr':'a'},'unknown','{\\'b\\':1\\\\,\\'b\\':1}'],['jsprop',{'jsptr':'a'},'unknown','\\'\\\\\\\\ud800\\''],['jsprop',{'jsptr':'a'},'unknown','\\'x\\\\ny\\'']]")
     -- home: JSPTR in quotes, commas and backslashes escaped
     ∷ returns-as (lines "UID:u|JSPROP;JSPTR=a~0b: [1,'c\\\\n\\\\u0041;'] |JSPROP;JSPTR=/:1;2") (homeLines "FN:a^|JSPROP;JSPTR='a~0b':[1\\,'c\\\\nA;']^|JSPROP;JSPTR='/':1;2")
     ∷ []
@@ -125,8 +129,9 @@ kept-lines =
     ∷ converts (lines "X:1|Y:2|X:1") (made ",'vCardProps':[['x',{},'unknown','1'],['y',{},'unknown','2'],['x',{},'unknown','1']]")
     -- FN with the sole parameter DERIVED=TRUE, no group: gone; with anything more, kept
     ∷ converts (lines "FN;DERIVED=TRUE:b|fn;Derived=tRuE:c|FN;DERIVED=TRUE;VALUE=unknown:d|FN;DERIVED='TRUE':\\x") (made "")
-    ∷ converts (lines "g.FN;DERIVED=TRUE:b|FN;DERIVED=FALSE:c|FN;DERIVED=TRUE;X=1:d|FN;X=1;DERIVED=TRUE:e|FN;DERIVED=TRUE;DERIVED=TRUE:f|FN;DERIVED=TRUE;VALUE=text:h|N;DERIVED=TRUE:i|FN;DERIVED=TRUE :j|FN;DERIVED=:k")
-    (made ",'vCardProps':[['fn',{'group':'g','derived':'TRUE'},'unknown','b'],['fn',{'derived':'FALSE'},'unknown','c'],['fn',{'derived':'TRUE','x':'1'},'unknown','d'],['fn',{'x':'1','derived':'TRUE'},'unknown','e'],['fn',{'derived':['TRUE','TRUE']},'unknown','f'],['fn',{'derived':'TRUE'},'text','h'],['n',{'derived':'TRUE'},'unknown','i'],['fn',{'derived':'TRUE '},'unknown','j'],['fn',{'derived':''},'unknown','k']]")
+    ∷ converts (lines "g.FN;DERIVED=TRUE:b|FN;DERIVED=FALSE:c|FN;DERIVED=TRUE;X=1:d|FN;X=1;DERIVED=TRUE:e|FN;DERIVED=TRUE;DERIVED=TRUE:f|FN;DERIVED=TRUE;VALUE=text:h")
+    (made ",'vCardProps':[['fn',{'group':'g','derived':'TRUE'},'unknown','b'],['fn',{'derived':'FALSE'},'unknown','c'],['fn',{'derived':'TRUE','x':'1'},'unknown','d'],['fn',{'x':'1','derived':'TRUE'},'unknown','e'],['fn',{'derived':['TRUE','TRUE']},'unknown','f'],['fn',{'derived':'TRUE'},'text','h']]")
+    ∷ converts (lines "N;DERIVED=TRUE:i|FN;DERIVED=TRUE :j|FN;DERIVED=:k") (made ",'vCardProps':[['n',{'derived':'TRUE'},'unknown','i'],['fn',{'derived':'TRUE '},'unknown','j'],['fn',{'derived':''},'unknown','k']]")
     -- strings of the JSON: quote, backslash, controls and DEL escaped, nothing else
     ∷ converts (lines "X;A=\t/:'\\\t/é\u{2028}") (made ",'vCardProps':[['x',{'a':'\\t/'},'unknown','\\'\\\\\\t/é\u{2028}']]")
     ∷ converts (lines "JSPROP;JSPTR=a:'\\\\b\\\\f\\\\n\\\\r\\\\t\\\\u0000\\\\u000b\\\\u001F\\\\u007f\\\\u0080\\\\/\\\\u0022\\\\u005c'") (made ",'a':'\\b\\f\\n\\r\\t\\u0000\\u000b\\u001f\\u007f\u{80}/\\'\\\\'")
