@@ -233,7 +233,7 @@ fn the_stream_in_c_gives_what_this_crate_gives() {
     let mut want = String::new();
     for answer in Cards::new(b"reg", &stream[..]) {
         want += &match answer.expect("a slice can be read").result {
-            Ok(json) => text(&json),
+            Ok(json) => json,
             Err(Refusal { number, place }) => format!("refused {number} at place {place}"),
         };
         want.push('\n');
