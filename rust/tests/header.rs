@@ -111,13 +111,13 @@ fn source(declarations: &[String]) -> String {
     )
 }
 
-fn scratch(name: &str) -> PathBuf {
+fn file(name: &str) -> PathBuf {
     PathBuf::from(env!("CARGO_TARGET_TMPDIR")).join(name)
 }
 
 /// Whether both compilers take the source; what they say where they do not.
 fn compiles(name: &str, source: &str) -> Result<(), String> {
-    let file = scratch(name);
+    let file = file(name);
     std::fs::write(&file, source).expect("the source is written");
     for (compiler, language, standard) in [("cc", "c", "-std=c99"), ("c++", "c++", "-std=c++11")] {
         let output = Command::new(compiler)
@@ -180,7 +180,7 @@ fn a_wrong_number_is_found() {
 fn built(example: &str, compiler: &str, standard: &str, language: &str) -> PathBuf {
     let folder = std::env::var_os("THYMEBARREL_LIB");
     let library = folder.map_or(path("target/staticlib"), PathBuf::from);
-    let program = scratch(&format!("{example}-{language}"));
+    let program = file(&format!("{example}-{language}"));
     let output = Command::new(compiler)
         .args([standard, "-O1", "-x", language])
         .args(STRICT)

@@ -49,11 +49,12 @@ pub fn usage(command: &Command) -> String {
 
 /// All commands, a line each.
 pub fn whole() -> String {
-    let mut text =
-        String::from("Converts vCard 4.0 to JSContact and back by a proved library.\n\n");
+    let mut text = String::from(
+        "Converts vCard 4.0 to JSContact and back by a proved library.\n\nthymebarrel\n",
+    );
     for command in ALL {
-        let typed = format!("thymebarrel {} {}", command.name, command.words);
-        text.push_str(&format!("  {typed:<32}{}\n", command.help));
+        let typed = format!("{} {}", command.name, command.words);
+        text.push_str(&format!("  {typed:<28}{}\n", command.help));
     }
     text.push_str(
         "\nthymebarrel help COMMAND tells the options of a command; --version the version.\n",

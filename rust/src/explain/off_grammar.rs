@@ -40,22 +40,27 @@ impl Walk<'_> {
             start = self.at;
             self.name("a name after the group")?;
         }
-        let name = &self.line[start..self.at];
-        let frame = [b"BEGIN".as_slice(), b"END"]
-            .iter()
-            .any(|word| name.eq_ignore_ascii_case(word));
+        self.not_the_frame(start)?;
         while self.next() == Some(b';') {
             self.at += 1;
             self.parameter()?;
         }
         match self.next() {
-            Some(b':') if frame => {
-                self.at = start;
-                Err("A line within a card may not be named BEGIN or END.".to_string())
-            }
             Some(b':') => Ok(()),
             other => Err(self.expected("a colon or a semicolon", other)),
         }
+    }
+
+    /// The name from there on, which has ended, is not BEGIN or END.
+    fn not_the_frame(&mut self, start: usize) -> Result<(), String> {
+        let name = &self.line[start..self.at];
+        let frame = [b"BEGIN".as_slice(), b"END"];
+        let frame = frame.iter().any(|word| name.eq_ignore_ascii_case(word));
+        if frame && matches!(self.next(), Some(b';' | b':')) {
+            self.at = start;
+            return Err("A line within a card may not be named BEGIN or END.".to_string());
+        }
+        Ok(())
     }
 
     /// Letters, digits and hyphens, one at least.
