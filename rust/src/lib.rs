@@ -24,6 +24,10 @@ pub const CARD_BYTES: usize = 32_768;
 pub const CARD_LINES: usize = 512;
 /// A card's number at the most.
 pub const LAST_NUMBER: usize = 999_999;
+/// Bytes of stack that a thread needs at least to call any function of this crate. It is
+/// not proved: the most that was measured is 438,000 (docs/PERFORMANCE.md), and a short
+/// input may take nearly all of that.
+pub const STACK_BYTES: usize = 524_288;
 /// Bytes of a stem at the most.
 pub const STEM_BYTES: usize = 200;
 
