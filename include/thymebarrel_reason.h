@@ -43,7 +43,7 @@ static inline const char *thymebarrel_reason(unsigned answer)
     case 15:
         return "The stem is not 1 to 200 characters of A-Z a-z 0-9 : - _, or the number is not 1 to 999,999.";
     case 16:
-        return "A stream was called with a card buffer under 32,768 bytes, an output under 65,536, or a state that no call gave.";
+        return "A stream was called with a card buffer under 32,768 bytes, an output under 65,536, or a state out of its ranges (docs/STREAM.md).";
     case 255:
         return "No line answered yet: hand in more of the stream.";
     default:

@@ -36,7 +36,7 @@ pub struct Answer {
 /// let first = answers.next().unwrap()?;
 /// assert!(first.result.is_ok() && first.uid_made);
 /// let second = answers.next().unwrap()?;
-/// assert_eq!((second.offset, second.result.unwrap_err().number), (44, 1));
+/// assert_eq!((second.offset, second.result.unwrap_err().number), (46, 1));
 /// # Ok::<(), std::io::Error>(())
 /// ```
 pub struct Cards<R> {

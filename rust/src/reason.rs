@@ -165,7 +165,7 @@ impl Reason {
                 "This is a fault of the caller, not of the card: give another stem or number.",
             ),
             Reason::Unfit => (
-                "A stream was called with a card buffer under 32,768 bytes, an output under 65,536, or a state that no call gave.",
+                "A stream was called with a card buffer under 32,768 bytes, an output under 65,536, or a state out of its ranges (docs/STREAM.md).",
                 "This is a fault of the caller: lend the full sizes, and hand in the state that the last call handed back.",
             ),
         }

@@ -205,6 +205,6 @@ fn debug_shows_where_a_stream_is() {
     cards.next();
     assert_eq!(
         format!("{cards:?}"),
-        "Cards { number: 1, at: 44, over: false, .. }"
+        "Cards { number: 1, at: 43, over: false, .. }"
     );
 }
