@@ -14,6 +14,18 @@
 extern "C" {
 #endif
 
+/* The version of this header and of the library that belongs to it. */
+#define THYMEBARREL_VERSION "0.1.0"
+#define THYMEBARREL_VERSION_MAJOR 0
+#define THYMEBARREL_VERSION_MINOR 1
+#define THYMEBARREL_VERSION_PATCH 0
+
+/* A thread that calls any of these functions needs so many bytes of stack at least. It is not proved: the most that was measured is 438,000 bytes, and a
+ * short input may take nearly all of that (docs/PERFORMANCE.md), so do not choose a smaller stack for small inputs. */
+#define THYMEBARREL_STACK_BYTES 524288
+
+/* What an answer means, in words: thymebarrel_reason(answer) of thymebarrel_reason.h, which stands alone. */
+
 /* JSON of at most so many bytes is read and written, and a card of at most so many. */
 #define THYMEBARREL_JSON_BYTES 65536
 #define THYMEBARREL_CARD_BYTES 32768
@@ -62,20 +74,18 @@ extern "C" {
 
 /* Card to JSON. The JSON is written to the front of `out`; its length is put behind `written` and 0 is answered. A refused card is answered with its number, its
  * place behind `place`, and every byte of `out` is as it was. The stem and the number make the UID of a card that has none. THYMEBARREL_JSON_BYTES of
- * output are always enough. `place` and `written` must not be null. A call took 16 KiB of
- * stack for a small card and 270 KiB for the largest one tried (docs/PERFORMANCE.md).
+ * output are always enough. `place` and `written` must not be null.
  *
  *     size_t place, written;
- *     uint8_t number = thymebarrel_card_to_json((const uint8_t *)"reg", 3, 1, card, card_length, out, sizeof out, &place, &written);
- *     if (number == THYMEBARREL_CONVERTED) fwrite(out, 1, written, stdout);
+ *     uint8_t answer = thymebarrel_card_to_json((const uint8_t *)"reg", 3, 1, card, card_length, out, sizeof out, &place, &written);
+ *     if (answer == THYMEBARREL_CONVERTED) fwrite(out, 1, written, stdout);
  */
 uint8_t thymebarrel_card_to_json(const uint8_t *stem, size_t stem_length, size_t number, const uint8_t *card, size_t card_length, uint8_t *out,
                                  size_t out_length, size_t *place, size_t *written);
 
-/* JSON to card, likewise: the card is written to the front of `out`, and THYMEBARREL_CARD_BYTES of output are always enough. A call took 99 KiB of stack
- * for a small text and 406 KiB for the largest one tried (docs/PERFORMANCE.md).
+/* JSON to card, likewise: the card is written to the front of `out`, and THYMEBARREL_CARD_BYTES of output are always enough.
  *
- *     uint8_t number = thymebarrel_json_to_card(json, json_length, out, sizeof out, &place, &written);
+ *     uint8_t answer = thymebarrel_json_to_card(json, json_length, out, sizeof out, &place, &written);
  */
 uint8_t thymebarrel_json_to_card(const uint8_t *json, size_t json_length, uint8_t *out, size_t out_length, size_t *place, size_t *written);
 
@@ -90,15 +100,24 @@ uint8_t thymebarrel_json_to_card(const uint8_t *json, size_t json_length, uint8_
  *
  *     size_t state[THYMEBARREL_STREAM_WORDS] = {0}, consumed, place, written;
  *     for (size_t at = 0; at < length; at += consumed) {
- *       uint8_t number = thymebarrel_stream_step(state, 7, stem, stem_length, piece + at, length - at, buffer, sizeof buffer, out, sizeof out, &consumed, &place, &written);
- *       if (number == THYMEBARREL_BAD_STEM_OR_NUMBER || number == THYMEBARREL_STREAM_UNFIT) break;
- *       if (number == THYMEBARREL_CONVERTED) fwrite(out, 1, written, stdout);
+ *       uint8_t answer = thymebarrel_stream_step(state, 7, stem, stem_length, piece + at, length - at, buffer, sizeof buffer, out, sizeof out, &consumed, &place, &written);
+ *       if (answer == THYMEBARREL_BAD_STEM_OR_NUMBER || answer == THYMEBARREL_STREAM_UNFIT) break;
+ *       if (answer == THYMEBARREL_CONVERTED) fwrite(out, 1, written, stdout);
  *     }
  */
 uint8_t thymebarrel_stream_step(size_t *state, size_t state_length, const uint8_t *stem, size_t stem_length, const uint8_t *piece, size_t piece_length,
                                 uint8_t *buffer, size_t buffer_length, uint8_t *out, size_t out_length, size_t *consumed, size_t *place, size_t *written);
 
-/* An end call of a stream: one LF is supposed, and nothing is consumed. At most two of them make the state fresh, all 0 again. */
+/* An end call of a stream: one LF is supposed, and nothing is consumed. It answers as a step does. At most two of them make the state fresh, all 0 again: call it until
+ * then, or the last card of an input without its last line end may go unanswered.
+ *
+ *     static const size_t fresh[THYMEBARREL_STREAM_WORDS] = {0};
+ *     do {
+ *       uint8_t answer = thymebarrel_stream_end(state, 7, stem, stem_length, buffer, sizeof buffer, out, sizeof out, &consumed, &place, &written);
+ *       if (answer == THYMEBARREL_BAD_STEM_OR_NUMBER || answer == THYMEBARREL_STREAM_UNFIT) break;
+ *       if (answer == THYMEBARREL_CONVERTED) fwrite(out, 1, written, stdout);
+ *     } while (memcmp(state, fresh, sizeof fresh) != 0);
+ */
 uint8_t thymebarrel_stream_end(size_t *state, size_t state_length, const uint8_t *stem, size_t stem_length, uint8_t *buffer, size_t buffer_length, uint8_t *out,
                                size_t out_length, size_t *consumed, size_t *place, size_t *written);
 
