@@ -46,6 +46,11 @@ pub left-by-16 : (row : List ℕ) (s : State) → rowAfter row 16 s ≡ row
 unfolding rowAfter
 left-by-16 row s = refl
 
+-- a JSON (0), 2, more (255)
+pub put-by-answers : (row : List ℕ) (s : State) → (rowAfter row 0 s ≡ rowOf s) × (rowAfter row 2 s ≡ rowOf s) × (rowAfter row 255 s ≡ rowOf s)
+unfolding rowAfter
+put-by-answers row s = (refl, refl, refl)
+
 pub put-by-others : (row : List ℕ) (s : State) (n : ℕ) → (eqb n 15 || eqb n 16) ≡ false → rowAfter row n s ≡ rowOf s
 unfolding rowAfter
 put-by-others row s n e = rw e
