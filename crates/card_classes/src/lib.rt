@@ -20,10 +20,12 @@ use card_refusals::judge;
 use card_refusals::refusal_of;
 use card_refusals::unjudged;
 use card_seen::settle;
+use card_table::params;
 use class_line::Class;
 use class_line::class_numbered;
 use class_names::name_code;
 use line_table::fill;
+use line_table::table;
 use line_unfold::line_at;
 use table_params::scan_rows;
 
@@ -97,12 +99,12 @@ fn next_line(
     requires { ⌜ (k < 512) × (k < length (now codes)) × Ready (now bytes) (now codes) (now ids) (now prints) k p × Cut (now bytes) (now s) at × Sound (now s) (now t) × Room (now s) (now text) ⌝ }
     ensures { λ r. ⌜ NextLine (now (bytes .entry)) (now (s .entry)) (now (t .entry)) (now (codes .entry)) (now (ids .entry)) k p (now (codes .exit)) (now (ids .exit)) (now (prints .exit)) r ⌝ }
 {
-    let mut counts = [0usize; 8];
-    let mut froms = [0usize; 8];
-    let mut tos = [0usize; 8];
+    let mut counts = [0usize; params::COUNT];
+    let mut froms = [0usize; params::COUNT];
+    let mut tos = [0usize; params::COUNT];
     scan_rows(&mut counts, &mut froms, &mut tos, s, t);
-    let a = t[2];
-    let b = t[3];
+    let a = t[table::NAME];
+    let b = t[table::NAME_END];
     let code = name_code(&s[a..b]);
     let before = p.judged;
     let judged = judge_line(before, k, code, &counts, &froms, &tos, s, t);

@@ -1,5 +1,8 @@
 // The validating reader of a text whose top-level object is wanted by a list of names: its members are indexed while they are read, in one pass over the text.
 use json_index::which_name;
+use json_limits::DEPTH;
+use json_limits::INNER;
+use json_limits::ROOM;
 use json_marks::separator;
 use json_marks::skip_space;
 use json_read::Verdict;
@@ -141,10 +144,10 @@ fn read_in<'a, 'b, 'c, 'd>(
 {
     let i = skip_space(s, 0);
     if look(s, i) == LEFT_BRACE {
-        let r = sound_members(slots, s, i + 1, 15, names, places, prints);
+        let r = sound_members(slots, s, i + 1, INNER, names, places, prints);
         return answer(verdict_on(s, r), Opened::Object);
     }
-    let r = sound_value(s, 0, 16, places, prints);
+    let r = sound_value(s, 0, DEPTH, places, prints);
     answer(verdict_on(s, r), Opened::Other)
 }
 
@@ -165,7 +168,7 @@ pub fn read_indexed<'a, 'b, 'c, 'd>(
     ensures { λ r. ⌜ InWords 16 (now (s .entry)) (asVerdict r) ⌝ }
     ensures { λ r. ⌜ Opens (now (s .entry)) (now (names .entry)) (now (slots .exit)) r ⌝ }
 {
-    if s.len() > 65536 {
+    if s.len() > ROOM {
         return Opened::Large;
     }
     read_in(slots, s, names, places, prints)

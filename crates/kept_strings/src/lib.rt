@@ -1,4 +1,5 @@
 // Strings of a JSON text one after the other in a lent buffer, and the values of a parameter of vCardProps as rows of a line's table.
+use card_table::kept;
 use card_value::string_in;
 use json_access::element_at;
 use json_index::is_raw;
@@ -7,6 +8,7 @@ use json_marks::skip_space;
 use json_strings::decode_into;
 use line_class::Class;
 use line_class::all_of;
+use line_limits::VALUES;
 use line_table::put_row;
 use output::Wrote;
 use output::put_text;
@@ -118,7 +120,7 @@ pub fn put_value<'a, 'b, 'c>(
     ensures { λ r. ⌜ RowsIn n (length (now (b .entry))) r ⌝ }
     ensures { λ r. ⌜ AddsValue (now (b .entry)) n (now (t .entry)) m a e (now (s .entry)) at r (now (b .exit)) (now (t .exit)) ⌝ }
 {
-    if m >= 64 {
+    if m >= VALUES {
         return Rows::Wrong;
     }
     let To::End(k) = put_string(b, n, s, at) else {
@@ -153,7 +155,7 @@ fn put_elements<'a, 'b, 'c>(
     let mut k = n;
     let mut rows = m;
     loop {
-        let p = element_at(s, i, 11);
+        let p = element_at(s, i, kept::VALUES_DEPTH);
         let v = p.start;
         let x = p.end;
         let Rows::More { end, count } = put_value(b, k, t, rows, a, e, s, v) else {
@@ -217,7 +219,7 @@ fn sole_string(s: &[u8], at: usize) -> usize
     if look(s, j) == RIGHT_BRACKET {
         return 0;
     }
-    let p = element_at(s, j, 11);
+    let p = element_at(s, j, kept::VALUES_DEPTH);
     let v = p.start;
     let x = p.end;
     match separator(s, x, RIGHT_BRACKET) {

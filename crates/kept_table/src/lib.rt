@@ -1,4 +1,6 @@
 // An entry of vCardProps, [name, {parameters}, type, value], as the table of the line that it is.
+use card_table::kept;
+use card_table::params;
 use json_access::member_at;
 use json_marks::separator;
 use json_marks::skip_space;
@@ -56,7 +58,7 @@ fn put_param<'a, 'b, 'c>(
     if !is_word(&b[n..k]) {
         return Rows::Wrong;
     }
-    if equals(s, q, b"value") {
+    if equals(s, q, &params::VALUE_NAME) {
         return Rows::Wrong;
     }
     put_values(b, k, t, m, n, k, s, at)
@@ -85,7 +87,7 @@ fn put_member<'a, 'b, 'c>(
     let count = f.count;
     let from = f.from;
     let to = f.to;
-    if equals(s, q, b"group") {
+    if equals(s, q, &params::GROUP_NAME) {
         if to != 0 {
             return Step::Bad;
         }
@@ -136,7 +138,7 @@ fn put_from<'a, 'b, 'c>(
         to: 0,
     };
     loop {
-        let m = member_at(s, i, 12);
+        let m = member_at(s, i, kept::PARAMS_DEPTH);
         let q = m.name;
         let a = m.start;
         let e = m.end;

@@ -7,6 +7,7 @@ ghost use Rattle.class_line.specs.Class.{ClassIn};
 ghost use Rattle.convert_pointer.specs.Name.{Pointing};
 ghost use Rattle.name_index.specs.Groups.{Indexes};
 ghost use Rattle.kept_used.specs.Used.{IdUsed, PointerUsed, KeptIn};
+use card_table::maps;
 use class_line::Class;
 use convert_pointer::read_pointer;
 use name_index::has_name;
@@ -47,7 +48,15 @@ fn pointer_used<'a, 'b, 'c, 'd, 'e, 'f>(
     let Wrote::Bytes(n) = read_pointer(scratch, p) else {
         return false;
     };
-    has_name(s, slots, places, prints, ends, 7, &scratch[0..n])
+    has_name(
+        s,
+        slots,
+        places,
+        prints,
+        ends,
+        maps::POINTERS,
+        &scratch[0..n],
+    )
 }
 
 // Whether the line in b, of that class, is kept.

@@ -2,6 +2,9 @@
 // each good line folded anew, and its value as TEXT.
 use libc::STDOUT_FILENO;
 use line_frame::Frame;
+use line_limits::CARD;
+use line_limits::LINES;
+use line_limits::OVER;
 use line_scan::Parsed;
 use line_unfold::Unfolded;
 use named_file::read_named;
@@ -97,12 +100,12 @@ fn show(bytes: &[u8], table: &[usize], n: usize) {
 }
 
 fn body(s: &[u8]) {
-    let mut bytes = [0u8; 32768];
-    let mut table = [0usize; 513];
-    if s.len() > 32768 {
+    let mut bytes = [0u8; CARD];
+    let mut table = [0usize; LINES + 1];
+    if s.len() > CARD {
         return;
     }
-    match line_unfold::unfold(&mut bytes, &mut table, 512, s) {
+    match line_unfold::unfold(&mut bytes, &mut table, LINES, s) {
         Unfolded::Lines(n) => {
             io::print_decimal(STDOUT_FILENO, n as u64);
             say(b" lines\n");
@@ -117,7 +120,7 @@ fn body(s: &[u8]) {
 }
 
 fn card(s: &[u8]) {
-    if line_frame::size_of(s) > 32768 {
+    if line_frame::size_of(s) > CARD {
         say(b"over the room\n");
         return;
     }
@@ -137,7 +140,7 @@ fn card(s: &[u8]) {
 
 fn read(k: usize) {
     let mut path = io::buffer();
-    let mut buf = [0u8; 32769];
+    let mut buf = [0u8; OVER];
     let file = read_named(k, &mut path, &mut buf);
     if !file.found {
         return;

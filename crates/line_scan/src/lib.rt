@@ -7,6 +7,8 @@ ghost use Rattle.line.specs.Grammar.{isFrameName};
 ghost use Rattle.line_scan.specs.Lines.{RestAt, LineAt};
 use line_class::Class;
 use line_class::run_end;
+use line_limits::PARAMS;
+use line_limits::VALUES;
 use line_name::is_named;
 use text::COLON;
 use text::COMMA;
@@ -179,10 +181,10 @@ fn rest_of_line(s: &[u8], group: usize, name: usize, end: usize) -> Parsed
     else {
         return Parsed::Bad;
     };
-    if n > 32 {
+    if n > PARAMS {
         return Parsed::Bad;
     }
-    if m > 64 {
+    if m > VALUES {
         return Parsed::Bad;
     }
     if is_frame_name(&s[name..end]) {

@@ -4,7 +4,10 @@ ghost use Prim.Native.Nat.{_≤_};
 ghost use lib.ListN.{length};
 ghost use Rattle.to_json_maps.specs.Maps.{HasLines};
 ghost use Rattle.to_json_card.specs.Card.{ValueOf, PutsName, HasMember, PutsMemberTurn, PutsMembers, Lent, PutsTop, PutsMiddle, PutsEnd, PutsRest, PutsCard};
+use card_table::classes;
+use card_table::params;
 use line_table::fill;
+use line_table::table;
 use line_unfold::line_at;
 use output::Wrote;
 use output::put_byte;
@@ -26,8 +29,8 @@ fn value_of<'a, 'b>(t: &'b mut [usize], s: &'a [u8]) -> &'a [u8]
     if !fill(t, s) {
         return &s[0..0];
     }
-    let a = t[4];
-    let b = t[5];
+    let a = t[table::VALUE];
+    let b = t[table::VALUE_END];
     &s[a..b]
 }
 
@@ -43,8 +46,8 @@ fn put_name_of(
     requires { ⌜ (264 ≤ length (now t)) × HasLines (now scratch) (now starts) (now codes) n ⌝ }
     ensures { λ r. ⌜ PutsName (now (out .entry)) (now (scratch .entry)) (now (starts .entry)) (now (codes .entry)) n r (now (out .exit)) ⌝ }
 {
-    let j = first_of(codes, n, 21);
-    let k = first_of(codes, n, 22);
+    let j = first_of(codes, n, classes::FULL);
+    let k = first_of(codes, n, classes::PARTS);
     let fv = value_of(t, line_at(scratch, starts, j));
     let nv = value_of(t, line_at(scratch, starts, k));
     put_name(out, j < n, fv, k < n, nv)
@@ -55,9 +58,9 @@ fn put_member_turn(out: &mut [u8], t: &mut [usize], text: &mut [u8], s: &[u8]) -
     requires { ⌜ (264 ≤ length (now t)) × (length (now s) ≤ length (now text)) × HasMember (now s) ⌝ }
     ensures { λ r. ⌜ PutsMemberTurn (now (out .entry)) (now (s .entry)) r (now (out .exit)) ⌝ }
 {
-    let mut counts = [0usize; 8];
-    let mut froms = [0usize; 8];
-    let mut tos = [0usize; 8];
+    let mut counts = [0usize; params::COUNT];
+    let mut froms = [0usize; params::COUNT];
+    let mut tos = [0usize; params::COUNT];
     if !fill(t, s) {
         return Wrote::Full;
     }
@@ -88,7 +91,7 @@ fn put_members(
     let mut at = 0;
     let mut k = 0;
     while k < n {
-        if !is_of(codes[k], 23) {
+        if !is_of(codes[k], classes::MEMBER) {
             k += 1;
             continue;
         }
