@@ -2,7 +2,7 @@
 ghost use mathlib.Core.Path.{_≡_};
 ghost use Prim.Native.Nat.{_+_, _≤_, _<_};
 ghost use lib.ListN.{length};
-ghost use Rattle.convert.specs.Answers.{misused, emptied, isVersionLine};
+ghost use Rattle.convert.specs.Answers.{misused, emptied, isVersionLine, lineRoom};
 ghost use Rattle.line_table.specs.Table.{lineIn, Sound};
 ghost use Rattle.table_entry.specs.Key.{Rowed};
 ghost use Rattle.class_line.specs.Class.{ClassIn};
@@ -48,7 +48,7 @@ fn judge_line(
     s: &[u8],
     t: &[usize],
 ) -> Judged
-    requires { ⌜ (k < 512) × Rowed (now s) (now t) (now counts) (now froms) (now tos) × Coded code (lineIn (now s) (now t)) ⌝ }
+    requires { ⌜ (k < lineRoom) × Rowed (now s) (now t) (now counts) (now froms) (now tos) × Coded code (lineIn (now s) (now t)) ⌝ }
     ensures { λ r. ⌜ r ≡ judgedWith j (k + 1) code (misused (lineIn (now (s .entry)) (now (t .entry)))) (emptied (lineIn (now (s .entry)) (now (t .entry)))) (isVersionLine (lineIn (now (s .entry)) (now (t .entry)))) ⌝ }
 {
     let misused = is_misused(code, counts, froms, tos, s, t);
@@ -96,7 +96,7 @@ fn next_line(
     s: &[u8],
     t: &[usize],
 ) -> Pass
-    requires { ⌜ (k < 512) × (k < length (now codes)) × Ready (now bytes) (now codes) (now ids) (now prints) k p × Cut (now bytes) (now s) at × Sound (now s) (now t) × Room (now s) (now text) ⌝ }
+    requires { ⌜ (k < lineRoom) × (k < length (now codes)) × Ready (now bytes) (now codes) (now ids) (now prints) k p × Cut (now bytes) (now s) at × Sound (now s) (now t) × Room (now s) (now text) ⌝ }
     ensures { λ r. ⌜ NextLine (now (bytes .entry)) (now (s .entry)) (now (t .entry)) (now (codes .entry)) (now (ids .entry)) k p (now (codes .exit)) (now (ids .exit)) (now (prints .exit)) r ⌝ }
 {
     let mut counts = [0usize; params::COUNT];

@@ -1,4 +1,4 @@
-// The seven maps of a JSON card as lines, one after the other in the table's order. A row of the table is data: an eighth map is one more row here.
+// The seven maps of a JSON card as lines, one after the other in the table's order. A row of the table is data (`card_table`): an eighth map is one more branch here.
 use card_map::put_map;
 use card_table::emails;
 use card_table::kinds;
@@ -15,6 +15,8 @@ ghost use mathlib.Core.Path.{_≡_};
 ghost use Prim.Native.Nat.{_≤_};
 ghost use lib.ListN.{length};
 ghost use Rattle.card_map.specs.Maps.{LinesIn};
+ghost use Rattle.json.specs.Lookup.{room};
+ghost use Rattle.card_table.specs.Numbers.{mapSlots};
 ghost use Rattle.card_maps.specs.Seven.{PutsNth, PutsMaps};
 
 // The map of a row of the table, in a slot.
@@ -109,8 +111,8 @@ fn put_nth<'a, 'b>(out: &'a mut [u8], s: &'b [u8], k: usize, slot: usize) -> Lin
 
 // All seven. The slots are those of the top-level members, by the list of reserved names: the first map's is the sixth.
 pub fn put_maps<'a, 'b, 'c>(out: &'a mut [u8], s: &'b [u8], slots: &'c [usize]) -> Lines
-    requires { ⌜ length (now s) ≤ 65536 ⌝ }
-    requires { ⌜ 12 ≤ length (now slots) ⌝ }
+    requires { ⌜ length (now s) ≤ room ⌝ }
+    requires { ⌜ mapSlots ≤ length (now slots) ⌝ }
     ensures { λ r. ⌜ LinesIn (length (now (out .entry))) 458758 r ⌝ }
     ensures { λ r. ⌜ length (now (out .exit)) ≡ length (now (out .entry)) ⌝ }
     ensures { λ r. ⌜ PutsMaps (now (s .entry)) (now (slots .entry)) (now (out .entry)) r (now (out .exit)) ⌝ }

@@ -21,6 +21,7 @@ ghost use Prim.Native.Nat.{_≤_, _+_};
 ghost use lib.ListN.{length};
 ghost use Rattle.text.specs.Bytes.{code, parts};
 ghost use Rattle.line_pen.specs.Pen.{Pens};
+ghost use Rattle.card_table.specs.Numbers.{typeCount};
 ghost use Rattle.card_params.specs.Params.{codeOf, TellsFlags, TellsPref, spanOf, prefPiece, typeLead, typePart, typesFrom};
 
 // The number's part of the text, empty where there is none; or 12.
@@ -189,8 +190,8 @@ pub fn pen_types<'a, 'b, 'c>(
     names: &'b [u8],
     row: &'c [u8],
 ) -> Pen
-    requires { ⌜ 9 ≤ length (now row) ⌝ }
-    ensures { λ r. ⌜ Pens (now (out .entry)) column (typesFrom (parts (code ",") (now (names .entry))) (now (row .entry)) 9 0 false) r (now (out .exit)) ⌝ }
+    requires { ⌜ typeCount ≤ length (now row) ⌝ }
+    ensures { λ r. ⌜ Pens (now (out .entry)) column (typesFrom (parts (code ",") (now (names .entry))) (now (row .entry)) typeCount 0 false) r (now (out .exit)) ⌝ }
 {
     let mut at = 0;
     let mut k = column;

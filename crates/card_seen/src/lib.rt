@@ -7,6 +7,7 @@ ghost use Rattle.json_prints.specs.Prints.{printed};
 ghost use Rattle.convert.specs.Classify.{isId};
 ghost use Rattle.line_table.specs.Table.{part, Span};
 ghost use Rattle.class_line.specs.Class.{ClassIn};
+ghost use Rattle.card_table.specs.Numbers.{groupCount};
 ghost use Rattle.card_seen.specs.Ids.{idsAt, Listed, IdTable, Unfilled, withId, Cut};
 ghost use Rattle.card_seen.specs.Settled.{Settles, Notes};
 use card_table::classes;
@@ -115,7 +116,7 @@ fn note_key(
     a: usize,
     b: usize,
 ) -> usize
-    requires { ⌜ IdTable (now bytes) (now ids) (now prints) n × Unfilled (now ids) (now prints) n × (i < 8) × Span (now s) a b × Cut (now bytes) (now s) at ⌝ }
+    requires { ⌜ IdTable (now bytes) (now ids) (now prints) n × Unfilled (now ids) (now prints) n × (i < groupCount) × Span (now s) a b × Cut (now bytes) (now s) at ⌝ }
     ensures { λ r. ⌜ Notes (now (bytes .entry)) (now (s .entry)) (now (ids .entry)) n i a b (now (ids .exit)) (now (prints .exit)) r ⌝ }
 {
     let p = print_of(i, &s[a..b]);

@@ -9,6 +9,7 @@ ghost use Rattle.convert.specs.Pointer.{pointed};
 ghost use Rattle.convert.specs.Classify.{memberValue};
 ghost use Rattle.convert_entry.specs.Rows.{zeros};
 ghost use Rattle.table_entry.specs.Key.{Rowed};
+ghost use Rattle.card_table.specs.Numbers.{paramKinds};
 ghost use Rattle.class_member.specs.Member.{besidesPointer, pointsOn, Room, MemberIs};
 use card_table::emails;
 use card_table::links;
@@ -112,7 +113,7 @@ fn is_section(p: &[u8]) -> bool
 
 // No parameter but VALUE and JSPTR.
 fn none_but_pointer(counts: &[usize]) -> bool
-    requires { ⌜ 8 ≤ length (now counts) ⌝ }
+    requires { ⌜ paramKinds ≤ length (now counts) ⌝ }
     ensures { λ r. ⌜ r ≡ zeros besidesPointer (now (counts .entry)) ⌝ }
 {
     (counts[params::PROP_ID] == 0)

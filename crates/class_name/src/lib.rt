@@ -10,6 +10,7 @@ ghost use Rattle.convert.specs.Classify.{bare, isDerived};
 ghost use Rattle.line_table.specs.Table.{lineIn};
 ghost use Rattle.convert_entry.specs.Rows.{zeros};
 ghost use Rattle.table_entry.specs.Key.{Rowed};
+ghost use Rattle.card_table.specs.Numbers.{paramKinds};
 ghost use Rattle.class_name.specs.Name.{allKinds, besidesDerived, FullClass, PartsClass};
 use card_table::classes;
 use card_table::params;
@@ -36,7 +37,7 @@ pub fn is_bare(counts: &[usize], froms: &[usize], tos: &[usize], s: &[u8], t: &[
 
 // No parameter but VALUE.
 fn no_params(counts: &[usize]) -> bool
-    requires { ⌜ 8 ≤ length (now counts) ⌝ }
+    requires { ⌜ paramKinds ≤ length (now counts) ⌝ }
     ensures { λ r. ⌜ r ≡ zeros allKinds (now (counts .entry)) ⌝ }
 {
     (counts[params::PROP_ID] == 0)
@@ -48,7 +49,7 @@ fn no_params(counts: &[usize]) -> bool
 }
 
 fn none_but_derived(counts: &[usize]) -> bool
-    requires { ⌜ 8 ≤ length (now counts) ⌝ }
+    requires { ⌜ paramKinds ≤ length (now counts) ⌝ }
     ensures { λ r. ⌜ r ≡ zeros besidesDerived (now (counts .entry)) ⌝ }
 {
     (counts[params::PROP_ID] == 0)

@@ -6,6 +6,7 @@ ghost use Rattle.text.specs.Choice.{is-some};
 ghost use Rattle.text.specs.Bytes.{ascii, begins};
 ghost use Rattle.line.specs.Params.{valuesNamed, besidesValue, valueType};
 ghost use Rattle.convert.specs.Classify.{prefFrom};
+ghost use Rattle.card_table.specs.Numbers.{paramKinds};
 ghost use Rattle.convert_entry.specs.Rows.{typeNumber, takes, kindsOut, zeros, OfRow, HasRow, ReadsAs};
 use card_table::forms;
 use card_table::params;
@@ -18,7 +19,7 @@ use line_text::part_end;
 
 // Only parameters that a map's lines take; TYPE and PREF where the map is typed.
 pub fn only_of(typed: bool, counts: &[usize]) -> bool
-    requires { ⌜ 8 ≤ length (now counts) ⌝ }
+    requires { ⌜ paramKinds ≤ length (now counts) ⌝ }
     ensures { λ r. ⌜ r ≡ zeros (kindsOut typed) (now (counts .entry)) ⌝ }
 {
     if typed {

@@ -2,13 +2,14 @@
 ghost use mathlib.Core.Path.{_≡_};
 ghost use Prim.Native.Nat.{_<_};
 ghost use Rattle.text.specs.Bytes.{lowered};
+ghost use Rattle.card_table.specs.Numbers.{paramKinds};
 ghost use Rattle.convert_params.specs.Row.{kindOf};
 use card_table::params;
 use line_name::is_named;
 
 // Which of the parameters that the converter looks at it is.
 pub fn kind_of(name: &[u8]) -> usize
-    ensures { λ r. ⌜ (r ≡ kindOf (lowered (now (name .entry)))) × (r < 8) ⌝ }
+    ensures { λ r. ⌜ (r ≡ kindOf (lowered (now (name .entry)))) × (r < paramKinds) ⌝ }
 {
     if is_named(name, &params::PROP_ID_NAME) {
         return params::PROP_ID;

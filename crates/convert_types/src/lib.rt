@@ -3,13 +3,14 @@ ghost use mathlib.Core.Path.{_≡_};
 ghost use Prim.Native.Nat.{_≤_, _<_};
 ghost use lib.ListN.{length};
 ghost use Rattle.text.specs.Bytes.{code, parts};
+ghost use Rattle.card_table.specs.Numbers.{typeCount};
 ghost use Rattle.convert_types.specs.Marks.{typeAt, placed, marks, told, split, PartEnds};
 use card_table::types;
 use line_name::is_named;
 
 // The place of a value in the table of TYPE; 9 where it has none.
 fn place_of(v: &[u8]) -> usize
-    ensures { λ r. ⌜ placed r ≡ typeAt 9 (now (v .entry)) ⌝ }
+    ensures { λ r. ⌜ placed r ≡ typeAt typeCount (now (v .entry)) ⌝ }
 {
     if is_named(v, &types::HOME_NAME) {
         return types::HOME;
@@ -68,7 +69,7 @@ fn part_end(s: &[u8], at: usize) -> usize
 
 // Marks one value of TYPE, split at commas.
 pub fn mark_value(row: &mut [u8], v: &[u8], n: usize) -> bool
-    requires { ⌜ 9 ≤ length (now row) ⌝ }
+    requires { ⌜ typeCount ≤ length (now row) ⌝ }
     ensures { λ r. ⌜ told r (now (row .exit)) ≡ marks n (parts (code ",") (now (v .entry))) (now (row .entry)) ⌝ }
 {
     let mut i = 0;

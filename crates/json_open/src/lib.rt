@@ -29,6 +29,7 @@ ghost use Rattle.json_strings.specs.Decoded.{decodedAt};
 ghost use Rattle.json_sound.specs.Sound.{soundMembers, Judged, Onward};
 ghost use Rattle.json_index.specs.Index.{placed, noted, Clear};
 ghost use Rattle.json_read.specs.Verdict.{verdictOf, verdict, InWords};
+ghost use Rattle.json.specs.Lookup.{room};
 ghost use Rattle.json_open.specs.Opened.{asVerdict, answered, IndexedIf, Opens};
 
 // Object: it is JSON, an object. Other: it is JSON, no object. Large: refusal 3. NotJson: refusal 11, with its place.
@@ -78,7 +79,7 @@ fn sound_members<'a, 'b, 'c, 'd>(
     prints: &'d mut [u16],
 ) -> Sounded
     requires { ⌜ at ≤ length (now s) ⌝ }
-    requires { ⌜ length (now s) ≤ 65536 ⌝ }
+    requires { ⌜ length (now s) ≤ room ⌝ }
     requires { ⌜ length (now s) < at + 4 * length (now places) ⌝ }
     requires { ⌜ length (now prints) ≡ length (now places) ⌝ }
     requires { ⌜ length (parts (code ",") (now names)) < length (now slots) ⌝ }
@@ -134,7 +135,7 @@ fn read_in<'a, 'b, 'c, 'd>(
     places: &'d mut [u16],
     prints: &'d mut [u16],
 ) -> Opened
-    requires { ⌜ length (now s) ≤ 65536 ⌝ }
+    requires { ⌜ length (now s) ≤ room ⌝ }
     requires { ⌜ length (now s) ≤ 4 * length (now places) ⌝ }
     requires { ⌜ length (now prints) ≡ length (now places) ⌝ }
     requires { ⌜ length (parts (code ",") (now names)) < length (now slots) ⌝ }

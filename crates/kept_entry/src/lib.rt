@@ -27,6 +27,7 @@ ghost use mathlib.Core.Path.{_≡_};
 ghost use Prim.Native.Nat.{_+_, _≤_, _<_};
 ghost use lib.ListN.{length};
 ghost use Rattle.kept_strings.specs.Strings.{Within, Bounds, RowsIn};
+ghost use Rattle.line_table.specs.Table.{tableLength};
 ghost use Rattle.kept_entry.specs.Entry.{PutsWord, PutsName, FourIn, TellsFour, PutsTyped, PutsType, headedAt};
 
 // The places of the four elements, and the place after the array.
@@ -124,7 +125,7 @@ fn put_typed<'a, 'b, 'c>(
     at: usize,
 ) -> Rows
     requires { ⌜ n ≤ length (now b) ⌝ }
-    requires { ⌜ 264 ≤ length (now t) ⌝ }
+    requires { ⌜ tableLength ≤ length (now t) ⌝ }
     ensures { λ r. ⌜ Bounds (now (b .entry)) (now (b .exit)) (now (t .entry)) (now (t .exit)) ⌝ }
     ensures { λ r. ⌜ RowsIn n (length (now (b .entry))) r ⌝ }
     ensures { λ r. ⌜ PutsTyped (now (b .entry)) n (now (t .entry)) m (now (s .entry)) at r (now (b .exit)) (now (t .exit)) ⌝ }
@@ -156,7 +157,7 @@ pub fn put_type<'a, 'b, 'c>(
     at: usize,
 ) -> Rows
     requires { ⌜ n ≤ length (now b) ⌝ }
-    requires { ⌜ 264 ≤ length (now t) ⌝ }
+    requires { ⌜ tableLength ≤ length (now t) ⌝ }
     requires { ⌜ m ≤ 64 ⌝ }
     ensures { λ r. ⌜ Bounds (now (b .entry)) (now (b .exit)) (now (t .entry)) (now (t .exit)) ⌝ }
     ensures { λ r. ⌜ RowsIn n (length (now (b .entry))) r ⌝ }
@@ -188,7 +189,7 @@ pub fn put_head(
     stop: usize,
     n: usize,
 ) -> bool
-    requires { ⌜ 264 ≤ length (now t) ⌝ }
+    requires { ⌜ tableLength ≤ length (now t) ⌝ }
     ensures { λ r. ⌜ now (t .exit) ≡ headedAt (now (t .entry)) from to end value stop n ⌝ }
 {
     t[table::GROUP] = from;

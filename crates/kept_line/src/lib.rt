@@ -21,7 +21,7 @@ ghost use Rattle.text.specs.Choice.{pick};
 ghost use Rattle.text.specs.Bytes.{ascii, code, flat, uppered};
 ghost use Rattle.line.specs.Write.{writeValue, writeGroup, foldFrom};
 ghost use Rattle.line_pen.specs.Pen.{Fills, Pens};
-ghost use Rattle.line_table.specs.Table.{base, nameAt, valueAt, Sound};
+ghost use Rattle.line_table.specs.Table.{base, nameAt, valueAt, Sound, tableLength};
 ghost use Rattle.card_pen.specs.Styles.{allStandIn};
 ghost use Rattle.convert.specs.Carry.{carriedRaw, carriedParam};
 ghost use Rattle.kept_strings.specs.Strings.{followsBy, runsIn};
@@ -129,7 +129,7 @@ fn pen_lead(out: &mut [u8], column: usize, more: bool, name: &[u8]) -> Pen
 
 // Whether the row i is one more value of the parameter of the row before it.
 fn is_more(t: &[usize], i: usize) -> bool
-    requires { ⌜ (264 ≤ length (now t)) × (i < 64) ⌝ }
+    requires { ⌜ (tableLength ≤ length (now t)) × (i < 64) ⌝ }
     ensures { λ r. ⌜ r ≡ followsBy (now (t .entry)) i (getD (now (t .entry)) (base i) 0) ⌝ }
 {
     if i == 0 {

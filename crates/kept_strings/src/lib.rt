@@ -21,6 +21,7 @@ ghost use Prim.Native.Nat.{_≤_, _<_};
 ghost use lib.ListN.{length};
 ghost use Rattle.json_strings.specs.Decoded.{textAt};
 ghost use Rattle.convert.specs.FromJson.{isLowerWord};
+ghost use Rattle.line_table.specs.Table.{tableLength};
 ghost use Rattle.kept_strings.specs.Strings.{Puts, BareText, Within, PutsAt, Bounds, RowsIn, AddsValue, AddsFrom, AddsValues, TellsSole, PutsGroup};
 
 // Where what is in the buffer ends.
@@ -115,7 +116,7 @@ pub fn put_value<'a, 'b, 'c>(
     at: usize,
 ) -> Rows
     requires { ⌜ n ≤ length (now b) ⌝ }
-    requires { ⌜ 264 ≤ length (now t) ⌝ }
+    requires { ⌜ tableLength ≤ length (now t) ⌝ }
     ensures { λ r. ⌜ Bounds (now (b .entry)) (now (b .exit)) (now (t .entry)) (now (t .exit)) ⌝ }
     ensures { λ r. ⌜ RowsIn n (length (now (b .entry))) r ⌝ }
     ensures { λ r. ⌜ AddsValue (now (b .entry)) n (now (t .entry)) m a e (now (s .entry)) at r (now (b .exit)) (now (t .exit)) ⌝ }
@@ -145,7 +146,7 @@ fn put_elements<'a, 'b, 'c>(
     at: usize,
 ) -> Rows
     requires { ⌜ n ≤ length (now b) ⌝ }
-    requires { ⌜ 264 ≤ length (now t) ⌝ }
+    requires { ⌜ tableLength ≤ length (now t) ⌝ }
     requires { ⌜ at ≤ length (now s) ⌝ }
     ensures { λ r. ⌜ Bounds (now (b .entry)) (now (b .exit)) (now (t .entry)) (now (t .exit)) ⌝ }
     ensures { λ r. ⌜ RowsIn n (length (now (b .entry))) r ⌝ }
@@ -189,7 +190,7 @@ pub fn put_values<'a, 'b, 'c>(
     at: usize,
 ) -> Rows
     requires { ⌜ n ≤ length (now b) ⌝ }
-    requires { ⌜ 264 ≤ length (now t) ⌝ }
+    requires { ⌜ tableLength ≤ length (now t) ⌝ }
     requires { ⌜ at ≤ length (now s) ⌝ }
     ensures { λ r. ⌜ Bounds (now (b .entry)) (now (b .exit)) (now (t .entry)) (now (t .exit)) ⌝ }
     ensures { λ r. ⌜ RowsIn n (length (now (b .entry))) r ⌝ }

@@ -19,6 +19,7 @@ ghost use mathlib.Core.Path.{_≡_};
 ghost use Prim.Native.Nat.{_+_, _≤_, _<_};
 ghost use lib.ListN.{length};
 ghost use Rattle.kept_strings.specs.Strings.{Bounds, RowsIn};
+ghost use Rattle.line_table.specs.Table.{tableLength};
 ghost use Rattle.kept_table.specs.Kept.{PutsParam, StepIn, PutsMember, PutsFrom, PutsObject};
 
 // What of a line's parameters is in the buffer and the table: where the buffer's bytes end, the rows, the parameters, and the group's place.
@@ -46,7 +47,7 @@ fn put_param<'a, 'b, 'c>(
     at: usize,
 ) -> Rows
     requires { ⌜ n ≤ length (now b) ⌝ }
-    requires { ⌜ 264 ≤ length (now t) ⌝ }
+    requires { ⌜ tableLength ≤ length (now t) ⌝ }
     requires { ⌜ at ≤ length (now s) ⌝ }
     ensures { λ r. ⌜ Bounds (now (b .entry)) (now (b .exit)) (now (t .entry)) (now (t .exit)) ⌝ }
     ensures { λ r. ⌜ RowsIn n (length (now (b .entry))) r ⌝ }
@@ -74,7 +75,7 @@ fn put_member<'a, 'b, 'c>(
     at: usize,
 ) -> Step
     requires { ⌜ f .end ≤ length (now b) ⌝ }
-    requires { ⌜ 264 ≤ length (now t) ⌝ }
+    requires { ⌜ tableLength ≤ length (now t) ⌝ }
     requires { ⌜ at ≤ length (now s) ⌝ }
     requires { ⌜ f .count ≤ length (now s) ⌝ }
     requires { ⌜ f .rows ≤ 64 ⌝ }
@@ -123,7 +124,7 @@ fn put_from<'a, 'b, 'c>(
     at: usize,
 ) -> Step
     requires { ⌜ n ≤ length (now b) ⌝ }
-    requires { ⌜ 264 ≤ length (now t) ⌝ }
+    requires { ⌜ tableLength ≤ length (now t) ⌝ }
     requires { ⌜ at ≤ length (now s) ⌝ }
     ensures { λ r. ⌜ Bounds (now (b .entry)) (now (b .exit)) (now (t .entry)) (now (t .exit)) ⌝ }
     ensures { λ r. ⌜ StepIn n (length (now (b .entry))) (length (now (s .entry)) + 1) r ⌝ }
@@ -166,7 +167,7 @@ pub fn put_object<'a, 'b, 'c>(
     at: usize,
 ) -> Step
     requires { ⌜ n ≤ length (now b) ⌝ }
-    requires { ⌜ 264 ≤ length (now t) ⌝ }
+    requires { ⌜ tableLength ≤ length (now t) ⌝ }
     requires { ⌜ at ≤ length (now s) ⌝ }
     ensures { λ r. ⌜ Bounds (now (b .entry)) (now (b .exit)) (now (t .entry)) (now (t .exit)) ⌝ }
     ensures { λ r. ⌜ StepIn n (length (now (b .entry))) (length (now (s .entry)) + 1) r ⌝ }

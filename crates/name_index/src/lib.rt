@@ -11,6 +11,7 @@ use json_walk::next_member;
 ghost use mathlib.Core.Path.{_≡_};
 ghost use Prim.Native.Nat.{_≤_, _<_};
 ghost use lib.ListN.{length, take};
+ghost use Rattle.card_table.specs.Numbers.{groupCount, mapSlots};
 ghost use Rattle.name_index.specs.Groups.{NotesName, NotedIn, NotesNames, NotesGroup, Indexes, HasName};
 
 // How many rows the names took, or that one did not fit: there was no row for it, or its place or its print has more than sixteen bits.
@@ -84,7 +85,7 @@ fn note_group<'a, 'b, 'c>(
     slots: &'c [usize],
     i: usize,
 ) -> Noted
-    requires { ⌜ (i < 8) × (12 ≤ length (now slots)) ⌝ }
+    requires { ⌜ (i < groupCount) × (mapSlots ≤ length (now slots)) ⌝ }
     requires { ⌜ length (now places) ≡ length (now prints) ⌝ }
     ensures { λ r. ⌜ NotedIn (length (now (places .entry))) r ⌝ }
     ensures { λ r. ⌜ NotesGroup (now (s .entry)) (now (slots .entry)) i r (now (places .exit)) (now (prints .exit)) ⌝ }
@@ -109,7 +110,7 @@ pub fn note_groups<'a, 'b, 'c, 'd>(
     s: &'c [u8],
     slots: &'d [usize],
 ) -> usize
-    requires { ⌜ (length (now ends) ≡ 9) × (12 ≤ length (now slots)) ⌝ }
+    requires { ⌜ (length (now ends) ≡ 9) × (mapSlots ≤ length (now slots)) ⌝ }
     requires { ⌜ length (now places) ≡ length (now prints) ⌝ }
     ensures { λ r. ⌜ (r ≤ 9) × Indexes (now (s .entry)) (now (slots .entry)) (now (places .exit)) (now (prints .exit)) (take r (now (ends .exit))) ⌝ }
 {
@@ -129,7 +130,7 @@ pub fn note_groups<'a, 'b, 'c, 'd>(
 
 // The same question, asked of the text.
 fn has_walked<'a, 'b, 'c>(s: &'a [u8], slots: &'b [usize], i: usize, key: &'c [u8]) -> bool
-    requires { ⌜ (i < 8) × (12 ≤ length (now slots)) ⌝ }
+    requires { ⌜ (i < groupCount) × (mapSlots ≤ length (now slots)) ⌝ }
     ensures { λ r. ⌜ HasName (now (s .entry)) (now (slots .entry)) i (now (key .entry)) r ⌝ }
 {
     if i == maps::POINTERS {
@@ -153,7 +154,7 @@ pub fn has_name<'a, 'b, 'c, 'd, 'e>(
     i: usize,
     key: &'e [u8],
 ) -> bool
-    requires { ⌜ (i < 8) × (12 ≤ length (now slots)) ⌝ }
+    requires { ⌜ (i < groupCount) × (mapSlots ≤ length (now slots)) ⌝ }
     requires { ⌜ Indexes (now s) (now slots) (now places) (now prints) (now ends) ⌝ }
     ensures { λ r. ⌜ HasName (now (s .entry)) (now (slots .entry)) i (now (key .entry)) r ⌝ }
 {

@@ -4,6 +4,7 @@ ghost use Prim.Native.Nat.{_≤_};
 ghost use lib.ListN.{length};
 ghost use Rattle.line_table.specs.Table.{Sound};
 ghost use Rattle.card_garbled.specs.Garbled.{FirstGarbled};
+ghost use Rattle.card_table.specs.Numbers.{typeCount};
 use card_garbled::first_garbled;
 use card_table::params;
 use card_table::types;
@@ -79,7 +80,7 @@ pub extern "C" fn pieces_garbled(bytes: &[u8], starts: &[usize], n: usize) -> us
 
 // The parameters of a line that the table holds: how many values each kind has and where the first stands, and the marks of TYPE.
 fn mark_line(row: &mut [u8], line: &[u8], table: &[usize]) -> bool
-    requires { ⌜ (9 ≤ length (now row)) × Sound (now line) (now table) ⌝ }
+    requires { ⌜ (typeCount ≤ length (now row)) × Sound (now line) (now table) ⌝ }
 {
     let mut counts = [0usize; params::COUNT];
     let mut froms = [0usize; params::COUNT];
@@ -94,7 +95,7 @@ fn mark_line(row: &mut [u8], line: &[u8], table: &[usize]) -> bool
 
 // Nothing is asked of the line where `marks` is 0.
 fn is_good(row: &mut [u8], line: &[u8], table: &[usize], marks: u8) -> bool
-    requires { ⌜ (9 ≤ length (now row)) × Sound (now line) (now table) ⌝ }
+    requires { ⌜ (typeCount ≤ length (now row)) × Sound (now line) (now table) ⌝ }
 {
     if marks == 0 {
         return true;

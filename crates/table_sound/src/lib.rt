@@ -2,6 +2,7 @@
 // is known yet.
 ghost use Prim.Native.Nat.{_+_, _≤_, _<_};
 ghost use lib.ListN.{length, getD};
+ghost use Rattle.line_table.specs.Table.{tableLength};
 ghost use Rattle.table_sound.specs.Sound.{TellsSpan, TellsSound};
 use line_limits::VALUES;
 use line_table::table;
@@ -23,7 +24,7 @@ fn has_span(t: &[usize], i: usize, n: usize) -> bool
 }
 
 pub fn is_sound<'a, 'b>(b: &'a [u8], t: &'b [usize]) -> bool
-    requires { ⌜ 264 ≤ length (now t) ⌝ }
+    requires { ⌜ tableLength ≤ length (now t) ⌝ }
     ensures { λ r. ⌜ TellsSound (now (b .entry)) (now (t .entry)) r ⌝ }
 {
     let m = b.len();

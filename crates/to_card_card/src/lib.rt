@@ -17,6 +17,7 @@ ghost use lib.ListN.{length};
 ghost use Rattle.json_index.specs.Index.{Indexes};
 ghost use Rattle.to_card_lines.specs.Lines.{LinesIn};
 ghost use Rattle.to_card_kept.specs.Kept.{Lent};
+ghost use Rattle.card_table.specs.Numbers.{cardSlots};
 ghost use Rattle.to_card_card.specs.Whole.{cardNames, few, FewIn, PutsOthers, PutsLast, PutsRest, PutsBody, PutsCard};
 
 // This stands for every number of lines that is over a card's.
@@ -40,7 +41,7 @@ fn put_others<'a, 'b, 'c, 'd>(
     slots: &'d [usize],
 ) -> Lines
     requires { ⌜ length (now out) ≤ length (now buffer) ⌝ }
-    requires { ⌜ 14 ≤ length (now slots) ⌝ }
+    requires { ⌜ cardSlots ≤ length (now slots) ⌝ }
     ensures { λ r. ⌜ LinesIn (length (now (out .entry))) r ⌝ }
     ensures { λ r. ⌜ length (now (out .exit)) ≡ length (now (out .entry)) ⌝ }
     ensures { λ r. ⌜ PutsOthers (now (s .entry)) (now (slots .entry)) (now (out .entry)) r (now (out .exit)) ⌝ }

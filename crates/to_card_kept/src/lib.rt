@@ -28,6 +28,7 @@ ghost use Rattle.class_member.specs.Member.{Room};
 ghost use Rattle.card_entry.specs.Rows.{EnteredIn};
 ghost use Rattle.to_card_lines.specs.Lines.{LinesIn};
 ghost use Rattle.name_index.specs.Groups.{Indexes};
+ghost use Rattle.card_table.specs.Numbers.{cardSlots};
 ghost use Rattle.to_card_kept.specs.Kept.{Lent, PutsKept};
 ghost use Rattle.to_card_kept.specs.Puts.{TellsKept, asEntered, asLines, AskedOnce, PutsEntry, PutsFrom, LinesWithin, RunIn, PutsRun};
 
@@ -63,7 +64,7 @@ fn is_kept_line<'a, 'b, 'c, 'd, 'e, 'f, 'g>(
     full: bool,
     parts: bool,
 ) -> Judged
-    requires { ⌜ Sound (now b) (now t) × Room (now b) (now scratch) × (14 ≤ length (now slots)) ⌝ }
+    requires { ⌜ Sound (now b) (now t) × Room (now b) (now scratch) × (cardSlots ≤ length (now slots)) ⌝ }
     requires { ⌜ Indexes (now s) (now slots) (now places) (now prints) (now ends) ⌝ }
     ensures { λ r. ⌜ TellsKept (now (s .entry)) (now (slots .entry)) (now (b .entry)) (now (t .entry)) full parts (r .kept) ⌝ }
     ensures { λ r. ⌜ r .asked ≤ 1 ⌝ }

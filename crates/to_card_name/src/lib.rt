@@ -24,6 +24,7 @@ ghost use lib.ListN.{length};
 ghost use Rattle.json_index.specs.Index.{Clear};
 ghost use Rattle.to_card_lines.specs.Lines.{LinesIn};
 ghost use Rattle.to_card_parts.specs.Parts.{RowsFrom};
+ghost use Rattle.card_table.specs.Numbers.{partCount};
 ghost use Rattle.to_card_name.specs.Name.{TellsUnordered, TellsFull, ListedIn, ListsAs, TellsParts, TellsApart, OrderLine, FnLine, NLine, PutsAlone, PutsBoth, PutsList, PutsSlots, asLines, PutsName, SaysFull};
 
 // The full name: where its string stands; it is absent; or 12.
@@ -98,7 +99,7 @@ fn list_components<'a, 'b, 'c, 'd>(
     s: &'d [u8],
     slot: usize,
 ) -> Listed
-    requires { ⌜ 7 ≤ length (now marks) ⌝ }
+    requires { ⌜ partCount ≤ length (now marks) ⌝ }
     requires { ⌜ Clear (now marks) ⌝ }
     requires { ⌜ 16 ≤ length (now kinds) ⌝ }
     requires { ⌜ 16 ≤ length (now values) ⌝ }
@@ -126,7 +127,7 @@ fn list_components<'a, 'b, 'c, 'd>(
 
 // Whether any kind has a value.
 fn has_parts(marks: &[usize]) -> bool
-    requires { ⌜ 7 ≤ length (now marks) ⌝ }
+    requires { ⌜ partCount ≤ length (now marks) ⌝ }
     ensures { λ r. ⌜ TellsParts (now (marks .entry)) r ⌝ }
 {
     (marks[parts::SURNAME] != 0)
@@ -149,12 +150,12 @@ fn apart_in<'a, 'b, 'c, 'd>(
     other: usize,
 ) -> bool
     requires { ⌜ at ≤ length (now s) ⌝ }
-    requires { ⌜ 7 ≤ length (now marks) ⌝ }
+    requires { ⌜ partCount ≤ length (now marks) ⌝ }
     requires { ⌜ 16 ≤ length (now kinds) ⌝ }
     requires { ⌜ 16 ≤ length (now values) ⌝ }
     requires { ⌜ RowsFrom (now s) at (now kinds) (now values) rows ⌝ }
-    requires { ⌜ one < 7 ⌝ }
-    requires { ⌜ other < 7 ⌝ }
+    requires { ⌜ one < partCount ⌝ }
+    requires { ⌜ other < partCount ⌝ }
     ensures { λ r. ⌜ TellsApart (now (s .entry)) at (now (marks .entry)) one other r ⌝ }
 {
     if marks[one] == 0 {
@@ -181,7 +182,7 @@ fn put_order_line<'a, 'b, 'c, 'd, 'e, 'f, 'g>(
     order: &'g [u8],
 ) -> Penned
     requires { ⌜ at ≤ length (now s) ⌝ }
-    requires { ⌜ 7 ≤ length (now marks) ⌝ }
+    requires { ⌜ partCount ≤ length (now marks) ⌝ }
     requires { ⌜ 16 ≤ length (now kinds) ⌝ }
     requires { ⌜ 16 ≤ length (now values) ⌝ }
     requires { ⌜ RowsFrom (now s) at (now kinds) (now values) rows ⌝ }
@@ -224,7 +225,7 @@ fn put_fn<'a, 'b, 'c, 'd, 'e>(
     rows: usize,
 ) -> Penned
     requires { ⌜ at ≤ length (now s) ⌝ }
-    requires { ⌜ 7 ≤ length (now marks) ⌝ }
+    requires { ⌜ partCount ≤ length (now marks) ⌝ }
     requires { ⌜ 16 ≤ length (now kinds) ⌝ }
     requires { ⌜ 16 ≤ length (now values) ⌝ }
     requires { ⌜ RowsFrom (now s) at (now kinds) (now values) rows ⌝ }
@@ -264,7 +265,7 @@ fn put_n<'a, 'b, 'c, 'd, 'e>(
     rows: usize,
 ) -> Counted
     requires { ⌜ at ≤ length (now s) ⌝ }
-    requires { ⌜ 7 ≤ length (now marks) ⌝ }
+    requires { ⌜ partCount ≤ length (now marks) ⌝ }
     requires { ⌜ 16 ≤ length (now kinds) ⌝ }
     requires { ⌜ 16 ≤ length (now values) ⌝ }
     requires { ⌜ RowsFrom (now s) at (now kinds) (now values) rows ⌝ }
@@ -355,7 +356,7 @@ fn put_both<'a, 'b, 'c, 'd, 'e>(
     rows: usize,
 ) -> Lines
     requires { ⌜ at ≤ length (now s) ⌝ }
-    requires { ⌜ 7 ≤ length (now marks) ⌝ }
+    requires { ⌜ partCount ≤ length (now marks) ⌝ }
     requires { ⌜ 16 ≤ length (now kinds) ⌝ }
     requires { ⌜ 16 ≤ length (now values) ⌝ }
     requires { ⌜ RowsFrom (now s) at (now kinds) (now values) rows ⌝ }

@@ -20,6 +20,7 @@ ghost use Prim.Native.Nat.{_≤_};
 ghost use lib.ListN.{length};
 ghost use Rattle.json_strings.specs.Decoded.{decodedAt, agree};
 ghost use Rattle.to_card_parts.specs.Parts.{RowsFrom};
+ghost use Rattle.card_table.specs.Numbers.{partCount};
 ghost use Rattle.to_card_order.specs.Order.{InksPlace, InksOrder, FindsAmong, Clashes, TellsApart, PrintsValue, MeetsNoted, ApartNoted, NotesValue};
 
 // No value has this print.
@@ -44,7 +45,7 @@ fn pen_place<'a, 'b, 'c, 'd, 'e>(
     begun: bool,
 ) -> Inked
     requires { ⌜ at ≤ length (now s) ⌝ }
-    requires { ⌜ 7 ≤ length (now marks) ⌝ }
+    requires { ⌜ partCount ≤ length (now marks) ⌝ }
     requires { ⌜ 16 ≤ length (now kinds) ⌝ }
     requires { ⌜ 16 ≤ length (now values) ⌝ }
     requires { ⌜ RowsFrom (now s) at (now kinds) (now values) rows ⌝ }
@@ -116,7 +117,7 @@ pub fn pen_order<'a, 'b, 'c, 'd, 'e, 'f>(
     order: &'f [u8],
 ) -> Told
     requires { ⌜ at ≤ length (now s) ⌝ }
-    requires { ⌜ 7 ≤ length (now marks) ⌝ }
+    requires { ⌜ partCount ≤ length (now marks) ⌝ }
     requires { ⌜ 16 ≤ length (now kinds) ⌝ }
     requires { ⌜ 16 ≤ length (now values) ⌝ }
     requires { ⌜ RowsFrom (now s) at (now kinds) (now values) rows ⌝ }

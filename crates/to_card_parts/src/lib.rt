@@ -18,6 +18,7 @@ ghost use mathlib.Core.Bool.{true};
 ghost use Prim.Native.Nat.{_≤_, _<_};
 ghost use lib.ListN.{length};
 ghost use Rattle.json_index.specs.Index.{Clear};
+ghost use Rattle.card_table.specs.Numbers.{partCount};
 ghost use Rattle.to_card_parts.specs.Parts.{KindIn, TellsSlots, TellsComponent, foundOf, EndIn, ArrayIn, OpensAs, Marks, ChecksFrom, InksOne, InksKind, AddsRow, RowsFrom};
 
 // So many components have a row each; more are gone through again where they are asked for.
@@ -160,7 +161,7 @@ pub fn list_rows<'a, 'b, 'c, 'd>(
     at: usize,
 ) -> usize
     requires { ⌜ at ≤ length (now s) ⌝ }
-    requires { ⌜ 7 ≤ length (now marks) ⌝ }
+    requires { ⌜ partCount ≤ length (now marks) ⌝ }
     requires { ⌜ Clear (now marks) ⌝ }
     requires { ⌜ 16 ≤ length (now kinds) ⌝ }
     requires { ⌜ 16 ≤ length (now values) ⌝ }

@@ -13,6 +13,7 @@ ghost use Rattle.convert_values.specs.Values.{textsOf, Readable};
 ghost use Rattle.output.specs.Put.{Puts};
 ghost use Rattle.line_table.specs.Table.{Sound};
 ghost use Rattle.convert_put.specs.Pieces.{entryPieces};
+ghost use Rattle.card_table.specs.Numbers.{typeCount};
 ghost use Rattle.to_json_entry.specs.Entry.{MapLine, PutsEntry, KindOfLine, stringPiece, orgName, unitsPiece, unitsAfter, orgPiece, stringsPiece, StringsSound};
 use card_table::forms;
 use card_table::kinds;
@@ -141,7 +142,7 @@ fn put_entry(
     row: &[u8],
     p: &[u8],
 ) -> Wrote
-    requires { ⌜ (9 ≤ length (now row)) × StringsSound form raw (now v) ⌝ }
+    requires { ⌜ (typeCount ≤ length (now row)) × StringsSound form raw (now v) ⌝ }
     ensures { λ r. ⌜ Puts (now (out .entry)) (entryPieces (now (key .entry)) kind (stringsPiece i form raw (now (v .entry))) (now (row .entry)) (now (p .entry))) r (now (out .exit)) ⌝ }
 {
     let Wrote::Bytes(a1) = put_name(out, key) else {

@@ -10,6 +10,7 @@ ghost use Rattle.line.specs.Text.{readText};
 ghost use Rattle.output.specs.Put.{Puts};
 ghost use Rattle.line_text.specs.Read.{plainText};
 ghost use Rattle.convert_values.specs.Values.{textsOf, Readable, Noted};
+ghost use Rattle.convert.specs.Answers.{cardRoom};
 ghost use Rattle.to_json_items.specs.Items.{lead, itemHead, itemPiece, listed, isOwn};
 use card_table::parts;
 use convert_put::put_plain;
@@ -157,7 +158,7 @@ fn put_own<'a, 'b, 'c, 'd>(
 
 // The same where o is long: its values are noted once, and not read again for each of v.
 fn put_noted(out: &mut [u8], v: &[u8], d: u8, o: &[u8], k: usize, begun: bool) -> Wrote
-    requires { ⌜ Readable d (now v) × Readable (code ",") (now o) × (length (now o) ≤ 32768) ⌝ }
+    requires { ⌜ Readable d (now v) × Readable (code ",") (now o) × (length (now o) ≤ cardRoom) ⌝ }
     ensures { λ r. ⌜ Puts (now (out .entry)) (listed k begun (keep (isOwn (textsOf (code ",") (now (o .entry)))) (textsOf d (now (v .entry))))) r (now (out .exit)) ⌝ }
 {
     let mut places = [0u16; CARD / 2];

@@ -8,6 +8,8 @@ ghost use lib.ListN.{length};
 ghost use Rattle.text.specs.Bytes.{code, is, any};
 ghost use Rattle.output.specs.Put.{Puts};
 ghost use Rattle.convert.specs.Keys.{numbered};
+ghost use Rattle.line_table.specs.Table.{tableLength};
+ghost use Rattle.card_table.specs.Numbers.{mapCount};
 ghost use Rattle.to_json_maps.specs.Maps.{mapAt, prefixOf, headPiece, Entering, MarksLine, Unmarked, HasLines, NoIds, MarksIds, HasEntry, PutsKeyed, HasTurn, PutsTurn, HasMap, PutsMap, PutsMaps};
 use card_table::emails;
 use card_table::links;
@@ -112,7 +114,7 @@ fn has_dash(line: &[u8]) -> bool
 
 // Marks the number that the line's PROP-ID takes, and answers whether it has one.
 fn mark_line(row: &mut [u8], t: &mut [usize], s: &[u8], prefix: &[u8]) -> bool
-    requires { ⌜ (1025 ≤ length (now row)) × (264 ≤ length (now t)) × Entering (now s) ⌝ }
+    requires { ⌜ (1025 ≤ length (now row)) × (tableLength ≤ length (now t)) × Entering (now s) ⌝ }
     ensures { λ r. ⌜ MarksLine (now (prefix .entry)) (now (s .entry)) (now (row .entry)) (now (row .exit)) r ⌝ }
 {
     if !has_dash(s) {
@@ -153,7 +155,7 @@ fn mark_ids(
     n: usize,
     i: usize,
 ) -> bool
-    requires { ⌜ Unmarked (now row) × (264 ≤ length (now t)) × HasLines (now scratch) (now starts) (now codes) n × (i < 16) ⌝ }
+    requires { ⌜ Unmarked (now row) × (tableLength ≤ length (now t)) × HasLines (now scratch) (now starts) (now codes) n × (i < 16) ⌝ }
     ensures { λ r. ⌜ MarksIds (now (prefix .entry)) (now (scratch .entry)) (now (starts .entry)) (now (codes .entry)) n i (now (row .exit)) r ⌝ }
 {
     let mut any = false;
@@ -273,7 +275,7 @@ fn put_turn(
     taken: bool,
     from: usize,
 ) -> Turn
-    requires { ⌜ (264 ≤ length (now t)) × HasTurn (now s) (now prefix) (now row) i taken from ⌝ }
+    requires { ⌜ (tableLength ≤ length (now t)) × HasTurn (now s) (now prefix) (now row) i taken from ⌝ }
     ensures { λ r. ⌜ PutsTurn (now (out .entry)) (now (s .entry)) (now (prefix .entry)) (now (row .entry)) i begun taken from r (now (out .exit)) ⌝ }
 {
     let mut counts = [0usize; params::COUNT];
@@ -324,7 +326,7 @@ fn put_entries(
     row: &[u8],
     taken: bool,
 ) -> Wrote
-    requires { ⌜ (264 ≤ length (now t)) × HasMap (now scratch) (now starts) (now codes) n i (now prefix) (now row) taken ⌝ }
+    requires { ⌜ (tableLength ≤ length (now t)) × HasMap (now scratch) (now starts) (now codes) n i (now prefix) (now row) taken ⌝ }
     ensures { λ r. ⌜ PutsMap (now (out .entry)) (now (scratch .entry)) (now (starts .entry)) (now (codes .entry)) n i r (now (out .exit)) ⌝ }
 {
     let mut at = 0;
@@ -375,7 +377,7 @@ fn put_map(
     n: usize,
     i: usize,
 ) -> Wrote
-    requires { ⌜ (264 ≤ length (now t)) × HasLines (now scratch) (now starts) (now codes) n × (i < 7) ⌝ }
+    requires { ⌜ (tableLength ≤ length (now t)) × HasLines (now scratch) (now starts) (now codes) n × (i < mapCount) ⌝ }
     ensures { λ r. ⌜ PutsMap (now (out .entry)) (now (scratch .entry)) (now (starts .entry)) (now (codes .entry)) n i r (now (out .exit)) ⌝ }
 {
     let mut prefix = [0u8; PREFIX];
@@ -422,7 +424,7 @@ pub fn put_maps(
     codes: &[u8],
     n: usize,
 ) -> Wrote
-    requires { ⌜ (264 ≤ length (now t)) × HasLines (now scratch) (now starts) (now codes) n ⌝ }
+    requires { ⌜ (tableLength ≤ length (now t)) × HasLines (now scratch) (now starts) (now codes) n ⌝ }
     ensures { λ r. ⌜ PutsMaps (now (out .entry)) (now (scratch .entry)) (now (starts .entry)) (now (codes .entry)) n r (now (out .exit)) ⌝ }
 {
     let mut at = 0;

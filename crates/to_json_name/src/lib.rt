@@ -12,6 +12,7 @@ ghost use Rattle.output.specs.Put.{Puts};
 ghost use Rattle.line_text.specs.Read.{plainText};
 ghost use Rattle.line_text.specs.Split.{PartEnds};
 ghost use Rattle.to_json_items.specs.Items.{listed};
+ghost use Rattle.card_table.specs.Numbers.{partCount};
 ghost use Rattle.to_json_name.specs.Name.{PartFrom, otherPart, valuesOf, componentsFrom, NameSound, fullPiece, partsPiece, NamesSound, nameBytes};
 use card_table::members;
 use card_table::name;
@@ -80,7 +81,7 @@ fn part_after(v: &[u8], e: usize) -> usize
 // The components of all seven parts.
 fn put_parts(out: &mut [u8], v: &[u8]) -> Wrote
     requires { ⌜ NameSound (now v) ⌝ }
-    ensures { λ r. ⌜ Puts (now (out .entry)) (componentsFrom 7 (now (v .entry)) 0 false) r (now (out .exit)) ⌝ }
+    ensures { λ r. ⌜ Puts (now (out .entry)) (componentsFrom partCount (now (v .entry)) 0 false) r (now (out .exit)) ⌝ }
 {
     let mut at = 0;
     let mut k: usize = 0;
@@ -102,7 +103,7 @@ fn put_parts(out: &mut [u8], v: &[u8]) -> Wrote
 // N's value as the array of components.
 fn put_components(out: &mut [u8], v: &[u8]) -> Wrote
     requires { ⌜ NameSound (now v) ⌝ }
-    ensures { λ r. ⌜ Puts (now (out .entry)) (flat (ascii "[" ∷ componentsFrom 7 (now (v .entry)) 0 false ∷ ascii "]" ∷ [])) r (now (out .exit)) ⌝ }
+    ensures { λ r. ⌜ Puts (now (out .entry)) (flat (ascii "[" ∷ componentsFrom partCount (now (v .entry)) 0 false ∷ ascii "]" ∷ [])) r (now (out .exit)) ⌝ }
 {
     let Wrote::Bytes(a) = put_byte(out, b'[') else {
         return Wrote::Full;
@@ -153,7 +154,7 @@ fn put_parts_head(out: &mut [u8], full: bool) -> Wrote
 
 fn put_parts_member(out: &mut [u8], full: bool, v: &[u8]) -> Wrote
     requires { ⌜ NameSound (now v) ⌝ }
-    ensures { λ r. ⌜ Puts (now (out .entry)) (flat (pick full (ascii ",\"components\":") (ascii "\"components\":") ∷ flat (ascii "[" ∷ componentsFrom 7 (now (v .entry)) 0 false ∷ ascii "]" ∷ []) ∷ [])) r (now (out .exit)) ⌝ }
+    ensures { λ r. ⌜ Puts (now (out .entry)) (flat (pick full (ascii ",\"components\":") (ascii "\"components\":") ∷ flat (ascii "[" ∷ componentsFrom partCount (now (v .entry)) 0 false ∷ ascii "]" ∷ []) ∷ [])) r (now (out .exit)) ⌝ }
 {
     let Wrote::Bytes(a) = put_parts_head(out, full) else {
         return Wrote::Full;

@@ -4,6 +4,7 @@ ghost use Prim.Native.Nat.{_≤_};
 ghost use lib.ListN.{length};
 ghost use Rattle.output.specs.Put.{Puts};
 ghost use Rattle.to_json_maps.specs.Maps.{HasLines};
+ghost use Rattle.line_table.specs.Table.{tableLength};
 ghost use Rattle.to_json_sections.specs.Sections.{propHead, HasKept, PutsProp, PutsProps, FirstOf, PutsStart, PutsKind};
 use card_table::classes;
 use card_table::members;
@@ -29,7 +30,7 @@ fn put_prop_head(out: &mut [u8], begun: bool) -> Wrote
 
 // A kept line, after the member's name or a comma.
 fn put_prop(out: &mut [u8], t: &mut [usize], s: &[u8], begun: bool) -> Wrote
-    requires { ⌜ (264 ≤ length (now t)) × HasKept (now s) ⌝ }
+    requires { ⌜ (tableLength ≤ length (now t)) × HasKept (now s) ⌝ }
     ensures { λ r. ⌜ PutsProp (now (out .entry)) (now (s .entry)) begun r (now (out .exit)) ⌝ }
 {
     if !fill(t, s) {
@@ -54,7 +55,7 @@ pub fn put_props(
     codes: &[u8],
     n: usize,
 ) -> Wrote
-    requires { ⌜ (264 ≤ length (now t)) × HasLines (now scratch) (now starts) (now codes) n ⌝ }
+    requires { ⌜ (tableLength ≤ length (now t)) × HasLines (now scratch) (now starts) (now codes) n ⌝ }
     ensures { λ r. ⌜ PutsProps (now (out .entry)) (now (scratch .entry)) (now (starts .entry)) (now (codes .entry)) n r (now (out .exit)) ⌝ }
 {
     let mut at = 0;
@@ -109,7 +110,7 @@ pub fn put_start_of(
     codes: &[u8],
     n: usize,
 ) -> Wrote
-    requires { ⌜ (264 ≤ length (now t)) × HasLines (now scratch) (now starts) (now codes) n ⌝ }
+    requires { ⌜ (tableLength ≤ length (now t)) × HasLines (now scratch) (now starts) (now codes) n ⌝ }
     ensures { λ r. ⌜ PutsStart (now (out .entry)) (now (stem .entry)) number (now (scratch .entry)) (now (starts .entry)) (now (codes .entry)) n r (now (out .exit)) ⌝ }
 {
     let k = first_of(codes, n, classes::UID);
@@ -134,7 +135,7 @@ pub fn put_kind_of(
     codes: &[u8],
     n: usize,
 ) -> Wrote
-    requires { ⌜ (264 ≤ length (now t)) × HasLines (now scratch) (now starts) (now codes) n ⌝ }
+    requires { ⌜ (tableLength ≤ length (now t)) × HasLines (now scratch) (now starts) (now codes) n ⌝ }
     ensures { λ r. ⌜ PutsKind (now (out .entry)) (now (scratch .entry)) (now (starts .entry)) (now (codes .entry)) n r (now (out .exit)) ⌝ }
 {
     let k = first_of(codes, n, classes::KIND);
