@@ -210,9 +210,10 @@ pub mod maps {
     pub const GROUPS: usize = COUNT + 1;
     // What is before an entry's string where the row says nothing else.
     pub const CONTENT: [u8; 7] = *b"\"name\":";
-    // What no map has.
+    // The head of no map.
     pub const NO_HEAD: [u8; 5] = *b",\"\":{";
 
+    // The kinds of a map whose entries have none.
     pub const NO_KINDS: [u8; 0] = *b"";
     // How deep a value of an entry may be.
     pub const DEPTH: usize = members::DEPTH - 1;
@@ -236,10 +237,11 @@ pub mod kinds {
     pub const TITLE: usize = 0;
 
     pub const ROLE: usize = 1;
-    // No kind; how many there are.
-    pub const NONE: usize = 2;
-
+    // How many there are.
     pub const COUNT: usize = 2;
+
+    // No kind.
+    pub const NONE: usize = COUNT;
 
     pub const NAMES: [u8; 10] = *b"title,role";
 
@@ -279,9 +281,10 @@ pub mod names {
     pub const N_NAME: [u8; 1] = *b"n";
 
     pub const JSPROP_NAME: [u8; 6] = *b"jsprop";
-    // Names that no kept line has, and how many they are.
+    // Names that no kept line has.
     pub const UNKEPT: [u8; 26] = *b"begin,end,version,uid,kind";
 
+    // How many they are.
     pub const UNKEPT_COUNT: usize = 5;
 }
 
@@ -407,6 +410,7 @@ pub mod types {
     // How many there are: the length of a row of marks.
     pub const COUNT: usize = 9;
 
+    // The contexts among them, and the others.
     pub const CONTEXTS: usize = 2;
 
     pub const FEATURES: usize = COUNT - CONTEXTS;
@@ -477,15 +481,17 @@ pub mod parts {
     pub const COUNT: usize = 7;
     // No part.
     pub const NONE: usize = COUNT;
-    // Not parts of N, but written as items like them: the units of an organization after its name, and without a name.
+    // No part of N, but written as items like them: the units of an organization, after its name.
     pub const UNITS_AFTER: usize = COUNT;
 
+    // The same where it has no name.
     pub const UNITS_ALONE: usize = COUNT + 1;
 
     pub const KINDS: [u8; 57] = *b"surname,given,given2,title,credential,surname2,generation";
-    // The order in which kinds stand in a made FN and in N: a digit is a kind, a semicolon itself.
+    // The order in which kinds stand in a made FN: a digit is a kind.
     pub const FN_ORDER: [u8; 7] = *b"0123456";
 
+    // The same in N: a semicolon is itself.
     pub const N_ORDER: [u8; 15] = *b"05;1;2;3;46;5;6";
 
     pub const SURNAME_HEAD: [u8; 26] = *b"{\"kind\":\"surname\",\"value\":";
@@ -547,7 +553,7 @@ pub mod members {
     pub const NAME_NAME: [u8; 4] = *b"name";
 
     pub const KEPT_NAME: [u8; 10] = *b"vCardProps";
-    // What the JSON has of them; the values of @type and version.
+    // How a JSON card begins, and what it has before the members' values.
     pub const START: [u8; 38] = *b"{\"@type\":\"Card\",\"version\":\"1.0\",\"uid\":";
 
     pub const KIND_HEAD: [u8; 8] = *b",\"kind\":";
@@ -556,8 +562,10 @@ pub mod members {
 
     pub const KEPT_HEAD: [u8; 15] = *b",\"vCardProps\":[";
 
+    // The value of @type.
     pub const CARD: [u8; 4] = *b"Card";
 
+    // The value of version.
     pub const FIRST_VERSION: [u8; 3] = *b"1.0";
 
     pub const DEPTH: usize = json_limits::INNER;

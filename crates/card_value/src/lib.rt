@@ -1,5 +1,5 @@
 // The strings of an entry as a line's value, in one pass: judged (12), written by the map's form, and told whether a line can carry them (13).
-// Forms are numbers: 0 TEXT, 1 TEXT (nicknames), 2 raw, 3 a phone (raw with VALUE=uri, or TEXT), 4 an organization.
+// Forms are numbers (`card_table::forms`), here as bytes.
 use card_pen::Told;
 use card_pen::byte_at;
 use card_pen::is_control;

@@ -123,7 +123,7 @@ fn none_but_pointer(counts: &[usize]) -> bool
                     & ((counts[params::GROUP] == 0) & (counts[params::OTHER] == 0)))))
 }
 
-// The value: JSON of depth 15 at most, in TEXT, which is decoded into the scratch. A bad escape leaves nothing, which is no JSON.
+// The value: JSON of the depth that a member of a card may have, in TEXT, which is decoded into the scratch. A bad escape leaves nothing, which is no JSON.
 fn is_json(scratch: &mut [u8], v: &[u8]) -> bool
     requires { ⌜ Room (now v) (now scratch) ⌝ }
     ensures { λ r. ⌜ r ≡ is-some (memberValue (now (v .entry))) ⌝ }

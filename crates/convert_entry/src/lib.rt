@@ -34,7 +34,7 @@ pub fn only_of(typed: bool, counts: &[usize]) -> bool
                     & ((counts[params::PREF] == 0) & (counts[params::TYPE] == 0)))))
 }
 
-// VALUE: 0 absent or unknown, 1 uri, 2 another.
+// What VALUE says, by number (`values`).
 pub fn value_kind(counts: &[usize], froms: &[usize], tos: &[usize], s: &[u8]) -> usize
     requires { ⌜ HasRow (now s) (now counts) (now froms) (now tos) ⌝ }
     ensures { λ r. ⌜ OfRow (now (s .entry)) (now (counts .entry)) (now (froms .entry)) (now (tos .entry)) (λ ps. r ≡ typeNumber (valueType ps)) ⌝ }

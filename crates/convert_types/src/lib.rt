@@ -8,7 +8,7 @@ ghost use Rattle.convert_types.specs.Marks.{typeAt, placed, marks, told,
 use card_table::types;
 use line_name::is_named;
 
-// The place of a value in the table of TYPE; 9 where it has none.
+// The number of a value of TYPE (`types`); how many there are where it has none.
 fn place_of(v: &[u8]) -> usize
     ensures { λ r. ⌜ placed r ≡ typeAt typeCount (now (v .entry)) ⌝ }
 {

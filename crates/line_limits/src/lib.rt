@@ -9,7 +9,8 @@ pub const OVER: usize = CARD + 1;
 // How many unfolded lines stand between BEGIN and END at most.
 pub const LINES: usize = 512;
 
-// How many parameters a line has at most, and how many values they have in all.
+// How many parameters a line has at most.
 pub const PARAMS: usize = 32;
 
+// How many values its parameters have at most in all.
 pub const VALUES: usize = 64;

@@ -49,7 +49,7 @@ const TENTH: usize = LAST / 10;
 // The length of a row of marks, one for each number.
 pub const ROW: usize = LAST + 1;
 
-// The number from 1 to 1024 that is spelled so, without a leading zero; else 0.
+// The number from 1 to the last that is spelled so, without a leading zero; else 0.
 fn spelled_number(d: &[u8]) -> usize
     ensures { λ r. ⌜ Spells (now (d .entry)) r ⌝ }
 {
@@ -85,7 +85,7 @@ fn spelled_number(d: &[u8]) -> usize
     n
 }
 
-// The number from 1 to 1024 whose made key is that key; else 0.
+// The number from 1 to the last whose made key is that key; else 0.
 fn number_of(prefix: &[u8], key: &[u8]) -> usize
     ensures { λ r. ⌜ Numbers (now (prefix .entry)) (now (key .entry)) r ⌝ }
 {
