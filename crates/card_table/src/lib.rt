@@ -204,17 +204,22 @@ pub mod maps {
     use super::members;
 
     pub const COUNT: usize = 7;
+
     // The number after theirs. Among the keys that lines use it is that of the pointers of JSPROP, and among the names of a JSON card that of its own members.
     pub const POINTERS: usize = COUNT;
+
     // The maps, and these.
     pub const GROUPS: usize = COUNT + 1;
+
     // What is before an entry's string where the row says nothing else.
     pub const CONTENT: [u8; 7] = *b"\"name\":";
+
     // The head of no map.
     pub const NO_HEAD: [u8; 5] = *b",\"\":{";
 
     // The kinds of a map whose entries have none.
     pub const NO_KINDS: [u8; 0] = *b"";
+
     // How deep a value of an entry may be.
     pub const DEPTH: usize = members::DEPTH - 1;
 }
@@ -237,6 +242,7 @@ pub mod kinds {
     pub const TITLE: usize = 0;
 
     pub const ROLE: usize = 1;
+
     // How many there are.
     pub const COUNT: usize = 2;
 
@@ -281,6 +287,7 @@ pub mod names {
     pub const N_NAME: [u8; 1] = *b"n";
 
     pub const JSPROP_NAME: [u8; 6] = *b"jsprop";
+
     // Names that no kept line has.
     pub const UNKEPT: [u8; 26] = *b"begin,end,version,uid,kind";
 
@@ -347,6 +354,7 @@ pub mod params {
     pub const GROUP: usize = 6;
 
     pub const OTHER: usize = 7;
+
     // How many numbers there are: the length of a row.
     pub const COUNT: usize = 8;
 
@@ -407,6 +415,7 @@ pub mod types {
     pub const VIDEO: usize = 7;
 
     pub const VOICE: usize = 8;
+
     // How many there are: the length of a row of marks.
     pub const COUNT: usize = 9;
 
@@ -479,8 +488,10 @@ pub mod parts {
     pub const GENERATION: usize = 6;
 
     pub const COUNT: usize = 7;
+
     // No part.
     pub const NONE: usize = COUNT;
+
     // No part of N, but written as items like them: the units of an organization, after its name.
     pub const UNITS_AFTER: usize = COUNT;
 
@@ -488,6 +499,7 @@ pub mod parts {
     pub const UNITS_ALONE: usize = COUNT + 1;
 
     pub const KINDS: [u8; 57] = *b"surname,given,given2,title,credential,surname2,generation";
+
     // The order in which kinds stand in a made FN: a digit is a kind.
     pub const FN_ORDER: [u8; 7] = *b"0123456";
 
@@ -530,6 +542,7 @@ pub mod members {
     pub const KIND: usize = 3;
 
     pub const NAME: usize = 4;
+
     // The first map; the others follow.
     pub const MAPS: usize = 5;
 
@@ -553,6 +566,7 @@ pub mod members {
     pub const NAME_NAME: [u8; 4] = *b"name";
 
     pub const KEPT_NAME: [u8; 10] = *b"vCardProps";
+
     // How a JSON card begins, and what it has before the members' values.
     pub const START: [u8; 38] = *b"{\"@type\":\"Card\",\"version\":\"1.0\",\"uid\":";
 
@@ -636,6 +650,7 @@ pub mod entry {
     pub const PREF_HEAD: [u8; 8] = *b",\"pref\":";
 
     pub const DEPTH: usize = maps::DEPTH - 1;
+
     // An element of its units.
     pub const UNITS_DEPTH: usize = DEPTH - 1;
 }
