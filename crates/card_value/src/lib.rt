@@ -4,7 +4,7 @@ use card_pen::Told;
 use card_pen::byte_at;
 use card_pen::is_control;
 use card_pen::pen_string;
-use card_pen::styles;
+use card_pen::style;
 use card_table::entry;
 use card_table::links;
 use card_table::organizations;
@@ -217,7 +217,7 @@ fn pen_unit<'a, 'b>(out: &'a mut [u8], column: usize, s: &'b [u8], at: usize) ->
             filled: false,
         };
     }
-    let t = pen_text(out, column, b";", styles::PARTS, s, at);
+    let t = pen_text(out, column, b";", style::PARTS, s, at);
     let n = t.bytes;
     let k = t.column;
     let ok = t.carried;
@@ -324,7 +324,7 @@ fn put_name<'a, 'b>(out: &'a mut [u8], column: usize, s: &'b [u8], slot: usize) 
     if q == 0 {
         return Ink::Wrong;
     }
-    let t = pen_text(out, column, b":", styles::PARTS, s, q);
+    let t = pen_text(out, column, b":", style::PARTS, s, q);
     let n = t.bytes;
     let k = t.column;
     let ok = t.carried;
@@ -399,7 +399,7 @@ pub fn put_value<'a, 'b>(
         return Put::Refused;
     }
     if is_tel(form, s, q) {
-        let t = pen_text(out, column, &values::URI_LEAD, styles::RAW, s, q);
+        let t = pen_text(out, column, &values::URI_LEAD, style::RAW, s, q);
         let n = t.bytes;
         let ok = t.carried;
         return Put::Line {
@@ -408,7 +408,7 @@ pub fn put_value<'a, 'b>(
         };
     }
     if form == links::FORM_BYTE {
-        let t = pen_text(out, column, b":", styles::RAW, s, q);
+        let t = pen_text(out, column, b":", style::RAW, s, q);
         let n = t.bytes;
         let ok = t.carried;
         return Put::Line {
@@ -416,7 +416,7 @@ pub fn put_value<'a, 'b>(
             carries: ok,
         };
     }
-    let t = pen_text(out, column, b":", styles::TEXT, s, q);
+    let t = pen_text(out, column, b":", style::TEXT, s, q);
     let n = t.bytes;
     let ok = t.carried;
     Put::Line {

@@ -1,7 +1,7 @@
 // A kept line written from its table of places: group, name, parameters and value, folded as they go, as much of it as the room holds.
 use card_pen::Told;
 use card_pen::can_stand;
-use card_pen::styles;
+use card_pen::style;
 use card_table::params;
 use line_class::Class;
 use line_class::all_of;
@@ -81,7 +81,7 @@ fn pen_quoted(out: &mut [u8], column: usize, v: &[u8]) -> Told
 {
     let p = pen_byte(out, column, b'"');
     let n1 = p.bytes;
-    let q = pen_told(&mut out[n1..], p.column, styles::PARAM, v);
+    let q = pen_told(&mut out[n1..], p.column, style::PARAM, v);
     let n2 = n1 + q.bytes;
     let z = pen_byte(&mut out[n2..], q.column, b'"');
     let n3 = n2 + z.bytes;
@@ -104,7 +104,7 @@ fn pen_value(out: &mut [u8], column: usize, quoted: bool, v: &[u8]) -> Told
     if !all_of(v, Class::Bare) {
         return pen_quoted(out, column, v);
     }
-    pen_told(out, column, styles::PARAM, v)
+    pen_told(out, column, style::PARAM, v)
 }
 
 // What stands before a value: a comma, or `;NAME=` where a parameter begins.
@@ -238,7 +238,7 @@ fn pen_end(out: &mut [u8], column: usize, v: &[u8]) -> Penned
 {
     let p = pen_byte(out, column, b':');
     let n1 = p.bytes;
-    let q = pen_told(&mut out[n1..], p.column, styles::RAW, v);
+    let q = pen_told(&mut out[n1..], p.column, style::RAW, v);
     let n2 = n1 + q.bytes;
     let z = fill(&mut out[n2..], b"\r\n");
     let n3 = n2 + z;

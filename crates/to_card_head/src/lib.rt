@@ -1,6 +1,6 @@
 // The first lines of a card from the members of the JSON: BEGIN, VERSION, UID and KIND. A slot is the place of a member's value, 0 where it is absent.
 use card_pen::byte_at;
-use card_pen::styles;
+use card_pen::style;
 use card_table::lines;
 use card_table::members;
 use card_value::string_in;
@@ -138,7 +138,7 @@ fn put_start<'a, 'b>(out: &'a mut [u8], s: &'b [u8], uid: usize) -> Penned
     ensures { λ r. ⌜ Starts (now (s .entry)) uid (now (out .entry)) r (now (out .exit)) ⌝ }
 {
     let n = fill(out, &lines::START);
-    let p = put_string_line(&mut out[n..], &lines::UID, styles::RAW, s, uid);
+    let p = put_string_line(&mut out[n..], &lines::UID, style::RAW, s, uid);
     let m = n + p.bytes;
     let ok = p.carried;
     Penned {
@@ -187,7 +187,7 @@ pub fn put_head<'a, 'b>(
     let p = put_start(out, s, u);
     let n = p.bytes;
     let ok = p.carried;
-    let q = put_string_line(&mut out[n..], &lines::KIND, styles::RAW, s, k);
+    let q = put_string_line(&mut out[n..], &lines::KIND, style::RAW, s, k);
     let m = n + q.bytes;
     Lines::All {
         bytes: m,

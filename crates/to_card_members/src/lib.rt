@@ -2,7 +2,7 @@
 use card_pen::Told;
 use card_pen::can_stand;
 use card_pen::pen_escape;
-use card_pen::styles;
+use card_pen::style;
 use card_table::lines;
 use card_table::members;
 use json_access::member_at;
@@ -89,7 +89,7 @@ fn pen_pointer<'a, 'b>(out: &'a mut [u8], column: usize, s: &'b [u8], at: usize)
                 let p = pen_pointed(&mut out[n..], k, b);
                 n += p.bytes;
                 k = p.column;
-                ok = ok & can_stand(styles::PARAM, b);
+                ok = ok & can_stand(style::PARAM, b);
                 i = j;
                 h = g;
             }

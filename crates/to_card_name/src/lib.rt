@@ -1,5 +1,5 @@
 // FN and N from the member `name` of the JSON: judged (12), written, and told whether lines can carry them (13).
-use card_pen::styles;
+use card_pen::style;
 use card_table::lines;
 use card_table::name;
 use card_table::parts;
@@ -232,12 +232,12 @@ fn put_fn<'a, 'b, 'c, 'd, 'e>(
     ensures { λ r. ⌜ FnLine (now (s .entry)) full at (now (marks .entry)) (now (out .entry)) r (now (out .exit)) ⌝ }
 {
     if full != 0 {
-        return put_string_line(out, &lines::FN, styles::TEXT, s, full);
+        return put_string_line(out, &lines::FN, style::TEXT, s, full);
     }
     let p = put_order_line(
         out,
         &lines::DERIVED_FN,
-        styles::TEXT,
+        style::TEXT,
         b' ',
         s,
         at,
@@ -281,7 +281,7 @@ fn put_n<'a, 'b, 'c, 'd, 'e>(
     let p = put_order_line(
         out,
         &lines::N,
-        styles::PARTS,
+        style::PARTS,
         b',',
         s,
         at,
@@ -334,7 +334,7 @@ fn put_alone<'a, 'b>(out: &'a mut [u8], s: &'b [u8], full: usize) -> Lines
             carries: true,
         };
     }
-    let p = put_string_line(out, &lines::FN, styles::TEXT, s, full);
+    let p = put_string_line(out, &lines::FN, style::TEXT, s, full);
     let n = p.bytes;
     let ok = p.carried;
     Lines::All {
