@@ -9,7 +9,7 @@ use Rattle.text.specs.Bytes.{Bytes, each}
 use Rattle.line.specs.Grammar.{Line, readLine}
 use Rattle.line_unfold.specs.Table.{Laid}
 use Rattle.line_table.specs.Spread.{spreadLine, valued}
-use Rattle.line_table.specs.Table.{lineIn}
+use Rattle.line_table.specs.Table.{lineIn, tableLength}
 use Rattle.convert.specs.Classify.{Seen, Class, Classed, classedAfter, classed}
 use Rattle.convert.specs.Answers.{Answer, seek, atLine, firstFrom, ungrammatical, linesOf}
 use Rattle.convert_entry.specs.Rows.{codeOf}
@@ -84,7 +84,7 @@ pub record Lent (codes ids prints table text bytes : List ℕ) (n : ℕ) : Type 
   pub numbers : n ≤ length codes
   pub keys : 3 * length codes ≤ length ids
   pub printed : length codes ≤ length prints
-  pub parts : 264 ≤ length table
+  pub parts : tableLength ≤ length table
   pub room : Room bytes text
 
 abbrev pub fresh : Pass

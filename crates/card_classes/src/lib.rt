@@ -2,7 +2,7 @@
 ghost use mathlib.Core.Path.{_≡_};
 ghost use Prim.Native.Nat.{_+_, _≤_, _<_};
 ghost use lib.ListN.{length};
-ghost use Rattle.convert.specs.Answers.{misused, emptied, isVersionLine};
+ghost use Rattle.convert.specs.Answers.{misused, emptied, isVersionLine, lineRoom};
 ghost use Rattle.line_table.specs.Table.{lineIn, Sound};
 ghost use Rattle.table_entry.specs.Key.{Rowed};
 ghost use Rattle.class_line.specs.Class.{ClassIn};
@@ -20,10 +20,12 @@ use card_refusals::judge;
 use card_refusals::refusal_of;
 use card_refusals::unjudged;
 use card_seen::settle;
+use card_table::params;
 use class_line::Class;
 use class_line::class_numbered;
 use class_names::name_code;
 use line_table::fill;
+use line_table::table;
 use line_unfold::line_at;
 use table_params::scan_rows;
 
@@ -46,7 +48,7 @@ fn judge_line(
     s: &[u8],
     t: &[usize],
 ) -> Judged
-    requires { ⌜ (k < 512) × Rowed (now s) (now t) (now counts) (now froms) (now tos) × Coded code (lineIn (now s) (now t)) ⌝ }
+    requires { ⌜ (k < lineRoom) × Rowed (now s) (now t) (now counts) (now froms) (now tos) × Coded code (lineIn (now s) (now t)) ⌝ }
     ensures { λ r. ⌜ r ≡ judgedWith j (k + 1) code (misused (lineIn (now (s .entry)) (now (t .entry)))) (emptied (lineIn (now (s .entry)) (now (t .entry)))) (isVersionLine (lineIn (now (s .entry)) (now (t .entry)))) ⌝ }
 {
     let misused = is_misused(code, counts, froms, tos, s, t);
@@ -94,15 +96,15 @@ fn next_line(
     s: &[u8],
     t: &[usize],
 ) -> Pass
-    requires { ⌜ (k < 512) × (k < length (now codes)) × Ready (now bytes) (now codes) (now ids) (now prints) k p × Cut (now bytes) (now s) at × Sound (now s) (now t) × Room (now s) (now text) ⌝ }
+    requires { ⌜ (k < lineRoom) × (k < length (now codes)) × Ready (now bytes) (now codes) (now ids) (now prints) k p × Cut (now bytes) (now s) at × Sound (now s) (now t) × Room (now s) (now text) ⌝ }
     ensures { λ r. ⌜ NextLine (now (bytes .entry)) (now (s .entry)) (now (t .entry)) (now (codes .entry)) (now (ids .entry)) k p (now (codes .exit)) (now (ids .exit)) (now (prints .exit)) r ⌝ }
 {
-    let mut counts = [0usize; 8];
-    let mut froms = [0usize; 8];
-    let mut tos = [0usize; 8];
+    let mut counts = [0usize; params::COUNT];
+    let mut froms = [0usize; params::COUNT];
+    let mut tos = [0usize; params::COUNT];
     scan_rows(&mut counts, &mut froms, &mut tos, s, t);
-    let a = t[2];
-    let b = t[3];
+    let a = t[table::NAME];
+    let b = t[table::NAME_END];
     let code = name_code(&s[a..b]);
     let before = p.judged;
     let judged = judge_line(before, k, code, &counts, &froms, &tos, s, t);

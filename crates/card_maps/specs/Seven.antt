@@ -21,6 +21,7 @@ use Rattle.to_card_lines.specs.Lines.{linesBytes}
 use Rattle.to_card_lines.specs.declared.Lines.{Lines}
 use Rattle.to_card_lines.specs.declared.Lines.the-variants.{All, Wrong}
 use Rattle.card_map.specs.Maps.{LinesAs}
+use Rattle.card_table.specs.Numbers.{mapCount}
 
 -- the value in a slot as a map
 abbrev pub valueAs : Map → Option Json → Option (List Entry)
@@ -28,7 +29,7 @@ valueAs m o = with-some o (λ j. chain (asObject j) (each (entryFrom m))) (some 
 
 -- the row of the table at a place
 abbrev pub PutsNth : Bytes → ℕ → ℕ → Bytes → Lines → Bytes → Type 0
-PutsNth s k slot room r after = k < 7 → (d : Map) (o : Option Json) → Slot 15 s slot o → LinesAs (getD maps k d) room r after (valueAs (getD maps k d) o)
+PutsNth s k slot room r after = k < mapCount → (d : Map) (o : Option Json) → Slot 15 s slot o → LinesAs (getD maps k d) room r after (valueAs (getD maps k d) o)
 
 -- 12, or the lines of all maps as far as there is room, how many they are, and whether lines can carry them (13)
 abbrev pub MapsAs : List Map → Bytes → Lines → Bytes → Option (List (List Entry)) → Type 0

@@ -1,10 +1,22 @@
-// The seven maps of a JSON card as lines, one after the other in the table's order. A row of the table is data: an eighth map is one more row here.
+// The seven maps of a JSON card as lines, one after the other in the table's order. A row of the table is data (`card_table`): an eighth map is one more branch here.
 use card_map::put_map;
+use card_table::emails;
+use card_table::kinds;
+use card_table::links;
+use card_table::maps;
+use card_table::members;
+use card_table::nicknames;
+use card_table::notes;
+use card_table::organizations;
+use card_table::phones;
+use card_table::titles;
 use to_card_lines::Lines;
 ghost use mathlib.Core.Path.{_≡_};
 ghost use Prim.Native.Nat.{_≤_};
 ghost use lib.ListN.{length};
 ghost use Rattle.card_map.specs.Maps.{LinesIn};
+ghost use Rattle.json.specs.Lookup.{room};
+ghost use Rattle.card_table.specs.Numbers.{mapSlots};
 ghost use Rattle.card_maps.specs.Seven.{PutsNth, PutsMaps};
 
 // The map of a row of the table, in a slot.
@@ -13,94 +25,94 @@ fn put_nth<'a, 'b>(out: &'a mut [u8], s: &'b [u8], k: usize, slot: usize) -> Lin
     ensures { λ r. ⌜ length (now (out .exit)) ≡ length (now (out .entry)) ⌝ }
     ensures { λ r. ⌜ PutsNth (now (s .entry)) k slot (now (out .entry)) r (now (out .exit)) ⌝ }
 {
-    if k == 0 {
+    if k == nicknames::MAP {
         return put_map(
             out,
             s,
             slot,
-            b"name,name,contexts,pref,name,name",
-            b"",
+            &nicknames::MEMBERS,
+            &maps::NO_KINDS,
             0,
-            b"NICKNAME",
-            1,
+            &nicknames::LINES,
+            nicknames::FORM_BYTE,
         );
     }
-    if k == 1 {
+    if k == emails::MAP {
         return put_map(
             out,
             s,
             slot,
-            b"address,address,contexts,pref,address,address",
-            b"",
+            &emails::MEMBERS,
+            &maps::NO_KINDS,
             0,
-            b"EMAIL",
-            0,
+            &emails::LINES,
+            emails::FORM_BYTE,
         );
     }
-    if k == 2 {
+    if k == phones::MAP {
         return put_map(
             out,
             s,
             slot,
-            b"number,number,contexts,pref,features,number",
-            b"",
+            &phones::MEMBERS,
+            &maps::NO_KINDS,
             0,
-            b"TEL",
-            3,
+            &phones::LINES,
+            phones::FORM_BYTE,
         );
     }
-    if k == 3 {
+    if k == links::MAP {
         return put_map(
             out,
             s,
             slot,
-            b"uri,uri,contexts,pref,uri,uri",
-            b"",
+            &links::MEMBERS,
+            &maps::NO_KINDS,
             0,
-            b"URL",
-            2,
+            &links::LINES,
+            links::FORM_BYTE,
         );
     }
-    if k == 4 {
+    if k == notes::MAP {
         return put_map(
             out,
             s,
             slot,
-            b"note,note,note,note,note,note",
-            b"",
+            &notes::MEMBERS,
+            &maps::NO_KINDS,
             0,
-            b"NOTE",
-            0,
+            &notes::LINES,
+            notes::FORM_BYTE,
         );
     }
-    if k == 5 {
+    if k == titles::MAP {
         return put_map(
             out,
             s,
             slot,
-            b"name,kind,name,name,name,name",
-            b"title,role",
-            2,
-            b"TITLE,ROLE",
-            0,
+            &titles::MEMBERS,
+            &kinds::NAMES,
+            kinds::COUNT,
+            &titles::LINES,
+            titles::FORM_BYTE,
         );
     }
     put_map(
         out,
         s,
         slot,
-        b"name,name,name,name,name,units",
-        b"",
+        &organizations::MEMBERS,
+        &maps::NO_KINDS,
         0,
-        b"ORG",
-        4,
+        &organizations::LINES,
+        organizations::FORM_BYTE,
     )
 }
 
 // All seven. The slots are those of the top-level members, by the list of reserved names: the first map's is the sixth.
 pub fn put_maps<'a, 'b, 'c>(out: &'a mut [u8], s: &'b [u8], slots: &'c [usize]) -> Lines
-    requires { ⌜ length (now s) ≤ 65536 ⌝ }
-    requires { ⌜ 12 ≤ length (now slots) ⌝ }
+    requires { ⌜ length (now s) ≤ room ⌝ }
+    requires { ⌜ mapSlots ≤ length (now slots) ⌝ }
     ensures { λ r. ⌜ LinesIn (length (now (out .entry))) 458758 r ⌝ }
     ensures { λ r. ⌜ length (now (out .exit)) ≡ length (now (out .entry)) ⌝ }
     ensures { λ r. ⌜ PutsMaps (now (s .entry)) (now (slots .entry)) (now (out .entry)) r (now (out .exit)) ⌝ }
@@ -109,8 +121,8 @@ pub fn put_maps<'a, 'b, 'c>(out: &'a mut [u8], s: &'b [u8], slots: &'c [usize]) 
     let mut n = 0;
     let mut lines = 0;
     let mut ok = true;
-    while k < 7 {
-        let i = k + 5;
+    while k < maps::COUNT {
+        let i = k + members::MAPS;
         let Lines::All {
             bytes: m,
             lines: l,

@@ -1,5 +1,8 @@
 // The contexts, features and pref of an entry: judged (12), and written as the parameters TYPE and PREF.
 // Contexts and features are marks in a row of nine, one for each place of the table of TYPE: 1 where the entry has it.
+use card_table::entry;
+use card_table::params;
+use card_table::types;
 use convert_tests::is_pref;
 use json_access::Kind;
 use json_access::element_at;
@@ -18,6 +21,7 @@ ghost use Prim.Native.Nat.{_≤_, _+_};
 ghost use lib.ListN.{length};
 ghost use Rattle.text.specs.Bytes.{code, parts};
 ghost use Rattle.line_pen.specs.Pen.{Pens};
+ghost use Rattle.card_table.specs.Numbers.{typeCount};
 ghost use Rattle.card_params.specs.Params.{codeOf, TellsFlags, TellsPref, spanOf, prefPiece, typeLead, typePart, typesFrom};
 
 // The number's part of the text, empty where there is none; or 12.
@@ -26,15 +30,20 @@ pub enum Pref {
     Wrong,
 }
 
-// What a value is, as a number: 1 true, 3 a number, 5 an array.
+// The numbers of the kinds of values that are asked for.
+const TRUE: usize = 1;
+
+const NUMBER: usize = 3;
+
+// What a value is, as a number.
 fn kind_code(k: Kind) -> usize
     ensures { λ r. ⌜ r ≡ codeOf k ⌝ }
 {
     match k {
         Kind::Null => 0,
-        Kind::True => 1,
+        Kind::True => TRUE,
         Kind::False => 2,
-        Kind::Number => 3,
+        Kind::Number => NUMBER,
         Kind::String => 4,
         Kind::Array => 5,
         Kind::Object => 6,
@@ -63,7 +72,7 @@ pub fn flags_in<'a, 'b, 'c>(
         match m {
             Member::At { name: q, start: a } => {
                 let v = kind_code(kind_at(s, a));
-                if v != 1 {
+                if v != TRUE {
                     return false;
                 }
                 // Not names itself: as in skip_value, its place and length go over one by one.
@@ -94,10 +103,10 @@ pub fn pref_in(s: &[u8], slot: usize) -> Pref
         return Pref::At { start: 0, end: 0 };
     }
     let v = kind_code(kind_at(s, slot));
-    if v != 3 {
+    if v != NUMBER {
         return Pref::Wrong;
     }
-    let p = element_at(s, slot, 13);
+    let p = element_at(s, slot, entry::DEPTH);
     let a = p.start;
     let e = p.end;
     if !is_pref(&s[a..e]) {
@@ -122,7 +131,7 @@ pub fn pen_pref<'a, 'b>(out: &'a mut [u8], column: usize, s: &'b [u8], a: usize,
             column: column,
         };
     }
-    let p = pen_bytes(out, column, b";PREF=");
+    let p = pen_bytes(out, column, &params::PREF_LEAD);
     let n = p.bytes;
     let q = pen_bytes(&mut out[n..], p.column, &s[a..e]);
     let t = n + q.bytes;
@@ -140,7 +149,7 @@ fn pen_lead(out: &mut [u8], column: usize, begun: bool) -> Pen
     if begun {
         return pen_bytes(out, column, b",");
     }
-    pen_bytes(out, column, b";TYPE=")
+    pen_bytes(out, column, &params::TYPE_LEAD)
 }
 
 // The value of TYPE at a place of its table, where it is marked.
@@ -181,14 +190,14 @@ pub fn pen_types<'a, 'b, 'c>(
     names: &'b [u8],
     row: &'c [u8],
 ) -> Pen
-    requires { ⌜ 9 ≤ length (now row) ⌝ }
-    ensures { λ r. ⌜ Pens (now (out .entry)) column (typesFrom (parts (code ",") (now (names .entry))) (now (row .entry)) 9 0 false) r (now (out .exit)) ⌝ }
+    requires { ⌜ typeCount ≤ length (now row) ⌝ }
+    ensures { λ r. ⌜ Pens (now (out .entry)) column (typesFrom (parts (code ",") (now (names .entry))) (now (row .entry)) typeCount 0 false) r (now (out .exit)) ⌝ }
 {
     let mut at = 0;
     let mut k = column;
     let mut begun = false;
     let mut c: usize = 0;
-    while c < 9 {
+    while c < types::COUNT {
         let on = row[c] == 1;
         let p = pen_type(&mut out[at..], k, names, c, on, begun);
         at += p.bytes;

@@ -9,10 +9,15 @@ ghost use Rattle.convert_entry.specs.Rows.{HasRow, OfRow};
 ghost use Rattle.table_entry.specs.Key.{Rowed};
 ghost use Rattle.card_refusals.specs.Line.{Coded, isWord};
 ghost use Rattle.card_refusals.specs.Judged.{judged, judgedWith, firstOf, refusalOf};
+use card_table::lines;
+use card_table::names;
+use card_table::params;
+use card_table::values;
 use convert_entry::value_kind;
 use convert_tests::same_bytes;
 use line_class::Class;
 use line_class::all_of;
+use line_table::table;
 use table_entry::has_group;
 
 // Of the lines so far: the first of refusals 7, 8 and 9 (0: none), which names have come, whether the first line is VERSION:4.0.
@@ -46,15 +51,15 @@ fn value_fits(counts: &[usize], froms: &[usize], tos: &[usize], s: &[u8]) -> boo
     requires { ⌜ HasRow (now s) (now counts) (now froms) (now tos) ⌝ }
     ensures { λ r. ⌜ OfRow (now (s .entry)) (now (counts .entry)) (now (froms .entry)) (now (tos .entry)) (λ ps. r ≡ valueFits (valuesNamed (ascii "value") ps)) ⌝ }
 {
-    let k = counts[3];
+    let k = counts[params::VALUE];
     if k == 0 {
         return true;
     }
     if k != 1 {
         return false;
     }
-    let a = froms[3];
-    let b = tos[3];
+    let a = froms[params::VALUE];
+    let b = tos[params::VALUE];
     is_word(&s[a..b])
 }
 
@@ -63,14 +68,14 @@ fn only_uri(counts: &[usize], froms: &[usize], tos: &[usize], s: &[u8], t: &[usi
     requires { ⌜ Rowed (now s) (now t) (now counts) (now froms) (now tos) ⌝ }
     ensures { λ r. ⌜ r ≡ onlyUri (lineIn (now (s .entry)) (now (t .entry)) .params) ⌝ }
 {
-    let n = t[6];
+    let n = t[table::COUNT];
     if n == 0 {
         return true;
     }
-    if counts[3] != n {
+    if counts[params::VALUE] != n {
         return false;
     }
-    value_kind(counts, froms, tos, s) == 1
+    value_kind(counts, froms, tos, s) == values::URI
 }
 
 // 7: UID or KIND with a group or a parameter (VALUE=uri on UID is allowed), a GROUP parameter, several values of VALUE or one that is no name.
@@ -85,23 +90,23 @@ pub fn is_misused(
     requires { ⌜ Rowed (now s) (now t) (now counts) (now froms) (now tos) × Coded code (lineIn (now s) (now t)) ⌝ }
     ensures { λ r. ⌜ r ≡ misused (lineIn (now (s .entry)) (now (t .entry))) ⌝ }
 {
-    if counts[6] != 0 {
+    if counts[params::GROUP] != 0 {
         return true;
     }
     if !value_fits(counts, froms, tos, s) {
         return true;
     }
-    if code == 2 {
+    if code == names::UID {
         if has_group(s, t) {
             return true;
         }
         return !only_uri(counts, froms, tos, s, t);
     }
-    if code == 3 {
+    if code == names::KIND {
         if has_group(s, t) {
             return true;
         }
-        return t[6] != 0;
+        return t[table::COUNT] != 0;
     }
     false
 }
@@ -111,12 +116,12 @@ pub fn is_emptied(code: usize, s: &[u8], t: &[usize]) -> bool
     requires { ⌜ Sound (now s) (now t) × Coded code (lineIn (now s) (now t)) ⌝ }
     ensures { λ r. ⌜ r ≡ emptied (lineIn (now (s .entry)) (now (t .entry))) ⌝ }
 {
-    let a = t[4];
-    let b = t[5];
-    if code == 2 {
+    let a = t[table::VALUE];
+    let b = t[table::VALUE_END];
+    if code == names::UID {
         return a == b;
     }
-    if code == 3 {
+    if code == names::KIND {
         return !is_word(&s[a..b]);
     }
     false
@@ -127,18 +132,18 @@ pub fn is_version_line(code: usize, s: &[u8], t: &[usize]) -> bool
     requires { ⌜ Sound (now s) (now t) × Coded code (lineIn (now s) (now t)) ⌝ }
     ensures { λ r. ⌜ r ≡ isVersionLine (lineIn (now (s .entry)) (now (t .entry))) ⌝ }
 {
-    if code != 1 {
+    if code != names::VERSION {
         return false;
     }
     if has_group(s, t) {
         return false;
     }
-    if t[6] != 0 {
+    if t[table::COUNT] != 0 {
         return false;
     }
-    let a = t[4];
-    let b = t[5];
-    same_bytes(&s[a..b], b"4.0")
+    let a = t[table::VALUE];
+    let b = t[table::VALUE_END];
+    same_bytes(&s[a..b], &lines::VERSION)
 }
 
 // Before the first line.
@@ -180,15 +185,16 @@ pub fn judge(
 ) -> Judged
     ensures { λ r. ⌜ r ≡ judgedWith j k code misused emptied version ⌝ }
 {
-    let twice = ((code == 1) & j.version) | (((code == 2) & j.uid) | ((code == 3) & j.kind));
+    let twice = ((code == names::VERSION) & j.version)
+        | (((code == names::UID) & j.uid) | ((code == names::KIND) & j.kind));
     Judged {
         misused: first_of(j.misused, misused, k),
         second: first_of(j.second, twice, k),
         emptied: first_of(j.emptied, emptied, k),
-        version: j.version | (code == 1),
-        uid: j.uid | (code == 2),
-        kind: j.kind | (code == 3),
-        full: j.full | (code == 4),
+        version: j.version | (code == names::VERSION),
+        uid: j.uid | (code == names::UID),
+        kind: j.kind | (code == names::KIND),
+        full: j.full | (code == names::FN),
         opened: j.opened | ((k == 1) & version),
     }
 }

@@ -11,9 +11,10 @@ use Rattle.json_prints.specs.Prints.{printed}
 use Rattle.convert.specs.Pointer.{pointed}
 use Rattle.convert.specs.Classify.{Id, id, isId, Seen}
 use Rattle.line_table.specs.Table.{part, Span}
+use Rattle.card_table.specs.Numbers.{mapCount}
 
 abbrev pub pointers : ℕ
-pointers = 7
+pointers = mapCount
 
 abbrev pub keyAt : Bytes → List ℕ → ℕ → Bytes
 keyAt bytes ids k = part bytes (getD ids (3 * k + 1) 0) (getD ids (3 * k + 2) 0)

@@ -7,12 +7,35 @@ ghost use Rattle.json_prints.specs.Prints.{printed};
 ghost use Rattle.convert.specs.Classify.{isId};
 ghost use Rattle.line_table.specs.Table.{part, Span};
 ghost use Rattle.class_line.specs.Class.{ClassIn};
+ghost use Rattle.card_table.specs.Numbers.{groupCount};
 ghost use Rattle.card_seen.specs.Ids.{idsAt, Listed, IdTable, Unfilled, withId, Cut};
 ghost use Rattle.card_seen.specs.Settled.{Settles, Notes};
+use card_table::classes;
+use card_table::maps;
 use class_line::Class;
 use convert_tests::is_id;
 use json_prints::any_print;
 use json_prints::print_of;
+
+// The classes, as a card's codes hold them.
+const KEPT: u8 = classes::KEPT as u8;
+
+const DROPPED: u8 = classes::DROPPED as u8;
+
+const VERSION: u8 = classes::VERSION as u8;
+
+const UID: u8 = classes::UID as u8;
+
+const KIND: u8 = classes::KIND as u8;
+
+const FULL: u8 = classes::FULL as u8;
+
+const PARTS: u8 = classes::PARTS as u8;
+
+const MEMBER: u8 = classes::MEMBER as u8;
+
+// A key takes so many places: the number of its map, and where it begins and ends.
+pub const ID: usize = 3;
 
 // The number of the line's class; whether FN and N have converted now; how many keys the table has now.
 pub struct Settled {
@@ -30,7 +53,7 @@ fn is_listed(bytes: &[u8], ids: &[usize], n: usize, i: usize, key: &[u8]) -> boo
     let mut k = n;
     while k > 0 {
         k -= 1;
-        let at = 3 * k;
+        let at = ID * k;
         let j = ids[at];
         let a = ids[at + 1];
         let b = ids[at + 2];
@@ -73,7 +96,7 @@ fn put_id(
     requires { ⌜ Unfilled (now ids) (now prints) n ⌝ }
     ensures { λ r. ⌜ (r ≡ n + 1) × (now (ids .exit) ≡ withId (now (ids .entry)) n i a b) × (now (prints .exit) ≡ set (now (prints .entry)) n p) ⌝ }
 {
-    let at = 3 * n;
+    let at = ID * n;
     ids[at] = i;
     ids[at + 1] = a;
     ids[at + 2] = b;
@@ -93,7 +116,7 @@ fn note_key(
     a: usize,
     b: usize,
 ) -> usize
-    requires { ⌜ IdTable (now bytes) (now ids) (now prints) n × Unfilled (now ids) (now prints) n × (i < 8) × Span (now s) a b × Cut (now bytes) (now s) at ⌝ }
+    requires { ⌜ IdTable (now bytes) (now ids) (now prints) n × Unfilled (now ids) (now prints) n × (i < groupCount) × Span (now s) a b × Cut (now bytes) (now s) at ⌝ }
     ensures { λ r. ⌜ Notes (now (bytes .entry)) (now (s .entry)) (now (ids .entry)) n i a b (now (ids .exit)) (now (prints .exit)) r ⌝ }
 {
     let p = print_of(i, &s[a..b]);
@@ -120,43 +143,43 @@ pub fn settle(
 {
     match class {
         Class::Kept => Settled {
-            code: 16,
+            code: KEPT,
             full: full,
             parts: parts,
             count: n,
         },
         Class::Dropped => Settled {
-            code: 17,
+            code: DROPPED,
             full: full,
             parts: parts,
             count: n,
         },
         Class::Version => Settled {
-            code: 18,
+            code: VERSION,
             full: full,
             parts: parts,
             count: n,
         },
         Class::Uid => Settled {
-            code: 19,
+            code: UID,
             full: full,
             parts: parts,
             count: n,
         },
         Class::Kind => Settled {
-            code: 20,
+            code: KIND,
             full: full,
             parts: parts,
             count: n,
         },
         Class::Full => Settled {
-            code: 21,
+            code: FULL,
             full: true,
             parts: parts,
             count: n,
         },
         Class::Parts => Settled {
-            code: 22,
+            code: PARTS,
             full: full,
             parts: true,
             count: n,
@@ -171,7 +194,7 @@ pub fn settle(
             let m = note_key(ids, prints, n, bytes, at, s, map, start, end);
             if m == n {
                 return Settled {
-                    code: 16,
+                    code: KEPT,
                     full: full,
                     parts: parts,
                     count: n,
@@ -185,17 +208,17 @@ pub fn settle(
             }
         }
         Class::Member { start, end } => {
-            let m = note_key(ids, prints, n, bytes, at, s, 7, start, end);
+            let m = note_key(ids, prints, n, bytes, at, s, maps::POINTERS, start, end);
             if m == n {
                 return Settled {
-                    code: 16,
+                    code: KEPT,
                     full: full,
                     parts: parts,
                     count: n,
                 };
             }
             Settled {
-                code: 23,
+                code: MEMBER,
                 full: full,
                 parts: parts,
                 count: m,

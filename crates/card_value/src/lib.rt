@@ -1,9 +1,16 @@
 // The strings of an entry as a line's value, in one pass: judged (12), written by the map's form, and told whether a line can carry them (13).
-// Forms are numbers: 0 TEXT, 1 TEXT (nicknames), 2 raw, 3 a phone (raw with VALUE=uri, or TEXT), 4 an organization.
+// Forms are numbers (`card_table::forms`), here as bytes.
 use card_pen::Told;
 use card_pen::byte_at;
 use card_pen::is_control;
 use card_pen::pen_string;
+use card_pen::style;
+use card_table::entry;
+use card_table::links;
+use card_table::organizations;
+use card_table::phones;
+use card_table::unit;
+use card_table::values;
 use json_access::element_at;
 use json_index::index_object;
 use json_marks::separator;
@@ -77,14 +84,14 @@ fn unit_in(s: &[u8], at: usize) -> usize
     requires { ⌜ at ≤ length (now s) ⌝ }
     ensures { λ r. ⌜ TellsUnit (now (s .entry)) at r ⌝ }
 {
-    let mut slots = [0usize; 2];
-    if !index_object(&mut slots, s, at, 11, b"name") {
+    let mut slots = [0usize; unit::SLOTS];
+    if !index_object(&mut slots, s, at, unit::DEPTH, &unit::NAMES) {
         return 0;
     }
-    if slots[1] != 0 {
+    if slots[unit::OTHER] != 0 {
         return 0;
     }
-    let a = slots[0];
+    let a = slots[unit::NAME];
     text_in(s, a)
 }
 
@@ -105,6 +112,9 @@ fn is_blank(s: &[u8], at: usize) -> bool
         } => false,
     }
 }
+
+// The length of `tel:`.
+const TEL: usize = 4;
 
 // The byte of `tel:` at a place, and any byte from there on.
 fn fits_tel(k: usize, c: u8) -> bool
@@ -128,17 +138,17 @@ fn fits_tel(k: usize, c: u8) -> bool
 fn onward(k: usize) -> usize
     ensures { λ r. ⌜ r ≡ onTel k ⌝ }
 {
-    if k < 4 {
+    if k < TEL {
         return k + 1;
     }
-    4
+    TEL
 }
 
 // Whether the string of a phone is written raw: it begins `tel:` and has no control but tab.
 fn is_tel(form: u8, s: &[u8], at: usize) -> bool
     ensures { λ r. ⌜ r ≡ (eqb form 3 && telOf (decodedAt (now (s .entry)) at)) ⌝ }
 {
-    if form != 3 {
+    if form != phones::FORM_BYTE {
         return false;
     }
     if at > s.len() {
@@ -153,7 +163,7 @@ fn is_tel(form: u8, s: &[u8], at: usize) -> bool
                 return false;
             }
             Byte::End => {
-                return k >= 4;
+                return k >= TEL;
             }
             Byte::One {
                 byte: b,
@@ -207,7 +217,7 @@ fn pen_unit<'a, 'b>(out: &'a mut [u8], column: usize, s: &'b [u8], at: usize) ->
             filled: false,
         };
     }
-    let t = pen_text(out, column, b";", 2, s, at);
+    let t = pen_text(out, column, b";", style::PARTS, s, at);
     let n = t.bytes;
     let k = t.column;
     let ok = t.carried;
@@ -232,7 +242,7 @@ fn put_units_from<'a, 'b>(out: &'a mut [u8], column: usize, s: &'b [u8], at: usi
     let mut ok = true;
     let mut filled = false;
     loop {
-        let p = element_at(s, i, 12);
+        let p = element_at(s, i, entry::UNITS_DEPTH);
         let a = p.start;
         let e = p.end;
         let q = unit_in(s, a);
@@ -314,7 +324,7 @@ fn put_name<'a, 'b>(out: &'a mut [u8], column: usize, s: &'b [u8], slot: usize) 
     if q == 0 {
         return Ink::Wrong;
     }
-    let t = pen_text(out, column, b":", 2, s, q);
+    let t = pen_text(out, column, b":", style::PARTS, s, q);
     let n = t.bytes;
     let k = t.column;
     let ok = t.carried;
@@ -381,7 +391,7 @@ pub fn put_value<'a, 'b>(
     ensures { λ r. ⌜ length (now (out .exit)) ≡ length (now (out .entry)) ⌝ }
     ensures { λ r. ⌜ TellsValue (now (s .entry)) content units form (now (out .entry)) column r (now (out .exit)) ⌝ }
 {
-    if form == 4 {
+    if form == organizations::FORM_BYTE {
         return put_organization(out, column, s, content, units);
     }
     let q = text_in(s, content);
@@ -389,7 +399,7 @@ pub fn put_value<'a, 'b>(
         return Put::Refused;
     }
     if is_tel(form, s, q) {
-        let t = pen_text(out, column, b";VALUE=uri:", 0, s, q);
+        let t = pen_text(out, column, &values::URI_LEAD, style::RAW, s, q);
         let n = t.bytes;
         let ok = t.carried;
         return Put::Line {
@@ -397,8 +407,8 @@ pub fn put_value<'a, 'b>(
             carries: ok,
         };
     }
-    if form == 2 {
-        let t = pen_text(out, column, b":", 0, s, q);
+    if form == links::FORM_BYTE {
+        let t = pen_text(out, column, b":", style::RAW, s, q);
         let n = t.bytes;
         let ok = t.carried;
         return Put::Line {
@@ -406,7 +416,7 @@ pub fn put_value<'a, 'b>(
             carries: ok,
         };
     }
-    let t = pen_text(out, column, b":", 1, s, q);
+    let t = pen_text(out, column, b":", style::TEXT, s, q);
     let n = t.bytes;
     let ok = t.carried;
     Put::Line {

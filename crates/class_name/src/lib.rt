@@ -10,11 +10,17 @@ ghost use Rattle.convert.specs.Classify.{bare, isDerived};
 ghost use Rattle.line_table.specs.Table.{lineIn};
 ghost use Rattle.convert_entry.specs.Rows.{zeros};
 ghost use Rattle.table_entry.specs.Key.{Rowed};
+ghost use Rattle.card_table.specs.Numbers.{paramKinds};
 ghost use Rattle.class_name.specs.Name.{allKinds, besidesDerived, FullClass, PartsClass};
+use card_table::classes;
+use card_table::params;
+use card_table::parts;
+use card_table::values;
 use convert_entry::value_kind;
 use line_name::is_named;
 use line_parts::few_parts;
 use line_parts::has_other;
+use line_table::table;
 use line_text::is_text;
 use table_entry::has_group;
 
@@ -26,27 +32,31 @@ pub fn is_bare(counts: &[usize], froms: &[usize], tos: &[usize], s: &[u8], t: &[
     if has_group(s, t) {
         return false;
     }
-    value_kind(counts, froms, tos, s) == 0
+    value_kind(counts, froms, tos, s) == values::UNKNOWN
 }
 
 // No parameter but VALUE.
 fn no_params(counts: &[usize]) -> bool
-    requires { ⌜ 8 ≤ length (now counts) ⌝ }
+    requires { ⌜ paramKinds ≤ length (now counts) ⌝ }
     ensures { λ r. ⌜ r ≡ zeros allKinds (now (counts .entry)) ⌝ }
 {
-    (counts[0] == 0)
-        & ((counts[1] == 0)
-            & ((counts[2] == 0)
-                & ((counts[4] == 0) & ((counts[5] == 0) & ((counts[6] == 0) & (counts[7] == 0))))))
+    (counts[params::PROP_ID] == 0)
+        & ((counts[params::PREF] == 0)
+            & ((counts[params::TYPE] == 0)
+                & ((counts[params::JSPTR] == 0)
+                    & ((counts[params::DERIVED] == 0)
+                        & ((counts[params::GROUP] == 0) & (counts[params::OTHER] == 0))))))
 }
 
 fn none_but_derived(counts: &[usize]) -> bool
-    requires { ⌜ 8 ≤ length (now counts) ⌝ }
+    requires { ⌜ paramKinds ≤ length (now counts) ⌝ }
     ensures { λ r. ⌜ r ≡ zeros besidesDerived (now (counts .entry)) ⌝ }
 {
-    (counts[0] == 0)
-        & ((counts[1] == 0)
-            & ((counts[2] == 0) & ((counts[4] == 0) & ((counts[6] == 0) & (counts[7] == 0)))))
+    (counts[params::PROP_ID] == 0)
+        & ((counts[params::PREF] == 0)
+            & ((counts[params::TYPE] == 0)
+                & ((counts[params::JSPTR] == 0)
+                    & ((counts[params::GROUP] == 0) & (counts[params::OTHER] == 0)))))
 }
 
 // The sole parameter DERIVED=TRUE, in any case.
@@ -54,18 +64,18 @@ fn is_derived(counts: &[usize], froms: &[usize], tos: &[usize], s: &[u8], t: &[u
     requires { ⌜ Rowed (now s) (now t) (now counts) (now froms) (now tos) ⌝ }
     ensures { λ r. ⌜ isDerived (besidesValue (lineIn (now (s .entry)) (now (t .entry)) .params)) ≡ r ⌝ }
 {
-    if counts[5] != 1 {
+    if counts[params::DERIVED] != 1 {
         return false;
     }
     if !none_but_derived(counts) {
         return false;
     }
-    let a = froms[5];
-    let b = tos[5];
-    is_named(&s[a..b], b"true")
+    let a = froms[params::DERIVED];
+    let b = tos[params::DERIVED];
+    is_named(&s[a..b], &params::TRUE)
 }
 
-// FN by number: 16 kept, 17 dropped, 21 the full name. `full`: an earlier line is it.
+// FN by the number of its class: kept, dropped or the full name. `full`: an earlier line is it.
 pub fn full_class(
     counts: &[usize],
     froms: &[usize],
@@ -78,30 +88,30 @@ pub fn full_class(
     ensures { λ r. ⌜ FullClass (now (s .entry)) (now (t .entry)) full r ⌝ }
 {
     if !is_bare(counts, froms, tos, s, t) {
-        return 16;
+        return classes::KEPT;
     }
     if is_derived(counts, froms, tos, s, t) {
-        return 17;
+        return classes::DROPPED;
     }
     if full {
-        return 16;
+        return classes::KEPT;
     }
     if !no_params(counts) {
-        return 16;
+        return classes::KEPT;
     }
-    let a = t[4];
-    let b = t[5];
+    let a = t[table::VALUE];
+    let b = t[table::VALUE_END];
     if !is_text(&s[a..b]) {
-        return 16;
+        return classes::KEPT;
     }
-    21
+    classes::FULL
 }
 
 // A value of N: seven parts at most, every escape good, and a value that is filled.
 fn is_name(v: &[u8]) -> bool
     ensures { λ r. ⌜ r ≡ is-some (readName (now (v .entry))) ⌝ }
 {
-    if !few_parts(v, b';', 7) {
+    if !few_parts(v, b';', parts::COUNT) {
         return false;
     }
     if !has_other(v, b';', b',') {
@@ -110,7 +120,7 @@ fn is_name(v: &[u8]) -> bool
     is_text(v)
 }
 
-// N by number: 16 kept, 22 the components. `parts`: an earlier line has them.
+// N by the number of its class: kept, or the components. `parts`: an earlier line has them.
 pub fn parts_class(
     counts: &[usize],
     froms: &[usize],
@@ -123,18 +133,18 @@ pub fn parts_class(
     ensures { λ r. ⌜ PartsClass (now (s .entry)) (now (t .entry)) parts r ⌝ }
 {
     if parts {
-        return 16;
+        return classes::KEPT;
     }
     if !is_bare(counts, froms, tos, s, t) {
-        return 16;
+        return classes::KEPT;
     }
     if !no_params(counts) {
-        return 16;
+        return classes::KEPT;
     }
-    let a = t[4];
-    let b = t[5];
+    let a = t[table::VALUE];
+    let b = t[table::VALUE_END];
     if !is_name(&s[a..b]) {
-        return 16;
+        return classes::KEPT;
     }
-    22
+    classes::PARTS
 }

@@ -4,54 +4,64 @@ ghost use Prim.Native.Nat.{_<_};
 ghost use lib.ListN.{length, getD};
 ghost use Rattle.text.specs.Bytes.{lowered};
 ghost use Rattle.class_names.specs.Names.{nameNumber, typesOf, formOf};
+use card_table::emails;
+use card_table::forms;
+use card_table::links;
+use card_table::names;
+use card_table::nicknames;
+use card_table::notes;
+use card_table::organizations;
+use card_table::phones;
+use card_table::titles;
+use card_table::types;
 use line_name::is_named;
 
 fn name_of_three(name: &[u8]) -> usize
     requires { ⌜ length (now name) ≡ 3 ⌝ }
     ensures { λ r. ⌜ r ≡ nameNumber (lowered (now (name .entry))) ⌝ }
 {
-    if is_named(name, b"tel") {
-        return 18;
+    if is_named(name, &phones::LINE) {
+        return phones::NAMED;
     }
-    if is_named(name, b"url") {
-        return 19;
+    if is_named(name, &links::LINE) {
+        return links::NAMED;
     }
-    if is_named(name, b"org") {
-        return 22;
+    if is_named(name, &organizations::LINE) {
+        return organizations::NAMED;
     }
-    if is_named(name, b"uid") {
-        return 2;
+    if is_named(name, &names::UID_NAME) {
+        return names::UID;
     }
-    0
+    names::OTHER
 }
 
 fn name_of_four(name: &[u8]) -> usize
     requires { ⌜ length (now name) ≡ 4 ⌝ }
     ensures { λ r. ⌜ r ≡ nameNumber (lowered (now (name .entry))) ⌝ }
 {
-    if is_named(name, b"note") {
-        return 20;
+    if is_named(name, &notes::LINE) {
+        return notes::NAMED;
     }
-    if is_named(name, b"role") {
-        return 21;
+    if is_named(name, &titles::ROLE_LINE) {
+        return titles::NAMED;
     }
-    if is_named(name, b"kind") {
-        return 3;
+    if is_named(name, &names::KIND_NAME) {
+        return names::KIND;
     }
-    0
+    names::OTHER
 }
 
 fn name_of_five(name: &[u8]) -> usize
     requires { ⌜ length (now name) ≡ 5 ⌝ }
     ensures { λ r. ⌜ r ≡ nameNumber (lowered (now (name .entry))) ⌝ }
 {
-    if is_named(name, b"email") {
-        return 17;
+    if is_named(name, &emails::LINE) {
+        return emails::NAMED;
     }
-    if is_named(name, b"title") {
-        return 21;
+    if is_named(name, &titles::TITLE_LINE) {
+        return titles::NAMED;
     }
-    0
+    names::OTHER
 }
 
 // The property, by the length of its name first.
@@ -68,52 +78,52 @@ pub fn name_code(name: &[u8]) -> usize
     if n == 4 {
         return name_of_four(name);
     }
-    if is_named(name, b"n") {
-        return 5;
+    if is_named(name, &names::N_NAME) {
+        return names::N;
     }
-    if is_named(name, b"fn") {
-        return 4;
+    if is_named(name, &names::FN_NAME) {
+        return names::FN;
     }
-    if is_named(name, b"version") {
-        return 1;
+    if is_named(name, &names::VERSION_NAME) {
+        return names::VERSION;
     }
-    if is_named(name, b"nickname") {
-        return 16;
+    if is_named(name, &nicknames::LINE) {
+        return nicknames::NAMED;
     }
-    if is_named(name, b"jsprop") {
-        return 6;
+    if is_named(name, &names::JSPROP_NAME) {
+        return names::JSPROP;
     }
-    0
+    names::OTHER
 }
 
 // How many values of TYPE the map i takes.
 pub fn types_of(i: usize) -> usize
     ensures { λ r. ⌜ r ≡ typesOf i ⌝ }
 {
-    if i == 2 {
-        return 9;
+    if i == phones::MAP {
+        return types::COUNT;
     }
-    if i > 3 {
+    if i > links::MAP {
         return 0;
     }
-    2
+    types::CONTEXTS
 }
 
 // The map's form, by number.
 pub fn form_of(i: usize) -> usize
     ensures { λ r. ⌜ (r ≡ formOf i) × (r < 5) ⌝ }
 {
-    if i == 0 {
-        return 1;
+    if i == nicknames::MAP {
+        return nicknames::FORM;
     }
-    if i == 2 {
-        return 3;
+    if i == phones::MAP {
+        return phones::FORM;
     }
-    if i == 3 {
-        return 2;
+    if i == links::MAP {
+        return links::FORM;
     }
-    if i == 6 {
-        return 4;
+    if i == organizations::MAP {
+        return organizations::FORM;
     }
-    0
+    forms::TEXT
 }

@@ -1,5 +1,6 @@
 // The look-up service: a top-level member's value as that very part of the caller's JSON.
 use json_access::Part;
+use json_limits::DEPTH;
 use json_read::Verdict;
 use json_read::read;
 use json_skip::skip_value;
@@ -38,7 +39,7 @@ pub fn locate<'a, 'b>(s: &'a [u8], name: &'b [u8]) -> Part
     ensures { λ r. ⌜ Bounds (length (now (s .entry))) r ⌝ }
     ensures { λ r. ⌜ r ≡ placeOf (lookUp (now (s .entry)) (now (name .entry))) ⌝ }
 {
-    match read(s, 16) {
+    match read(s, DEPTH) {
         Verdict::Sound => find_in(s, name),
         Verdict::Large => Part { start: 0, end: 0 },
         Verdict::NotJson(b) => Part { start: 0, end: 0 },

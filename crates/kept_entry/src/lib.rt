@@ -1,4 +1,8 @@
 // An entry of vCardProps, [name, {parameters}, type, value], as the table of the line that it is.
+use card_table::kept;
+use card_table::names;
+use card_table::params;
+use card_table::values;
 use card_value::string_in;
 use json_access::element_at;
 use json_access::place;
@@ -11,6 +15,8 @@ use kept_strings::To;
 use kept_strings::is_word;
 use kept_strings::put_decoded;
 use kept_strings::put_value;
+use line_limits::PARAMS;
+use line_table::table;
 use output::Wrote;
 use output::put_text;
 use text::LEFT_BRACKET;
@@ -21,6 +27,7 @@ ghost use mathlib.Core.Path.{_≡_};
 ghost use Prim.Native.Nat.{_+_, _≤_, _<_};
 ghost use lib.ListN.{length};
 ghost use Rattle.kept_strings.specs.Strings.{Within, Bounds, RowsIn};
+ghost use Rattle.line_table.specs.Table.{tableLength};
 ghost use Rattle.kept_entry.specs.Entry.{PutsWord, PutsName, FourIn, TellsFour, PutsTyped, PutsType, headedAt};
 
 // The places of the four elements, and the place after the array.
@@ -62,7 +69,7 @@ pub fn put_name<'a, 'b>(b: &'a mut [u8], n: usize, s: &'b [u8], at: usize) -> To
     if q == 0 {
         return To::Bad;
     }
-    if which_name(s, q, b"begin,end,version,uid,kind") != 5 {
+    if which_name(s, q, &names::UNKEPT) != names::UNKEPT_COUNT {
         return To::Bad;
     }
     put_word(b, n, s, q)
@@ -82,19 +89,19 @@ pub fn four_at(s: &[u8], at: usize) -> Four
     if look(s, j) == RIGHT_BRACKET {
         return Four::Bad;
     }
-    let p = element_at(s, j, 13);
+    let p = element_at(s, j, kept::DEPTH);
     let Turn::Go(j2) = separator(s, p.end, RIGHT_BRACKET) else {
         return Four::Bad;
     };
-    let p2 = element_at(s, j2, 13);
+    let p2 = element_at(s, j2, kept::DEPTH);
     let Turn::Go(j3) = separator(s, p2.end, RIGHT_BRACKET) else {
         return Four::Bad;
     };
-    let p3 = element_at(s, j3, 13);
+    let p3 = element_at(s, j3, kept::DEPTH);
     let Turn::Go(j4) = separator(s, p3.end, RIGHT_BRACKET) else {
         return Four::Bad;
     };
-    let p4 = element_at(s, j4, 13);
+    let p4 = element_at(s, j4, kept::DEPTH);
     let Turn::Stop(r) = separator(s, p4.end, RIGHT_BRACKET) else {
         return Four::Bad;
     };
@@ -118,12 +125,12 @@ fn put_typed<'a, 'b, 'c>(
     at: usize,
 ) -> Rows
     requires { ⌜ n ≤ length (now b) ⌝ }
-    requires { ⌜ 264 ≤ length (now t) ⌝ }
+    requires { ⌜ tableLength ≤ length (now t) ⌝ }
     ensures { λ r. ⌜ Bounds (now (b .entry)) (now (b .exit)) (now (t .entry)) (now (t .exit)) ⌝ }
     ensures { λ r. ⌜ RowsIn n (length (now (b .entry))) r ⌝ }
     ensures { λ r. ⌜ PutsTyped (now (b .entry)) n (now (t .entry)) m (now (s .entry)) at r (now (b .exit)) (now (t .exit)) ⌝ }
 {
-    let Wrote::Bytes(k) = put_text(&mut b[n..], b"value") else {
+    let Wrote::Bytes(k) = put_text(&mut b[n..], &params::VALUE_NAME) else {
         return Rows::Wrong;
     };
     let a = n + k;
@@ -150,7 +157,7 @@ pub fn put_type<'a, 'b, 'c>(
     at: usize,
 ) -> Rows
     requires { ⌜ n ≤ length (now b) ⌝ }
-    requires { ⌜ 264 ≤ length (now t) ⌝ }
+    requires { ⌜ tableLength ≤ length (now t) ⌝ }
     requires { ⌜ m ≤ 64 ⌝ }
     ensures { λ r. ⌜ Bounds (now (b .entry)) (now (b .exit)) (now (t .entry)) (now (t .exit)) ⌝ }
     ensures { λ r. ⌜ RowsIn n (length (now (b .entry))) r ⌝ }
@@ -160,13 +167,13 @@ pub fn put_type<'a, 'b, 'c>(
     if q == 0 {
         return Rows::Wrong;
     }
-    if equals(s, q, b"unknown") {
-        if count > 32 {
+    if equals(s, q, &values::UNKNOWN_NAME) {
+        if count > PARAMS {
             return Rows::Wrong;
         }
         return Rows::More { end: n, count: m };
     }
-    if count >= 32 {
+    if count >= PARAMS {
         return Rows::Wrong;
     }
     put_typed(b, n, t, m, s, at)
@@ -182,15 +189,15 @@ pub fn put_head(
     stop: usize,
     n: usize,
 ) -> bool
-    requires { ⌜ 264 ≤ length (now t) ⌝ }
+    requires { ⌜ tableLength ≤ length (now t) ⌝ }
     ensures { λ r. ⌜ now (t .exit) ≡ headedAt (now (t .entry)) from to end value stop n ⌝ }
 {
-    t[0] = from;
-    t[1] = to;
-    t[2] = 0;
-    t[3] = end;
-    t[4] = value;
-    t[5] = stop;
-    t[6] = n;
+    t[table::GROUP] = from;
+    t[table::GROUP_END] = to;
+    t[table::NAME] = 0;
+    t[table::NAME_END] = end;
+    t[table::VALUE] = value;
+    t[table::VALUE_END] = stop;
+    t[table::COUNT] = n;
     true
 }

@@ -14,6 +14,7 @@ ghost use Prim.Native.Nat.{_≤_};
 ghost use lib.ListN.{length};
 ghost use Rattle.kept_strings.specs.Strings.{Bounds};
 ghost use Rattle.kept_entry.specs.Entry.{FillsRest, FillsKept};
+ghost use Rattle.line_table.specs.Table.{tableLength};
 ghost use Rattle.kept_fill.specs.Held.{isEntry, HeldIn};
 
 // Type and value, then the head.
@@ -27,7 +28,7 @@ fn put_rest<'a, 'b, 'c>(
     value: usize,
 ) -> bool
     requires { ⌜ f .end ≤ length (now b) ⌝ }
-    requires { ⌜ 264 ≤ length (now t) ⌝ }
+    requires { ⌜ tableLength ≤ length (now t) ⌝ }
     requires { ⌜ f .rows ≤ 64 ⌝ }
     requires { ⌜ e ≤ f .end ⌝ }
     ensures { λ r. ⌜ Bounds (now (b .entry)) (now (b .exit)) (now (t .entry)) (now (t .exit)) ⌝ }
@@ -56,7 +57,7 @@ pub enum Held {
 
 // The whole entry.
 pub fn fill_kept<'a, 'b, 'c>(b: &'a mut [u8], t: &'b mut [usize], s: &'c [u8], at: usize) -> Held
-    requires { ⌜ 264 ≤ length (now t) ⌝ }
+    requires { ⌜ tableLength ≤ length (now t) ⌝ }
     requires { ⌜ at ≤ length (now s) ⌝ }
     ensures { λ r. ⌜ Bounds (now (b .entry)) (now (b .exit)) (now (t .entry)) (now (t .exit)) ⌝ }
     ensures { λ r. ⌜ HeldIn (now (s .entry)) at r ⌝ }

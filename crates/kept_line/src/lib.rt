@@ -1,6 +1,8 @@
 // A kept line written from its table of places: group, name, parameters and value, folded as they go, as much of it as the room holds.
 use card_pen::Told;
 use card_pen::can_stand;
+use card_pen::style;
+use card_table::params;
 use line_class::Class;
 use line_class::all_of;
 use line_name::is_named;
@@ -9,6 +11,7 @@ use line_pen::Pen;
 use line_pen::fill;
 use line_pen::pen_byte;
 use line_pen::pen_bytes;
+use line_table::table;
 use to_card_lines::Penned;
 ghost use mathlib.Core.Path.{_≡_};
 ghost use mathlib.Core.List.{[], _∷_, _++_};
@@ -18,7 +21,7 @@ ghost use Rattle.text.specs.Choice.{pick};
 ghost use Rattle.text.specs.Bytes.{ascii, code, flat, uppered};
 ghost use Rattle.line.specs.Write.{writeValue, writeGroup, foldFrom};
 ghost use Rattle.line_pen.specs.Pen.{Fills, Pens};
-ghost use Rattle.line_table.specs.Table.{base, nameAt, valueAt, Sound};
+ghost use Rattle.line_table.specs.Table.{base, nameAt, valueAt, Sound, tableLength};
 ghost use Rattle.card_pen.specs.Styles.{allStandIn};
 ghost use Rattle.convert.specs.Carry.{carriedRaw, carriedParam};
 ghost use Rattle.kept_strings.specs.Strings.{followsBy, runsIn};
@@ -78,7 +81,7 @@ fn pen_quoted(out: &mut [u8], column: usize, v: &[u8]) -> Told
 {
     let p = pen_byte(out, column, b'"');
     let n1 = p.bytes;
-    let q = pen_told(&mut out[n1..], p.column, 3, v);
+    let q = pen_told(&mut out[n1..], p.column, style::PARAM, v);
     let n2 = n1 + q.bytes;
     let z = pen_byte(&mut out[n2..], q.column, b'"');
     let n3 = n2 + z.bytes;
@@ -101,7 +104,7 @@ fn pen_value(out: &mut [u8], column: usize, quoted: bool, v: &[u8]) -> Told
     if !all_of(v, Class::Bare) {
         return pen_quoted(out, column, v);
     }
-    pen_told(out, column, 3, v)
+    pen_told(out, column, style::PARAM, v)
 }
 
 // What stands before a value: a comma, or `;NAME=` where a parameter begins.
@@ -126,14 +129,14 @@ fn pen_lead(out: &mut [u8], column: usize, more: bool, name: &[u8]) -> Pen
 
 // Whether the row i is one more value of the parameter of the row before it.
 fn is_more(t: &[usize], i: usize) -> bool
-    requires { ⌜ (264 ≤ length (now t)) × (i < 64) ⌝ }
+    requires { ⌜ (tableLength ≤ length (now t)) × (i < 64) ⌝ }
     ensures { λ r. ⌜ r ≡ followsBy (now (t .entry)) i (getD (now (t .entry)) (base i) 0) ⌝ }
 {
     if i == 0 {
         return false;
     }
-    let j = 4 * i + 4;
-    let k = 4 * i + 8;
+    let j = table::ROW * i + table::ROW_BEFORE;
+    let k = table::ROW * i + table::ROWS;
     t[j] == t[k]
 }
 
@@ -145,10 +148,10 @@ fn is_quoted(b: &[u8], t: &[usize], i: usize, more: bool, last: bool) -> bool
     if more {
         return last;
     }
-    let k = 4 * i + 8;
+    let k = table::ROW * i + table::ROWS;
     let a = t[k];
-    let e = t[k + 1];
-    is_named(&b[a..e], b"jsptr")
+    let e = t[k + table::ROW_NAME_END];
+    is_named(&b[a..e], &params::JSPTR_NAME)
 }
 
 // The row i: what stands before its value, and the value.
@@ -164,11 +167,11 @@ fn pen_row(
     requires { ⌜ Sound (now b) (now t) × (i < getD (now t) 6 0) ⌝ }
     ensures { λ r. ⌜ Tells (now (out .entry)) column (rowText more (nameAt (now (b .entry)) (now (t .entry)) i) quoted (valueAt (now (b .entry)) (now (t .entry)) i)) (carriedParam (valueAt (now (b .entry)) (now (t .entry)) i)) r (now (out .exit)) ⌝ }
 {
-    let k = 4 * i + 8;
+    let k = table::ROW * i + table::ROWS;
     let a = t[k];
-    let e = t[k + 1];
-    let c = t[k + 2];
-    let d = t[k + 3];
+    let e = t[k + table::ROW_NAME_END];
+    let c = t[k + table::ROW_VALUE];
+    let d = t[k + table::ROW_VALUE_END];
     let p = pen_lead(out, column, more, &b[a..e]);
     let n1 = p.bytes;
     let q = pen_value(&mut out[n1..], p.column, quoted, &b[c..d]);
@@ -187,7 +190,7 @@ fn pen_params(out: &mut [u8], column: usize, b: &[u8], t: &[usize]) -> Told
     requires { ⌜ Sound (now b) (now t) ⌝ }
     ensures { λ r. ⌜ Tells (now (out .entry)) column (paramsText (runsIn (now (b .entry)) (now (t .entry)) (getD (now (t .entry)) 6 0))) (carriedParams (runsIn (now (b .entry)) (now (t .entry)) (getD (now (t .entry)) 6 0))) r (now (out .exit)) ⌝ }
 {
-    let n = t[6];
+    let n = t[table::COUNT];
     let mut at = 0;
     let mut k = column;
     let mut ok = true;
@@ -235,7 +238,7 @@ fn pen_end(out: &mut [u8], column: usize, v: &[u8]) -> Penned
 {
     let p = pen_byte(out, column, b':');
     let n1 = p.bytes;
-    let q = pen_told(&mut out[n1..], p.column, 0, v);
+    let q = pen_told(&mut out[n1..], p.column, style::RAW, v);
     let n2 = n1 + q.bytes;
     let z = fill(&mut out[n2..], b"\r\n");
     let n3 = n2 + z;
@@ -253,16 +256,16 @@ pub fn put_kept_line<'a, 'b, 'c>(out: &'a mut [u8], b: &'b [u8], t: &'c [usize])
     ensures { λ r. ⌜ length (now (out .exit)) ≡ length (now (out .entry)) ⌝ }
     ensures { λ r. ⌜ PutsKept (now (b .entry)) (now (t .entry)) (now (out .entry)) r (now (out .exit)) ⌝ }
 {
-    let a = t[0];
-    let e = t[1];
-    let c = t[2];
-    let d = t[3];
+    let a = t[table::GROUP];
+    let e = t[table::GROUP_END];
+    let c = t[table::NAME];
+    let d = t[table::NAME_END];
     let p = pen_head(out, &b[a..e], &b[c..d]);
     let n1 = p.bytes;
     let q = pen_params(&mut out[n1..], p.column, b, t);
     let n2 = n1 + q.bytes;
-    let v = t[4];
-    let w = t[5];
+    let v = t[table::VALUE];
+    let w = t[table::VALUE_END];
     let z = pen_end(&mut out[n2..], q.column, &b[v..w]);
     let n3 = n2 + z.bytes;
     let ok = q.carried & z.carried;

@@ -1,4 +1,5 @@
 // Strings of a JSON text one after the other in a lent buffer, and the values of a parameter of vCardProps as rows of a line's table.
+use card_table::kept;
 use card_value::string_in;
 use json_access::element_at;
 use json_index::is_raw;
@@ -7,6 +8,7 @@ use json_marks::skip_space;
 use json_strings::decode_into;
 use line_class::Class;
 use line_class::all_of;
+use line_limits::VALUES;
 use line_table::put_row;
 use output::Wrote;
 use output::put_text;
@@ -19,6 +21,7 @@ ghost use Prim.Native.Nat.{_≤_, _<_};
 ghost use lib.ListN.{length};
 ghost use Rattle.json_strings.specs.Decoded.{textAt};
 ghost use Rattle.convert.specs.FromJson.{isLowerWord};
+ghost use Rattle.line_table.specs.Table.{tableLength};
 ghost use Rattle.kept_strings.specs.Strings.{Puts, BareText, Within, PutsAt, Bounds, RowsIn, AddsValue, AddsFrom, AddsValues, TellsSole, PutsGroup};
 
 // Where what is in the buffer ends.
@@ -113,12 +116,12 @@ pub fn put_value<'a, 'b, 'c>(
     at: usize,
 ) -> Rows
     requires { ⌜ n ≤ length (now b) ⌝ }
-    requires { ⌜ 264 ≤ length (now t) ⌝ }
+    requires { ⌜ tableLength ≤ length (now t) ⌝ }
     ensures { λ r. ⌜ Bounds (now (b .entry)) (now (b .exit)) (now (t .entry)) (now (t .exit)) ⌝ }
     ensures { λ r. ⌜ RowsIn n (length (now (b .entry))) r ⌝ }
     ensures { λ r. ⌜ AddsValue (now (b .entry)) n (now (t .entry)) m a e (now (s .entry)) at r (now (b .exit)) (now (t .exit)) ⌝ }
 {
-    if m >= 64 {
+    if m >= VALUES {
         return Rows::Wrong;
     }
     let To::End(k) = put_string(b, n, s, at) else {
@@ -143,7 +146,7 @@ fn put_elements<'a, 'b, 'c>(
     at: usize,
 ) -> Rows
     requires { ⌜ n ≤ length (now b) ⌝ }
-    requires { ⌜ 264 ≤ length (now t) ⌝ }
+    requires { ⌜ tableLength ≤ length (now t) ⌝ }
     requires { ⌜ at ≤ length (now s) ⌝ }
     ensures { λ r. ⌜ Bounds (now (b .entry)) (now (b .exit)) (now (t .entry)) (now (t .exit)) ⌝ }
     ensures { λ r. ⌜ RowsIn n (length (now (b .entry))) r ⌝ }
@@ -153,7 +156,7 @@ fn put_elements<'a, 'b, 'c>(
     let mut k = n;
     let mut rows = m;
     loop {
-        let p = element_at(s, i, 11);
+        let p = element_at(s, i, kept::VALUES_DEPTH);
         let v = p.start;
         let x = p.end;
         let Rows::More { end, count } = put_value(b, k, t, rows, a, e, s, v) else {
@@ -187,7 +190,7 @@ pub fn put_values<'a, 'b, 'c>(
     at: usize,
 ) -> Rows
     requires { ⌜ n ≤ length (now b) ⌝ }
-    requires { ⌜ 264 ≤ length (now t) ⌝ }
+    requires { ⌜ tableLength ≤ length (now t) ⌝ }
     requires { ⌜ at ≤ length (now s) ⌝ }
     ensures { λ r. ⌜ Bounds (now (b .entry)) (now (b .exit)) (now (t .entry)) (now (t .exit)) ⌝ }
     ensures { λ r. ⌜ RowsIn n (length (now (b .entry))) r ⌝ }
@@ -217,7 +220,7 @@ fn sole_string(s: &[u8], at: usize) -> usize
     if look(s, j) == RIGHT_BRACKET {
         return 0;
     }
-    let p = element_at(s, j, 11);
+    let p = element_at(s, j, kept::VALUES_DEPTH);
     let v = p.start;
     let x = p.end;
     match separator(s, x, RIGHT_BRACKET) {

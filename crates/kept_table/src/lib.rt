@@ -1,4 +1,6 @@
 // An entry of vCardProps, [name, {parameters}, type, value], as the table of the line that it is.
+use card_table::kept;
+use card_table::params;
 use json_access::member_at;
 use json_marks::separator;
 use json_marks::skip_space;
@@ -17,6 +19,7 @@ ghost use mathlib.Core.Path.{_≡_};
 ghost use Prim.Native.Nat.{_+_, _≤_, _<_};
 ghost use lib.ListN.{length};
 ghost use Rattle.kept_strings.specs.Strings.{Bounds, RowsIn};
+ghost use Rattle.line_table.specs.Table.{tableLength};
 ghost use Rattle.kept_table.specs.Kept.{PutsParam, StepIn, PutsMember, PutsFrom, PutsObject};
 
 // What of a line's parameters is in the buffer and the table: where the buffer's bytes end, the rows, the parameters, and the group's place.
@@ -44,7 +47,7 @@ fn put_param<'a, 'b, 'c>(
     at: usize,
 ) -> Rows
     requires { ⌜ n ≤ length (now b) ⌝ }
-    requires { ⌜ 264 ≤ length (now t) ⌝ }
+    requires { ⌜ tableLength ≤ length (now t) ⌝ }
     requires { ⌜ at ≤ length (now s) ⌝ }
     ensures { λ r. ⌜ Bounds (now (b .entry)) (now (b .exit)) (now (t .entry)) (now (t .exit)) ⌝ }
     ensures { λ r. ⌜ RowsIn n (length (now (b .entry))) r ⌝ }
@@ -56,7 +59,7 @@ fn put_param<'a, 'b, 'c>(
     if !is_word(&b[n..k]) {
         return Rows::Wrong;
     }
-    if equals(s, q, b"value") {
+    if equals(s, q, &params::VALUE_NAME) {
         return Rows::Wrong;
     }
     put_values(b, k, t, m, n, k, s, at)
@@ -72,7 +75,7 @@ fn put_member<'a, 'b, 'c>(
     at: usize,
 ) -> Step
     requires { ⌜ f .end ≤ length (now b) ⌝ }
-    requires { ⌜ 264 ≤ length (now t) ⌝ }
+    requires { ⌜ tableLength ≤ length (now t) ⌝ }
     requires { ⌜ at ≤ length (now s) ⌝ }
     requires { ⌜ f .count ≤ length (now s) ⌝ }
     requires { ⌜ f .rows ≤ 64 ⌝ }
@@ -85,7 +88,7 @@ fn put_member<'a, 'b, 'c>(
     let count = f.count;
     let from = f.from;
     let to = f.to;
-    if equals(s, q, b"group") {
+    if equals(s, q, &params::GROUP_NAME) {
         if to != 0 {
             return Step::Bad;
         }
@@ -121,7 +124,7 @@ fn put_from<'a, 'b, 'c>(
     at: usize,
 ) -> Step
     requires { ⌜ n ≤ length (now b) ⌝ }
-    requires { ⌜ 264 ≤ length (now t) ⌝ }
+    requires { ⌜ tableLength ≤ length (now t) ⌝ }
     requires { ⌜ at ≤ length (now s) ⌝ }
     ensures { λ r. ⌜ Bounds (now (b .entry)) (now (b .exit)) (now (t .entry)) (now (t .exit)) ⌝ }
     ensures { λ r. ⌜ StepIn n (length (now (b .entry))) (length (now (s .entry)) + 1) r ⌝ }
@@ -136,7 +139,7 @@ fn put_from<'a, 'b, 'c>(
         to: 0,
     };
     loop {
-        let m = member_at(s, i, 12);
+        let m = member_at(s, i, kept::PARAMS_DEPTH);
         let q = m.name;
         let a = m.start;
         let e = m.end;
@@ -164,7 +167,7 @@ pub fn put_object<'a, 'b, 'c>(
     at: usize,
 ) -> Step
     requires { ⌜ n ≤ length (now b) ⌝ }
-    requires { ⌜ 264 ≤ length (now t) ⌝ }
+    requires { ⌜ tableLength ≤ length (now t) ⌝ }
     requires { ⌜ at ≤ length (now s) ⌝ }
     ensures { λ r. ⌜ Bounds (now (b .entry)) (now (b .exit)) (now (t .entry)) (now (t .exit)) ⌝ }
     ensures { λ r. ⌜ StepIn n (length (now (b .entry))) (length (now (s .entry)) + 1) r ⌝ }

@@ -6,7 +6,9 @@ ghost use lib.ListN.{length};
 ghost use Rattle.class_line.specs.Class.{ClassIn};
 ghost use Rattle.convert_pointer.specs.Name.{Pointing};
 ghost use Rattle.name_index.specs.Groups.{Indexes};
+ghost use Rattle.card_table.specs.Numbers.{mapCount, mapSlots};
 ghost use Rattle.kept_used.specs.Used.{IdUsed, PointerUsed, KeptIn};
+use card_table::maps;
 use class_line::Class;
 use convert_pointer::read_pointer;
 use name_index::has_name;
@@ -23,7 +25,7 @@ fn id_used<'a, 'b, 'c, 'd, 'e>(
     i: usize,
     key: &'e [u8],
 ) -> bool
-    requires { ⌜ (i < 7) × (12 ≤ length (now slots)) ⌝ }
+    requires { ⌜ (i < mapCount) × (mapSlots ≤ length (now slots)) ⌝ }
     requires { ⌜ Indexes (now s) (now slots) (now places) (now prints) (now ends) ⌝ }
     ensures { λ r. ⌜ IdUsed (now (s .entry)) (now (slots .entry)) i (now (key .entry)) r ⌝ }
 {
@@ -40,14 +42,22 @@ fn pointer_used<'a, 'b, 'c, 'd, 'e, 'f>(
     scratch: &'e mut [u8],
     p: &'f [u8],
 ) -> bool
-    requires { ⌜ Pointing (now p) × (length (now p) ≤ length (now scratch)) × (12 ≤ length (now slots)) ⌝ }
+    requires { ⌜ Pointing (now p) × (length (now p) ≤ length (now scratch)) × (mapSlots ≤ length (now slots)) ⌝ }
     requires { ⌜ Indexes (now s) (now slots) (now places) (now prints) (now ends) ⌝ }
     ensures { λ r. ⌜ PointerUsed (now (s .entry)) (now (p .entry)) r ⌝ }
 {
     let Wrote::Bytes(n) = read_pointer(scratch, p) else {
         return false;
     };
-    has_name(s, slots, places, prints, ends, 7, &scratch[0..n])
+    has_name(
+        s,
+        slots,
+        places,
+        prints,
+        ends,
+        maps::POINTERS,
+        &scratch[0..n],
+    )
 }
 
 // Whether the line in b, of that class, is kept.
@@ -61,7 +71,7 @@ pub fn is_kept_class<'a, 'b, 'c, 'd, 'e, 'f>(
     scratch: &'f mut [u8],
     class: Class,
 ) -> bool
-    requires { ⌜ (12 ≤ length (now slots)) × (length (now b) ≤ length (now scratch)) × ClassIn (now b) class ⌝ }
+    requires { ⌜ (mapSlots ≤ length (now slots)) × (length (now b) ≤ length (now scratch)) × ClassIn (now b) class ⌝ }
     requires { ⌜ Indexes (now s) (now slots) (now places) (now prints) (now ends) ⌝ }
     ensures { λ r. ⌜ KeptIn (now (s .entry)) (now (slots .entry)) (now (b .entry)) class r ⌝ }
 {

@@ -12,6 +12,7 @@ use Rattle.json.specs.Tree.{Json, nameOf, asObject}
 use Rattle.json_strings.specs.Decoded.{decodedAt}
 use Rattle.json_prints.specs.Prints.{Names}
 use Rattle.json_walk.specs.Walk.{jsonAt}
+use Rattle.card_table.specs.Numbers.{groupCount, mapCount}
 use Rattle.name_index.specs.declared.Noted.{Noted}
 use Rattle.name_index.specs.declared.Noted.the-variants.{Rows, Unfit}
 
@@ -31,7 +32,7 @@ slotNames s at = pick (eqb at 0) (some []) (namesAt 15 s at)
 
 -- The groups: the seven maps, whose slots are the sixth to the twelfth, and the members of the card itself.
 unfoldable pub groupNames : Bytes → List ℕ → ℕ → Option (List Bytes)
-groupNames s slots i = pick (eqb i 7) (namesAt 16 s 0) (slotNames s (getD slots (i + 5) 0))
+groupNames s slots i = pick (eqb i mapCount) (namesAt 16 s 0) (slotNames s (getD slots (i + 5) 0))
 
 -- a group has a name
 abbrev pub HasName : Bytes → List ℕ → ℕ → Bytes → Bool → Type 0
@@ -77,7 +78,7 @@ pub record Group (s : Bytes) (slots : List ℕ) (places prints : List ℕ) (i a 
 pub record NameIndex (s : Bytes) (slots : List ℕ) (places prints ends : List ℕ) : Type 0 where
   pub even : length places ≡ length prints
   pub wide : length ends ≡ 9
-  pub groups : (i : ℕ) → i < 8 → Group s slots places prints i (getD ends i 0) (getD ends (i + 1) 0)
+  pub groups : (i : ℕ) → i < groupCount → Group s slots places prints i (getD ends i 0) (getD ends (i + 1) 0)
 
 -- what is noted, if anything is
 abbrev pub Indexes : Bytes → List ℕ → List ℕ → List ℕ → List ℕ → Type 0

@@ -1,4 +1,6 @@
 // The names of a JSON card's maps and members, noted once by their places and prints: then whether one is there is asked without a walk over the text.
+use card_table::maps;
+use card_table::members;
 use json_has::has_member;
 use json_prints::is_key_noted;
 use json_prints::print_from;
@@ -9,6 +11,7 @@ use json_walk::next_member;
 ghost use mathlib.Core.Path.{_≡_};
 ghost use Prim.Native.Nat.{_≤_, _<_};
 ghost use lib.ListN.{length, take};
+ghost use Rattle.card_table.specs.Numbers.{groupCount, mapSlots};
 ghost use Rattle.name_index.specs.Groups.{NotesName, NotedIn, NotesNames, NotesGroup, Indexes, HasName};
 
 // How many rows the names took, or that one did not fit: there was no row for it, or its place or its print has more than sixteen bits.
@@ -71,6 +74,9 @@ fn note_names<'a, 'b>(
     }
 }
 
+// Where each group begins, and where the last ends.
+pub const ENDS: usize = maps::GROUPS + 1;
+
 // The names of the group i: of the map i, whose slot is the sixth for the first, or, the last group, of the card itself.
 fn note_group<'a, 'b, 'c>(
     places: &'a mut [u16],
@@ -79,20 +85,20 @@ fn note_group<'a, 'b, 'c>(
     slots: &'c [usize],
     i: usize,
 ) -> Noted
-    requires { ⌜ (i < 8) × (12 ≤ length (now slots)) ⌝ }
+    requires { ⌜ (i < groupCount) × (mapSlots ≤ length (now slots)) ⌝ }
     requires { ⌜ length (now places) ≡ length (now prints) ⌝ }
     ensures { λ r. ⌜ NotedIn (length (now (places .entry))) r ⌝ }
     ensures { λ r. ⌜ NotesGroup (now (s .entry)) (now (slots .entry)) i r (now (places .exit)) (now (prints .exit)) ⌝ }
 {
-    if i == 7 {
-        return note_names(places, prints, s, 0, 15);
+    if i == maps::POINTERS {
+        return note_names(places, prints, s, 0, members::DEPTH);
     }
-    let k = i + 5;
+    let k = i + members::MAPS;
     let at = slots[k];
     if at == 0 {
         return Noted::Rows(0);
     }
-    note_names(places, prints, s, at, 14)
+    note_names(places, prints, s, at, maps::DEPTH)
 }
 
 // All groups, one after the other, with the row that each begins at and that after the last. Answers how many such rows there are: none where a name did
@@ -104,14 +110,14 @@ pub fn note_groups<'a, 'b, 'c, 'd>(
     s: &'c [u8],
     slots: &'d [usize],
 ) -> usize
-    requires { ⌜ (length (now ends) ≡ 9) × (12 ≤ length (now slots)) ⌝ }
+    requires { ⌜ (length (now ends) ≡ 9) × (mapSlots ≤ length (now slots)) ⌝ }
     requires { ⌜ length (now places) ≡ length (now prints) ⌝ }
     ensures { λ r. ⌜ (r ≤ 9) × Indexes (now (s .entry)) (now (slots .entry)) (now (places .exit)) (now (prints .exit)) (take r (now (ends .exit))) ⌝ }
 {
     ends[0] = 0;
     let mut n = 0;
     let mut i = 0;
-    while i < 8 {
+    while i < maps::GROUPS {
         let Noted::Rows(k) = note_group(&mut places[n..], &mut prints[n..], s, slots, i) else {
             return 0;
         };
@@ -119,23 +125,23 @@ pub fn note_groups<'a, 'b, 'c, 'd>(
         i += 1;
         ends[i] = n;
     }
-    9
+    ENDS
 }
 
 // The same question, asked of the text.
 fn has_walked<'a, 'b, 'c>(s: &'a [u8], slots: &'b [usize], i: usize, key: &'c [u8]) -> bool
-    requires { ⌜ (i < 8) × (12 ≤ length (now slots)) ⌝ }
+    requires { ⌜ (i < groupCount) × (mapSlots ≤ length (now slots)) ⌝ }
     ensures { λ r. ⌜ HasName (now (s .entry)) (now (slots .entry)) i (now (key .entry)) r ⌝ }
 {
-    if i == 7 {
-        return has_member(s, 0, 15, key);
+    if i == maps::POINTERS {
+        return has_member(s, 0, members::DEPTH, key);
     }
-    let k = i + 5;
+    let k = i + members::MAPS;
     let at = slots[k];
     if at == 0 {
         return false;
     }
-    has_member(s, at, 14, key)
+    has_member(s, at, maps::DEPTH, key)
 }
 
 // Whether a group has a name, by what is noted, or by a walk where nothing is.
@@ -148,7 +154,7 @@ pub fn has_name<'a, 'b, 'c, 'd, 'e>(
     i: usize,
     key: &'e [u8],
 ) -> bool
-    requires { ⌜ (i < 8) × (12 ≤ length (now slots)) ⌝ }
+    requires { ⌜ (i < groupCount) × (mapSlots ≤ length (now slots)) ⌝ }
     requires { ⌜ Indexes (now s) (now slots) (now places) (now prints) (now ends) ⌝ }
     ensures { λ r. ⌜ HasName (now (s .entry)) (now (slots .entry)) i (now (key .entry)) r ⌝ }
 {

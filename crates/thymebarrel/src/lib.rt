@@ -79,13 +79,22 @@ pub extern "C" fn thymebarrel_member(json: &[u8], name: &[u8], length: &mut usiz
     start
 }
 
+// How many numbers a state is for a caller.
+const STATE: usize = 7;
+
+// No state has this number.
+const NO_NUMBER: usize = stream_reader::PAST + 1;
+
+// What a call of the stream answers for more.
+const MORE: u8 = 255;
+
 // The state that a caller's seven numbers stand for; what are not seven are no state.
 fn state_in(row: &[usize]) -> State
     ensures { λ r. ⌜ r ≡ stateOf (now (row .entry)) ⌝ }
 {
-    if row.len() != 7 {
+    if row.len() != STATE {
         return State {
-            number: 1000001,
+            number: NO_NUMBER,
             inside: false,
             len: 0,
             col: 0,
@@ -115,7 +124,7 @@ fn bit_of(b: bool) -> usize
 fn put_state(row: &mut [usize], s: State)
     ensures { λ _. ⌜ now (row .exit) ≡ rowPut (now (row .entry)) s ⌝ }
 {
-    if row.len() != 7 {
+    if row.len() != STATE {
         return;
     }
     row[0] = s.number;
@@ -135,7 +144,7 @@ fn tell(said: Said, place: &mut usize, written: &mut usize) -> u8
         Said::More => {
             *place = 0;
             *written = 0;
-            return 255;
+            return MORE;
         }
         Said::Answer(r) => {
             return tell_outcome(r, place, written);

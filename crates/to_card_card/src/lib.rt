@@ -1,5 +1,8 @@
 // The whole card from JSON that was read as sound: its sections one after the other, each lent the rest of the room.
 use card_maps::put_maps;
+use card_table::lines;
+use card_table::members;
+use line_limits::LINES;
 use line_pen::fill;
 use to_card_head::put_head;
 use to_card_kept::put_kept;
@@ -14,14 +17,18 @@ ghost use lib.ListN.{length};
 ghost use Rattle.json_index.specs.Index.{Indexes};
 ghost use Rattle.to_card_lines.specs.Lines.{LinesIn};
 ghost use Rattle.to_card_kept.specs.Kept.{Lent};
+ghost use Rattle.card_table.specs.Numbers.{cardSlots};
 ghost use Rattle.to_card_card.specs.Whole.{cardNames, few, FewIn, PutsOthers, PutsLast, PutsRest, PutsBody, PutsCard};
 
-// 513 for every number over 512.
+// This stands for every number of lines that is over a card's.
+const MORE: usize = LINES + 1;
+
+// The number of lines, or that.
 fn up_to(n: usize) -> usize
     ensures { λ r. ⌜ r ≡ few n ⌝ }
 {
-    if n > 512 {
-        return 513;
+    if n > LINES {
+        return MORE;
     }
     n
 }
@@ -34,12 +41,12 @@ fn put_others<'a, 'b, 'c, 'd>(
     slots: &'d [usize],
 ) -> Lines
     requires { ⌜ length (now out) ≤ length (now buffer) ⌝ }
-    requires { ⌜ 14 ≤ length (now slots) ⌝ }
+    requires { ⌜ cardSlots ≤ length (now slots) ⌝ }
     ensures { λ r. ⌜ LinesIn (length (now (out .entry))) r ⌝ }
     ensures { λ r. ⌜ length (now (out .exit)) ≡ length (now (out .entry)) ⌝ }
     ensures { λ r. ⌜ PutsOthers (now (s .entry)) (now (slots .entry)) (now (out .entry)) r (now (out .exit)) ⌝ }
 {
-    if slots[13] == 0 {
+    if slots[members::OTHER] == 0 {
         return Lines::All {
             bytes: 0,
             lines: 0,
@@ -153,7 +160,7 @@ fn put_body<'a, 'b, 'c, 'd, 'e, 'f, 'g>(
     ensures { λ r. ⌜ length (now (out .exit)) ≡ length (now (out .entry)) ⌝ }
     ensures { λ r. ⌜ PutsBody (now (s .entry)) (now (slots .entry)) (now (out .entry)) r (now (out .exit)) ⌝ }
 {
-    let name = slots[4];
+    let name = slots[members::NAME];
     let Named::All {
         bytes: n,
         lines: l,
@@ -199,10 +206,10 @@ pub fn put_card<'a, 'b, 'c, 'd, 'e, 'f, 'g>(
     ensures { λ r. ⌜ length (now (out .exit)) ≡ length (now (out .entry)) ⌝ }
     ensures { λ r. ⌜ PutsCard (now (s .entry)) (now (out .entry)) r (now (out .exit)) ⌝ }
 {
-    let card = slots[0];
-    let version = slots[1];
-    let uid = slots[2];
-    let kind = slots[3];
+    let card = slots[members::TYPE];
+    let version = slots[members::VERSION];
+    let uid = slots[members::UID];
+    let kind = slots[members::KIND];
     let Lines::All {
         bytes: n,
         lines: l,
@@ -220,7 +227,7 @@ pub fn put_card<'a, 'b, 'c, 'd, 'e, 'f, 'g>(
         return Lines::Wrong;
     };
     let e = n + m;
-    let z = fill(&mut out[e..], b"END:VCARD\r\n");
+    let z = fill(&mut out[e..], &lines::END);
     let bytes = e + z;
     let lines = up_to(up_to(l) + k);
     let ok = c & d;

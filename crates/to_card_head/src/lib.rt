@@ -1,5 +1,8 @@
 // The first lines of a card from the members of the JSON: BEGIN, VERSION, UID and KIND. A slot is the place of a member's value, 0 where it is absent.
 use card_pen::byte_at;
+use card_pen::style;
+use card_table::lines;
+use card_table::members;
 use card_value::string_in;
 use json_strings::Byte;
 use json_strings::equals;
@@ -134,8 +137,8 @@ fn word_in(s: &[u8], slot: usize) -> usize
 fn put_start<'a, 'b>(out: &'a mut [u8], s: &'b [u8], uid: usize) -> Penned
     ensures { λ r. ⌜ Starts (now (s .entry)) uid (now (out .entry)) r (now (out .exit)) ⌝ }
 {
-    let n = fill(out, b"BEGIN:VCARD\r\nVERSION:4.0\r\n");
-    let p = put_string_line(&mut out[n..], b"UID:", 0, s, uid);
+    let n = fill(out, &lines::START);
+    let p = put_string_line(&mut out[n..], &lines::UID, style::RAW, s, uid);
     let m = n + p.bytes;
     let ok = p.carried;
     Penned {
@@ -157,10 +160,10 @@ pub fn put_head<'a, 'b>(
     ensures { λ r. ⌜ length (now (out .exit)) ≡ length (now (out .entry)) ⌝ }
     ensures { λ r. ⌜ PutsHead (now (s .entry)) card version uid kind (now (out .entry)) r (now (out .exit)) ⌝ }
 {
-    if !holds(s, card, b"Card") {
+    if !holds(s, card, &members::CARD) {
         return Lines::Wrong;
     }
-    if !holds(s, version, b"1.0") {
+    if !holds(s, version, &members::FIRST_VERSION) {
         return Lines::Wrong;
     }
     let u = filled_in(s, uid);
@@ -184,7 +187,7 @@ pub fn put_head<'a, 'b>(
     let p = put_start(out, s, u);
     let n = p.bytes;
     let ok = p.carried;
-    let q = put_string_line(&mut out[n..], b"KIND:", 0, s, k);
+    let q = put_string_line(&mut out[n..], &lines::KIND, style::RAW, s, k);
     let m = n + q.bytes;
     Lines::All {
         bytes: m,

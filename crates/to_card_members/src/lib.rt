@@ -2,6 +2,9 @@
 use card_pen::Told;
 use card_pen::can_stand;
 use card_pen::pen_escape;
+use card_pen::style;
+use card_table::lines;
+use card_table::members;
 use json_access::member_at;
 use json_compact::put_compact;
 use json_index::which_name;
@@ -86,7 +89,7 @@ fn pen_pointer<'a, 'b>(out: &'a mut [u8], column: usize, s: &'b [u8], at: usize)
                 let p = pen_pointed(&mut out[n..], k, b);
                 n += p.bytes;
                 k = p.column;
-                ok = ok & can_stand(3, b);
+                ok = ok & can_stand(style::PARAM, b);
                 i = j;
                 h = g;
             }
@@ -140,7 +143,7 @@ fn put_member<'a, 'b, 'c>(
     ensures { λ r. ⌜ MemberLine (now (s .entry)) name a e (now (out .entry)) r (now (out .exit)) ⌝ }
     ensures { λ r. ⌜ length (now (buffer .exit)) ≡ length (now (buffer .entry)) ⌝ }
 {
-    let p = pen_bytes(out, 0, b"JSPROP;JSPTR=\"");
+    let p = pen_bytes(out, 0, &lines::JSPROP);
     let n1 = p.bytes;
     let q = pen_pointer(&mut out[n1..], p.column, s, name);
     let n2 = n1 + q.bytes;
@@ -175,12 +178,8 @@ fn put_other<'a, 'b, 'c>(
     ensures { λ r. ⌜ length (now (buffer .exit)) ≡ length (now (buffer .entry)) ⌝ }
     ensures { λ r. ⌜ PutsOther (now (s .entry)) name a e (now (out .entry)) r (now (out .exit)) ⌝ }
 {
-    let k = which_name(
-        s,
-        name,
-        b"@type,version,uid,kind,name,nicknames,emails,phones,links,notes,titles,organizations,vCardProps",
-    );
-    if k != 13 {
+    let k = which_name(s, name, &members::NAMES);
+    if k != members::OTHER {
         return Lines::All {
             bytes: 0,
             lines: 0,
@@ -213,7 +212,7 @@ fn put_from<'a, 'b, 'c>(out: &'a mut [u8], buffer: &'b mut [u8], s: &'c [u8], at
     let mut lines = 0;
     let mut ok = true;
     loop {
-        let m = member_at(s, i, 15);
+        let m = member_at(s, i, members::DEPTH);
         let q = m.name;
         let a = m.start;
         let e = m.end;

@@ -1,4 +1,8 @@
 // FN and N from the member `name` of the JSON: judged (12), written, and told whether lines can carry them (13).
+use card_pen::style;
+use card_table::lines;
+use card_table::name;
+use card_table::parts;
 use card_value::string_in;
 use json_access::Kind;
 use json_access::kind_at;
@@ -11,6 +15,7 @@ use to_card_lines::put_string_line;
 use to_card_order::are_apart;
 use to_card_order::pen_order;
 use to_card_parts::Array;
+use to_card_parts::ROWS;
 use to_card_parts::list_rows;
 use to_card_parts::open_array;
 ghost use mathlib.Core.Path.{_≡_};
@@ -19,6 +24,7 @@ ghost use lib.ListN.{length};
 ghost use Rattle.json_index.specs.Index.{Clear};
 ghost use Rattle.to_card_lines.specs.Lines.{LinesIn};
 ghost use Rattle.to_card_parts.specs.Parts.{RowsFrom};
+ghost use Rattle.card_table.specs.Numbers.{partCount};
 ghost use Rattle.to_card_name.specs.Name.{TellsUnordered, TellsFull, ListedIn, ListsAs, TellsParts, TellsApart, OrderLine, FnLine, NLine, PutsAlone, PutsBoth, PutsList, PutsSlots, asLines, PutsName, SaysFull};
 
 // The full name: where its string stands; it is absent; or 12.
@@ -93,7 +99,7 @@ fn list_components<'a, 'b, 'c, 'd>(
     s: &'d [u8],
     slot: usize,
 ) -> Listed
-    requires { ⌜ 7 ≤ length (now marks) ⌝ }
+    requires { ⌜ partCount ≤ length (now marks) ⌝ }
     requires { ⌜ Clear (now marks) ⌝ }
     requires { ⌜ 16 ≤ length (now kinds) ⌝ }
     requires { ⌜ 16 ≤ length (now values) ⌝ }
@@ -121,13 +127,15 @@ fn list_components<'a, 'b, 'c, 'd>(
 
 // Whether any kind has a value.
 fn has_parts(marks: &[usize]) -> bool
-    requires { ⌜ 7 ≤ length (now marks) ⌝ }
+    requires { ⌜ partCount ≤ length (now marks) ⌝ }
     ensures { λ r. ⌜ TellsParts (now (marks .entry)) r ⌝ }
 {
-    (marks[0] != 0)
-        | ((marks[1] != 0)
-            | ((marks[2] != 0)
-                | ((marks[3] != 0) | ((marks[4] != 0) | ((marks[5] != 0) | (marks[6] != 0))))))
+    (marks[parts::SURNAME] != 0)
+        | ((marks[parts::GIVEN] != 0)
+            | ((marks[parts::GIVEN2] != 0)
+                | ((marks[parts::TITLE] != 0)
+                    | ((marks[parts::CREDENTIAL] != 0)
+                        | ((marks[parts::SURNAME2] != 0) | (marks[parts::GENERATION] != 0))))))
 }
 
 // Whether two kinds have no value in common; looked for where both have values.
@@ -142,12 +150,12 @@ fn apart_in<'a, 'b, 'c, 'd>(
     other: usize,
 ) -> bool
     requires { ⌜ at ≤ length (now s) ⌝ }
-    requires { ⌜ 7 ≤ length (now marks) ⌝ }
+    requires { ⌜ partCount ≤ length (now marks) ⌝ }
     requires { ⌜ 16 ≤ length (now kinds) ⌝ }
     requires { ⌜ 16 ≤ length (now values) ⌝ }
     requires { ⌜ RowsFrom (now s) at (now kinds) (now values) rows ⌝ }
-    requires { ⌜ one < 7 ⌝ }
-    requires { ⌜ other < 7 ⌝ }
+    requires { ⌜ one < partCount ⌝ }
+    requires { ⌜ other < partCount ⌝ }
     ensures { λ r. ⌜ TellsApart (now (s .entry)) at (now (marks .entry)) one other r ⌝ }
 {
     if marks[one] == 0 {
@@ -174,7 +182,7 @@ fn put_order_line<'a, 'b, 'c, 'd, 'e, 'f, 'g>(
     order: &'g [u8],
 ) -> Penned
     requires { ⌜ at ≤ length (now s) ⌝ }
-    requires { ⌜ 7 ≤ length (now marks) ⌝ }
+    requires { ⌜ partCount ≤ length (now marks) ⌝ }
     requires { ⌜ 16 ≤ length (now kinds) ⌝ }
     requires { ⌜ 16 ≤ length (now values) ⌝ }
     requires { ⌜ RowsFrom (now s) at (now kinds) (now values) rows ⌝ }
@@ -217,19 +225,19 @@ fn put_fn<'a, 'b, 'c, 'd, 'e>(
     rows: usize,
 ) -> Penned
     requires { ⌜ at ≤ length (now s) ⌝ }
-    requires { ⌜ 7 ≤ length (now marks) ⌝ }
+    requires { ⌜ partCount ≤ length (now marks) ⌝ }
     requires { ⌜ 16 ≤ length (now kinds) ⌝ }
     requires { ⌜ 16 ≤ length (now values) ⌝ }
     requires { ⌜ RowsFrom (now s) at (now kinds) (now values) rows ⌝ }
     ensures { λ r. ⌜ FnLine (now (s .entry)) full at (now (marks .entry)) (now (out .entry)) r (now (out .exit)) ⌝ }
 {
     if full != 0 {
-        return put_string_line(out, b"FN:", 1, s, full);
+        return put_string_line(out, &lines::FN, style::TEXT, s, full);
     }
     let p = put_order_line(
         out,
-        b"FN;DERIVED=TRUE:",
-        1,
+        &lines::DERIVED_FN,
+        style::TEXT,
         b' ',
         s,
         at,
@@ -237,7 +245,7 @@ fn put_fn<'a, 'b, 'c, 'd, 'e>(
         kinds,
         values,
         rows,
-        b"0123456",
+        &parts::FN_ORDER,
     );
     let n = p.bytes;
     Penned {
@@ -257,7 +265,7 @@ fn put_n<'a, 'b, 'c, 'd, 'e>(
     rows: usize,
 ) -> Counted
     requires { ⌜ at ≤ length (now s) ⌝ }
-    requires { ⌜ 7 ≤ length (now marks) ⌝ }
+    requires { ⌜ partCount ≤ length (now marks) ⌝ }
     requires { ⌜ 16 ≤ length (now kinds) ⌝ }
     requires { ⌜ 16 ≤ length (now values) ⌝ }
     requires { ⌜ RowsFrom (now s) at (now kinds) (now values) rows ⌝ }
@@ -272,8 +280,8 @@ fn put_n<'a, 'b, 'c, 'd, 'e>(
     }
     let p = put_order_line(
         out,
-        b"N:",
-        2,
+        &lines::N,
+        style::PARTS,
         b',',
         s,
         at,
@@ -281,12 +289,30 @@ fn put_n<'a, 'b, 'c, 'd, 'e>(
         kinds,
         values,
         rows,
-        b"05;1;2;3;46;5;6",
+        &parts::N_ORDER,
     );
     let n = p.bytes;
     let ok = p.carried;
-    let a = apart_in(s, at, marks, kinds, values, rows, 0, 5);
-    let b = apart_in(s, at, marks, kinds, values, rows, 4, 6);
+    let a = apart_in(
+        s,
+        at,
+        marks,
+        kinds,
+        values,
+        rows,
+        parts::SURNAME,
+        parts::SURNAME2,
+    );
+    let b = apart_in(
+        s,
+        at,
+        marks,
+        kinds,
+        values,
+        rows,
+        parts::CREDENTIAL,
+        parts::GENERATION,
+    );
     Counted {
         bytes: n,
         lines: 1,
@@ -301,14 +327,14 @@ fn put_alone<'a, 'b>(out: &'a mut [u8], s: &'b [u8], full: usize) -> Lines
     ensures { λ r. ⌜ PutsAlone (now (s .entry)) full (now (out .entry)) r (now (out .exit)) ⌝ }
 {
     if full == 0 {
-        let n = fill(out, b"FN;DERIVED=TRUE:\r\n");
+        let n = fill(out, &lines::EMPTY_FN);
         return Lines::All {
             bytes: n,
             lines: 1,
             carries: true,
         };
     }
-    let p = put_string_line(out, b"FN:", 1, s, full);
+    let p = put_string_line(out, &lines::FN, style::TEXT, s, full);
     let n = p.bytes;
     let ok = p.carried;
     Lines::All {
@@ -330,7 +356,7 @@ fn put_both<'a, 'b, 'c, 'd, 'e>(
     rows: usize,
 ) -> Lines
     requires { ⌜ at ≤ length (now s) ⌝ }
-    requires { ⌜ 7 ≤ length (now marks) ⌝ }
+    requires { ⌜ partCount ≤ length (now marks) ⌝ }
     requires { ⌜ 16 ≤ length (now kinds) ⌝ }
     requires { ⌜ 16 ≤ length (now values) ⌝ }
     requires { ⌜ RowsFrom (now s) at (now kinds) (now values) rows ⌝ }
@@ -357,9 +383,9 @@ fn put_list<'a, 'b>(out: &'a mut [u8], s: &'b [u8], full: usize, components: usi
     ensures { λ r. ⌜ length (now (out .exit)) ≡ length (now (out .entry)) ⌝ }
     ensures { λ r. ⌜ PutsList (now (s .entry)) full components (now (out .entry)) r (now (out .exit)) ⌝ }
 {
-    let mut marks = [0usize; 7];
-    let mut kinds = [0usize; 16];
-    let mut values = [0usize; 16];
+    let mut marks = [0usize; parts::COUNT];
+    let mut kinds = [0usize; ROWS];
+    let mut values = [0usize; ROWS];
     match list_components(&mut marks, &mut kinds, &mut values, s, components) {
         Listed::Wrong => Lines::Wrong,
         Listed::Nothing => put_alone(out, s, full),
@@ -422,14 +448,14 @@ pub fn put_name<'a, 'b>(out: &'a mut [u8], s: &'b [u8], slot: usize) -> Named
     if slot > s.len() {
         return Named::Wrong;
     }
-    let mut slots = [0usize; 4];
-    if !index_object(&mut slots, s, slot, 14, b"full,components,isOrdered") {
+    let mut slots = [0usize; name::SLOTS];
+    if !index_object(&mut slots, s, slot, name::DEPTH, &name::NAMES) {
         return Named::Wrong;
     }
-    let a = slots[0];
-    let b = slots[1];
-    let c = slots[2];
-    let d = slots[3];
+    let a = slots[name::FULL];
+    let b = slots[name::COMPONENTS];
+    let c = slots[name::ORDERED];
+    let d = slots[name::OTHER];
     let Lines::All {
         bytes: n,
         lines: l,

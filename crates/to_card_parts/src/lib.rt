@@ -1,5 +1,7 @@
 // The components of a name: judged in one pass, and written kind by kind, in an order that is given as data.
 use card_pen::pen_string;
+use card_table::component;
+use card_table::parts;
 use card_value::string_in;
 use json_index::index_to_end;
 use json_index::which_name;
@@ -16,7 +18,13 @@ ghost use mathlib.Core.Bool.{true};
 ghost use Prim.Native.Nat.{_≤_, _<_};
 ghost use lib.ListN.{length};
 ghost use Rattle.json_index.specs.Index.{Clear};
+ghost use Rattle.card_table.specs.Numbers.{partCount};
 ghost use Rattle.to_card_parts.specs.Parts.{KindIn, TellsSlots, TellsComponent, foundOf, EndIn, ArrayIn, OpensAs, Marks, ChecksFrom, InksOne, InksKind, AddsRow, RowsFrom};
+
+// So many components have a row each; more are gone through again where they are asked for.
+pub const ROWS: usize = 16;
+
+pub const MORE: usize = ROWS + 1;
 
 // A component: the place of its kind among the kinds, and the place of its value; or 12.
 pub enum Found {
@@ -60,12 +68,8 @@ fn component_of(s: &[u8], kind: usize, value: usize) -> Found
     if q == 0 {
         return Found::Wrong;
     }
-    let k = which_name(
-        s,
-        q,
-        b"surname,given,given2,title,credential,surname2,generation",
-    );
-    if k >= 7 {
+    let k = which_name(s, q, &parts::KINDS);
+    if k >= parts::COUNT {
         return Found::Wrong;
     }
     let v = string_in(s, value);
@@ -82,14 +86,14 @@ pub fn component_to_end(s: &[u8], at: usize) -> Ended
     ensures { λ r. ⌜ TellsComponent (now (s .entry)) at (foundOf r) ⌝ }
     ensures { λ r. ⌜ EndIn (now (s .entry)) at r ⌝ }
 {
-    let mut slots = [0usize; 3];
-    let end = index_to_end(&mut slots, s, at, 12, b"kind,value");
+    let mut slots = [0usize; component::SLOTS];
+    let end = index_to_end(&mut slots, s, at, component::DEPTH, &component::NAMES);
     if end == 0 {
         return Ended::Wrong;
     }
-    let a = slots[0];
-    let b = slots[1];
-    let other = slots[2];
+    let a = slots[component::KIND];
+    let b = slots[component::VALUE];
+    let other = slots[component::OTHER];
     if other != 0 {
         return Ended::Wrong;
     }
@@ -128,7 +132,7 @@ fn mark_kind<'a, 'b>(marks: &'a mut [usize], s: &'b [u8], kind: usize, value: us
     true
 }
 
-// A row for one more component: its kind, and the place of its value. How many rows there are then; 17 where they would be more than 16.
+// A row for one more component: its kind, and the place of its value. How many rows there are then; MORE where there is none left.
 fn put_row<'a, 'b>(
     kinds: &'a mut [usize],
     values: &'b mut [usize],
@@ -140,15 +144,15 @@ fn put_row<'a, 'b>(
     requires { ⌜ 16 ≤ length (now values) ⌝ }
     ensures { λ r. ⌜ AddsRow (now (kinds .entry)) (now (values .entry)) rows kind value (now (kinds .exit)) (now (values .exit)) r ⌝ }
 {
-    if rows >= 16 {
-        return 17;
+    if rows >= ROWS {
+        return MORE;
     }
     kinds[rows] = kind;
     values[rows] = value;
     rows + 1
 }
 
-// A row for each component from a place on, and marks of the kinds that have a value that is not empty. How many there are; 17 where they are more than 16; 0 where an element is no component.
+// A row for each component from a place on, and marks of the kinds that have a value that is not empty. How many there are; MORE where they are more than the rows; 0 where an element is no component.
 pub fn list_rows<'a, 'b, 'c, 'd>(
     marks: &'a mut [usize],
     kinds: &'b mut [usize],
@@ -157,7 +161,7 @@ pub fn list_rows<'a, 'b, 'c, 'd>(
     at: usize,
 ) -> usize
     requires { ⌜ at ≤ length (now s) ⌝ }
-    requires { ⌜ 7 ≤ length (now marks) ⌝ }
+    requires { ⌜ partCount ≤ length (now marks) ⌝ }
     requires { ⌜ Clear (now marks) ⌝ }
     requires { ⌜ 16 ≤ length (now kinds) ⌝ }
     requires { ⌜ 16 ≤ length (now values) ⌝ }
@@ -322,7 +326,7 @@ pub fn pen_listed<'a, 'b, 'c, 'd>(
     requires { ⌜ RowsFrom (now s) at (now kinds) (now values) rows ⌝ }
     ensures { λ r. ⌜ InksKind (now (s .entry)) at style mark kind begun (now (out .entry)) column r (now (out .exit)) ⌝ }
 {
-    if rows > 16 {
+    if rows > ROWS {
         return pen_kind(out, column, style, mark, s, at, kind, begun);
     }
     let mut i = 0;
