@@ -38,12 +38,12 @@ no-cr : (w : Bytes) → lowered w ≡ ascii "begin:vcard" → all (other 13) w �
 unfolding lower between all
 no-cr w e = sym (lowered-all (other 13) (lower-test (other 13) refl) w) ∙ ap (all (other 13)) e
 
-all-both : (p : ℕ → Bool) (s t : Bytes) → all p s ≡ true → all p t ≡ true → all p (s ++ t) ≡ true
+pub all-both : (p : ℕ → Bool) (s t : Bytes) → all p s ≡ true → all p t ≡ true → all p (s ++ t) ≡ true
 unfolding all
 all-both p [] t h k = k
 all-both p (c ∷ s) t h k = rw (and-left (p c) _ h) (all-both p s t (and-right (p c) _ h) k)
 
-all-second : (p : ℕ → Bool) (s t : Bytes) → all p (s ++ t) ≡ true → all p t ≡ true
+pub all-second : (p : ℕ → Bool) (s t : Bytes) → all p (s ++ t) ≡ true → all p t ≡ true
 unfolding all
 all-second p [] t h = h
 all-second p (c ∷ s) t h = all-second p s t (and-right (p c) _ h)
@@ -56,7 +56,7 @@ line-no-lf w cr h = all-both (other 10) w cr (no-lf w (h .any-case)) (by (h .lin
     by (inl e) = rw e
     by (inr e) = rw e
 
-cr-gone : (s : Bytes) → withoutCr (s ++ 13 ∷ []) ≡ s
+pub cr-gone : (s : Bytes) → withoutCr (s ++ 13 ∷ []) ≡ s
 unfolding withoutCr
 cr-gone [] = refl
 cr-gone (c ∷ []) = refl
@@ -75,7 +75,7 @@ without-end w cr h = by (h .line-end)
     by (inl e) = rw (e, append-nil w) (cr-none w (no-cr w (h .any-case)))
     by (inr e) = rw e (cr-gone w)
 
-is-begin : (w : Bytes) → lowered w ≡ ascii "begin:vcard" → isBegin w ≡ true
+pub is-begin : (w : Bytes) → lowered w ≡ ascii "begin:vcard" → isBegin w ≡ true
 unfolding isBegin same
 is-begin w e = rw e
 
