@@ -1,14 +1,17 @@
 -- Strings of forms, made keys, VERSION and TEL said once more as lists and worked cases: what is taken of a whole range, and both ends of each length.
 use mathlib.Core.Path.{_≡_}
-use mathlib.Core.Bool.{Bool, true, false}
+use mathlib.Core.Bool.{true, false, not}
 use mathlib.Core.List.{List, [], _∷_, _++_, map}
-use Prim.Native.Nat.{ℕ}
 use lib.ListN.{replicate}
+use lib.Dec.{eqb, ltb}
 use Rattle.text.specs.Bytes.{Bytes, ascii, joined, flat, keep}
-use Rattle.text.specs.Listed.{bytesThat}
+use Rattle.text.specs.Listed.{countFrom, bytesThat}
 use Rattle.convert.specs.Value.{isKeyText, isPref}
 use Rattle.convert.specs.Keys.{keys}
-use Rattle.convert.specs.Answers.{isStemText, isCardNumber}
+use Rattle.convert.specs.FromJson.{isLowerWord}
+use Rattle.convert.specs.Carry.{carriedRaw, carriedText, carriedParam}
+use Rattle.convert.specs.Answers.{isStemText, isCardNumber, garbled, valueFits, emptied}
+use Rattle.convert.specs.InWords.{controls}
 use Rattle.convert.specs.Worked.{text, card, lines, made, json, homeLines, Case, converts, refuses, comes-home, turns-away, returns-as, given, wanted}
 
 -- all strings of digits one longer than these
@@ -87,6 +90,22 @@ pub record ListedConvert : Type 0 where
   pub stem-ends : bytesThat (λ c. isStemText (ascii "ab" ++ c ∷ [])) ≡ ascii "-0123456789:ABCDEFGHIJKLMNOPQRSTUVWXYZ_abcdefghijklmnopqrstuvwxyz"
   pub stem-lengths : map (λ n. isStemText (replicate n 107)) (0 ∷ 1 ∷ 2 ∷ 199 ∷ 200 ∷ 201 ∷ 202 ∷ []) ≡ false ∷ true ∷ true ∷ true ∷ true ∷ false ∷ false ∷ []
   pub card-numbers : map isCardNumber (0 ∷ 1 ∷ 2 ∷ 999998 ∷ 999999 ∷ 1000000 ∷ 1000001 ∷ []) ≡ false ∷ true ∷ true ∷ true ∷ true ∷ false ∷ false ∷ []
+  -- 4: "not UTF-8 after unfolding, or a control (0-31 but tab, 127)", of lines of one byte: controls, and from 128 on no byte is a character
+  pub garbled-bytes : bytesThat (λ c. garbled (c ∷ [])) ≡ controls ++ countFrom 128 128
+  -- 7: VALUE "not a name"; 9: "KIND empty or not of name characters": of one byte these are
+  pub value-bytes : bytesThat (λ c. valueFits ((c ∷ []) ∷ [])) ≡ ascii "-0123456789ABCDEFGHIJKLMNOPQRSTUVWXYZabcdefghijklmnopqrstuvwxyz"
+  pub kind-bytes : bytesThat (λ c. not (emptied (record { group = []; name = ascii "Kind"; params = []; value = c ∷ [] })))
+      ≡ ascii "-0123456789ABCDEFGHIJKLMNOPQRSTUVWXYZabcdefghijklmnopqrstuvwxyz"
+  pub kind-ends : bytesThat (λ c. not (emptied (record { group = []; name = ascii "KIND"; params = []; value = ascii "org" ++ c ∷ [] })))
+      ≡ ascii "-0123456789ABCDEFGHIJKLMNOPQRSTUVWXYZabcdefghijklmnopqrstuvwxyz"
+  pub emptied-ones : map emptied (record { group = []; name = ascii "KIND"; params = []; value = [] } ∷ record { group = []; name = ascii "uid"; params = []; value = [] } ∷ record { group = []; name = ascii "FN"; params = []; value = [] } ∷ [])
+      ≡ true ∷ true ∷ false ∷ []
+  -- 12: "a kind no KIND line gives": lower-case names
+  pub kind-words : bytesThat (λ c. isLowerWord (c ∷ [])) ≡ ascii "-0123456789abcdefghijklmnopqrstuvwxyz"
+  -- 13: "a control but tab (LF allowed in TEXT), `"` in a parameter": what is not carried
+  pub not-raw : bytesThat (λ c. not (carriedRaw (c ∷ []))) ≡ controls
+  pub not-text : bytesThat (λ c. not (carriedText (c ∷ []))) ≡ keep (λ c. not (eqb c 10)) controls
+  pub not-parameter : bytesThat (λ c. not (carriedParam (c ∷ []))) ≡ keep (λ c. ltb c 32) controls ++ ascii "\"" ++ 127 ∷ []
   -- "the prefix, hyphen, smallest positive number no converted line of that map has as PROP-ID or earlier key"
   pub made-keys : joined (ascii " ") (keys (ascii "K") (replicate 25 []))
       ≡ ascii "K-1 K-2 K-3 K-4 K-5 K-6 K-7 K-8 K-9 K-10 K-11 K-12 K-13 K-14 K-15 K-16 K-17 K-18 K-19 K-20 K-21 K-22 K-23 K-24 K-25"

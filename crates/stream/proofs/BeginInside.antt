@@ -217,5 +217,5 @@ begin-inside =
       at-the-end = λ stem c w cr n h. end-line stem c (w ++ cr) n (kind-begin w cr h);
       reply = λ k n l. refl;
       front = front-of;
-      front-at-the-end = λ stem c w cr n d h r. rw (next-opens c w cr n h) (capital-front c w cr n h d r);
+      front-at-the-end = λ stem c w cr n d h r. ap (λ (b : Bool). pick b (fronted (inside c (w ++ cr) n) d) d) (next-opens c w cr n h) ∙ capital-front c w cr n h d r;
     }
