@@ -107,7 +107,7 @@ pub fn json_to_card(json: impl AsRef<[u8]>) -> Result<String, Refusal> {
 /// assert_eq!(member(json, "uid"), Some("\"u\""));
 /// assert_eq!(member(json, "kind"), None);
 /// ```
-pub fn member<'a, J: AsRef<[u8]> + ?Sized>(json: &'a J, name: impl AsRef<[u8]>) -> Option<&'a str> {
+pub fn member<J: AsRef<[u8]> + ?Sized>(json: &J, name: impl AsRef<[u8]>) -> Option<&str> {
     let json = json.as_ref();
     let (start, length) = ffi::member(json, name.as_ref());
     let value = std::str::from_utf8(&json[start..start + length]).ok()?;

@@ -8,7 +8,7 @@ use thymebarrel::*;
 #[test]
 fn the_samples_convert() {
     for name in SAMPLES {
-        let json = card_to_json(b"reg", 1, &sample(&format!("{name}.vcf"))).expect(name);
+        let json = card_to_json(b"reg", 1, sample(&format!("{name}.vcf"))).expect(name);
         let want = sample(&format!("{name}.json"));
         assert_eq!(json + "\n", text(&want), "{name}");
     }
@@ -17,7 +17,7 @@ fn the_samples_convert() {
 #[test]
 fn the_others_are_refused() {
     for (name, number, place) in REFUSED {
-        let refusal = card_to_json(b"reg", 1, &sample(name)).expect_err(name);
+        let refusal = card_to_json(b"reg", 1, sample(name)).expect_err(name);
         assert_eq!(refusal, Refusal { number, place }, "{name}");
         assert_eq!(refusal.reason().map(Reason::number), Some(number));
     }
@@ -27,7 +27,7 @@ fn the_others_are_refused() {
 #[test]
 fn the_samples_come_home() {
     for name in SAMPLES {
-        let json = card_to_json(b"reg", 1, &sample(&format!("{name}.vcf"))).expect(name);
+        let json = card_to_json(b"reg", 1, sample(&format!("{name}.vcf"))).expect(name);
         let home = json_to_card(&json).expect(name);
         assert_eq!(home, text(&sample(&format!("home/{name}.vcf"))), "{name}");
         assert_eq!(card_to_json(b"other", 2, &home), Ok(json), "{name}");
@@ -37,7 +37,7 @@ fn the_samples_come_home() {
 #[test]
 fn other_json_is_refused() {
     for (name, number, place) in REFUSED_JSON {
-        let refusal = json_to_card(&sample(name)).expect_err(name);
+        let refusal = json_to_card(sample(name)).expect_err(name);
         assert_eq!(refusal, Refusal { number, place }, "{name}");
     }
     let json = sample("ada.json");
@@ -60,9 +60,9 @@ fn other_json_is_refused() {
 
 #[test]
 fn stem_and_number_make_the_uid() {
-    let json = card_to_json(b"shop-7", 999_999, &sample("ada.vcf")).expect("it converts");
+    let json = card_to_json(b"shop-7", 999_999, sample("ada.vcf")).expect("it converts");
     assert_eq!(member(&json, "uid"), Some("\"shop-7-999999\""));
-    let bad = |stem: &[u8], number| card_to_json(stem, number, &sample("ada.vcf"));
+    let bad = |stem: &[u8], number| card_to_json(stem, number, sample("ada.vcf"));
     let refusal = Refusal {
         number: 15,
         place: 0,
@@ -100,12 +100,12 @@ fn the_room_of_a_card() {
         let fill = "x".repeat(bytes - start.len() - end.len());
         format!("{start}{fill}{end}").into_bytes()
     };
-    assert!(card_to_json(b"reg", 1, &card(CARD_BYTES)).is_ok());
+    assert!(card_to_json(b"reg", 1, card(CARD_BYTES)).is_ok());
     let refusal = Refusal {
         number: 3,
         place: 0,
     };
-    assert_eq!(card_to_json(b"reg", 1, &card(CARD_BYTES + 1)), Err(refusal));
+    assert_eq!(card_to_json(b"reg", 1, card(CARD_BYTES + 1)), Err(refusal));
 }
 
 #[test]

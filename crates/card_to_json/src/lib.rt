@@ -2,9 +2,8 @@
 ghost use mathlib.Core.Path.{_≡_};
 ghost use Prim.Native.Nat.{_≤_, _<_};
 ghost use lib.ListN.{length};
-ghost use Rattle.convert.specs.Answers.{cardRoom, jsonRoom, lineRoom, yes, cardToJson};
-ghost use Rattle.convert.specs.Served.{leftBy};
-ghost use Rattle.served.specs.Served.{outcomeOf};
+ghost use Rattle.convert.specs.Answers.{cardRoom, jsonRoom, lineRoom, yes};
+ghost use Rattle.services.specs.Contracts.{CardGives};
 ghost use Rattle.card_classes.specs.Pass.{HasLines, Lent};
 ghost use Rattle.to_json_card.specs.Card.{Lent as Written};
 ghost use Rattle.card_to_json.specs.Inner.{inner, Serves};
@@ -311,8 +310,7 @@ fn small(out: &mut [u8], stem: &[u8], number: usize, card: &[u8]) -> Outcome
 
 // Card to JSON: 15, then 3 for a long card, then what its lines say. A refusal leaves the lent output as it was.
 pub fn card_to_json(stem: &[u8], number: usize, card: &[u8], out: &mut [u8]) -> Outcome
-    ensures { λ r. ⌜ r ≡ outcomeOf (cardToJson (now (stem .entry)) number (length (now (out .entry))) (now (card .entry))) ⌝ }
-    ensures { λ r. ⌜ now (out .exit) ≡ leftBy (now (out .entry)) (cardToJson (now (stem .entry)) number (length (now (out .entry))) (now (card .entry))) ⌝ }
+    ensures { λ r. ⌜ CardGives (now (stem .entry)) number (now (card .entry)) (now (out .entry)) r (now (out .exit)) ⌝ }
 {
     if !is_stem(stem) {
         return Outcome::Refused {

@@ -7,10 +7,9 @@ ghost use Rattle.json.specs.Read.{reading};
 ghost use Rattle.json_index.specs.Index.{Clear, Indexes};
 ghost use Rattle.json_open.specs.Opened.{asVerdict, Opens};
 ghost use Rattle.json_read.specs.Verdict.{verdict, InWords};
-ghost use Rattle.convert.specs.Answers.{jsonRoom, jsonToCard};
-ghost use Rattle.convert.specs.Served.{leftBy};
-ghost use Rattle.served.specs.Served.{outcomeOf};
-ghost use Rattle.served_put.specs.Lent.{Serves};
+ghost use Rattle.convert.specs.Answers.{jsonRoom};
+ghost use Rattle.served.specs.Served.{Serves};
+ghost use Rattle.services.specs.Contracts.{JsonGives};
 ghost use Rattle.to_card_kept.specs.Kept.{LentText, Lent};
 ghost use Rattle.to_card_card.specs.Whole.{cardNames};
 ghost use Rattle.json_to_card.specs.Inner.{Reads, inner, becomes, fit};
@@ -284,8 +283,7 @@ fn tiny(out: &mut [u8], json: &[u8]) -> Outcome
 
 // JSON to card. The scratch goes by the size of the text, and so does the stack that a call takes. A refusal leaves the lent output as it was.
 pub fn json_to_card(json: &[u8], out: &mut [u8]) -> Outcome
-    ensures { λ r. ⌜ r ≡ outcomeOf (jsonToCard (length (now (out .entry))) (now (json .entry))) ⌝ }
-    ensures { λ r. ⌜ now (out .exit) ≡ leftBy (now (out .entry)) (jsonToCard (length (now (out .entry))) (now (json .entry))) ⌝ }
+    ensures { λ r. ⌜ JsonGives (now (json .entry)) (now (out .entry)) r (now (out .exit)) ⌝ }
 {
     if json.len() <= 2048 {
         return tiny(out, json);

@@ -30,10 +30,7 @@ fn run(mut arguments: Arguments) -> Result<(), Failure> {
     let keep_going = batch.keeps_going();
     batch.run(&mut report, |report, input, out| {
         let Input { reader, name } = input;
-        let mut reader: Box<dyn BufRead> = match skip {
-            true => Box::new(skip_bom(reader).map_err(Trouble::Read)?.0),
-            false => reader,
-        };
+        let (mut reader, _) = skip_bom(skip, reader).map_err(Trouble::Read)?;
         let mut first = line(&mut reader).map_err(Trouble::Read)?;
         let more = !blank_to_end(&mut reader, &mut first).map_err(Trouble::Read)?;
         match is_line(

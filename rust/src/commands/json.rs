@@ -78,10 +78,7 @@ impl Json {
         name: &str,
         report: &mut Report,
     ) -> std::io::Result<Vec<u8>> {
-        let reader: Box<dyn BufRead> = match self.skip_bom {
-            true => Box::new(skip_bom(reader)?.0),
-            false => reader,
-        };
+        let (reader, _) = skip_bom(self.skip_bom, reader)?;
         let mut card = Vec::new();
         if self.without.is_empty() {
             reader.take(MOST).read_to_end(&mut card)?;

@@ -6,7 +6,7 @@ use crate::files;
 use crate::options::SKIP_BOM;
 use crate::skip_bom::skip_bom;
 use std::ffi::OsStr;
-use std::io::{self, BufRead, Read};
+use std::io::{self, Read};
 use thymebarrel::{json_to_card, member, Reason, JSON_BYTES};
 
 pub const COMMAND: Command = Command {
@@ -34,11 +34,7 @@ fn run(mut arguments: Arguments) -> Result<(), Failure> {
 }
 
 fn read(file: &OsStr, skip: bool) -> io::Result<Vec<u8>> {
-    let reader = files::open(file)?;
-    let reader: Box<dyn BufRead> = match skip {
-        true => Box::new(skip_bom(reader)?.0),
-        false => reader,
-    };
+    let (reader, _) = skip_bom(skip, files::open(file)?)?;
     let mut json = Vec::new();
     reader.take(JSON_BYTES as u64 + 1).read_to_end(&mut json)?;
     Ok(json)

@@ -7,6 +7,7 @@ mod generate;
 mod help;
 mod json;
 mod member;
+mod place;
 mod stream;
 
 use crate::arguments::Arguments;

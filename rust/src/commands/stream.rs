@@ -1,5 +1,6 @@
 //! `thymebarrel stream`: the cards of files, one line for each.
 
+use super::place::{is_outside, Place};
 use super::{Command, Failure};
 use crate::arguments::Arguments;
 use crate::files;
@@ -11,7 +12,7 @@ use std::cell::RefCell;
 use std::ffi::OsStr;
 use std::io::{self, BufRead, BufWriter, Write};
 use std::rc::Rc;
-use thymebarrel::{member, Answer, Cards, Reason, Refusal};
+use thymebarrel::{member, Answer, Cards, Refusal};
 
 pub const COMMAND: Command = Command {
     name: "stream",
@@ -82,11 +83,7 @@ struct Opened {
 
 impl<W: Write> Run<W> {
     fn open(&self, file: &OsStr) -> io::Result<Opened> {
-        let (mut reader, mut skipped) = (files::open(file)?, 0);
-        if self.skip_bom {
-            let (rest, bytes) = skip_bom(reader)?;
-            (reader, skipped) = (Box::new(rest), bytes);
-        }
+        let (mut reader, skipped) = skip_bom(self.skip_bom, files::open(file)?)?;
         let mut notes = Rc::default();
         if !self.without.is_empty() {
             let (rest, noted) = Without::new(reader, self.without.clone());
@@ -172,81 +169,4 @@ impl<W: Write> Run<W> {
             }
         }
     }
-}
-
-/// A line that is in no card: `after` the last card before it.
-fn is_outside(refusal: Refusal) -> bool {
-    refusal.reason() == Some(Reason::NotOneCard)
-}
-
-/// Where an answer's card stands in its file.
-struct Place<'a> {
-    file: &'a str,
-    offset: u64,
-    length: u64,
-    without: Vec<String>,
-}
-
-impl<'a> Place<'a> {
-    fn of(answer: &Answer, file: &'a str, skipped: u64, notes: &Notes) -> Place<'a> {
-        let (from, to) = (answer.offset, answer.offset + answer.length);
-        let left_out = notes.bytes_before(from);
-        let inside = notes.bytes_before(to.saturating_sub(1)) - left_out;
-        Place {
-            file,
-            offset: from + skipped + left_out,
-            length: answer.length + inside,
-            without: notes.names(from, to),
-        }
-    }
-
-    /// Which card it is, and where.
-    fn head(&self, answer: &Answer, refusal: Refusal) -> String {
-        let Place {
-            file,
-            offset,
-            length,
-            ..
-        } = self;
-        let after = if is_outside(refusal) { "after " } else { "" };
-        format!(
-            "{file}: {after}card {}, {length} bytes from byte {offset}",
-            answer.number
-        )
-    }
-}
-
-/// The members that both kinds of lines have.
-impl std::fmt::Display for Place<'_> {
-    fn fmt(&self, f: &mut std::fmt::Formatter<'_>) -> std::fmt::Result {
-        let Place {
-            file,
-            offset,
-            length,
-            without,
-        } = self;
-        write!(
-            f,
-            "\"file\":{},\"offset\":{offset},\"length\":{length}",
-            json_string(file)
-        )?;
-        if !without.is_empty() {
-            let names: Vec<String> = without.iter().map(|name| json_string(name)).collect();
-            write!(f, ",\"without\":[{}]", names.join(","))?;
-        }
-        Ok(())
-    }
-}
-
-fn json_string(text: &str) -> String {
-    let mut string = String::from("\"");
-    for c in text.chars() {
-        match c {
-            '"' | '\\' => string.extend(['\\', c]),
-            c if c.is_control() => string.push_str(&format!("\\u{:04x}", c as u32)),
-            c => string.push(c),
-        }
-    }
-    string.push('"');
-    string
 }

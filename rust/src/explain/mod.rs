@@ -11,9 +11,11 @@ mod not_kept;
 mod not_one_card;
 mod off_grammar;
 mod path;
+mod shape;
 mod shown;
 mod stream;
 mod tree;
+mod write;
 
 use crate::{Reason, Refusal, JSON_BYTES};
 use path::Fault;

@@ -3,8 +3,10 @@
 //! without which the card is not refused 12 is the one.
 
 use super::path::{Fault, Path};
+use super::shape::string;
 use super::shown::quoted;
-use super::tree::{self, Value};
+use super::tree::Value;
+use super::write::write;
 use crate::Reason;
 
 const PARAMETERS: usize = 32;
@@ -42,7 +44,7 @@ fn is_refused(card: &Value, entries: usize) -> bool {
         }
     }
     let mut json = String::new();
-    tree::write(&Value::Object(members), &mut json);
+    write(&Value::Object(members), &mut json);
     let answer = crate::json_to_card(&json);
     answer.is_err_and(|refusal| refusal.reason() == Some(Reason::NotACard))
 }
@@ -120,16 +122,6 @@ fn counts(path: &Path, parameters: &Value, kind: &Value) -> Option<Fault> {
         Fault::at(
             path.clone(),
             "has over 32 parameters or 64 values, its type counted",
-        )
-    })
-}
-
-fn string(path: &Path, value: &Value) -> Option<Fault> {
-    let wrong = value.text().is_none();
-    wrong.then(|| {
-        Fault::at(
-            path.clone(),
-            format!("is {}: it must be a string", value.kind()),
         )
     })
 }

@@ -41,8 +41,8 @@ returns-3 c =
     let a = c .before .before .before .before .before .before .before .before .before .before .before .args in
     let card = c .before .before .before .before .before .before .event2 .given .1 in
     let json = c .before .before .card-to-json in (
-      card-said (now (a .stem)) (now (a .buffer)) (now (a .out)) (a .event) _ _ card _ (json .ensures .0),
-      card-left (now (a .stem)) (now (a .buffer)) (now (a .out)) (a .event) _ _ card _ (json .ensures .1),
+      card-said (now (a .stem)) (now (a .buffer)) (now (a .out)) (a .event) _ _ card _ (json .ensures .said),
+      card-left (now (a .stem)) (now (a .buffer)) (now (a .out)) (a .event) _ _ card _ (json .ensures .left),
     )
 
 pub say-spec : {M : Type 1} → statement M

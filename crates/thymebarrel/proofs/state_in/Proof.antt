@@ -1,5 +1,5 @@
 use denote.Ref.{now}
-use Rattle.thymebarrel.proofs.Streaming.{no-row, row-read}
+use Rattle.c_calls.proofs.Numbers.{no-row, row-read}
 use borrow.Author.Needs.{needs}
 use Rattle.thymebarrel.proofs.state_in.Statement.{statement}
 use Rattle.thymebarrel.proofs.state_in.Tie as tie
