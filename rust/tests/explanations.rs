@@ -250,13 +250,6 @@ fn outside_of_a_card_it_is_told_why() {
 /// Within a string the marks of JSON mean nothing.
 #[test]
 fn eleven_says_nothing_false() {
-    for (json, what) in [("['\\/','\\u/']", "half"), ("['a\\']", "half")] {
-        let lines = json_lines(json);
-        assert!(
-            !lines.iter().any(|line| line.contains("comments")),
-            "{what}: {lines:?}"
-        );
-    }
     let what = |json: &[u8]| {
         json_to_card(json)
             .expect_err("refused")
@@ -272,6 +265,7 @@ fn eleven_says_nothing_false() {
     assert_eq!(what(b"[\"abc"), "The JSON stops short, within a string.");
     assert_eq!(what(b"['a']"), "JSON has double quotes, not single ones.");
     assert_eq!(what(b"[1] // no"), "JSON has no comments.");
+    assert_eq!(what(b"[\"\\u//\"]"), Reason::NotJson.meaning());
     assert_eq!(what(b"[1 / 2]"), Reason::NotJson.meaning());
     assert_eq!(what(b"{\0\"\0"), "This is UTF-16.");
 }
