@@ -2,7 +2,7 @@
 
 use crate::explain::Explanation;
 use crate::lines::has_uid;
-use crate::{member, utf8, Lent, Reason, Refusal, Said, Stream, CARD_BYTES, JSON_BYTES};
+use crate::{utf8, Lent, Reason, Refusal, Said, Stream, CARD_BYTES, JSON_BYTES};
 use std::fmt;
 use std::io::{self, BufRead, ErrorKind};
 
@@ -168,16 +168,11 @@ impl<R: BufRead> Cards<R> {
         }
     }
 
+    /// The uid stands third in the JSON, after two members that are always the same.
     fn is_made(&self, json: &str, card: &[u8]) -> bool {
-        let made = [
-            b"\"",
-            &self.stem[..],
-            b"-",
-            self.number.to_string().as_bytes(),
-            b"\"",
-        ]
-        .concat();
-        member(json, "uid").is_some_and(|uid| uid.as_bytes() == made) && !has_uid(card)
+        let (stem, number) = (String::from_utf8_lossy(&self.stem), self.number);
+        let made = format!(r#"{{"@type":"Card","version":"1.0","uid":"{stem}-{number}""#);
+        json.starts_with(&made) && !has_uid(card)
     }
 }
 

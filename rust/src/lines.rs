@@ -48,6 +48,11 @@ impl Line {
         String::from_utf8_lossy(after_dot).to_ascii_uppercase()
     }
 
+    /// Whether it has one of these names.
+    pub fn is_named(&self, names: &[&str]) -> bool {
+        names.contains(&self.name().as_str())
+    }
+
     /// What follows the first colon; of a line with parameters perhaps more than its value.
     pub fn value(&self) -> &[u8] {
         let colon = self.bytes.iter().position(|b| *b == b':');

@@ -45,7 +45,7 @@ pub const SKIP_BOM: Opt = flag(
 pub const WITHOUT: Opt = valued(
     "--without",
     "NAMES",
-    "leave out lines of these names before the card is read, and tell so: --without PHOTO,KEY",
+    "leave out lines of these names before the card is read, and tell so: --without PHOTO,KEY; lines are then counted without them",
 );
 pub const OUTPUT: Opt = valued(
     "--output",

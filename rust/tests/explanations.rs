@@ -37,7 +37,7 @@ fn twelve_names_the_member() {
         ("'kind':'Org'", "kind is \"Org\": a kind has small letters, digits and hyphens only"),
         ("'':1", "\"\" is a member with an empty name, which no JSPTR can name"),
         ("'vCardProps':[['x',{},'unknown','v'],['X',{},'unknown','v']]", "vCardProps[1][0] is \"X\": it must be a name of small letters, digits and hyphens"),
-        ("'vCardProps':[['note',{},'unknown','v']]", "vCardProps[0] is a line that would be converted here, not kept"),
+        ("'vCardProps':[['note',{},'unknown','v']]", "vCardProps[0] is a line that would not be kept where it stands"),
     ] {
         assert_eq!(json_lines(&person(members))[0], told);
     }
@@ -153,11 +153,11 @@ fn one_says_which_of_its_causes() {
         ),
         (
             with(|c| c.replace("BEGIN:VCARD", "BEGIN:VCARD ").into_bytes()),
-            "A space stands beside BEGIN:VCARD on its line.",
+            "White space stands beside BEGIN:VCARD on its line.",
         ),
         (
             with(|c| c.replace("END:VCARD", "END:VCARD ").into_bytes()),
-            "A space stands beside END:VCARD on its line.",
+            "White space stands beside END:VCARD on its line.",
         ),
         (
             with(|c| c.repeat(2).into_bytes()),
@@ -183,6 +183,91 @@ fn one_says_which_of_its_causes() {
         inside[..2],
         ["line 3: begin:vcard", "Such a line stands within the card."]
     );
+}
+
+/// What looks like a cause but is not it is not named.
+#[test]
+fn one_says_nothing_false() {
+    assert_eq!(
+        card_lines("\n{\"a\":1}")[0],
+        "This looks like JSON, not like a card."
+    );
+    assert_eq!(
+        card_lines("\njunk\n")[..2],
+        ["line 1: ", "The first line is not BEGIN:VCARD."]
+    );
+    assert_eq!(
+        card_lines("\u{feff}junk\n")[1],
+        "The first line is not BEGIN:VCARD."
+    );
+    let nested = "BEGIN:VCARD\nBEGIN:VCARD\nVERSION:4.0\nFN:a\nEND:VCARD\nEND:VCARD\n";
+    assert_eq!(
+        card_lines(nested)[..2],
+        ["line 2: BEGIN:VCARD", "Such a line stands within the card."]
+    );
+    assert_eq!(
+        card_lines("END:VCARD\n\n")[0],
+        "An empty line stands after END:VCARD."
+    );
+}
+
+/// A stream's line outside of any card.
+#[test]
+fn outside_of_a_card_it_is_told_why() {
+    let told = |stream: &[u8]| {
+        let answer = Cards::new("reg", stream)
+            .next()
+            .expect("an answer")
+            .expect("read");
+        answer.explained.expect("it is refused").what
+    };
+    let outside = "This line stands outside of any card.";
+    for (stream, what) in [
+        (
+            &b"\xef\xbb\xbfBEGIN:VCARD\nVERSION:4.0\n"[..],
+            "A byte order mark stands before BEGIN:VCARD.",
+        ),
+        (
+            b"BEGIN:VCARD \nVERSION:4.0\n",
+            "White space stands beside BEGIN:VCARD on its line.",
+        ),
+        (
+            b"BEGIN:VCARD\rVERSION:4.0\rEND:VCARD\r",
+            "The lines end with CR alone.",
+        ),
+        (b"B\0E\0G\0I\0N\0", "This is UTF-16."),
+        (
+            b"{\"@type\":\"Card\"}\n",
+            "This looks like JSON, not like a card.",
+        ),
+        (b"\xef\xbb\xbfjunk\n", outside),
+        (b"END:VCARD\n", outside),
+    ] {
+        assert_eq!(told(stream), what);
+    }
+}
+
+/// Within a string the marks of JSON mean nothing.
+#[test]
+fn eleven_says_nothing_false() {
+    let what = |json: &[u8]| {
+        json_to_card(json)
+            .expect_err("refused")
+            .explain_json(json)
+            .what
+    };
+    assert_eq!(what(b"[\"\\'\"]"), "JSON has no such escape.");
+    assert_eq!(
+        what(b"[\"a\nb\"]"),
+        "A string has a control character, which JSON writes as an escape."
+    );
+    assert_eq!(what(b"[\"\xff\"]"), "A string is not UTF-8.");
+    assert_eq!(what(b"[\"abc"), "The JSON stops short, within a string.");
+    assert_eq!(what(b"['a']"), "JSON has double quotes, not single ones.");
+    assert_eq!(what(b"[1] // no"), "JSON has no comments.");
+    assert_eq!(what(b"[\"\\u//\"]"), Reason::NotJson.meaning());
+    assert_eq!(what(b"[1 / 2]"), Reason::NotJson.meaning());
+    assert_eq!(what(b"{\0\"\0"), "This is UTF-16.");
 }
 
 #[test]

@@ -133,36 +133,44 @@ fn bad_value(line: &Line) -> &'static str {
 }
 
 fn over_room(card: &[u8], lines: &[Line]) -> Explanation {
-    let advice = Reason::OverRoom.advice();
     let supposed = usize::from(!card.ends_with(b"\n"));
     if card.len() + supposed > CARD_BYTES {
-        let what = "The card has over 32,768 bytes, its last line end counted.";
-        return Explanation::new(what, advice).placed(longest(lines));
+        return too_large(
+            "The card has over 32,768 bytes, its last line end counted.",
+            lines,
+        );
     }
     let before_end = |line: &&Line| !line.bytes.eq_ignore_ascii_case(b"END:VCARD");
     if lines.iter().take_while(before_end).count() > CARD_LINES {
-        return Explanation::new(
-            "The card has over 512 lines, folded ones counted once.",
-            "Leave out lines that are not needed.",
-        );
+        let what = "The card has over 512 lines, folded ones counted once.";
+        return Explanation::new(what, "Leave out lines that are not needed.");
     }
-    Explanation::new("The card's JSON would have over 65,536 bytes.", advice).placed(longest(lines))
+    too_large("The card's JSON would have over 65,536 bytes.", lines)
 }
 
-/// The longest line: most often it alone is what makes a card too large.
-pub fn longest(lines: &[Line]) -> Vec<String> {
+/// With the longest line, which most often alone makes a card too large.
+pub fn too_large(what: &str, lines: &[Line]) -> Explanation {
+    let advice = Reason::OverRoom.advice();
     let longest = lines
         .iter()
         .enumerate()
         .max_by_key(|(_, line)| line.bytes.len());
-    let told = |(k, line): (usize, &Line)| {
-        let (place, in_file, length, shown) = (
-            k + 1,
-            line.in_file,
-            line.bytes.len(),
-            beginning(&line.bytes),
-        );
-        format!("the longest line, {length} bytes, is line {place} (line {in_file} counting BEGIN and folds): {shown}")
+    let Some((k, line)) = longest else {
+        return Explanation::new(what, advice);
     };
-    longest.map(told).into_iter().collect()
+    let (length, shown) = (line.bytes.len(), beginning(&line.bytes));
+    let place = format!(
+        "line {} (line {} counting BEGIN and folds)",
+        k + 1,
+        line.in_file
+    );
+    let place = format!("the longest line, {length} bytes, is {place}: {shown}");
+    let advice = match line.is_named(&["PHOTO", "LOGO", "SOUND", "KEY", "NOTE"]) {
+        true => format!(
+            "{advice} The command does so with --without {}.",
+            line.name()
+        ),
+        false => advice.to_string(),
+    };
+    Explanation::new(what, &advice).placed(vec![place])
 }

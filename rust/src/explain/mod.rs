@@ -121,10 +121,11 @@ pub fn of_json(refusal: Refusal, reason: Reason, json: &[u8]) -> Explanation {
         }),
         Reason::NotCarried => tree::read(json).and_then(|read| {
             let fault = not_carried::fault(&read.value)?;
-            Some(Explanation::of_member(
-                &fault,
-                "Take it out of this string: no line of a card can carry it.",
-            ))
+            let advice = match fault.what.ends_with("too") {
+                true => "Leave one of the two out: the N line would lose it on its way back.",
+                false => "Take the character out of this string: no line of a card can carry it.",
+            };
+            Some(Explanation::of_member(&fault, advice))
         }),
         _ => None,
     };

@@ -12,6 +12,7 @@ const DEPTH: usize = 16;
 pub fn explain(json: &[u8], place: usize) -> Explanation {
     let told = match place {
         0 => beginning(json).or_else(|| pair_or_names(json)),
+        1 => beginning(json),
         _ => None,
     };
     told.unwrap_or_else(|| at(json, place))
@@ -28,7 +29,9 @@ fn beginning(json: &[u8]) -> Option<Explanation> {
             "The text begins with a byte order mark, which JSON does not have.",
             "Take its three bytes away: the command does so with --skip-bom.",
         ),
-        [0xff, 0xfe, ..] | [0xfe, 0xff, ..] => ("This is UTF-16.", "Save the JSON as UTF-8."),
+        [0xff, 0xfe, ..] | [0xfe, 0xff, ..] | [b'{' | b'[', 0, ..] | [0, b'{' | b'[', ..] => {
+            ("This is UTF-16.", "Save the JSON as UTF-8.")
+        }
         [b'B' | b'b', ..] if json[..json.len().min(11)].eq_ignore_ascii_case(b"BEGIN:VCARD") => (
             "This is a vCard, not JSON.",
             "Use thymebarrel json, card_to_json in a program.",
@@ -84,20 +87,34 @@ fn at(json: &[u8], place: usize) -> Explanation {
 fn cause(json: &[u8], place: usize) -> &'static str {
     let mark = |b: &&u8| !b" \t\r\n".contains(b);
     let last = json[..place].iter().rev().find(mark);
-    match json.get(place) {
-        None => "The JSON stops short.",
-        Some(b'[' | b'{') if depth(&json[..place]) >= DEPTH => {
+    let Some(depth) = depth(&json[..place]) else {
+        return in_string(json, place);
+    };
+    match &json[place..] {
+        [] => "The JSON stops short.",
+        [b'[' | b'{', ..] if depth >= DEPTH => {
             "Objects and arrays within each other are deeper than 16."
         }
-        Some(b'}' | b']') if last == Some(&b',') => "A comma stands before the closing bracket.",
-        Some(b'\'') => "JSON has double quotes, not single ones.",
-        Some(b'/') => "JSON has no comments.",
+        [b'}' | b']', ..] if last == Some(&b',') => "A comma stands before the closing bracket.",
+        [b'\'', ..] => "JSON has double quotes, not single ones.",
+        [b'/', b'/' | b'*', ..] => "JSON has no comments.",
         _ => Reason::NotJson.meaning(),
     }
 }
 
-/// How many objects and arrays are open after this part of a text that is JSON so far.
-fn depth(before: &[u8]) -> usize {
+fn in_string(json: &[u8], place: usize) -> &'static str {
+    match json.get(place) {
+        None => "The JSON stops short, within a string.",
+        Some(0..=31) => "A string has a control character, which JSON writes as an escape.",
+        Some(_) if json[..place].ends_with(b"\\") => "JSON has no such escape.",
+        Some(128..) => "A string is not UTF-8.",
+        _ => Reason::NotJson.meaning(),
+    }
+}
+
+/// How many objects and arrays are open after this part of a text that is JSON so far;
+/// none where a string is.
+fn depth(before: &[u8]) -> Option<usize> {
     let (mut open, mut in_string, mut escaped) = (0usize, false, false);
     for b in before {
         match b {
@@ -109,7 +126,7 @@ fn depth(before: &[u8]) -> usize {
             _ => {}
         }
     }
-    open
+    (!in_string).then_some(open)
 }
 
 fn position(json: &[u8], place: usize) -> Vec<String> {

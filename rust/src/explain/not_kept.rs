@@ -28,7 +28,7 @@ pub fn fault(card: &Value) -> Option<Fault> {
         }
     }
     let path = Path::default().name("vCardProps").index(good);
-    let would = "is a line that would be converted here, not kept";
+    let would = "is a line that would not be kept where it stands";
     entry(&path, &entries[good]).or_else(|| Some(Fault::at(path, would)))
 }
 

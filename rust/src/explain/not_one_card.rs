@@ -5,15 +5,19 @@ use super::Explanation;
 
 /// A file of another kind, or a byte order mark, by its first bytes.
 pub fn other_kind(bytes: &[u8]) -> Option<Explanation> {
+    let begins = |bytes: &[u8]| {
+        let first = &bytes[..bytes.len().min(11)];
+        first.eq_ignore_ascii_case(b"BEGIN:VCARD")
+    };
     let (what, advice) = match bytes {
-        [0xef, 0xbb, 0xbf, ..] => (
+        [0xef, 0xbb, 0xbf, rest @ ..] if begins(rest) => (
             "A byte order mark stands before BEGIN:VCARD.",
             "Take its three bytes away: the command does so with --skip-bom.",
         ),
         [0xff, 0xfe, ..] | [0xfe, 0xff, ..] | [b'B' | b'b', 0, ..] | [0, b'B' | b'b', ..] => {
             ("This is UTF-16.", "Save the card as UTF-8.")
         }
-        [b'{' | b'[', ..] => (
+        _ if matches!(bytes.trim_ascii_start().first(), Some(b'{' | b'[')) => (
             "This looks like JSON, not like a card.",
             "Use thymebarrel card, json_to_card in a program.",
         ),
@@ -78,39 +82,56 @@ impl Frame<'_> {
         self.lines.last().copied().unwrap_or_default()
     }
 
-    fn count(&self, edge: Edge) -> usize {
-        self.lines.iter().filter(|line| is(edge, line)).count()
+    fn has_end(&self) -> bool {
+        self.lines.iter().any(|line| is(Edge::End, line))
     }
 
     fn blank_lines(&self) -> Option<Explanation> {
-        let blank = |line: &[u8]| line.iter().all(|b| b" \t\r".contains(b));
-        let what = match (blank(self.first()), blank(self.last())) {
-            (true, _) => "An empty line stands before BEGIN:VCARD.",
-            (_, true) => "An empty line stands after END:VCARD.",
-            _ => return None,
+        let blank = |line: &&&[u8]| line.trim_ascii().is_empty();
+        let before = self.lines.iter().take_while(blank).count();
+        let after = self.lines.iter().rev().take_while(blank).count();
+        let at = |k: usize| self.lines.get(k).copied().unwrap_or_default();
+        let what = if before > 0 && is(Edge::Begin, at(before)) {
+            "An empty line stands before BEGIN:VCARD."
+        } else if after > 0 && is(Edge::End, at(self.lines.len().wrapping_sub(after + 1))) {
+            "An empty line stands after END:VCARD."
+        } else {
+            return None;
         };
-        Some(Explanation::new(what, "Take empty lines around the card away, or use thymebarrel stream, which passes over them."))
+        let advice = "Take empty lines around the card away, or use thymebarrel stream, which passes over them.";
+        Some(Explanation::new(what, advice))
     }
 
     fn spaces(&self) -> Option<Explanation> {
         let (first, last) = (self.first(), self.last());
         let what = if is(Edge::Begin, first.trim_ascii()) && !is(Edge::Begin, first) {
-            "A space stands beside BEGIN:VCARD on its line."
+            "White space stands beside BEGIN:VCARD on its line."
         } else if is(Edge::End, last.trim_ascii()) && !is(Edge::End, last) {
-            "A space stands beside END:VCARD on its line."
+            "White space stands beside END:VCARD on its line."
         } else {
             return None;
         };
-        Some(Explanation::new(what, "Take the space away."))
+        Some(Explanation::new(what, "Take it away."))
     }
 
+    /// Cards one after the other: BEGIN and END in turn, from the first line to the last.
     fn several(&self) -> Option<Explanation> {
-        let cards = self.count(Edge::Begin);
+        let is_begin = |line: &&[u8]| is(Edge::Begin, line);
+        let edges = self.lines.iter().copied();
+        let edges: Vec<bool> = edges
+            .filter(|line| is(Edge::Begin, line) || is(Edge::End, line))
+            .map(|line| is_begin(&line))
+            .collect();
+        let in_turn = edges
+            .iter()
+            .enumerate()
+            .all(|(k, begin)| *begin == (k % 2 == 0));
         let whole = is(Edge::Begin, self.first()) && is(Edge::End, self.last());
-        let closed = cards > 1 && whole && self.count(Edge::End) == cards;
-        closed.then(|| {
+        let cards = edges.len() / 2;
+        (whole && in_turn && cards > 1).then(|| {
             let what = format!("There are {cards} cards here.");
-            Explanation::new(what, "Use thymebarrel stream, in a program the stream: it takes one card after the other.")
+            let advice = "Use thymebarrel stream, in a program the stream: it takes one card after the other.";
+            Explanation::new(what, advice)
         })
     }
 
@@ -126,7 +147,7 @@ impl Frame<'_> {
         if is(Edge::End, self.last()) {
             return None;
         }
-        if self.count(Edge::End) == 0 {
+        if !self.has_end() {
             let advice = "Send the card again, whole, with END:VCARD as its last line.";
             return Some(Explanation::new(
                 "The card has no END:VCARD: perhaps it was cut off.",

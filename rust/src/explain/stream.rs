@@ -21,8 +21,7 @@ pub fn explain(
             "Begin a new stream, with another stem.",
         ),
         Reason::OverRoom if length > CARD_BYTES as u64 => {
-            let told = Explanation::new("The card has over 32,768 bytes.", reason.advice());
-            told.placed(card::longest(&unfolded(stored)))
+            card::too_large("The card has over 32,768 bytes.", &unfolded(stored))
         }
         _ => card::explain(refusal, reason, stored),
     }
@@ -33,20 +32,18 @@ fn outside(line: &[u8]) -> Explanation {
     let line = Line::first(line).bytes;
     let shown = vec![beginning(&line)];
     let is_begin = |line: &[u8]| line.eq_ignore_ascii_case(b"BEGIN:VCARD");
-    let other = match line.as_slice() {
-        // within a stream only before its first line
-        [0xef, 0xbb, 0xbf, rest @ ..] if !is_begin(rest) => None,
-        _ => not_one_card::other_kind(&line),
+    let first = line.split(|b| *b == b'\r').next().unwrap_or_default();
+    let told = if let Some(other) = not_one_card::other_kind(&line) {
+        other
+    } else if is_begin(line.trim_ascii()) {
+        let what = "White space stands beside BEGIN:VCARD on its line.";
+        Explanation::new(what, "Take it away.")
+    } else if is_begin(first) {
+        let advice = "Save the cards with LF or CR LF at the end of each line.";
+        Explanation::new("The lines end with CR alone.", advice)
+    } else {
+        let advice = "Look whether a card lacks its BEGIN:VCARD line, or take this line out.";
+        Explanation::new("This line stands outside of any card.", advice)
     };
-    let told = other.unwrap_or_else(|| match is_begin(line.trim_ascii()) {
-        true => Explanation::new(
-            "A space stands beside BEGIN:VCARD on its line.",
-            "Take the space away.",
-        ),
-        false => Explanation::new(
-            "This line stands outside of any card.",
-            "Look whether a card lacks its BEGIN:VCARD line, or take this line out.",
-        ),
-    });
     told.placed(shown)
 }
