@@ -98,7 +98,7 @@ unfit-flags =
     ++ all-are 12 (",'nicknames':{'k':{'address':'a'}}" ∷ ",'emails':{'k':{'name':'a'}}" ∷ ",'phones':{'k':{'uri':'a'}}" ∷ ",'links':{'k':{'number':'a'}}" ∷ ",'notes':{'k':{'name':'a'}}" ∷ ",'titles':{'k':{'note':'a'}}" ∷ ",'titles':{'k':{'kind':'title'}}" ∷ [])
     -- organizations: name a string, units objects of one name
     ++ all-are 12 (",'organizations':{'k':{'units':{}}}" ∷ ",'organizations':{'k':{'units':null}}" ∷ ",'organizations':{'k':{'name':'a','units':null}}" ∷ ",'organizations':{'k':{'name':'a','units':{}}}" ∷ ",'organizations':{'k':{'name':'a','units':['b']}}"
-    ∷ ",'organizations':{'k':{'name':'a','units':[{}]}}" ∷ ",'organizations':{'k':{'name':'a','units':[{'name':1}]}}" ∷ ",'organizations':{'k':{'name':'a','units':[{'name':'b'},{'name':null}]}}" ∷ ",'organizations':{'k':{'name':1,'units':[{'name':'b'}]}}"
+    ∷ ",'organizations':{'k':{'name':'a','units':[{}]}}" ∷ ",'organizations':{'k':{'name':'a','units':[{'name':1}]}}" ∷ ",'organizations':{'k':{'name':'a','units':[{'name':'b'},{'name':null}]}}" ∷ ",'organizations':{'k':{'name':1,'units':[{'name':'b'}]}}" ∷ ",'organizations':{'k':{'name':'a','units':[{'name':'b','sortAs':'c'}]}}"
     -- and something left of them
     ∷ ",'organizations':{'k':{'name':''}}" ∷ ",'organizations':{'k':{'units':[]}}" ∷ ",'organizations':{'k':{'units':[{'name':''}]}}" ∷ ",'organizations':{'k':{'name':'','units':[]}}" ∷ [])
 
