@@ -1,4 +1,4 @@
-//! The C functions of bench/rattle/pieces, each behind a safe function: every pointer
+//! The C functions of crates/pieces, each behind a safe function: every pointer
 //! comes from a slice that lives through the call, with that slice's length beside it,
 //! and what is written is borrowed mutably.
 

@@ -1,4 +1,4 @@
-// For measuring alone (`tools/bench --pieces`), and no crate of the library: the pieces that the services are made of, under C names. They are proved as far as
+// For measuring alone (`tools/bench --pieces`), and not delivered: the pieces that the services are made of, under C names. They are proved as far as
 // that no call goes wrong; what they give is for timing, and their contracts say little of it. Each function does one piece's work over a whole input, so that
 // a call is long enough to be timed. A part of the bytes is what stands from one of the starts to the next.
 ghost use Prim.Native.Nat.{_≤_};
