@@ -1,7 +1,7 @@
 -- Demands 1 to 3 hold of any functions that keep the promises of the C calls: so of the code.
 use mathlib.Core.Path.{_≡_, refl, sym, ap, subst, _∙_, fun-ext}
 use mathlib.Core.Bool.{Bool, true, false, not, _||_}
-use mathlib.Core.List.{List, [], _∷_}
+use mathlib.Core.List.{List}
 use mathlib.Core.Option.{Option, none, some}
 use Prim.Native.Nat.{ℕ}
 use native.Mathlib.Omega.{arith}
@@ -9,29 +9,26 @@ use lib.ListN.{length, take, drop}
 use lib.Dec.{leb, ltb, eqb}
 use lib.Seq.{take-append-seam}
 use borrow.Author.Tests.{ne-eqb, leb-true}
-use Rattle.text.specs.Choice.{pick}
 use Rattle.text.specs.Bytes.{Bytes}
-use Rattle.text.proofs.Cases.{byBool, and-left, and-right, not-both}
+use Rattle.text.proofs.Cases.{byBool, and-left, and-right}
 use Rattle.convert.specs.Answers.{Answer, no, yes, cardRoom, jsonRoom, isStemText, cardToJson, jsonToCard}
-use Rattle.convert.specs.Served.{Served, leftBy, served}
+use Rattle.convert.specs.Served.{served}
 use Rattle.convert.specs.Demand1.{Demand1}
 use Rattle.convert.proofs.Demand1.{demand-1}
 use Rattle.home.specs.Demand2.{Demand2}
 use Rattle.home.proofs.Demand2.{demand-2}
 use Rattle.services.specs.Contracts.{Lends}
-use Rattle.stream.specs.Calls.{Call, piece, end, stemOf, Shown, shows-more, shows, Turn, Machine, hindrance, hinders, unchanged}
+use Rattle.stream.specs.Calls.{Call, piece, end, stemOf, Shown, shows-more, shows, hindrance, hinders, unchanged}
 use Rattle.stream.specs.Demand.{OutputAfter, Hindered, Demand3}
-use Rattle.stream_reader.specs.declared.State.{State}
-use Rattle.stream_reader.specs.Machine.{freshOf}
 use Rattle.stream_machine.specs.Turn.{Given, called}
 use Rattle.stream_proved.specs.Stream.{stream}
 use Rattle.stream_proved.proofs.Demand.{demand-3}
 use Rattle.c_calls.specs.Numbers.{rowOf, stateOf, rowAfter}
-use Rattle.c_calls.specs.Promise.{Told, toldOf, Called, calledOf}
+use Rattle.c_calls.specs.Promise.{toldOf, calledOf}
 use Rattle.c_calls.specs.Calls.{Functions, Keeps, answered, seen, turnBy, callBy, machineOf}
 use Rattle.c_calls.proofs.Numbers.{fresh-numbers, put-by-others, put-read, same-range}
 use Rattle.c_calls.proofs.Refusals.{isRefusal, numbered, card-numbered, json-numbered, numberedShown, called-numbered}
-use Rattle.c_calls.proofs.Tied.{over, Tied, tied-demand-3}
+use Rattle.c_calls.proofs.Tied.{Tied, tied-demand-3}
 
 -- ---- what the number tells
 

@@ -6,7 +6,7 @@ use mathlib.Core.List.{List, [], _∷_}
 use mathlib.Core.Option.{Option, none, some}
 use lib.ListN.{length, take}
 use lib.Dec.{ltb, leb, eqb}
-use Rattle.text.specs.Choice.{pick, with-some}
+use Rattle.text.specs.Choice.{with-some}
 use Rattle.text.specs.Bytes.{Bytes, all}
 use Rattle.text.proofs.Cases.{byBool}
 use Rattle.text.proofs.Lists.{all-head, all-tail}

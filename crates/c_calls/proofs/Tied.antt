@@ -1,13 +1,12 @@
 -- A machine whose states are another's, written otherwise, meets demand 3 where the other does.
-use mathlib.Core.Path.{_≡_, refl, sym, ap, ap₂, subst, _∙_}
-use mathlib.Core.Bool.{Bool}
+use mathlib.Core.Path.{_≡_, refl, sym, ap, subst, _∙_}
 use mathlib.Core.List.{List, [], _∷_, map}
 use mathlib.Core.Option.{Option, none, some}
 use Prim.Native.Nat.{ℕ, _≤_}
 use lib.ListN.{length}
 use Rattle.text.specs.Bytes.{Bytes}
 use Rattle.stream.specs.Plain.{fresh}
-use Rattle.stream.specs.Calls.{Call, end, bytesOf, plainReplies, Turn, Machine, hindrance, hinders, unchanged, Lent, Made, made, final, finalBuffer, Handed, Met, met}
+use Rattle.stream.specs.Calls.{Call, end, bytesOf, plainReplies, Turn, Machine, hinders, Lent, made, final, finalBuffer, Handed, Met, met}
 use Rattle.stream.specs.Buffer.{plainBuffer, allFound}
 use Rattle.stream.specs.Demand.{passed, passedMet, callsOf, repliesOf, loud, joinedBytes, withStem, piecesThenEnds, answered, AllAgree, OutputAfter, Ended, Hindered, Demand3}
 

@@ -6,7 +6,6 @@ use native.Mathlib.Omega.{arith}
 use lib.Dec.{eqb}
 use lib.ListN.{getD}
 use Rattle.text.specs.Bytes.{Bytes, ascii, same, lowered}
-use Rattle.line.specs.Grammar.{Line}
 use Rattle.line_table.specs.Table.{part, lineIn}
 use Rattle.class_names.specs.Names.{names, nameNumber}
 use Rattle.class_names.proofs.Numbers.{wordsOf, is-word, number-version, number-uid, number-kind, number-fn}

@@ -1,14 +1,13 @@
 -- One line more, and the end of the pass.
 use mathlib.Core.Path.{_≡_, refl, sym, ap, _∙_}
-use mathlib.Core.Bool.{Bool, true, false, not}
-use mathlib.Core.List.{List, [], _∷_, _++_, map, append-assoc, append-nil}
-use mathlib.Core.Option.{Option, none, some}
+use mathlib.Core.Bool.{Bool, true, false}
+use mathlib.Core.List.{List, [], _∷_, _++_, append-assoc, append-nil}
+use mathlib.Core.Option.{none, some}
 use Prim.Native.Nat.{ℕ, suc, _+_, _≤_, _<_}
 use native.Mathlib.Omega.{arith}
 use native.Mathlib.Numerals.{add-one}
 use lib.ListN.{length, take, drop, getD, set, length-append}
 use lib.Seq.{take-suc, take-suc-set, take-all}
-use Rattle.text.specs.Choice.{is-some}
 use Rattle.text.specs.Bytes.{Bytes, any, among, each, flat}
 use Rattle.text.proofs.Cases.{not-both}
 use Rattle.text.proofs.Lists.{map-both, each-both}
@@ -17,21 +16,19 @@ use Rattle.line_unfold.specs.Table.{Laid, lineAt}
 use Rattle.line_unfold.proofs.Lookup.{line-is, start, out-is}
 use Rattle.line_table.specs.Spread.{spreadLine, valued}
 use Rattle.line_table.specs.Table.{lineIn, Holds, Filled}
-use Rattle.convert.specs.Classify.{Seen, see, Class, Classed, classify, onward, classedAfter, classed, nothing}
-use Rattle.convert.specs.Answers.{Answer, no, seek, atLine, givenAt, firstFrom, ungrammatical, linesOf, orNone, misused, emptied, isVersionLine}
+use Rattle.convert.specs.Classify.{Seen, see, Classed, classify, classedAfter, classed, nothing}
+use Rattle.convert.specs.Answers.{seek, firstFrom, ungrammatical, linesOf, orNone, misused, emptied, isVersionLine}
 use Rattle.convert_entry.specs.Rows.{codeOf}
 use Rattle.table_entry.proofs.Spread.{classify-spread}
 use Rattle.class_member.specs.Member.{Room}
-use Rattle.class_line.specs.declared.Class.{Class as Answered}
-use Rattle.class_line.specs.Class.{Classes, numberOf, seenWith}
+use Rattle.class_line.specs.Class.{Classes, seenWith}
 use Rattle.card_lines.specs.Classified.{Turned, Classified}
-use Rattle.card_garbled.specs.Garbled.{OfLines}
 use Rattle.card_garbled.proofs.First.{first-on, first-here, first-end}
 use Rattle.card_refusals.specs.declared.Judged.{Judged}
 use Rattle.card_refusals.specs.declared.Refusal.{Refusal}
 use Rattle.card_refusals.specs.declared.Refusal.the-variants.{None, At}
 use Rattle.card_refusals.specs.Line.{Coded}
-use Rattle.card_refusals.specs.Judged.{judged, judgedWith, laterTests, refusalOf, answered}
+use Rattle.card_refusals.specs.Judged.{judged, judgedWith, refusalOf}
 use Rattle.card_refusals.proofs.Judging.{judged-snoc, refusal-told}
 use Rattle.card_refusals.proofs.Spread.{misused-spread, version-spread, emptied-spread, coded-spread}
 use Rattle.card_seen.specs.Ids.{idsAt, Remembers, Cut}

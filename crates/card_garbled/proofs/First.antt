@@ -1,5 +1,5 @@
 -- The first of a list with a property, sought from a place on.
-use mathlib.Core.Path.{_≡_, refl, sym, ap, _∙_}
+use mathlib.Core.Path.{_≡_, refl}
 use mathlib.Core.Bool.{Bool, true, false}
 use mathlib.Core.List.{List, [], _∷_}
 use mathlib.Core.Option.{none, some}
@@ -7,7 +7,6 @@ use Prim.Native.Nat.{ℕ, suc, _+_, _≤_, _<_}
 use native.Mathlib.Numerals.{add-one}
 use lib.ListN.{length, drop, getD, drop-of-length-le}
 use lib.Seq.{drop-cons}
-use Rattle.text.specs.Choice.{pick}
 use Rattle.text.specs.Bytes.{any}
 use Rattle.text.proofs.Cases.{or-left, or-right}
 use Rattle.convert.specs.Answers.{firstFrom}

@@ -5,15 +5,15 @@ use mathlib.Core.Option.{some}
 use Prim.Native.Nat.{ℕ, zero, suc, _+_, _≤_, _<_}
 use native.Mathlib.Omega.{arith}
 use native.Mathlib.Numerals.{add-one}
-use lib.ListN.{length, take, drop, getD, drop-of-length-le}
+use lib.ListN.{length, drop, getD, drop-of-length-le}
 use lib.Seq.{getD-take}
 use Rattle.text.specs.Bytes.{Bytes, each}
 use Rattle.text.proofs.Choices.{both-inv, some-same}
 use Rattle.text.proofs.Lists.{each-length}
-use Rattle.line.specs.Grammar.{Line, readLine}
-use Rattle.line_unfold.specs.Table.{Laid, lineAt}
+use Rattle.line.specs.Grammar.{readLine}
+use Rattle.line_unfold.specs.Table.{lineAt}
 use Rattle.line_unfold.proofs.Lookup.{line-is}
-use Rattle.convert.specs.Classify.{Seen, Class, Classed, classify}
+use Rattle.convert.specs.Classify.{Seen, Classed, classify}
 use Rattle.convert_entry.specs.Rows.{codeOf}
 use Rattle.card_lines.specs.Classified.{Turned, Classified}
 

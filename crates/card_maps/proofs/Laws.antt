@@ -9,10 +9,10 @@ use native.Mathlib.Numerals.{add-one}
 use borrow.Rule.Slice.PartMut.{midOf, putMid}
 use lib.ListN.{length, take, drop, getD, length-append}
 use lib.Seq.{drop-cons}
-use Rattle.text.specs.Choice.{with-some, both, chain}
-use Rattle.text.specs.Bytes.{Bytes, ascii, any, all, among, same, each, flat, parts}
+use Rattle.text.specs.Choice.{both}
+use Rattle.text.specs.Bytes.{Bytes, any, all, among, same, each, flat, parts}
 use Rattle.text.proofs.Cases.{inRange}
-use Rattle.json.specs.Tree.{Json, Member, field, asObject}
+use Rattle.json.specs.Tree.{Json, Member, field}
 use Rattle.line.specs.Grammar.{Line}
 use Rattle.line.specs.Write.{fold, writeLine}
 use Rattle.json_index.specs.Index.{firstAt, Slot, Indexed}
@@ -21,8 +21,8 @@ use Rattle.line_pen.specs.Pen.{Fills}
 use Rattle.line_pen.proofs.Filling.{then}
 use Rattle.convert.specs.Table.{Map, maps, reserved}
 use Rattle.convert.specs.Model.{Entry}
-use Rattle.convert.specs.FromJson.{entryFrom, mapFrom}
-use Rattle.convert.specs.Carry.{carriedAs, carriedMaps}
+use Rattle.convert.specs.FromJson.{mapFrom}
+use Rattle.convert.specs.Carry.{carriedMaps}
 use Rattle.convert.specs.ToCard.{entryLine, mapsLines}
 use Rattle.card_entry.specs.Rows.{rowNames, Row, lineBytes}
 use Rattle.card_entry.proofs.Rows.{organizations}

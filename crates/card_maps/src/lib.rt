@@ -20,7 +20,7 @@ ghost use Rattle.card_table.specs.Numbers.{mapSlots};
 ghost use Rattle.card_maps.specs.Seven.{PutsNth, PutsMaps};
 
 // The map of a row of the table, in a slot.
-fn put_nth<'a, 'b>(out: &'a mut [u8], s: &'b [u8], k: usize, slot: usize) -> Lines
+fn put_nth(out: &mut [u8], s: &[u8], k: usize, slot: usize) -> Lines
     ensures { λ r. ⌜ LinesIn (length (now (out .entry))) (length (now (s .entry))) r ⌝ }
     ensures { λ r. ⌜ length (now (out .exit)) ≡ length (now (out .entry)) ⌝ }
     ensures { λ r. ⌜ PutsNth (now (s .entry)) k slot (now (out .entry)) r (now (out .exit)) ⌝ }
@@ -110,7 +110,7 @@ fn put_nth<'a, 'b>(out: &'a mut [u8], s: &'b [u8], k: usize, slot: usize) -> Lin
 }
 
 // All seven. The slots are those of the top-level members, by the list of reserved names: the first map's is the sixth.
-pub fn put_maps<'a, 'b, 'c>(out: &'a mut [u8], s: &'b [u8], slots: &'c [usize]) -> Lines
+pub fn put_maps(out: &mut [u8], s: &[u8], slots: &[usize]) -> Lines
     requires { ⌜ length (now s) ≤ room ⌝ }
     requires { ⌜ mapSlots ≤ length (now slots) ⌝ }
     ensures { λ r. ⌜ LinesIn (length (now (out .entry))) 458758 r ⌝ }

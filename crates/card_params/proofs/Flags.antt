@@ -17,7 +17,7 @@ use Rattle.json.specs.Tree.{Json, jnull, jtrue, jfalse, jnum, jstr, jarr, jobj,
 use Rattle.json_strings.specs.Decoded.{decodedAt}
 use Rattle.json_access.specs.declared.Kind.{Kind}
 use Rattle.json_access.specs.Access.{EndsAt, TellsKind, kindOf}
-use Rattle.json_index.specs.Index.{jsonAt, placed, Slot}
+use Rattle.json_index.specs.Index.{jsonAt, placed}
 use Rattle.json_walk.specs.declared.Member.{Member}
 use Rattle.json_walk.specs.declared.Member.the-variants.{At, End, NoObject}
 use Rattle.json_walk.specs.Walk.{FirstOf, NextOf}

@@ -1,15 +1,14 @@
 -- The pref of an entry: the ways out of its reader, and PREF.
 use mathlib.Core.Path.{_≡_, refl, sym, ap, subst, _∙_}
-use mathlib.Core.Bool.{Bool, true, false, _&&_}
-use mathlib.Core.List.{List, [], _∷_, _++_}
+use mathlib.Core.Bool.{Bool, true, false}
+use mathlib.Core.List.{[], _++_}
 use mathlib.Core.Option.{Option, none, some}
 use Prim.Native.Nat.{ℕ, suc, _-_, _≤_, _<_}
 use native.Mathlib.Omega.{arith}
-use lib.Dec.{eqb, ltb, leb}
-use lib.ListN.{length, take, drop, getD}
+use lib.ListN.{length, take, drop}
 use lib.Seq.{drop-cons}
 use borrow.Author.Tests.{lt-ltb, le-ltb, le-leb, lt-leb}
-use Rattle.text.specs.Choice.{pick, with-some, chain, provided}
+use Rattle.text.specs.Choice.{with-some, chain, provided}
 use Rattle.text.specs.Bytes.{Bytes, ascii, empty}
 use Rattle.text.proofs.Cases.{split, not-both}
 use Rattle.text.proofs.Choices.{some-same}
@@ -18,9 +17,8 @@ use Rattle.json.specs.Strings.{decoded}
 use Rattle.json_access.specs.declared.Kind.{Kind}
 use Rattle.json_access.specs.declared.Part.{Part}
 use Rattle.json_access.specs.Access.{TellsKind, TellsElement, Inside, kindOf}
-use Rattle.json_index.specs.Index.{jsonAt, Slot}
+use Rattle.json_index.specs.Index.{jsonAt}
 use Rattle.json_index.proofs.Objects.{at-inv}
-use Rattle.line_pen.specs.declared.Pen.{Pen}
 use Rattle.line_pen.specs.Pen.{Pens}
 use Rattle.line_pen.proofs.Laws.{pens-as, pens-none}
 use Rattle.convert.specs.Value.{isPref}

@@ -6,12 +6,12 @@ use mathlib.Core.Option.{Option, none, some}
 use Prim.Native.Nat.{ℕ, zero, suc, _<_}
 use native.Mathlib.Omega.{arith}
 use lib.Dec.{eqb}
-use lib.ListN.{length, drop, drop-of-length-le}
+use lib.ListN.{length, drop-of-length-le}
 use borrow.Author.Tests.{eq-eqb, ne-eqb, eqb-true}
 use Rattle.text.specs.Bytes.{Bytes, between}
 use Rattle.text.specs.Reader.{bad, on, when, past, some-of}
 use Rattle.text.proofs.Readers.{not-bad}
-use Rattle.text.proofs.Choices.{none-some, some-same, map-inv}
+use Rattle.text.proofs.Choices.{some-same, map-inv}
 use Rattle.json.specs.Tree.{Json, jnull, jtrue, jfalse, jnum, jstr, jarr, jobj}
 use Rattle.json.specs.Syntax.{skip, scalar, number, opt, int, digits, value}
 use Rattle.json.specs.Strings.{decode, decoded, decodedElems, decodedMembers}

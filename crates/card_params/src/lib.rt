@@ -51,12 +51,12 @@ fn kind_code(k: Kind) -> usize
 }
 
 // The contexts or features in a slot; their places in the table of TYPE begin at base.
-pub fn flags_in<'a, 'b, 'c>(
-    row: &'a mut [u8],
-    s: &'b [u8],
+pub fn flags_in(
+    row: &mut [u8],
+    s: &[u8],
     slot: usize,
     base: usize,
-    names: &'c [u8],
+    names: &[u8],
     count: usize,
 ) -> bool
     requires { ⌜ count ≡ length (parts (code ",") (now names)) ⌝ }
@@ -116,7 +116,7 @@ pub fn pref_in(s: &[u8], slot: usize) -> Pref
 }
 
 // PREF, where there is one.
-pub fn pen_pref<'a, 'b>(out: &'a mut [u8], column: usize, s: &'b [u8], a: usize, e: usize) -> Pen
+pub fn pen_pref(out: &mut [u8], column: usize, s: &[u8], a: usize, e: usize) -> Pen
     ensures { λ r. ⌜ Pens (now (out .entry)) column (prefPiece (spanOf (now (s .entry)) a e)) r (now (out .exit)) ⌝ }
 {
     if e > s.len() {
@@ -153,14 +153,7 @@ fn pen_lead(out: &mut [u8], column: usize, begun: bool) -> Pen
 }
 
 // The value of TYPE at a place of its table, where it is marked.
-fn pen_type<'a, 'b>(
-    out: &'a mut [u8],
-    column: usize,
-    names: &'b [u8],
-    c: usize,
-    on: bool,
-    begun: bool,
-) -> Pen
+fn pen_type(out: &mut [u8], column: usize, names: &[u8], c: usize, on: bool, begun: bool) -> Pen
     ensures { λ r. ⌜ Pens (now (out .entry)) column (typePart (parts (code ",") (now (names .entry))) c on begun) r (now (out .exit)) ⌝ }
 {
     if !on {
@@ -184,12 +177,7 @@ fn pen_type<'a, 'b>(
 }
 
 // TYPE with all marked values, in the table's order; nothing where none is marked.
-pub fn pen_types<'a, 'b, 'c>(
-    out: &'a mut [u8],
-    column: usize,
-    names: &'b [u8],
-    row: &'c [u8],
-) -> Pen
+pub fn pen_types(out: &mut [u8], column: usize, names: &[u8], row: &[u8]) -> Pen
     requires { ⌜ typeCount ≤ length (now row) ⌝ }
     ensures { λ r. ⌜ Pens (now (out .entry)) column (typesFrom (parts (code ",") (now (names .entry))) (now (row .entry)) typeCount 0 false) r (now (out .exit)) ⌝ }
 {

@@ -12,7 +12,6 @@ use lib.Seq.{drop-cons, take-all}
 use lib.Dec.{eqb, ltb}
 use borrow.Author.Tests.{ne-eqb, le-ltb, ltb-true, eqb-true, eqb-false}
 use borrow.Rule.Slice.PartMut.{midOf, putMid}
-use Rattle.text.specs.Choice.{pick}
 use Rattle.text.specs.Bytes.{Bytes, all, is, between}
 use Rattle.text.specs.Places.{byteAt}
 use Rattle.text.proofs.Places.{on-yes, on-no}

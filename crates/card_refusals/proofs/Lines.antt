@@ -1,14 +1,14 @@
 -- Refusals 6, 7 and 9 of a line, by the numbers of its table.
 use mathlib.Core.Path.{_≡_, refl, sym, ap, _∙_}
 use mathlib.Core.Bool.{Bool, true, false, _&&_, _||_, not}
-use mathlib.Core.List.{List, [], _∷_, _++_, map}
-use Prim.Native.Nat.{ℕ, zero, suc, _+_, _-_, _≤_, _<_}
+use mathlib.Core.List.{List, [], _∷_, map}
+use Prim.Native.Nat.{ℕ, zero, suc, _+_, _-_}
 use native.Mathlib.Omega.{arith}
 use lib.Dec.{eqb}
-use lib.ListN.{length, take, drop, getD, length-append, length-take, length-drop}
+use lib.ListN.{length, getD, length-append, length-take, length-drop}
 use borrow.Author.Tests.{eq-eqb, ne-eqb, eqb-true, eqb-false}
 use Rattle.text.specs.Bytes.{Bytes, ascii, empty, any, all, same, lowered, flat}
-use Rattle.text.proofs.Cases.{byBool, not-both}
+use Rattle.text.proofs.Cases.{byBool}
 use Rattle.text.proofs.Lists.{keep-none}
 use Rattle.line.specs.Class.{isName}
 use Rattle.line.specs.Grammar.{Param, param, paramName, paramValues, Line}
@@ -16,8 +16,8 @@ use Rattle.line.specs.Params.{named, valuesNamed, lacking, besidesValue, valueT
 use Rattle.line.proofs.Named.{valuesNamed-append, lacking-append, valuesNamed-one, valuesNamed-other, lacking-one, lacking-other, valuesNamed-none, lacking-none}
 use Rattle.convert.specs.Answers.{isNamed, onlyUri, valueFits, misused, emptied, isVersionLine}
 use Rattle.convert.specs.Table.{position}
-use Rattle.line_table.specs.Table.{part, nameAt, valueAt, Span, Sound, rowsIn, lineIn}
-use Rattle.convert_params.specs.Row.{kindNames, kindOf, isKind, valuesKind, First, Held, Row}
+use Rattle.line_table.specs.Table.{part, nameAt, valueAt, Span, rowsIn, lineIn}
+use Rattle.convert_params.specs.Row.{kindOf, isKind, valuesKind, First, Held, Row}
 use Rattle.convert_entry.specs.Rows.{typeNumber}
 use Rattle.convert_entry.proofs.Named.{kind-same, values}
 use Rattle.convert_entry.proofs.Tests.{number-uri}

@@ -5,7 +5,7 @@ use mathlib.Core.List.{List, [], _∷_, _++_}
 use Prim.Native.Nat.{ℕ}
 use Rattle.text.specs.Bytes.{Bytes, ascii, empty, any, same, lowered}
 use Rattle.line.specs.Grammar.{Param, param, Line}
-use Rattle.line.specs.Params.{named, valuesNamed, besidesValue, valueType}
+use Rattle.line.specs.Params.{named, besidesValue}
 use Rattle.convert.specs.Answers.{onlyUri, misused, emptied, isVersionLine}
 use Rattle.line_table.specs.Spread.{ones, spread, spreadLine, valued}
 use Rattle.line_table.proofs.Same.{spread-nil, spread-cons, spread-values, spread-besides, spread-type, valued-besides}

@@ -1,16 +1,16 @@
 -- The table of keys: sought the last first, and one more.
 use mathlib.Core.Path.{_≡_, refl, sym, ap, _∙_}
 use mathlib.Core.Bool.{Bool, true, false, _||_}
-use mathlib.Core.List.{List, [], _∷_, _++_}
+use mathlib.Core.List.{List, _∷_, _++_}
 use Prim.Native.Nat.{ℕ, zero, suc, _+_, _-_, _*_, _≤_, _<_}
 use native.Mathlib.Omega.{arith}
 use native.Mathlib.Numerals.{add-one}
-use lib.ListN.{length, take, drop, getD, set, length-set, length-append, length-drop}
+use lib.ListN.{length, drop, getD, set, length-set, length-append, length-drop}
 use lib.Seq.{getD-set-same, getD-set-other, drop-append-add, drop-append-le, take-append-le}
 use Rattle.text.specs.Bytes.{Bytes, any}
 use Rattle.text.proofs.Cases.{split}
 use Rattle.json_prints.specs.Prints.{printed}
-use Rattle.convert.specs.Classify.{Id, id, isId}
+use Rattle.convert.specs.Classify.{id, isId}
 use Rattle.line_table.specs.Table.{part, Span}
 use Rattle.card_seen.specs.Ids.{keyAt, idsAt, Listed, IdTable, withId, Cut}
 

@@ -1,14 +1,11 @@
 -- A class is settled: nothing is noted, or one key or pointer more.
 use mathlib.Core.Path.{_≡_, refl, sym, ap, _∙_}
-use mathlib.Core.Bool.{Bool, true, false, _&&_, _||_}
-use mathlib.Core.List.{List, [], _∷_}
+use mathlib.Core.Bool.{Bool, true, false, _||_}
+use mathlib.Core.List.{List, _∷_}
 use mathlib.Core.Option.{some}
-use Prim.Native.Nat.{ℕ, _+_, _*_, _≤_, _<_}
+use Prim.Native.Nat.{ℕ, _+_, _*_, _<_}
 use native.Mathlib.Omega.{arith}
-use lib.Dec.{eqb}
 use lib.ListN.{length, set}
-use borrow.Author.Tests.{ne-eqb}
-use Rattle.text.specs.Choice.{pick}
 use Rattle.text.specs.Bytes.{Bytes, any, among, same}
 use Rattle.text.proofs.Cases.{byBool, not-both}
 use Rattle.text.proofs.Choices.{some-same}
@@ -19,12 +16,10 @@ use Rattle.convert.specs.Classify.{Id, id, isId, Seen}
 use Rattle.convert.proofs.Pointers.{pointer-pointed}
 use Rattle.convert_tests.proofs.Used.{other-map, same-map}
 use Rattle.line_table.specs.Table.{part, Span}
-use Rattle.class_line.specs.declared.Class.{Class as Answer}
-use Rattle.class_line.specs.declared.Class.the-variants.{Kept, Dropped, Version, Uid, Kind, Full, Parts, Entry, Keyed, Member}
+use Rattle.class_line.specs.declared.Class.the-variants.{Full, Parts, Keyed, Member}
 use Rattle.class_line.specs.Class.{idUsed, memberUsed, withMember, seenWith, numberOf, Points}
-use Rattle.card_seen.specs.declared.Settled.{Settled}
 use Rattle.card_seen.specs.Ids.{pointers, idsAt, IdTable, Unfilled, withId, Remembers, Cut}
-use Rattle.card_seen.specs.Settled.{Notes, Follows, Settles}
+use Rattle.card_seen.specs.Settled.{Notes, Settles}
 use Rattle.card_seen.proofs.Keys.{ids-more, table-more, cut-part, cut-span}
 
 -- ---- noted or not

@@ -1,27 +1,23 @@
 -- Pieces of a value: phones, empty strings, one unit.
 use mathlib.Core.Path.{_≡_, refl, sym, ap, _∙_}
 use mathlib.Core.Bool.{Bool, true, false, _&&_, _||_, not}
-use mathlib.Core.List.{List, [], _∷_, _++_}
+use mathlib.Core.List.{[], _∷_, _++_}
 use mathlib.Core.Option.{Option, none, some}
-use Prim.Native.Nat.{ℕ, suc, _+_, _≤_, _<_}
+use Prim.Native.Nat.{ℕ, _+_, _≤_, _<_}
 use native.Mathlib.Numerals.{add-one}
 use lib.Dec.{eqb, leb}
 use borrow.Author.Tests.{eq-eqb, ne-eqb, eqb-true, lt-ltb, le-ltb}
-use Rattle.text.specs.Choice.{pick}
-use Rattle.text.specs.Bytes.{Bytes, ascii, any, all, empty, begins}
+use Rattle.text.specs.Bytes.{Bytes, ascii, any, empty, begins}
 use Rattle.text.proofs.Cases.{byBool}
 use Rattle.json.specs.Strings.{before}
 use Rattle.json_strings.specs.Decoded.{decodedAt}
 use Rattle.line.specs.Class.{isControl}
-use Rattle.line.specs.Text.{writeText}
-use Rattle.line_pen.specs.Pen.{Pens}
 use Rattle.line_pen.proofs.Laws.{pens-none}
 use Rattle.card_pen.specs.declared.Told.{Told}
 use Rattle.card_pen.specs.Styles.{writtenIn, standsIn, allStandIn}
 use Rattle.card_pen.proofs.Styles.{written-parts, stands-text}
 use Rattle.convert.specs.Value.{filled, isTelUri}
 use Rattle.convert.specs.Carry.{carriedText}
-use Rattle.card_value.specs.declared.Inked.{Inked}
 use Rattle.card_value.specs.Values.{blankOf, telByte, onTel, telFrom, telOf, Inks, unitPiece, unitCarried, UnitInks}
 
 -- ---- one byte of `tel:`

@@ -1,15 +1,15 @@
 -- Strings at places.
 use mathlib.Core.Path.{_≡_, refl, sym, ap, subst, _∙_}
-use mathlib.Core.Bool.{Bool, true, false}
+use mathlib.Core.Bool.{true, false}
 use mathlib.Core.Logic.{_⊎_, inl, inr}
-use mathlib.Core.List.{List, [], _∷_, tail}
+use mathlib.Core.List.{[], _∷_, tail}
 use mathlib.Core.Option.{Option, none, some}
 use Prim.Native.Nat.{ℕ, zero, suc, _+_, _-_, _<_}
 use native.Mathlib.Omega.{arith}
 use lib.Dec.{eqb}
 use lib.ListN.{length, drop}
 use borrow.Author.Tests.{eq-eqb, ne-eqb, eqb-true, eqb-false}
-use Rattle.text.specs.Choice.{with-some, chain}
+use Rattle.text.specs.Choice.{chain}
 use Rattle.text.specs.Bytes.{Bytes, is}
 use Rattle.text.specs.Reader.{got, under, first, on, when, one}
 use Rattle.text.specs.Places.{byteAt, Passes}
@@ -21,10 +21,8 @@ use Rattle.json.specs.Tree.{Json, jnull, jtrue, jfalse, jnum, jstr, jarr, jobj,
 use Rattle.json.specs.Syntax.{characters, number, four, scalar, elements, pairs, value}
 use Rattle.json.specs.Strings.{decode, decoded, decodedElems, decodedMembers}
 use Rattle.json_scan.proofs.First.{as-flat, as-scalar, as-array, as-object}
-use Rattle.json_strings.specs.Decoded.{decodedAt}
 use Rattle.json_strings.proofs.Laws.{decoded-is}
 use Rattle.text.proofs.Places.{on-yes}
-use Rattle.json_index.specs.Index.{jsonAt, Slot}
 use Rattle.json_index.proofs.Objects.{at-inv}
 use Rattle.card_params.proofs.Walk.{slot-none, slot-some, none-past}
 use Rattle.card_value.specs.Values.{StringIs, TellsString, TellsText}

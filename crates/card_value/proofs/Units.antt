@@ -6,7 +6,6 @@ use mathlib.Core.Option.{Option, none, some}
 use Prim.Native.Nat.{ℕ, zero, suc, _+_, _-_, _<_}
 use native.Mathlib.Omega.{arith}
 use borrow.Rule.Slice.PartMut.{midOf, putMid}
-use lib.Dec.{eqb}
 use lib.ListN.{length, drop, getD}
 use Rattle.text.specs.declared.Read.{Read}
 use Rattle.text.specs.declared.Turn.the-variants.{Go, Stop}
@@ -16,13 +15,13 @@ use Rattle.text.specs.Reader.{got, loop}
 use Rattle.text.specs.Places.{byteAt, Passes, GivesT}
 use Rattle.text.proofs.Cases.{not-both, not-true, not-false}
 use Rattle.json.specs.Grammar.{isSpace}
-use Rattle.json.specs.Tree.{Json, Elems, elemsOf, Member, nameOf, field, asString, asArray, asObject}
+use Rattle.json.specs.Tree.{Json, Elems, elemsOf, Member, field, asString, asArray, asObject}
 use Rattle.json.specs.Syntax.{sep, item, value}
 use Rattle.json.specs.Strings.{decodedElems}
 use Rattle.json_strings.specs.Decoded.{decodedAt}
 use Rattle.json_access.specs.declared.Part.{Part}
 use Rattle.json_access.specs.Access.{TellsElement}
-use Rattle.json_index.specs.Index.{jsonAt, firstAt, Slot, Clear, Indexed, IndexOf, Indexes}
+use Rattle.json_index.specs.Index.{jsonAt, firstAt, Clear, IndexOf, Indexes}
 use Rattle.json_index.proofs.Fields.{first-field, first-other}
 use Rattle.line_pen.specs.Pen.{Pens}
 use Rattle.line_pen.proofs.Laws.{pens-as, pens-none, pens-then}
@@ -32,8 +31,8 @@ use Rattle.card_params.proofs.Walk.{slot-none, slot-some, none-past}
 use Rattle.card_value.specs.declared.Inked.{Inked}
 use Rattle.card_value.specs.declared.Ink.{Ink}
 use Rattle.card_value.specs.declared.Ink.the-variants.{Done, Wrong}
-use Rattle.card_value.specs.Values.{StringIs, TellsText, TellsUnit, unitPiece, unitCarried, UnitInks, InkedBy, unitsPiece, UnitsAs, UnitsFrom, unitsIn, TellsUnits}
-use Rattle.card_value.proofs.Elements.{not-array, empty-array, array-elements, Far, far-first, Now, now-of}
+use Rattle.card_value.specs.Values.{StringIs, TellsText, TellsUnit, unitPiece, unitCarried, UnitInks, unitsPiece, UnitsAs, UnitsFrom, unitsIn, TellsUnits}
+use Rattle.card_value.proofs.Elements.{not-array, empty-array, array-elements, Far, far-first, now-of}
 
 -- ---- one unit: an object with a name alone
 

@@ -3,35 +3,33 @@ use mathlib.Core.Path.{_≡_, refl, sym, ap, subst, _∙_}
 use mathlib.Core.Bool.{Bool, true, false, _&&_, _||_, not}
 use mathlib.Core.List.{List, [], _∷_, _++_, map, append-assoc, append-nil}
 use mathlib.Core.Option.{Option, none, some, Option·map}
-use Prim.Native.Nat.{ℕ, _+_, _-_, _≤_, _<_}
+use Prim.Native.Nat.{ℕ, _+_, _-_, _≤_}
 use native.Mathlib.Omega.{arith}
 use borrow.Rule.Slice.PartMut.{midOf, putMid}
 use lib.Dec.{eqb}
 use lib.ListN.{length, take, drop, length-append, length-take, length-drop}
 use borrow.Author.Tests.{eq-eqb, ne-eqb, eqb-true}
-use Rattle.text.specs.Choice.{pick, with-some, is-some, chain, provided}
-use Rattle.text.specs.Bytes.{Bytes, ascii, is, any, all, empty, begins, flat, joined, keep}
-use Rattle.text.proofs.Cases.{byBool, not-both, not-true, not-false, and-left, and-right, or-left, or-right}
+use Rattle.text.specs.Choice.{pick, with-some, chain, provided}
+use Rattle.text.specs.Bytes.{Bytes, ascii, is, any, all, begins, flat, joined, keep}
+use Rattle.text.proofs.Cases.{byBool, not-true, not-false, and-left, and-right, or-left, or-right}
 use Rattle.json.specs.Tree.{Json, asString}
 use Rattle.json_strings.specs.Decoded.{decodedAt}
-use Rattle.json_index.specs.Index.{jsonAt, Slot}
 use Rattle.line.specs.Class.{isControl}
 use Rattle.line.specs.Text.{writeText}
-use Rattle.line.specs.Write.{foldFrom}
 use Rattle.line_pen.specs.declared.Pen.{Pen}
-use Rattle.line_pen.specs.Pen.{Fills, Pens}
+use Rattle.line_pen.specs.Pen.{Pens}
 use Rattle.line_pen.proofs.Laws.{pens-as, pens-then, filled as fills-of}
 use Rattle.card_pen.specs.declared.Told.{Told}
 use Rattle.card_pen.specs.Styles.{writtenIn, allStandIn}
 use Rattle.card_pen.proofs.Styles.{written-raw, written-text, written-parts, stands-raw, stands-text}
-use Rattle.convert.specs.Value.{filled, headOr, isTelUri}
+use Rattle.convert.specs.Value.{filled, isTelUri}
 use Rattle.convert.specs.Carry.{carriedRaw, carriedText}
 use Rattle.card_params.proofs.Walk.{slot-none, slot-some}
 use Rattle.card_value.specs.declared.Ink.{Ink}
 use Rattle.card_value.specs.declared.Ink.the-variants.{Done, Wrong}
 use Rattle.card_value.specs.declared.Put.{Put}
 use Rattle.card_value.specs.declared.Put.the-variants.{Line, Refused}
-use Rattle.card_value.specs.Values.{StringIs, TellsString, TellsText, blankOf, telOf, Inks, unitPiece, unitCarried, InkIn, InkedBy, unitsPiece, UnitsAs, unitsIn, TellsUnits, nameIn, NameAs, TellsName, orgIn, textsIn, valueIn, carriedIn, PutIn, ValueAs, TellsOrg, TellsValue}
+use Rattle.card_value.specs.Values.{StringIs, TellsString, TellsText, blankOf, telOf, Inks, unitPiece, unitCarried, InkIn, unitsPiece, UnitsAs, unitsIn, TellsUnits, nameIn, NameAs, TellsName, orgIn, textsIn, valueIn, carriedIn, ValueAs, TellsOrg, TellsValue}
 use Rattle.card_value.proofs.Pieces.{stands-parts}
 
 -- ---- answers

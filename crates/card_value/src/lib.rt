@@ -182,14 +182,7 @@ fn is_tel(form: u8, s: &[u8], at: usize) -> bool
 }
 
 // A string in a style, after what leads to it.
-fn pen_text<'a, 'b, 'c>(
-    out: &'a mut [u8],
-    column: usize,
-    lead: &'b [u8],
-    style: u8,
-    s: &'c [u8],
-    at: usize,
-) -> Told
+fn pen_text(out: &mut [u8], column: usize, lead: &[u8], style: u8, s: &[u8], at: usize) -> Told
     ensures { λ r. ⌜ Inks (now (s .entry)) at (now (lead .entry)) style (now (out .entry)) column r (now (out .exit)) ⌝ }
 {
     let p = pen_bytes(out, column, lead);
@@ -206,7 +199,7 @@ fn pen_text<'a, 'b, 'c>(
 }
 
 // A unit with its semicolon; nothing where it is empty.
-fn pen_unit<'a, 'b>(out: &'a mut [u8], column: usize, s: &'b [u8], at: usize) -> Inked
+fn pen_unit(out: &mut [u8], column: usize, s: &[u8], at: usize) -> Inked
     ensures { λ r. ⌜ UnitInks (now (s .entry)) at (now (out .entry)) column r (now (out .exit)) ⌝ }
 {
     if is_blank(s, at) {
@@ -230,7 +223,7 @@ fn pen_unit<'a, 'b>(out: &'a mut [u8], column: usize, s: &'b [u8], at: usize) ->
 }
 
 // The units from a place of their array on.
-fn put_units_from<'a, 'b>(out: &'a mut [u8], column: usize, s: &'b [u8], at: usize) -> Ink
+fn put_units_from(out: &mut [u8], column: usize, s: &[u8], at: usize) -> Ink
     requires { ⌜ at ≤ length (now s) ⌝ }
     ensures { λ r. ⌜ InkIn (length (now (out .entry))) r ⌝ }
     ensures { λ r. ⌜ length (now (out .exit)) ≡ length (now (out .entry)) ⌝ }
@@ -271,7 +264,7 @@ fn put_units_from<'a, 'b>(out: &'a mut [u8], column: usize, s: &'b [u8], at: usi
 }
 
 // The units in a slot.
-fn put_units<'a, 'b>(out: &'a mut [u8], column: usize, s: &'b [u8], slot: usize) -> Ink
+fn put_units(out: &mut [u8], column: usize, s: &[u8], slot: usize) -> Ink
     ensures { λ r. ⌜ InkIn (length (now (out .entry))) r ⌝ }
     ensures { λ r. ⌜ length (now (out .exit)) ≡ length (now (out .entry)) ⌝ }
     ensures { λ r. ⌜ TellsUnits (now (s .entry)) slot (now (out .entry)) column r (now (out .exit)) ⌝ }
@@ -304,7 +297,7 @@ fn put_units<'a, 'b>(out: &'a mut [u8], column: usize, s: &'b [u8], slot: usize)
 }
 
 // The colon and the name of an organization, which may be absent.
-fn put_name<'a, 'b>(out: &'a mut [u8], column: usize, s: &'b [u8], slot: usize) -> Ink
+fn put_name(out: &mut [u8], column: usize, s: &[u8], slot: usize) -> Ink
     ensures { λ r. ⌜ InkIn (length (now (out .entry))) r ⌝ }
     ensures { λ r. ⌜ length (now (out .exit)) ≡ length (now (out .entry)) ⌝ }
     ensures { λ r. ⌜ TellsName (now (s .entry)) slot (now (out .entry)) column r (now (out .exit)) ⌝ }
@@ -338,13 +331,7 @@ fn put_name<'a, 'b>(out: &'a mut [u8], column: usize, s: &'b [u8], slot: usize) 
 }
 
 // An organization: its name, then its units; something must be left of them.
-fn put_organization<'a, 'b>(
-    out: &'a mut [u8],
-    column: usize,
-    s: &'b [u8],
-    name: usize,
-    units: usize,
-) -> Put
+fn put_organization(out: &mut [u8], column: usize, s: &[u8], name: usize, units: usize) -> Put
     ensures { λ r. ⌜ PutIn (length (now (out .entry))) r ⌝ }
     ensures { λ r. ⌜ length (now (out .exit)) ≡ length (now (out .entry)) ⌝ }
     ensures { λ r. ⌜ TellsOrg (now (s .entry)) name units (now (out .entry)) column r (now (out .exit)) ⌝ }
@@ -379,10 +366,10 @@ fn put_organization<'a, 'b>(
 }
 
 // The strings of an entry by its slots, after the line's other parameters: VALUE where it is needed, the colon, and the value.
-pub fn put_value<'a, 'b>(
-    out: &'a mut [u8],
+pub fn put_value(
+    out: &mut [u8],
     column: usize,
-    s: &'b [u8],
+    s: &[u8],
     content: usize,
     units: usize,
     form: u8,

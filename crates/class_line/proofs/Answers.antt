@@ -16,7 +16,7 @@ use Rattle.line.specs.Text.{readText}
 use Rattle.convert.specs.Table.{Slot}
 use Rattle.convert.specs.Model.{Entry}
 use Rattle.convert.specs.Value.{isKeyText, readName}
-use Rattle.convert.specs.Classify.{Class, as-version, as-uid, as-kind, as-dropped, as-full, as-parts, as-entry, as-member, as-kept, Seen, Id, id, withId, see, bare, isDerived, fullClass, partsClass, memberClass, entryOf, entryClass, classify}
+use Rattle.convert.specs.Classify.{Class, as-dropped, as-full, as-parts, as-entry, as-member, as-kept, Seen, Id, id, withId, see, bare, isDerived, fullClass, partsClass, memberClass, entryOf, entryClass, classify}
 use Rattle.line_table.specs.Table.{part, lineIn}
 use Rattle.convert_entry.specs.Rows.{namesIn, codeOf, Is}
 use Rattle.convert_entry.proofs.Classes.{entry-there}

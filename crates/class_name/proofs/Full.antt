@@ -1,12 +1,12 @@
 -- The class of FN and of N, test by test in the code's order.
 use mathlib.Core.Path.{_≡_, refl, sym, ap, _∙_}
-use mathlib.Core.Bool.{Bool, true, false, _&&_, not}
+use mathlib.Core.Bool.{Bool, true, false, _&&_}
 use mathlib.Core.List.{List}
 use mathlib.Core.Option.{Option, none, some}
 use Prim.Native.Nat.{ℕ}
 use lib.Dec.{eqb}
 use Rattle.text.specs.Choice.{pick, with-some, is-some}
-use Rattle.text.specs.Bytes.{Bytes, ascii, empty, same}
+use Rattle.text.specs.Bytes.{Bytes, empty}
 use Rattle.line.specs.Grammar.{Line}
 use Rattle.line.specs.Params.{besidesValue, valueType}
 use Rattle.line.specs.Text.{readText}

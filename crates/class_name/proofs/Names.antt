@@ -3,10 +3,9 @@ use mathlib.Core.Path.{_≡_, refl, sym, ap, _∙_}
 use mathlib.Core.Bool.{Bool, true, false, _&&_, not}
 use mathlib.Core.List.{List, [], _∷_}
 use mathlib.Core.Option.{Option, none, some, Option·map}
-use Prim.Native.Nat.{ℕ}
 use lib.Dec.{leb}
 use lib.ListN.{length}
-use Rattle.text.specs.Choice.{pick, chain, provided, is-some}
+use Rattle.text.specs.Choice.{chain, provided, is-some}
 use Rattle.text.specs.Bytes.{Bytes, any, all, empty, keep, each}
 use Rattle.text.proofs.Cases.{byBool}
 use Rattle.text.proofs.Choices.{map-inv}

@@ -1,8 +1,8 @@
 -- What the number of its name says of a line's class.
-use mathlib.Core.Path.{_≡_, refl, sym, ap, _∙_}
-use mathlib.Core.Bool.{Bool, true, false, _||_}
-use mathlib.Core.List.{List, [], _∷_}
-use mathlib.Core.Option.{Option, none, some}
+use mathlib.Core.Path.{_≡_, refl, ap, _∙_}
+use mathlib.Core.Bool.{true, false}
+use mathlib.Core.List.{[], _∷_}
+use mathlib.Core.Option.{none}
 use Prim.Native.Nat.{ℕ, _+_, _<_, _≤_}
 use native.Mathlib.Omega.{arith}
 use lib.Dec.{eqb}
@@ -13,7 +13,7 @@ use Rattle.text.proofs.Cases.{byBool, not-both, NoneOf, byKeysP}
 use Rattle.text.proofs.Same.{same-true}
 use Rattle.line.specs.Grammar.{Line}
 use Rattle.convert.specs.Table.{Map, maps, text, Slot, slotOf, slotFrom, position}
-use Rattle.convert.specs.Classify.{Seen, Class, as-version, as-uid, as-kind, as-kept, fullClass, partsClass, memberClass, entryClass, classify}
+use Rattle.convert.specs.Classify.{Seen, as-version, as-uid, as-kind, as-kept, fullClass, partsClass, memberClass, entryClass, classify}
 use Rattle.convert_entry.proofs.Classes.{of-slot}
 use Rattle.class_names.specs.Names.{nameNumber, typesOf, formOf, Slotted}
 use Rattle.class_names.proofs.Numbers.{wordsOf, words-of, sole-word, number-differs, number-bound, number-version, number-uid, number-kind, number-fn, number-n, number-jsprop, number-nickname, number-email, number-tel, number-url, number-note, number-title, number-role, number-org}

@@ -2,17 +2,17 @@
 use mathlib.Core.Path.{_≡_, refl, sym, ap, ap₂}
 use mathlib.Core.Bool.{Bool, true, false, _&&_, not}
 use mathlib.Core.List.{List, [], _∷_, map}
-use Prim.Native.Nat.{ℕ, suc, _+_, _-_, _*_, _≤_, _<_}
+use Prim.Native.Nat.{ℕ, suc, _+_, _-_, _*_, _≤_}
 use native.Mathlib.Omega.{arith}
 use lib.ListN.{length, take}
 use lib.Dec.{eqb, leb}
-use borrow.Author.Tests.{leb-true, le-leb, lt-leb, eqb-false}
+use borrow.Author.Tests.{leb-true, le-leb, eqb-false}
 use Rattle.text.specs.Choice.{pick}
 use Rattle.text.specs.Bytes.{Bytes, ascii, is, isDigit, between, any, all, same, begins, empty, lowered}
 use Rattle.text.specs.Decimal.{digitsBefore, decimal, valueFrom, number}
 use Rattle.text.specs.Listed.{ofBytes}
 use Rattle.text.specs.Reader.{first}
-use Rattle.text.proofs.Cases.{byBool, tests, and-left, and-right, and-true, not-true, not-both, between-true, range, inRange}
+use Rattle.text.proofs.Cases.{and-left, and-right, not-true, not-both, between-true, range, inRange}
 use Rattle.text.proofs.Same.{same-true}
 use Rattle.text.proofs.Lists.{all-head, all-tail}
 use Rattle.text.proofs.Listed.{all-alike, any-alike}

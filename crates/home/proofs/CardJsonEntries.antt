@@ -8,7 +8,7 @@ use lib.ListN.{take, drop}
 use Rattle.text.specs.Choice.{with-some, is-some, chain, provided}
 use Rattle.text.specs.Bytes.{Bytes, ascii, all, any, same, among, keep, each}
 use Rattle.json.specs.Tree.{Json, Member, member, nameOf, valueOf, field, asString, asNumber, asArray, asObject}
-use Rattle.convert.specs.Table.{uri, phone, organization, Map, TypeName, typeNames, jsonType, position}
+use Rattle.convert.specs.Table.{phone, organization, Map, TypeName, typeNames, jsonType, position}
 use Rattle.convert.specs.Value.{isKeyText, isPref}
 use Rattle.convert.specs.FromJson.{onlyMembers, optional, required, isTrue, flagOf, flagsFrom, unitFrom, organizationFrom, contentFrom, entryMembers, entryFrom, mapFrom}
 use Rattle.home.specs.Reasons.{keyFits, prefNumber}

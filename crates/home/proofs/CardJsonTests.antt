@@ -17,7 +17,7 @@ use Rattle.convert.specs.Table.{position}
 use Rattle.convert.specs.Value.{isKeyText, isPref}
 use Rattle.convert.specs.FromJson.{isLowerWord, isTrue, isFalse}
 use Rattle.home.specs.Reasons.{keyFits, prefNumber}
-use Rattle.home.specs.CardJson.{may, aTrue, aFalse, lowerName, filled}
+use Rattle.home.specs.CardJson.{aTrue, aFalse, lowerName, filled}
 use Rattle.home.proofs.Known.{onNone, onEach}
 pub use Rattle.home.proofs.ReasonsEntries.{and-one, or-none, some-provided}
 use Rattle.home.proofs.Words.{no-name}

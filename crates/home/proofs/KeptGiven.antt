@@ -1,9 +1,9 @@
 -- "an entry of vCardProps that no kept line in its place gives (13, group's place and one-value arrays aside)" is 12. The tests of `CardJson.propTests` ask just that: an
 -- entry that a kept line gives passes them, and one that passes them is given by a kept line.
 use mathlib.Core.Path.{_≡_, refl, sym, ap, subst, _∙_}
-use mathlib.Core.Bool.{Bool, true, false, _&&_, not}
+use mathlib.Core.Bool.{true, false, _&&_, not}
 use mathlib.Core.List.{List, [], _∷_}
-use mathlib.Core.Option.{none, some}
+use mathlib.Core.Option.{some}
 use Prim.Native.Nat.{ℕ}
 use Rattle.text.specs.Choice.{with-some, is-some, chain, provided}
 use Rattle.text.specs.Bytes.{Bytes, ascii, any, all, same, among, lowered, each}
@@ -14,8 +14,8 @@ use Rattle.json.proofs.Listed.{members-listed}
 use Rattle.json.proofs.Sound.{Sound, sound-names}
 use Rattle.line.specs.Grammar.{Line, isFrameName, accepted, readLine}
 use Rattle.convert.specs.Table.{maps}
-use Rattle.convert.specs.Model.{Entry, Kept, Card}
-use Rattle.convert.specs.Classify.{as-kept, Seen, classify}
+use Rattle.convert.specs.Model.{Entry, Kept}
+use Rattle.convert.specs.Classify.{Seen, classify}
 use Rattle.convert.specs.FromCard.{keptLine}
 use Rattle.convert.specs.FromJson.{optional, required, isText, isLowerWord, nameless, Name, nameFrom, mapFrom, keptFrom, keptAsLine, isKept, neverKept, keptStands, cardFromMembers, cardFromJson}
 use Rattle.convert.specs.ToJson.{keptJson}

@@ -17,7 +17,7 @@ ghost use Rattle.json_lookup.specs.Finds.{Bounds, FindsIn, placeOf, stan
 ghost use Rattle.json_lookup.specs.Held.{valueOf, Holds};
 
 // The value of the first member of that name in a text that is JSON. Nothing is found where the part is empty.
-fn find_in<'a, 'b>(s: &'a [u8], name: &'b [u8]) -> Part
+fn find_in(s: &[u8], name: &[u8]) -> Part
     ensures { λ r. ⌜ Bounds (length (now (s .entry))) r ⌝ }
     ensures { λ r. ⌜ FindsIn (now (s .entry)) (now (name .entry)) r ⌝ }
 {
@@ -35,7 +35,7 @@ fn find_in<'a, 'b>(s: &'a [u8], name: &'b [u8]) -> Part
 }
 
 // From where to where that value stands; 0 to 0 where there is none.
-pub fn locate<'a, 'b>(s: &'a [u8], name: &'b [u8]) -> Part
+pub fn locate(s: &[u8], name: &[u8]) -> Part
     ensures { λ r. ⌜ Bounds (length (now (s .entry))) r ⌝ }
     ensures { λ r. ⌜ r ≡ placeOf (lookUp (now (s .entry)) (now (name .entry))) ⌝ }
 {

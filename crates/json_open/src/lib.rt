@@ -52,13 +52,7 @@ fn answer(v: Verdict, o: Opened) -> Opened
 }
 
 // Notes where the value of a member stands, in the slot of its name, where none is noted there yet.
-fn note_member<'a, 'b, 'c>(
-    slots: &'a mut [usize],
-    s: &'b [u8],
-    name: usize,
-    value: usize,
-    names: &'c [u8],
-)
+fn note_member(slots: &mut [usize], s: &[u8], name: usize, value: usize, names: &[u8])
     requires { ⌜ length (parts (code ",") (now names)) < length (now slots) ⌝ }
     ensures { λ r. ⌜ now (slots .exit) ≡ noted (now (slots .entry)) (placed (decodedAt (now (s .entry)) name) (parts (code ",") (now (names .entry)))) value ⌝ }
 {

@@ -41,14 +41,14 @@ pub enum Made {
 }
 
 // 12, 13, 3 (lines), else the card. All that is lent but `result` is scratch.
-fn convert<'a, 'b, 'c, 'd, 'e, 'f, 'g>(
-    result: &'a mut [u8],
-    buffer: &'b mut [u8],
-    b: &'c mut [u8],
-    t: &'d mut [usize],
-    scratch: &'e mut [u8],
-    json: &'f [u8],
-    slots: &'g [usize],
+fn convert(
+    result: &mut [u8],
+    buffer: &mut [u8],
+    b: &mut [u8],
+    t: &mut [usize],
+    scratch: &mut [u8],
+    json: &[u8],
+    slots: &[usize],
 ) -> Made
     requires { ⌜ Reads (now json) ⌝ }
     requires { ⌜ length (now result) ≤ length (now buffer) ⌝ }
@@ -104,7 +104,7 @@ fn read_members<'a, 'b, 'c>(
 }
 
 // Scratch for every text that has room: 65,536 bytes, and a result of one byte more than a card's 32,768.
-fn convert_long<'a, 'b, 'c>(out: &'a mut [u8], json: &'b [u8], slots: &'c [usize]) -> Outcome
+fn convert_long(out: &mut [u8], json: &[u8], slots: &[usize]) -> Outcome
     requires { ⌜ Reads (now json) ⌝ }
     requires { ⌜ length (now json) ≤ jsonRoom ⌝ }
     requires { ⌜ 14 ≤ length (now slots) ⌝ }

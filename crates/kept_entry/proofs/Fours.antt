@@ -1,7 +1,7 @@
 -- Four elements of an array.
 use mathlib.Core.Path.{_≡_, refl, sym, ap, subst, _∙_}
 use mathlib.Core.List.{List, [], _∷_}
-use mathlib.Core.Option.{Option, none, some}
+use mathlib.Core.Option.{none, some}
 use Prim.Native.Nat.{ℕ, zero, suc, _+_, _≤_}
 use native.Mathlib.Omega.{arith}
 use lib.ListN.{length, drop}
@@ -11,11 +11,10 @@ use Rattle.text.specs.Bytes.{Bytes}
 use Rattle.text.specs.Reader.{got, loop}
 use Rattle.text.specs.Places.{GivesT, byteAt, Passes}
 use Rattle.json.specs.Grammar.{isSpace}
-use Rattle.json.specs.Tree.{Json, jnull, jtrue, jfalse, jnum, jstr, jarr, jobj, Elems, enil, econs, elemsOf, asArray}
+use Rattle.json.specs.Tree.{Json, jnull, jtrue, jfalse, jnum, jstr, jarr, jobj, Elems, enil, elemsOf, asArray}
 use Rattle.json.specs.Syntax.{sep, item, value}
 use Rattle.json.specs.Strings.{decodedElems}
 use Rattle.json_access.specs.declared.Part.{Part}
-use Rattle.json_access.specs.declared.Kind.{Kind}
 use Rattle.json_access.specs.declared.Kind.the-variants.{Array}
 use Rattle.json_access.specs.Access.{placeOf, Inside, EndsAt, TellsElement, kindOf}
 use Rattle.json_index.specs.Index.{jsonAt}
@@ -23,7 +22,7 @@ use Rattle.json_index.proofs.Laws.{place-within}
 use Rattle.kept_strings.proofs.Elements.{item-here, elems-on, elems-none, elems-end, next-elem, elem-stands, elems-nil, elems-cons, enil-decoded, not-array, empty-array, array-elems, array-end}
 use Rattle.kept_entry.specs.declared.Four.{Four}
 use Rattle.kept_entry.specs.declared.Four.the-variants.{At, Bad}
-use Rattle.kept_entry.specs.Entry.{FourHere, FourList, FourIs, FourIn, TellsFour}
+use Rattle.kept_entry.specs.Entry.{FourList, FourIs, FourIn, TellsFour}
 
 -- elements stand from a place on
 pub record Here (s : Bytes) (i : ℕ) (es : Elems) : Type 0 where

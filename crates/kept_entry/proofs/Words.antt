@@ -3,24 +3,23 @@ use mathlib.Core.Path.{_≡_, refl, sym, ap, subst, _∙_}
 use mathlib.Core.Bool.{Bool, true, false, _&&_, not}
 use mathlib.Core.List.{List, [], _∷_}
 use mathlib.Core.Option.{Option, none, some}
-use Prim.Native.Nat.{ℕ, _+_, _-_, _≤_, _<_}
+use Prim.Native.Nat.{ℕ, _+_, _-_, _≤_}
 use native.Mathlib.Omega.{arith}
 use borrow.Author.Tests.{eq-eqb, ne-eqb}
 use lib.Dec.{eqb}
 use lib.ListN.{length, take, drop}
 use Rattle.text.specs.Choice.{pick, is-some, chain, provided}
-use Rattle.text.specs.Bytes.{Bytes, ascii, any, all, among, same, parts, onHead}
-use Rattle.text.proofs.Cases.{byBool, not-false}
-use Rattle.json.specs.Tree.{Json, jnull, Member, member, nameOf, asString}
+use Rattle.text.specs.Bytes.{Bytes, ascii, all, among, parts, onHead}
+use Rattle.json.specs.Tree.{jnull, member, asString}
 use Rattle.json_strings.specs.Decoded.{decodedAt, textAt}
 use Rattle.json_strings.proofs.NextByte.{text-some}
-use Rattle.json_index.specs.Index.{jsonAt, placed, firstAt}
+use Rattle.json_index.specs.Index.{placed, firstAt}
 use Rattle.json_index.proofs.Fields.{first-other}
 use Rattle.card_value.specs.Values.{StringIs, TellsString}
 use Rattle.convert.specs.FromJson.{isLowerWord, neverKept}
 use Rattle.kept_strings.specs.declared.To.{To}
 use Rattle.kept_strings.specs.declared.To.the-variants.{End, Bad}
-use Rattle.kept_strings.specs.Strings.{size, Grew, Puts, PutAs}
+use Rattle.kept_strings.specs.Strings.{Grew, Puts, PutAs}
 use Rattle.kept_strings.proofs.Putting.{put-as, string-size}
 use Rattle.kept_strings.proofs.Values.{not-end, end-is}
 use Rattle.kept_table.proofs.Params.{part-is}

@@ -43,7 +43,7 @@ pub enum Four {
 }
 
 // A string that is a name in lower case.
-fn put_word<'a, 'b>(b: &'a mut [u8], n: usize, s: &'b [u8], q: usize) -> To
+fn put_word(b: &mut [u8], n: usize, s: &[u8], q: usize) -> To
     requires { ⌜ n ≤ length (now b) ⌝ }
     ensures { λ r. ⌜ length (now (b .exit)) ≡ length (now (b .entry)) ⌝ }
     ensures { λ r. ⌜ Within n (length (now (b .entry))) r ⌝ }
@@ -59,7 +59,7 @@ fn put_word<'a, 'b>(b: &'a mut [u8], n: usize, s: &'b [u8], q: usize) -> To
 }
 
 // The line's name.
-pub fn put_name<'a, 'b>(b: &'a mut [u8], n: usize, s: &'b [u8], at: usize) -> To
+pub fn put_name(b: &mut [u8], n: usize, s: &[u8], at: usize) -> To
     requires { ⌜ n ≤ length (now b) ⌝ }
     ensures { λ r. ⌜ length (now (b .exit)) ≡ length (now (b .entry)) ⌝ }
     ensures { λ r. ⌜ Within n (length (now (b .entry))) r ⌝ }
@@ -116,14 +116,7 @@ pub fn four_at(s: &[u8], at: usize) -> Four
 }
 
 // VALUE: its name, then the type.
-fn put_typed<'a, 'b, 'c>(
-    b: &'a mut [u8],
-    n: usize,
-    t: &'b mut [usize],
-    m: usize,
-    s: &'c [u8],
-    at: usize,
-) -> Rows
+fn put_typed(b: &mut [u8], n: usize, t: &mut [usize], m: usize, s: &[u8], at: usize) -> Rows
     requires { ⌜ n ≤ length (now b) ⌝ }
     requires { ⌜ tableLength ≤ length (now t) ⌝ }
     ensures { λ r. ⌜ Bounds (now (b .entry)) (now (b .exit)) (now (t .entry)) (now (t .exit)) ⌝ }
@@ -147,13 +140,13 @@ fn put_typed<'a, 'b, 'c>(
 }
 
 // The type: a parameter VALUE, none where it is unknown.
-pub fn put_type<'a, 'b, 'c>(
-    b: &'a mut [u8],
+pub fn put_type(
+    b: &mut [u8],
     n: usize,
-    t: &'b mut [usize],
+    t: &mut [usize],
     m: usize,
     count: usize,
-    s: &'c [u8],
+    s: &[u8],
     at: usize,
 ) -> Rows
     requires { ⌜ n ≤ length (now b) ⌝ }

@@ -18,12 +18,12 @@ ghost use Rattle.line_table.specs.Table.{tableLength};
 ghost use Rattle.kept_fill.specs.Held.{isEntry, HeldIn};
 
 // Type and value, then the head.
-fn put_rest<'a, 'b, 'c>(
-    b: &'a mut [u8],
-    t: &'b mut [usize],
+fn put_rest(
+    b: &mut [u8],
+    t: &mut [usize],
     f: Filled,
     e: usize,
-    s: &'c [u8],
+    s: &[u8],
     kind: usize,
     value: usize,
 ) -> bool
@@ -56,7 +56,7 @@ pub enum Held {
 }
 
 // The whole entry.
-pub fn fill_kept<'a, 'b, 'c>(b: &'a mut [u8], t: &'b mut [usize], s: &'c [u8], at: usize) -> Held
+pub fn fill_kept(b: &mut [u8], t: &mut [usize], s: &[u8], at: usize) -> Held
     requires { ⌜ tableLength ≤ length (now t) ⌝ }
     requires { ⌜ at ≤ length (now s) ⌝ }
     ensures { λ r. ⌜ Bounds (now (b .entry)) (now (b .exit)) (now (t .entry)) (now (t .exit)) ⌝ }

@@ -250,7 +250,7 @@ fn pen_end(out: &mut [u8], column: usize, v: &[u8]) -> Penned
 }
 
 // The line of a table over the bytes b, its end included, and whether a line can carry its strings.
-pub fn put_kept_line<'a, 'b, 'c>(out: &'a mut [u8], b: &'b [u8], t: &'c [usize]) -> Penned
+pub fn put_kept_line(out: &mut [u8], b: &[u8], t: &[usize]) -> Penned
     requires { ⌜ Sound (now b) (now t) ⌝ }
     ensures { λ r. ⌜ r .bytes ≤ length (now (out .entry)) ⌝ }
     ensures { λ r. ⌜ length (now (out .exit)) ≡ length (now (out .entry)) ⌝ }

@@ -1,26 +1,24 @@
 -- The elements of an array, one after the other.
-use mathlib.Core.Path.{_≡_, refl, sym, ap, subst, _∙_}
-use mathlib.Core.Bool.{Bool, true, false}
-use mathlib.Core.Logic.{_⊎_, inl, inr, ⊎-elim}
-use mathlib.Core.List.{List, [], _∷_}
-use mathlib.Core.Option.{Option, none, some}
-use Prim.Native.Nat.{ℕ, zero, suc, _+_, _-_, _≤_, _<_}
+use mathlib.Core.Path.{_≡_, refl, sym, ap, _∙_}
+use mathlib.Core.Logic.{_⊎_, ⊎-elim}
+use mathlib.Core.List.{[], _∷_}
+use mathlib.Core.Option.{some}
+use Prim.Native.Nat.{ℕ, zero, suc, _+_, _-_}
 use native.Mathlib.Omega.{arith}
 use lib.Dec.{eqb}
-use lib.ListN.{length, drop}
+use lib.ListN.{drop}
 use borrow.Author.Tests.{eq-eqb, ne-eqb, eqb-true, eqb-false}
 use Rattle.text.specs.declared.Read.{Read}
 use Rattle.text.specs.declared.Turn.the-variants.{Go, Stop}
-use Rattle.text.specs.Choice.{both}
 use Rattle.text.specs.Bytes.{Bytes, is}
-use Rattle.text.specs.Reader.{Got, got, bad, bind, under, on, Step, more, last, after, loop}
+use Rattle.text.specs.Reader.{Got, got, under, on, Step, more, last, after, loop}
 use Rattle.text.specs.Places.{GivesT, byteAt, Passes}
-use Rattle.text.proofs.Choices.{none-some, some-same, map-inv, both-inv}
+use Rattle.text.proofs.Choices.{some-same, map-inv, both-inv}
 use Rattle.text.proofs.Cases.{byBool}
 use Rattle.text.proofs.Places.{on-yes, on-no}
 use Rattle.text.proofs.Fine.{Takes, got-what, bind-inv, under-inv, loop-more, loop-split}
 use Rattle.json.specs.Grammar.{isSpace}
-use Rattle.json.specs.Tree.{Json, jnull, jtrue, jfalse, jnum, jstr, jarr, jobj, Elems, enil, econs, elemsOf, asArray, asString}
+use Rattle.json.specs.Tree.{Json, jnull, jtrue, jfalse, jnum, jstr, jarr, jobj, Elems, enil, econs, elemsOf}
 use Rattle.json.specs.Syntax.{sep, item, elements, value}
 use Rattle.json.specs.Strings.{decode, decoded, decodedElems, decodedMembers}
 use Rattle.json.proofs.Fine.{value-fine, item-fine}
@@ -30,7 +28,7 @@ use Rattle.json_scan.proofs.First.{as-array}
 use Rattle.json_access.specs.declared.Part.{Part}
 use Rattle.json_access.specs.declared.Kind.{Kind}
 use Rattle.json_access.specs.declared.Kind.the-variants.{Null, True, False, Number, String, Array, Object}
-use Rattle.json_access.specs.Access.{placeOf, EndsAt, TellsElement, Stands, kindOf}
+use Rattle.json_access.specs.Access.{placeOf, EndsAt, TellsElement, kindOf}
 use Rattle.json_access.proofs.First.{is-object, is-string, is-true, is-false, is-null, is-number}
 use Rattle.json_index.specs.Index.{jsonAt}
 use Rattle.json_index.proofs.Objects.{at-inv}

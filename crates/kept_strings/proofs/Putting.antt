@@ -1,17 +1,17 @@
 -- A string after those that are in a buffer already.
 use mathlib.Core.Path.{_≡_, refl, sym, ap, subst, _∙_}
-use mathlib.Core.Bool.{Bool, true, false}
-use mathlib.Core.List.{List, [], _∷_, _++_, append-assoc}
+use mathlib.Core.Bool.{Bool, false}
+use mathlib.Core.List.{[], _∷_, _++_, append-assoc}
 use mathlib.Core.Option.{Option, none, some}
-use Prim.Native.Nat.{ℕ, zero, suc, _+_, _-_, _≤_, _<_}
+use Prim.Native.Nat.{ℕ, _+_, _-_, _≤_, _<_}
 use native.Mathlib.Omega.{arith}
 use borrow.Rule.Slice.PartMut.{midOf, putMid, same-len-mid, mid-len}
-use lib.ListN.{length, take, drop, length-append, length-take, length-drop}
+use lib.ListN.{length, take, drop, length-take}
 use lib.Seq.{take-append-add, take-append-seam}
 use Rattle.text.specs.Bytes.{Bytes, all}
 use Rattle.output.specs.declared.Wrote.{Wrote}
 use Rattle.output.specs.declared.Wrote.the-variants.{Bytes as Wrote-Bytes, Full}
-use Rattle.output.specs.Put.{put, answer, Puts}
+use Rattle.output.specs.Put.{Puts}
 use Rattle.output.proofs.Laws.{said-bytes, said-full, put-fits, length-put}
 use Rattle.json.specs.Tree.{Json, jnull, jtrue, jfalse, jnum, jstr, jarr, jobj, asString}
 use Rattle.line.specs.Class.{isLowerName}
@@ -19,7 +19,6 @@ use Rattle.convert.specs.FromJson.{isLowerWord}
 use Rattle.text.proofs.Choices.{none-some, some-same}
 use Rattle.json_strings.specs.Decoded.{decodedAt, textAt}
 use Rattle.json_strings.proofs.NextByte.{text-some}
-use Rattle.json_index.specs.Index.{jsonAt}
 use Rattle.card_value.specs.Values.{StringIs, TellsString}
 use Rattle.kept_strings.specs.declared.To.{To}
 use Rattle.kept_strings.specs.declared.To.the-variants.{End, Bad}

@@ -2,17 +2,17 @@
 use mathlib.Core.Path.{_≡_, refl, sym, ap, subst, _∙_}
 use mathlib.Core.Bool.{Bool, true, false, not}
 use mathlib.Core.List.{List, [], _∷_, _++_, append-nil, append-assoc}
-use Prim.Native.Nat.{ℕ, zero, suc, _+_, _*_, _-_, _≤_, _<_}
+use Prim.Native.Nat.{ℕ, zero, suc, _+_, _-_, _≤_, _<_}
 use native.Mathlib.Numerals.{add-one}
 use native.Mathlib.Omega.{arith}
 use borrow.Author.Tests.{ne-eqb, eq-eqb}
 use lib.Dec.{eqb, ltb}
-use lib.ListN.{length, take, drop, getD, length-append, length-take, length-drop}
-use lib.Seq.{take-append-le, drop-append-le, take-append-seam, drop-append-seam}
+use lib.ListN.{length, take, drop, getD, length-append, length-drop}
+use lib.Seq.{take-append-le, drop-append-le, drop-append-seam}
 use Rattle.text.specs.Choice.{pick}
-use Rattle.text.specs.Bytes.{Bytes, empty, flat}
+use Rattle.text.specs.Bytes.{Bytes, empty}
 use Rattle.text.proofs.Cases.{byBool, tests}
-use Rattle.line.specs.Grammar.{Param, param, paramName, paramValues}
+use Rattle.line.specs.Grammar.{Param, param, paramValues}
 use Rattle.line_table.specs.Spread.{ones, spread}
 use Rattle.line_table.specs.Table.{part, base, nameAt, valueAt, rowsIn, Span, Spans, stored}
 use Rattle.line_table.proofs.Rows.{Agree, rows-none, stored-agree, stored-0, last-row, adds-row}

@@ -1,33 +1,30 @@
 -- The values of a parameter, one row after the other.
 use mathlib.Core.Path.{_≡_, refl, sym, ap, subst, _∙_}
-use mathlib.Core.Bool.{Bool, true, false}
+use mathlib.Core.Bool.{Bool}
 use mathlib.Core.List.{List, [], _∷_, _++_, append-nil, append-assoc}
 use mathlib.Core.Option.{Option, none, some, Option·map}
-use Prim.Native.Nat.{ℕ, zero, suc, _+_, _-_, _≤_, _<_}
+use Prim.Native.Nat.{ℕ, zero, suc, _+_, _≤_, _<_}
 use native.Mathlib.Omega.{arith}
 use borrow.Author.Tests.{le-leb, lt-leb}
-use lib.Dec.{leb}
-use lib.ListN.{length, take, drop, length-append, length-take, length-set}
+use lib.ListN.{length, take, drop, length-append, length-set}
 use Rattle.text.specs.declared.Read.{Read}
 use Rattle.text.specs.declared.Turn.the-variants.{Go, Stop}
-use Rattle.text.specs.Choice.{chain, provided, both}
-use Rattle.text.specs.Bytes.{Bytes, each, flat, empty}
+use Rattle.text.specs.Choice.{provided, both}
+use Rattle.text.specs.Bytes.{Bytes, each, flat}
 use Rattle.text.specs.Reader.{got, loop}
 use Rattle.text.specs.Places.{GivesT}
 use Rattle.text.proofs.Lists.{flat-append}
 use Rattle.json.specs.Tree.{Json, Elems, enil, econs, elemsOf, asString}
 use Rattle.json.specs.Syntax.{sep, item, value}
-use Rattle.json.specs.Strings.{decoded, decodedElems}
+use Rattle.json.specs.Strings.{decodedElems}
 use Rattle.json_access.specs.declared.Part.{Part}
 use Rattle.json_access.specs.Access.{TellsElement}
-use Rattle.json_index.specs.Index.{jsonAt}
-use Rattle.line.specs.Grammar.{Param}
 use Rattle.line_table.specs.Table.{stored}
 use Rattle.kept_strings.specs.declared.To.{To}
 use Rattle.kept_strings.specs.declared.To.the-variants.{End, Bad}
 use Rattle.kept_strings.specs.declared.Rows.{Rows}
 use Rattle.kept_strings.specs.declared.Rows.the-variants.{More, Wrong}
-use Rattle.kept_strings.specs.Strings.{size, sizeElems, Grew, Within, PutAs, PutsAt, Adding, capped, Added, AddAs, Bounds, RowsIn, AddsValue, AddsFrom}
+use Rattle.kept_strings.specs.Strings.{size, sizeElems, Grew, Within, PutAs, PutsAt, Adding, capped, Added, AddAs, RowsIn, AddsValue, AddsFrom}
 use Rattle.kept_strings.proofs.Elements.{HereE, item-here, elems-on, elems-none, next-elem, elem-stands, elems-nil, elems-cons, enil-decoded}
 use Rattle.kept_strings.proofs.Putting.{string-size}
 use Rattle.kept_strings.proofs.Tables.{adding-on}

@@ -3,24 +3,22 @@ use mathlib.Core.Path.{_≡_, refl, sym, ap, subst, _∙_}
 use mathlib.Core.Bool.{Bool, true, false, not}
 use mathlib.Core.List.{List, [], _∷_, _++_}
 use mathlib.Core.Option.{Option, none, some, Option·map}
-use Prim.Native.Nat.{ℕ, zero, suc, _+_, _-_, _≤_, _<_}
+use Prim.Native.Nat.{ℕ, zero, suc, _+_, _-_, _≤_}
 use native.Mathlib.Omega.{arith}
 use lib.ListN.{length, take, drop, length-append}
 use Rattle.text.specs.declared.Read.{Read}
 use Rattle.text.specs.declared.Turn.the-variants.{Go, Stop}
 use Rattle.text.specs.Choice.{chain, provided, both}
 use Rattle.text.specs.Bytes.{Bytes, each, flat, empty}
-use Rattle.text.specs.Reader.{got, loop}
 use Rattle.text.specs.Places.{GivesT, byteAt, Passes}
 use Rattle.text.proofs.Choices.{none-some, some-same, chain-inv, provided-inv}
 use Rattle.json.specs.Grammar.{isSpace}
 use Rattle.json.specs.Tree.{Json, jnull, jtrue, jfalse, jnum, jstr, jarr, jobj, Elems, enil, econs, elemsOf, asString}
-use Rattle.json.specs.Syntax.{sep, item, value}
-use Rattle.json.specs.Strings.{decoded, decodedElems}
+use Rattle.json.specs.Syntax.{sep}
+use Rattle.json.specs.Strings.{decodedElems}
 use Rattle.json_strings.specs.Decoded.{decodedAt, textAt}
 use Rattle.json_strings.proofs.NextByte.{text-some}
 use Rattle.json_access.specs.declared.Part.{Part}
-use Rattle.json_access.specs.declared.Kind.{Kind}
 use Rattle.json_access.specs.declared.Kind.the-variants.{Array}
 use Rattle.json_access.specs.Access.{TellsElement, kindOf}
 use Rattle.json_index.specs.Index.{jsonAt}
@@ -29,9 +27,9 @@ use Rattle.convert.specs.FromJson.{strings, isLowerWord}
 use Rattle.kept_strings.specs.declared.To.{To}
 use Rattle.kept_strings.specs.declared.To.the-variants.{End, Bad}
 use Rattle.kept_strings.specs.declared.Rows.{Rows}
-use Rattle.kept_strings.specs.declared.Rows.the-variants.{More, Wrong}
+use Rattle.kept_strings.specs.declared.Rows.the-variants.{Wrong}
 use Rattle.kept_strings.specs.Strings.{size, sizeElems, Grew, Puts, PutAs, capped, AddAs, AddsValue, AddsFrom, AddsValues, sole, soleIn, SoleIs, TellsSole, groupOf, PutsGroup}
-use Rattle.kept_strings.proofs.Elements.{HereE, item-here, elems-on, elems-none, next-elem, elem-stands, elems-nil, elems-cons, enil-decoded, not-array, empty-array, array-elems}
+use Rattle.kept_strings.proofs.Elements.{item-here, elems-on, elems-none, next-elem, elem-stands, elems-nil, elems-cons, enil-decoded, not-array, empty-array, array-elems}
 use Rattle.kept_strings.proofs.Putting.{put-as, string-size}
 use Rattle.kept_strings.proofs.Values.{each-cons, each-nil, size-cons, not-end, end-is}
 

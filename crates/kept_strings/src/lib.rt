@@ -65,7 +65,7 @@ fn bare_end(s: &[u8], at: usize) -> usize
 }
 
 // The string whose first quote stands just before a place, after the first n bytes of the buffer: decoded byte by byte.
-fn put_escaped<'a, 'b>(b: &'a mut [u8], n: usize, s: &'b [u8], at: usize) -> To
+fn put_escaped(b: &mut [u8], n: usize, s: &[u8], at: usize) -> To
     requires { ⌜ n ≤ length (now b) ⌝ }
     ensures { λ r. ⌜ Puts (now (b .entry)) n (textAt (now (s .entry)) at) r (now (b .exit)) ⌝ }
 {
@@ -76,7 +76,7 @@ fn put_escaped<'a, 'b>(b: &'a mut [u8], n: usize, s: &'b [u8], at: usize) -> To
 }
 
 // The same; most strings have no escape, and are copied as they are.
-pub fn put_decoded<'a, 'b>(b: &'a mut [u8], n: usize, s: &'b [u8], at: usize) -> To
+pub fn put_decoded(b: &mut [u8], n: usize, s: &[u8], at: usize) -> To
     requires { ⌜ n ≤ length (now b) ⌝ }
     ensures { λ r. ⌜ Puts (now (b .entry)) n (textAt (now (s .entry)) at) r (now (b .exit)) ⌝ }
 {
@@ -91,7 +91,7 @@ pub fn put_decoded<'a, 'b>(b: &'a mut [u8], n: usize, s: &'b [u8], at: usize) ->
 }
 
 // The value at a place, where it is a string.
-pub fn put_string<'a, 'b>(b: &'a mut [u8], n: usize, s: &'b [u8], at: usize) -> To
+pub fn put_string(b: &mut [u8], n: usize, s: &[u8], at: usize) -> To
     requires { ⌜ n ≤ length (now b) ⌝ }
     ensures { λ r. ⌜ length (now (b .exit)) ≡ length (now (b .entry)) ⌝ }
     ensures { λ r. ⌜ Within n (length (now (b .entry))) r ⌝ }
@@ -105,14 +105,14 @@ pub fn put_string<'a, 'b>(b: &'a mut [u8], n: usize, s: &'b [u8], at: usize) -> 
 }
 
 // One value of the parameter whose name stands from a to e in the buffer.
-pub fn put_value<'a, 'b, 'c>(
-    b: &'a mut [u8],
+pub fn put_value(
+    b: &mut [u8],
     n: usize,
-    t: &'b mut [usize],
+    t: &mut [usize],
     m: usize,
     a: usize,
     e: usize,
-    s: &'c [u8],
+    s: &[u8],
     at: usize,
 ) -> Rows
     requires { ⌜ n ≤ length (now b) ⌝ }
@@ -135,14 +135,14 @@ pub fn put_value<'a, 'b, 'c>(
 }
 
 // The elements of an array from a place on, each a value of that parameter.
-fn put_elements<'a, 'b, 'c>(
-    b: &'a mut [u8],
+fn put_elements(
+    b: &mut [u8],
     n: usize,
-    t: &'b mut [usize],
+    t: &mut [usize],
     m: usize,
     a: usize,
     e: usize,
-    s: &'c [u8],
+    s: &[u8],
     at: usize,
 ) -> Rows
     requires { ⌜ n ≤ length (now b) ⌝ }
@@ -179,14 +179,14 @@ fn put_elements<'a, 'b, 'c>(
 }
 
 // The values of a parameter: a string, or an array of strings that is not empty.
-pub fn put_values<'a, 'b, 'c>(
-    b: &'a mut [u8],
+pub fn put_values(
+    b: &mut [u8],
     n: usize,
-    t: &'b mut [usize],
+    t: &mut [usize],
     m: usize,
     a: usize,
     e: usize,
-    s: &'c [u8],
+    s: &[u8],
     at: usize,
 ) -> Rows
     requires { ⌜ n ≤ length (now b) ⌝ }
@@ -234,7 +234,7 @@ fn sole_string(s: &[u8], at: usize) -> usize
 }
 
 // The group of a kept line.
-pub fn put_group<'a, 'b>(b: &'a mut [u8], n: usize, s: &'b [u8], at: usize) -> To
+pub fn put_group(b: &mut [u8], n: usize, s: &[u8], at: usize) -> To
     requires { ⌜ n ≤ length (now b) ⌝ }
     requires { ⌜ at ≤ length (now s) ⌝ }
     ensures { λ r. ⌜ length (now (b .exit)) ≡ length (now (b .entry)) ⌝ }

@@ -1,16 +1,16 @@
 -- The parameters of an entry, one member after the other.
 use mathlib.Core.Path.{_≡_, refl, sym, ap, subst, _∙_}
-use mathlib.Core.Bool.{Bool, true, false, not}
-use mathlib.Core.List.{List, [], _∷_, _++_, append-nil, append-assoc}
+use mathlib.Core.Bool.{Bool, true, false}
+use mathlib.Core.List.{List, [], _∷_, _++_}
 use mathlib.Core.Option.{Option, none, some, Option·map}
-use Prim.Native.Nat.{ℕ, zero, suc, _+_, _-_, _≤_, _<_}
+use Prim.Native.Nat.{ℕ, zero, suc, _+_, _≤_, _<_}
 use native.Mathlib.Omega.{arith}
 use lib.ListN.{length, take, drop, length-append}
 use lib.Seq.{length-take-le, take-take, take-at}
 use Rattle.text.specs.declared.Read.{Read}
 use Rattle.text.specs.declared.Turn.the-variants.{Go, Stop}
 use Rattle.text.specs.Choice.{pick, chain, provided}
-use Rattle.text.specs.Bytes.{Bytes, ascii, same, flat}
+use Rattle.text.specs.Bytes.{Bytes, ascii, flat}
 use Rattle.text.specs.Reader.{got, loop}
 use Rattle.text.specs.Places.{GivesT, byteAt, Passes}
 use Rattle.json.specs.Grammar.{isSpace}
@@ -21,26 +21,25 @@ use Rattle.json.specs.Strings.{decodedMembers}
 use Rattle.json_strings.specs.Decoded.{decodedAt, spells}
 use Rattle.json_access.specs.declared.Places.{Places}
 use Rattle.json_access.specs.Access.{TellsMember}
-use Rattle.json_index.specs.Index.{jsonAt}
 use Rattle.json_index.proofs.Laws.{Here, pair-here, others-on, others-none, next-of, stands-at, members-cons, members-nil, nil-decoded}
 use Rattle.json_index.proofs.Objects.{not-object, empty-object, object-members}
-use Rattle.line.specs.Grammar.{Param, param, valueCount}
+use Rattle.line.specs.Grammar.{param, valueCount}
 use Rattle.line.proofs.Lines.{count-append}
 use Rattle.line_table.specs.Table.{part, Span}
 use Rattle.kept_strings.specs.declared.To.{To}
 use Rattle.kept_strings.specs.declared.To.the-variants.{End, Bad as ToBad}
 use Rattle.kept_strings.specs.declared.Rows.{Rows}
 use Rattle.kept_strings.specs.declared.Rows.the-variants.{More, Wrong}
-use Rattle.kept_strings.specs.Strings.{size, sizeMembers, Grew, PutAs, Table, groupOf, soleIn, capped, PutsGroup}
+use Rattle.kept_strings.specs.Strings.{size, sizeMembers, Grew, PutAs, Table, groupOf, soleIn, PutsGroup}
 use Rattle.kept_strings.proofs.Tables.{part-longer, part-new, longer-span, table-longer, table-none}
 use Rattle.kept_strings.proofs.Values.{not-end, end-is, not-more, more-end, more-count}
 use Rattle.kept_strings.proofs.Whole.{sole-size}
-use Rattle.convert.specs.FromJson.{isLowerWord, strings}
+use Rattle.convert.specs.FromJson.{isLowerWord}
 use Rattle.text.proofs.Choices.{chain-inv, provided-inv, some-same, none-some}
 use Rattle.kept_table.specs.declared.Filled.{Filled}
 use Rattle.kept_table.specs.declared.Step.{Step}
 use Rattle.kept_table.specs.declared.Step.the-variants.{On, Bad}
-use Rattle.kept_table.specs.Kept.{Sofar, sofar, groupIn, paramsIn, groupStep, fitParam, paramStep, stepOf, stepsOf, GroupAt, Has, Stays, AddedParam, ParamAs, PutsParam, StepIn, Stepped, StepAs, PutsMember, noneYet, PutsFrom, PutsObject}
+use Rattle.kept_table.specs.Kept.{Sofar, sofar, groupIn, paramsIn, groupStep, fitParam, paramStep, stepOf, stepsOf, GroupAt, Has, Stays, ParamAs, PutsParam, StepIn, StepAs, PutsMember, noneYet, PutsFrom, PutsObject}
 use Rattle.kept_table.proofs.Params.{word-filled, strings-bound}
 
 not-on : {f : Filled} → Bad ≡ On f → ⊥

@@ -1,22 +1,21 @@
 -- One parameter: its name, then its values.
 use mathlib.Core.Path.{_≡_, refl, sym, ap, subst, _∙_}
 use mathlib.Core.Bool.{Bool, true, false, _&&_, not}
-use mathlib.Core.List.{List, [], _∷_, _++_, append-nil, append-assoc}
-use mathlib.Core.Option.{Option, none, some, Option·map}
-use Prim.Native.Nat.{ℕ, zero, suc, _+_, _-_, _≤_, _<_}
+use mathlib.Core.List.{List, [], _∷_, _++_, append-assoc}
+use mathlib.Core.Option.{Option, none, some}
+use Prim.Native.Nat.{ℕ, _+_, _-_, _≤_, _<_}
 use native.Mathlib.Omega.{arith}
 use lib.Dec.{leb}
 use lib.ListN.{length, take, drop, length-append, take-append-drop}
 use lib.Seq.{length-take-le, drop-at, take-append-seam}
 use Rattle.text.specs.Choice.{chain, provided}
 use Rattle.text.specs.Bytes.{Bytes, ascii, empty, each, flat, same}
-use Rattle.text.proofs.Cases.{byBool, and-left, and-true}
+use Rattle.text.proofs.Cases.{and-left, and-true}
 use Rattle.text.proofs.Same.{same-swap}
 use Rattle.text.proofs.Choices.{none-some, some-same, chain-inv, provided-inv}
 use Rattle.json.specs.Tree.{Json, jnull, jtrue, jfalse, jnum, jstr, jarr, jobj, elemsOf, asString}
 use Rattle.json_strings.specs.Decoded.{decodedAt, textAt, spells}
 use Rattle.json_strings.proofs.NextByte.{text-some}
-use Rattle.json_index.specs.Index.{jsonAt}
 use Rattle.line.specs.Grammar.{Param, param}
 use Rattle.line_table.specs.Table.{part}
 use Rattle.convert.specs.FromJson.{strings, isLowerWord}
@@ -29,7 +28,7 @@ use Rattle.kept_strings.proofs.Putting.{put-as}
 use Rattle.kept_strings.proofs.Tables.{part-longer, part-new, adding-first}
 use Rattle.kept_strings.proofs.Values.{not-end, end-is, grew-then}
 use Rattle.kept_strings.proofs.Whole.{strings-size}
-use Rattle.kept_table.specs.Kept.{goodName, fitParam, AddedParam, ParamAs, PutsParam}
+use Rattle.kept_table.specs.Kept.{goodName, fitParam, ParamAs, PutsParam}
 
 -- the bytes that were put last
 pub part-is : (b : Bytes) (n : ℕ) (after : Bytes) (k : ℕ) (x : Bytes) → n ≤ length b → Grew b n after k x → take (k - n) (drop n after) ≡ x

@@ -37,12 +37,12 @@ pub enum Step {
 }
 
 // A parameter that is no group.
-fn put_param<'a, 'b, 'c>(
-    b: &'a mut [u8],
+fn put_param(
+    b: &mut [u8],
     n: usize,
-    t: &'b mut [usize],
+    t: &mut [usize],
     m: usize,
-    s: &'c [u8],
+    s: &[u8],
     q: usize,
     at: usize,
 ) -> Rows
@@ -66,14 +66,7 @@ fn put_param<'a, 'b, 'c>(
 }
 
 // A member of the parameters: the group, or a parameter.
-fn put_member<'a, 'b, 'c>(
-    b: &'a mut [u8],
-    t: &'b mut [usize],
-    f: Filled,
-    s: &'c [u8],
-    q: usize,
-    at: usize,
-) -> Step
+fn put_member(b: &mut [u8], t: &mut [usize], f: Filled, s: &[u8], q: usize, at: usize) -> Step
     requires { ⌜ f .end ≤ length (now b) ⌝ }
     requires { ⌜ tableLength ≤ length (now t) ⌝ }
     requires { ⌜ at ≤ length (now s) ⌝ }
@@ -116,13 +109,7 @@ fn put_member<'a, 'b, 'c>(
 }
 
 // The parameters from a place of their object on.
-fn put_from<'a, 'b, 'c>(
-    b: &'a mut [u8],
-    n: usize,
-    t: &'b mut [usize],
-    s: &'c [u8],
-    at: usize,
-) -> Step
+fn put_from(b: &mut [u8], n: usize, t: &mut [usize], s: &[u8], at: usize) -> Step
     requires { ⌜ n ≤ length (now b) ⌝ }
     requires { ⌜ tableLength ≤ length (now t) ⌝ }
     requires { ⌜ at ≤ length (now s) ⌝ }
@@ -159,13 +146,7 @@ fn put_from<'a, 'b, 'c>(
 }
 
 // The parameters: an object, perhaps empty.
-pub fn put_object<'a, 'b, 'c>(
-    b: &'a mut [u8],
-    n: usize,
-    t: &'b mut [usize],
-    s: &'c [u8],
-    at: usize,
-) -> Step
+pub fn put_object(b: &mut [u8], n: usize, t: &mut [usize], s: &[u8], at: usize) -> Step
     requires { ⌜ n ≤ length (now b) ⌝ }
     requires { ⌜ tableLength ≤ length (now t) ⌝ }
     requires { ⌜ at ≤ length (now s) ⌝ }

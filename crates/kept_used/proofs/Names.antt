@@ -9,7 +9,7 @@ use Rattle.text.specs.Choice.{with-some}
 use Rattle.text.specs.Bytes.{Bytes, any, same, among, keep}
 use Rattle.text.proofs.Cases.{byBool, not-both}
 use Rattle.text.proofs.Same.{same-true}
-use Rattle.json.specs.Tree.{Member, member, nameOf, asObject}
+use Rattle.json.specs.Tree.{Member, member, nameOf}
 use Rattle.output.specs.declared.Wrote.{Wrote}
 use Rattle.output.specs.declared.Wrote.the-variants.{Bytes as Wrote-Bytes, Full}
 use Rattle.output.specs.Put.{Puts}

@@ -1,20 +1,20 @@
 -- A UTF-8 line is folded as 01 says (specs/Folded.antt).
 use mathlib.Core.Path.{_≡_, refl, sym, ap, subst, _∙_}
-use mathlib.Core.Bool.{true, false, _&&_, not}
+use mathlib.Core.Bool.{true, not}
 use mathlib.Core.List.{List, [], _∷_, _++_, map, tail, head-eq-of-cons-eq}
 use Prim.Native.Nat.{ℕ, suc, _+_, _≤_, _<_}
 use native.Mathlib.Omega.{arith}
 use lib.ListN.{length}
-use lib.Dec.{eqb, ltb, leb}
-use borrow.Author.Tests.{leb-true, lt-ltb, le-ltb, ltb-true}
+use lib.Dec.{eqb}
+use borrow.Author.Tests.{lt-ltb, le-ltb, ltb-true}
 use Rattle.text.specs.Bytes.{Bytes, ascii, between, joined, flat}
-use Rattle.text.specs.Utf8.{Due, start, due, broken, lead, tails, next, run, utf8}
+use Rattle.text.specs.Utf8.{Due, start, due, broken, lead, tails, next, run}
 use Rattle.text.specs.Scalar.{Octets, one-octet, two-octets, three-octets, four-octets}
-use Rattle.text.proofs.Cases.{byBool, tests, and-left, and-right, between-true}
+use Rattle.text.proofs.Cases.{byBool, and-right, between-true}
 use Rattle.text.proofs.Characters.{not-start, utf8-run, later, later-lead, later-tails, later-bounds}
-use Rattle.text.proofs.Scalars.{First, first-of}
+use Rattle.text.proofs.Scalars.{first-of}
 use Rattle.line.specs.Write.{width, breaks, foldFrom, fold}
-use Rattle.line.specs.Folded.{Continues, Later, Folded, FoldedInWords}
+use Rattle.line.specs.Folded.{Continues, Later, FoldedInWords}
 use Rattle.line.proofs.Pieces.{piecesFrom, pieces}
 use Rattle.line.proofs.Folding.{left, left-tails, wide, fits-width, later-width, stays, goes-on, good, pieces-short}
 

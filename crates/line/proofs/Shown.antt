@@ -9,7 +9,7 @@ use Rattle.text.specs.Bytes.{Bytes, ascii, any, all, same, empty, uppered, join
 use Rattle.text.proofs.Cases.{byBool, byBelow, not-both}
 use Rattle.text.proofs.Lists.{all-head, all-tail}
 use Rattle.line.specs.Class.{isBare}
-use Rattle.line.specs.Grammar.{Param, param, Line, paramValues}
+use Rattle.line.specs.Grammar.{Param, param, paramValues}
 use Rattle.line.specs.Write.{writeValue, writeValues, writeParams, writeGroup, writeLine}
 use Rattle.line.specs.Shown.{holdsOne, shownValue, shownParam, shownLine, WrittenInWords}
 

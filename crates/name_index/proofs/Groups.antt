@@ -1,17 +1,17 @@
 -- The groups of names, and their rows one group after the other.
 use mathlib.Core.Path.{_≡_, refl, sym, ap, ap₂, subst, _∙_}
-use mathlib.Core.Logic.{_⊎_, ⊎-elim}
-use mathlib.Core.Bool.{Bool, true, false}
-use mathlib.Core.List.{List, [], _∷_, _++_, map}
+use mathlib.Core.Logic.{⊎-elim}
+use mathlib.Core.Bool.{Bool, false}
+use mathlib.Core.List.{List, [], _++_, map}
 use mathlib.Core.Option.{Option, none, some, Option·map}
-use Prim.Native.Nat.{ℕ, zero, suc, _+_, _-_, _≤_, _<_}
+use Prim.Native.Nat.{ℕ, suc, _+_, _-_, _≤_, _<_}
 use native.Mathlib.Nat.{eq-or-lt-of-le}
 use native.Mathlib.Omega.{arith}
 use lib.ListN.{length, getD, take, drop, set, length-take, length-drop, take-append-drop}
 use lib.Seq.{length-take-le, take-all, take-append-le, drop-append-le, drop-append-seam, getD-set-same, getD-set-other}
 use borrow.Author.Tests.{eq-eqb, ne-eqb}
 use borrow.Rule.Slice.PartMut.{midOf, postOf, putMid, same-len-mid}
-use Rattle.text.specs.Choice.{pick, with-some}
+use Rattle.text.specs.Choice.{with-some}
 use Rattle.text.specs.Bytes.{Bytes, among}
 use Rattle.text.proofs.Choices.{some-same, map-inv}
 use Rattle.text.proofs.Same.{among-none}
@@ -22,7 +22,7 @@ use Rattle.json_walk.specs.Walk.{jsonAt}
 use Rattle.json_has.specs.Has.{named, hasName, HasMember}
 use Rattle.name_index.specs.declared.Noted.{Noted}
 use Rattle.name_index.specs.declared.Noted.the-variants.{Rows}
-use Rattle.name_index.specs.Groups.{namesOf, namesAt, slotNames, groupNames, HasName, NotedIn, NotesAll, NotesNames, NotesGroup, rows, Group, NameIndex, Indexes}
+use Rattle.name_index.specs.Groups.{namesOf, slotNames, groupNames, HasName, NotedIn, NotesAll, NotesNames, NotesGroup, rows, Group, NameIndex, Indexes}
 
 -- ---- what a group is
 

@@ -129,7 +129,7 @@ pub fn note_groups<'a, 'b, 'c, 'd>(
 }
 
 // The same question, asked of the text.
-fn has_walked<'a, 'b, 'c>(s: &'a [u8], slots: &'b [usize], i: usize, key: &'c [u8]) -> bool
+fn has_walked(s: &[u8], slots: &[usize], i: usize, key: &[u8]) -> bool
     requires { ⌜ (i < groupCount) × (mapSlots ≤ length (now slots)) ⌝ }
     ensures { λ r. ⌜ HasName (now (s .entry)) (now (slots .entry)) i (now (key .entry)) r ⌝ }
 {

@@ -7,16 +7,16 @@ use mathlib.Core.Option.{some}
 use Prim.Native.Nat.{ℕ, suc, _+_, _≤_}
 use native.Mathlib.Omega.{arith}
 use lib.ListN.{length, take, drop, set, length-append, length-set}
-use lib.Seq.{take-all, take-append-seam}
+use lib.Seq.{take-all}
 use lib.Dec.{eqb, ltb}
 use Rattle.text.specs.Choice.{pick}
-use Rattle.text.specs.Bytes.{Bytes, ascii, all, same, empty, lower, lowered, upper, uppered, between}
+use Rattle.text.specs.Bytes.{Bytes, ascii, all, same, lower, lowered, upper, uppered, between}
 use Rattle.text.proofs.Cases.{byBool, and-left, and-right, not-true}
 use Rattle.text.proofs.Letters.{lower-test, uppered-lowered, lowered-empty}
 use Rattle.line.specs.Physical.{withoutCr, isBegin}
-use Rattle.stream.specs.Plain.{Reader, kindOf, begin, lineTells, lineNext, tells, next, Told, Tells, more, refuses, unless, readFrom, readPiece, readEnd}
-use Rattle.stream.specs.Calls.{piece, end, asked}
-use Rattle.stream.specs.Buffer.{distance, stored, opensNext, fronting, fronted, placed, placedAll, bufferBy}
+use Rattle.stream.specs.Plain.{Reader, kindOf, begin, lineTells, lineNext, tells, next, Told, more, refuses, readFrom, readPiece, readEnd}
+use Rattle.stream.specs.Calls.{piece, asked}
+use Rattle.stream.specs.Buffer.{stored, opensNext, fronting, fronted, placed, placedAll, bufferBy}
 use Rattle.stream.specs.BeginInside.{BeginLine, inside, two-and-next, storedFrom, capitals, BeginInside}
 
 -- ---- the line

@@ -1,6 +1,6 @@
 -- The plain reader reads lines as 01 says (specs/Lines.antt).
 use mathlib.Core.Path.{_≡_, refl, sym, ap, ap₂, _∙_}
-use mathlib.Core.Bool.{Bool, true, false, not}
+use mathlib.Core.Bool.{true, false, not}
 use mathlib.Core.List.{[], _∷_, _++_, append-assoc, append-nil}
 use mathlib.Core.Logic.{_⊎_, inl, inr}
 use mathlib.Core.Option.{Option, none, some}
@@ -15,7 +15,6 @@ use Rattle.text.proofs.Same.{differ-same}
 use Rattle.text.proofs.Letters.{lowered-empty}
 use Rattle.line.specs.Physical.{withoutCr, isBegin, isEnd}
 use Rattle.stream.specs.Plain.{Reader, Kind, blank, begin, other, kindOf, lineTells, lineNext, tells, next, Told, Tells, more, refuses, closes, unless, readFrom, readPiece}
-use Rattle.stream.specs.Plain.{end as ends}
 use Rattle.stream.specs.Calls.{piece, asked}
 use Rattle.stream.specs.Lines.{LineText, Reads, LinesRead}
 use Rattle.stream.proofs.BeginInside.{all-both, all-second, cr-gone, is-begin}

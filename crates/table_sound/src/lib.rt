@@ -23,7 +23,7 @@ fn has_span(t: &[usize], i: usize, n: usize) -> bool
     true
 }
 
-pub fn is_sound<'a, 'b>(b: &'a [u8], t: &'b [usize]) -> bool
+pub fn is_sound(b: &[u8], t: &[usize]) -> bool
     requires { ⌜ tableLength ≤ length (now t) ⌝ }
     ensures { λ r. ⌜ TellsSound (now (b .entry)) (now (t .entry)) r ⌝ }
 {

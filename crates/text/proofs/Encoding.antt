@@ -7,9 +7,9 @@ use native.Mathlib.Omega.{arith}
 use lib.Dec.{ltb, leb}
 use borrow.Author.Tests.{le-leb}
 use Rattle.text.specs.Choice.{pick}
-use Rattle.text.specs.Bytes.{between, all}
-use Rattle.text.specs.Utf8.{row, Due, start, due, byRow, rows, lead, next, run, utf8, encode}
-use Rattle.text.proofs.Cases.{byBool, byBelow, upTo, tests, in-between, beyond, not-both}
+use Rattle.text.specs.Bytes.{between}
+use Rattle.text.specs.Utf8.{Due, start, due, byRow, lead, next, run, utf8, encode}
+use Rattle.text.proofs.Cases.{byBool, byBelow, upTo, tests, in-between, not-both}
 use Rattle.text.proofs.Characters.{run-utf8}
 
 -- ---- the rows of first bytes

@@ -1,6 +1,5 @@
 -- UTF-8 is exactly the octets of characters' numbers (specs/Scalar.antt).
 use mathlib.Core.Path.{_≡_, refl, sym, ap, ap₂, subst, _∙_}
-use mathlib.Core.Bool.{Bool, true, false}
 use mathlib.Core.List.{List, [], _∷_, _++_}
 use Prim.Native.Nat.{ℕ, zero, suc, _+_, _-_, _*_, _/_, _%_, _≤_, _<_}
 use native.Mathlib.Omega.{arith}
@@ -8,7 +7,7 @@ use lib.ListN.{length}
 use lib.Dec.{ltb}
 use borrow.Author.Tests.{lt-ltb}
 use Rattle.text.specs.Bytes.{Bytes, between}
-use Rattle.text.specs.Utf8.{Row, row, rows, Due, start, due, byRow, lead, tails, next, run, atStart, utf8, encode}
+use Rattle.text.specs.Utf8.{Row, row, rows, Due, start, due, byRow, lead, tails, next, run, atStart, encode}
 use Rattle.text.specs.Scalar.{Scalar, Octets, one-octet, two-octets, three-octets, four-octets, Characters, no-more, one-more, ExactlyUtf8}
 use Rattle.text.proofs.Cases.{byBool, tests, between-true, not-both}
 use Rattle.text.proofs.Characters.{run-append, utf8-run, run-utf8, not-start}

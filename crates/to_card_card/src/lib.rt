@@ -34,12 +34,7 @@ fn up_to(n: usize) -> usize
 }
 
 // The other members: none where their slot, after those of the reserved names, is empty, and then the text is not gone through again.
-fn put_others<'a, 'b, 'c, 'd>(
-    out: &'a mut [u8],
-    buffer: &'b mut [u8],
-    s: &'c [u8],
-    slots: &'d [usize],
-) -> Lines
+fn put_others(out: &mut [u8], buffer: &mut [u8], s: &[u8], slots: &[usize]) -> Lines
     requires { ⌜ length (now out) ≤ length (now buffer) ⌝ }
     requires { ⌜ cardSlots ≤ length (now slots) ⌝ }
     ensures { λ r. ⌜ LinesIn (length (now (out .entry))) r ⌝ }
@@ -57,14 +52,14 @@ fn put_others<'a, 'b, 'c, 'd>(
 }
 
 // Other members, then the kept lines.
-fn put_last<'a, 'b, 'c, 'd, 'e, 'f, 'g>(
-    out: &'a mut [u8],
-    buffer: &'b mut [u8],
-    b: &'c mut [u8],
-    t: &'d mut [usize],
-    scratch: &'e mut [u8],
-    s: &'f [u8],
-    slots: &'g [usize],
+fn put_last(
+    out: &mut [u8],
+    buffer: &mut [u8],
+    b: &mut [u8],
+    t: &mut [usize],
+    scratch: &mut [u8],
+    s: &[u8],
+    slots: &[usize],
     full: bool,
     parts: bool,
 ) -> Lines
@@ -101,14 +96,14 @@ fn put_last<'a, 'b, 'c, 'd, 'e, 'f, 'g>(
 }
 
 // The maps, then these.
-fn put_rest<'a, 'b, 'c, 'd, 'e, 'f, 'g>(
-    out: &'a mut [u8],
-    buffer: &'b mut [u8],
-    b: &'c mut [u8],
-    t: &'d mut [usize],
-    scratch: &'e mut [u8],
-    s: &'f [u8],
-    slots: &'g [usize],
+fn put_rest(
+    out: &mut [u8],
+    buffer: &mut [u8],
+    b: &mut [u8],
+    t: &mut [usize],
+    scratch: &mut [u8],
+    s: &[u8],
+    slots: &[usize],
     full: bool,
     parts: bool,
 ) -> Lines
@@ -145,14 +140,14 @@ fn put_rest<'a, 'b, 'c, 'd, 'e, 'f, 'g>(
 }
 
 // The name, then these. Two lines of a name are FN and N.
-fn put_body<'a, 'b, 'c, 'd, 'e, 'f, 'g>(
-    out: &'a mut [u8],
-    buffer: &'b mut [u8],
-    b: &'c mut [u8],
-    t: &'d mut [usize],
-    scratch: &'e mut [u8],
-    s: &'f [u8],
-    slots: &'g [usize],
+fn put_body(
+    out: &mut [u8],
+    buffer: &mut [u8],
+    b: &mut [u8],
+    t: &mut [usize],
+    scratch: &mut [u8],
+    s: &[u8],
+    slots: &[usize],
 ) -> Lines
     requires { ⌜ length (now out) ≤ length (now buffer) ⌝ }
     requires { ⌜ Lent (now b) (now t) (now scratch) (now s) (now slots) ⌝ }
@@ -190,14 +185,14 @@ fn put_body<'a, 'b, 'c, 'd, 'e, 'f, 'g>(
 }
 
 // The card of a sound JSON text that is an object, by the slots of its members: 12, or as much of it as the room holds. BEGIN and the head, then these and END.
-pub fn put_card<'a, 'b, 'c, 'd, 'e, 'f, 'g>(
-    out: &'a mut [u8],
-    buffer: &'b mut [u8],
-    b: &'c mut [u8],
-    t: &'d mut [usize],
-    scratch: &'e mut [u8],
-    s: &'f [u8],
-    slots: &'g [usize],
+pub fn put_card(
+    out: &mut [u8],
+    buffer: &mut [u8],
+    b: &mut [u8],
+    t: &mut [usize],
+    scratch: &mut [u8],
+    s: &[u8],
+    slots: &[usize],
 ) -> Lines
     requires { ⌜ length (now out) ≤ length (now buffer) ⌝ }
     requires { ⌜ Lent (now b) (now t) (now scratch) (now s) (now slots) ⌝ }

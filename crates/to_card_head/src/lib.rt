@@ -89,7 +89,7 @@ pub fn is_filled(s: &[u8], at: usize) -> bool
 }
 
 // Whether a slot holds the string of these bytes.
-fn holds<'a, 'b>(s: &'a [u8], slot: usize, bytes: &'b [u8]) -> bool
+fn holds(s: &[u8], slot: usize, bytes: &[u8]) -> bool
     ensures { λ r. ⌜ TellsSame (now (s .entry)) slot (now (bytes .entry)) r ⌝ }
 {
     if slot == 0 {
@@ -134,7 +134,7 @@ fn word_in(s: &[u8], slot: usize) -> usize
 }
 
 // BEGIN, VERSION and the UID at a place.
-fn put_start<'a, 'b>(out: &'a mut [u8], s: &'b [u8], uid: usize) -> Penned
+fn put_start(out: &mut [u8], s: &[u8], uid: usize) -> Penned
     ensures { λ r. ⌜ Starts (now (s .entry)) uid (now (out .entry)) r (now (out .exit)) ⌝ }
 {
     let n = fill(out, &lines::START);
@@ -148,9 +148,9 @@ fn put_start<'a, 'b>(out: &'a mut [u8], s: &'b [u8], uid: usize) -> Penned
 }
 
 // The lines up to KIND, by the slots of @type, version, uid and kind.
-pub fn put_head<'a, 'b>(
-    out: &'a mut [u8],
-    s: &'b [u8],
+pub fn put_head(
+    out: &mut [u8],
+    s: &[u8],
     card: usize,
     version: usize,
     uid: usize,

@@ -25,7 +25,6 @@ use Rattle.kept_used.proofs.Standing.{stands-kept}
 use Rattle.kept_table.specs.Kept.{keptForm, formed}
 use Rattle.kept_entry.specs.Entry.{HoldsKept, HoldsAs, FillsKept}
 use Rattle.kept_fill.proofs.Composed.{fills-formed, stands-formed}
-use Rattle.kept_line.specs.Line.{PutsKept as PutsLine}
 use Rattle.to_card_lines.specs.declared.Lines.{Lines}
 use Rattle.to_card_lines.specs.declared.Lines.the-variants.{All, Wrong}
 use Rattle.to_card_lines.specs.declared.Penned.{Penned}

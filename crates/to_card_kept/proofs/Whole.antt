@@ -13,7 +13,7 @@ use Rattle.text.proofs.Cases.{byBool}
 use Rattle.text.proofs.Choices.{none-some, some-same}
 use Rattle.text.proofs.Same.{same-true}
 use Rattle.json.specs.Grammar.{isSpace}
-use Rattle.json.specs.Tree.{Json, jnull, jtrue, jfalse, jnum, jstr, jarr, jobj, Members, mnil, mcons, Member, member, membersOf, Elems, elemsOf, field, asArray}
+use Rattle.json.specs.Tree.{Json, jnull, jtrue, jfalse, jnum, jstr, jarr, jobj, Members, mnil, mcons, Member, membersOf, Elems, elemsOf, field, asArray}
 use Rattle.json.specs.Strings.{distinctNames}
 use Rattle.json_access.specs.declared.Kind.the-variants.{Array}
 use Rattle.json_access.specs.Access.{kindOf}

@@ -228,13 +228,13 @@ fn put_run<'a, 'b, 'c, 'd, 'e, 'f, 'g, 'h>(
 }
 
 // All entries from a place on, after the names of the card are noted: no text has more entries than bytes.
-fn put_noted<'a, 'b, 'c, 'd, 'e, 'f>(
-    out: &'a mut [u8],
-    b: &'b mut [u8],
-    t: &'c mut [usize],
-    scratch: &'d mut [u8],
-    s: &'e [u8],
-    slots: &'f [usize],
+fn put_noted(
+    out: &mut [u8],
+    b: &mut [u8],
+    t: &mut [usize],
+    scratch: &mut [u8],
+    s: &[u8],
+    slots: &[usize],
     at: usize,
     full: bool,
     parts: bool,
@@ -276,13 +276,13 @@ fn put_noted<'a, 'b, 'c, 'd, 'e, 'f>(
 }
 
 // The entries from a place on: the first questions by walks over the text, the names noted for the others.
-fn put_from<'a, 'b, 'c, 'd, 'e, 'f>(
-    out: &'a mut [u8],
-    b: &'b mut [u8],
-    t: &'c mut [usize],
-    scratch: &'d mut [u8],
-    s: &'e [u8],
-    slots: &'f [usize],
+fn put_from(
+    out: &mut [u8],
+    b: &mut [u8],
+    t: &mut [usize],
+    scratch: &mut [u8],
+    s: &[u8],
+    slots: &[usize],
     at: usize,
     full: bool,
     parts: bool,
@@ -334,13 +334,13 @@ fn put_from<'a, 'b, 'c, 'd, 'e, 'f>(
 }
 
 // All entries of vCardProps, whose slot is that of the last reserved name; no lines where the text has none. The buffer is as long as the text.
-pub fn put_kept<'a, 'b, 'c, 'd, 'e, 'f>(
-    out: &'a mut [u8],
-    b: &'b mut [u8],
-    t: &'c mut [usize],
-    scratch: &'d mut [u8],
-    s: &'e [u8],
-    slots: &'f [usize],
+pub fn put_kept(
+    out: &mut [u8],
+    b: &mut [u8],
+    t: &mut [usize],
+    scratch: &mut [u8],
+    s: &[u8],
+    slots: &[usize],
     full: bool,
     parts: bool,
 ) -> Lines

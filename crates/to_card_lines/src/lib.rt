@@ -21,13 +21,7 @@ pub struct Penned {
 }
 
 // A line that begins with `head` and whose value is the string at a place, in a style of `card_pen`.
-pub fn put_string_line<'a, 'b, 'c>(
-    out: &'a mut [u8],
-    head: &'b [u8],
-    style: u8,
-    s: &'c [u8],
-    at: usize,
-) -> Penned
+pub fn put_string_line(out: &mut [u8], head: &[u8], style: u8, s: &[u8], at: usize) -> Penned
     ensures { λ r. ⌜ StringLine (now (s .entry)) at style (now (head .entry)) (now (out .entry)) r (now (out .exit)) ⌝ }
 {
     let p = pen_bytes(out, 0, head);

@@ -50,7 +50,7 @@ fn pen_pointed(out: &mut [u8], column: usize, c: u8) -> Pen
 }
 
 // The pointer to the member whose name is the string at a place.
-fn pen_pointer<'a, 'b>(out: &'a mut [u8], column: usize, s: &'b [u8], at: usize) -> Told
+fn pen_pointer(out: &mut [u8], column: usize, s: &[u8], at: usize) -> Told
     ensures { λ r. ⌜ Points (now (s .entry)) at (now (out .entry)) column r (now (out .exit)) ⌝ }
 {
     if at > s.len() {
@@ -98,7 +98,7 @@ fn pen_pointer<'a, 'b>(out: &'a mut [u8], column: usize, s: &'b [u8], at: usize)
 }
 
 // Bytes as TEXT.
-fn pen_text<'a, 'b>(out: &'a mut [u8], column: usize, s: &'b [u8]) -> Pen
+fn pen_text(out: &mut [u8], column: usize, s: &[u8]) -> Pen
     ensures { λ r. ⌜ Pens (now (out .entry)) column (writeText false (now (s .entry))) r (now (out .exit)) ⌝ }
 {
     let mut at = 0;
@@ -117,7 +117,7 @@ fn pen_text<'a, 'b>(out: &'a mut [u8], column: usize, s: &'b [u8]) -> Pen
 }
 
 // The value that stands from a to e, compactly, as much of it as the buffer holds.
-fn put_value<'a, 'b>(buffer: &'a mut [u8], s: &'b [u8], a: usize, e: usize) -> usize
+fn put_value(buffer: &mut [u8], s: &[u8], a: usize, e: usize) -> usize
     requires { ⌜ a ≤ e ⌝ }
     requires { ⌜ e ≤ length (now s) ⌝ }
     ensures { λ r. ⌜ Fills (now (buffer .entry)) (squeezed (take (e - a) (drop a (now (s .entry))))) r (now (buffer .exit)) ⌝ }
@@ -129,10 +129,10 @@ fn put_value<'a, 'b>(buffer: &'a mut [u8], s: &'b [u8], a: usize, e: usize) -> u
 }
 
 // The line of a member, by the places of its name and of its value. A value that the buffer does not hold leaves no room in `out` either.
-fn put_member<'a, 'b, 'c>(
-    out: &'a mut [u8],
-    buffer: &'b mut [u8],
-    s: &'c [u8],
+fn put_member(
+    out: &mut [u8],
+    buffer: &mut [u8],
+    s: &[u8],
     name: usize,
     a: usize,
     e: usize,
@@ -162,14 +162,7 @@ fn put_member<'a, 'b, 'c>(
 }
 
 // A member: no line where another part of the card says it, 12 where its name is empty.
-fn put_other<'a, 'b, 'c>(
-    out: &'a mut [u8],
-    buffer: &'b mut [u8],
-    s: &'c [u8],
-    name: usize,
-    a: usize,
-    e: usize,
-) -> Lines
+fn put_other(out: &mut [u8], buffer: &mut [u8], s: &[u8], name: usize, a: usize, e: usize) -> Lines
     requires { ⌜ a ≤ e ⌝ }
     requires { ⌜ e ≤ length (now s) ⌝ }
     requires { ⌜ length (now out) ≤ length (now buffer) ⌝ }
@@ -200,7 +193,7 @@ fn put_other<'a, 'b, 'c>(
 }
 
 // The members from a place on.
-fn put_from<'a, 'b, 'c>(out: &'a mut [u8], buffer: &'b mut [u8], s: &'c [u8], at: usize) -> Lines
+fn put_from(out: &mut [u8], buffer: &mut [u8], s: &[u8], at: usize) -> Lines
     requires { ⌜ at ≤ length (now s) ⌝ }
     requires { ⌜ length (now out) ≤ length (now buffer) ⌝ }
     ensures { λ r. ⌜ LinesIn (length (now (out .entry))) r ⌝ }
@@ -243,7 +236,7 @@ fn put_from<'a, 'b, 'c>(out: &'a mut [u8], buffer: &'b mut [u8], s: &'c [u8], at
 }
 
 // The other members of the JSON text's object as JSPROP lines, in their order. The buffer is as long as the room, for one value at a time.
-pub fn put_members<'a, 'b, 'c>(out: &'a mut [u8], buffer: &'b mut [u8], s: &'c [u8]) -> Lines
+pub fn put_members(out: &mut [u8], buffer: &mut [u8], s: &[u8]) -> Lines
     requires { ⌜ length (now out) ≤ length (now buffer) ⌝ }
     ensures { λ r. ⌜ LinesIn (length (now (out .entry))) r ⌝ }
     ensures { λ r. ⌜ length (now (out .exit)) ≡ length (now (out .entry)) ⌝ }

@@ -92,11 +92,11 @@ fn full_in(s: &[u8], slot: usize) -> Full
 }
 
 // The components in a slot: a row for each, and marks of the kinds that have a value.
-fn list_components<'a, 'b, 'c, 'd>(
-    marks: &'a mut [usize],
-    kinds: &'b mut [usize],
-    values: &'c mut [usize],
-    s: &'d [u8],
+fn list_components(
+    marks: &mut [usize],
+    kinds: &mut [usize],
+    values: &mut [usize],
+    s: &[u8],
     slot: usize,
 ) -> Listed
     requires { ⌜ partCount ≤ length (now marks) ⌝ }
@@ -139,12 +139,12 @@ fn has_parts(marks: &[usize]) -> bool
 }
 
 // Whether two kinds have no value in common; looked for where both have values.
-fn apart_in<'a, 'b, 'c, 'd>(
-    s: &'a [u8],
+fn apart_in(
+    s: &[u8],
     at: usize,
-    marks: &'b [usize],
-    kinds: &'c [usize],
-    values: &'d [usize],
+    marks: &[usize],
+    kinds: &[usize],
+    values: &[usize],
     rows: usize,
     one: usize,
     other: usize,
@@ -168,18 +168,18 @@ fn apart_in<'a, 'b, 'c, 'd>(
 }
 
 // A line whose value is the values of the components in an order of kinds.
-fn put_order_line<'a, 'b, 'c, 'd, 'e, 'f, 'g>(
-    out: &'a mut [u8],
-    head: &'b [u8],
+fn put_order_line(
+    out: &mut [u8],
+    head: &[u8],
     style: u8,
     mark: u8,
-    s: &'c [u8],
+    s: &[u8],
     at: usize,
-    marks: &'d [usize],
-    kinds: &'e [usize],
-    values: &'f [usize],
+    marks: &[usize],
+    kinds: &[usize],
+    values: &[usize],
     rows: usize,
-    order: &'g [u8],
+    order: &[u8],
 ) -> Penned
     requires { ⌜ at ≤ length (now s) ⌝ }
     requires { ⌜ partCount ≤ length (now marks) ⌝ }
@@ -214,14 +214,14 @@ fn put_order_line<'a, 'b, 'c, 'd, 'e, 'f, 'g>(
 }
 
 // FN: the full name, or one made of the components where there is none (its place is 0).
-fn put_fn<'a, 'b, 'c, 'd, 'e>(
-    out: &'a mut [u8],
-    s: &'b [u8],
+fn put_fn(
+    out: &mut [u8],
+    s: &[u8],
     full: usize,
     at: usize,
-    marks: &'c [usize],
-    kinds: &'d [usize],
-    values: &'e [usize],
+    marks: &[usize],
+    kinds: &[usize],
+    values: &[usize],
     rows: usize,
 ) -> Penned
     requires { ⌜ at ≤ length (now s) ⌝ }
@@ -255,13 +255,13 @@ fn put_fn<'a, 'b, 'c, 'd, 'e>(
 }
 
 // N, where there is a component that is not empty: its parts with surname2 after the surname and generation after the credential.
-fn put_n<'a, 'b, 'c, 'd, 'e>(
-    out: &'a mut [u8],
-    s: &'b [u8],
+fn put_n(
+    out: &mut [u8],
+    s: &[u8],
     at: usize,
-    marks: &'c [usize],
-    kinds: &'d [usize],
-    values: &'e [usize],
+    marks: &[usize],
+    kinds: &[usize],
+    values: &[usize],
     rows: usize,
 ) -> Counted
     requires { ⌜ at ≤ length (now s) ⌝ }
@@ -321,7 +321,7 @@ fn put_n<'a, 'b, 'c, 'd, 'e>(
 }
 
 // The lines of a name without components.
-fn put_alone<'a, 'b>(out: &'a mut [u8], s: &'b [u8], full: usize) -> Lines
+fn put_alone(out: &mut [u8], s: &[u8], full: usize) -> Lines
     ensures { λ r. ⌜ LinesIn (length (now (out .entry))) r ⌝ }
     ensures { λ r. ⌜ length (now (out .exit)) ≡ length (now (out .entry)) ⌝ }
     ensures { λ r. ⌜ PutsAlone (now (s .entry)) full (now (out .entry)) r (now (out .exit)) ⌝ }
@@ -345,14 +345,14 @@ fn put_alone<'a, 'b>(out: &'a mut [u8], s: &'b [u8], full: usize) -> Lines
 }
 
 // The lines of a name with components.
-fn put_both<'a, 'b, 'c, 'd, 'e>(
-    out: &'a mut [u8],
-    s: &'b [u8],
+fn put_both(
+    out: &mut [u8],
+    s: &[u8],
     full: usize,
     at: usize,
-    marks: &'c [usize],
-    kinds: &'d [usize],
-    values: &'e [usize],
+    marks: &[usize],
+    kinds: &[usize],
+    values: &[usize],
     rows: usize,
 ) -> Lines
     requires { ⌜ at ≤ length (now s) ⌝ }
@@ -378,7 +378,7 @@ fn put_both<'a, 'b, 'c, 'd, 'e>(
 }
 
 // The lines of a name whose full name stands at a place (0: it has none), by the slot of its components.
-fn put_list<'a, 'b>(out: &'a mut [u8], s: &'b [u8], full: usize, components: usize) -> Lines
+fn put_list(out: &mut [u8], s: &[u8], full: usize, components: usize) -> Lines
     ensures { λ r. ⌜ LinesIn (length (now (out .entry))) r ⌝ }
     ensures { λ r. ⌜ length (now (out .exit)) ≡ length (now (out .entry)) ⌝ }
     ensures { λ r. ⌜ PutsList (now (s .entry)) full components (now (out .entry)) r (now (out .exit)) ⌝ }
@@ -394,9 +394,9 @@ fn put_list<'a, 'b>(out: &'a mut [u8], s: &'b [u8], full: usize, components: usi
 }
 
 // The lines of a name, by the slots of its members, and that of any other member.
-fn put_slots<'a, 'b>(
-    out: &'a mut [u8],
-    s: &'b [u8],
+fn put_slots(
+    out: &mut [u8],
+    s: &[u8],
     full: usize,
     components: usize,
     ordered: usize,
@@ -423,7 +423,7 @@ fn put_slots<'a, 'b>(
 }
 
 // FN, and N where there is a component, by the slot of `name`.
-pub fn put_name<'a, 'b>(out: &'a mut [u8], s: &'b [u8], slot: usize) -> Named
+pub fn put_name(out: &mut [u8], s: &[u8], slot: usize) -> Named
     ensures { λ r. ⌜ LinesIn (length (now (out .entry))) (asLines r) ⌝ }
     ensures { λ r. ⌜ length (now (out .exit)) ≡ length (now (out .entry)) ⌝ }
     ensures { λ r. ⌜ PutsName (now (s .entry)) slot (now (out .entry)) (asLines r) (now (out .exit)) ⌝ }

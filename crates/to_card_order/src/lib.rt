@@ -30,16 +30,16 @@ const NO_PRINT: u32 = 65536;
 const NOTED: usize = 2304;
 
 // One place of an order: a semicolon, or the values of the kind that a digit names, by the rows of the components. Kinds without a mark have no values.
-fn pen_place<'a, 'b, 'c, 'd, 'e>(
-    out: &'a mut [u8],
+fn pen_place(
+    out: &mut [u8],
     column: usize,
     style: u8,
     mark: u8,
-    s: &'b [u8],
+    s: &[u8],
     at: usize,
-    marks: &'c [usize],
-    kinds: &'d [usize],
-    values: &'e [usize],
+    marks: &[usize],
+    kinds: &[usize],
+    values: &[usize],
     rows: usize,
     place: u8,
     begun: bool,
@@ -103,18 +103,18 @@ fn pen_place<'a, 'b, 'c, 'd, 'e>(
 }
 
 // The values of the components from a place on, by their rows, in an order of kinds: a digit is a kind, a semicolon itself.
-pub fn pen_order<'a, 'b, 'c, 'd, 'e, 'f>(
-    out: &'a mut [u8],
+pub fn pen_order(
+    out: &mut [u8],
     column: usize,
     style: u8,
     mark: u8,
-    s: &'b [u8],
+    s: &[u8],
     at: usize,
-    marks: &'c [usize],
-    kinds: &'d [usize],
-    values: &'e [usize],
+    marks: &[usize],
+    kinds: &[usize],
+    values: &[usize],
     rows: usize,
-    order: &'f [u8],
+    order: &[u8],
 ) -> Told
     requires { ⌜ at ≤ length (now s) ⌝ }
     requires { ⌜ partCount ≤ length (now marks) ⌝ }
@@ -167,11 +167,11 @@ fn agrees(s: &[u8], wanted: bool, a: usize, b: usize) -> bool
 }
 
 // Whether a string that is not empty is a value of a kind, by the rows of the components from a place on.
-fn is_listed<'a, 'b, 'c>(
-    s: &'a [u8],
+fn is_listed(
+    s: &[u8],
     at: usize,
-    kinds: &'b [usize],
-    values: &'c [usize],
+    kinds: &[usize],
+    values: &[usize],
     rows: usize,
     kind: usize,
     value: usize,
@@ -193,11 +193,11 @@ fn is_listed<'a, 'b, 'c>(
 }
 
 // Whether a value, where it is asked for and not empty, is one of a kind too.
-fn clashes<'a, 'b, 'c>(
-    s: &'a [u8],
+fn clashes(
+    s: &[u8],
     at: usize,
-    kinds: &'b [usize],
-    values: &'c [usize],
+    kinds: &[usize],
+    values: &[usize],
     rows: usize,
     wanted: bool,
     value: usize,
@@ -377,11 +377,11 @@ fn walk_apart(s: &[u8], at: usize, one: usize, other: usize) -> bool
 }
 
 // Whether no value of the one kind is a value of the other, by the rows of the components from a place on.
-pub fn are_apart<'a, 'b, 'c>(
-    s: &'a [u8],
+pub fn are_apart(
+    s: &[u8],
     at: usize,
-    kinds: &'b [usize],
-    values: &'c [usize],
+    kinds: &[usize],
+    values: &[usize],
     rows: usize,
     one: usize,
     other: usize,

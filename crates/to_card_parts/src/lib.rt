@@ -121,7 +121,7 @@ pub fn open_array(s: &[u8], at: usize) -> Array
 }
 
 // Marks the kind of a value that is not empty.
-fn mark_kind<'a, 'b>(marks: &'a mut [usize], s: &'b [u8], kind: usize, value: usize) -> bool
+fn mark_kind(marks: &mut [usize], s: &[u8], kind: usize, value: usize) -> bool
     requires { ⌜ kind < length (now marks) ⌝ }
     ensures { λ r. ⌜ Marks (now (s .entry)) value kind (now (marks .entry)) (now (marks .exit)) ⌝ }
 {
@@ -133,9 +133,9 @@ fn mark_kind<'a, 'b>(marks: &'a mut [usize], s: &'b [u8], kind: usize, value: us
 }
 
 // A row for one more component: its kind, and the place of its value. How many rows there are then; MORE where there is none left.
-fn put_row<'a, 'b>(
-    kinds: &'a mut [usize],
-    values: &'b mut [usize],
+fn put_row(
+    kinds: &mut [usize],
+    values: &mut [usize],
     rows: usize,
     kind: usize,
     value: usize,
@@ -153,11 +153,11 @@ fn put_row<'a, 'b>(
 }
 
 // A row for each component from a place on, and marks of the kinds that have a value that is not empty. How many there are; MORE where they are more than the rows; 0 where an element is no component.
-pub fn list_rows<'a, 'b, 'c, 'd>(
-    marks: &'a mut [usize],
-    kinds: &'b mut [usize],
-    values: &'c mut [usize],
-    s: &'d [u8],
+pub fn list_rows(
+    marks: &mut [usize],
+    kinds: &mut [usize],
+    values: &mut [usize],
+    s: &[u8],
     at: usize,
 ) -> usize
     requires { ⌜ at ≤ length (now s) ⌝ }
@@ -188,12 +188,12 @@ pub fn list_rows<'a, 'b, 'c, 'd>(
 }
 
 // One value that is wanted, after the mark between values where one has been written before; nothing where it is empty.
-fn pen_wanted<'a, 'b>(
-    out: &'a mut [u8],
+fn pen_wanted(
+    out: &mut [u8],
     column: usize,
     style: u8,
     mark: u8,
-    s: &'b [u8],
+    s: &[u8],
     at: usize,
     begun: bool,
 ) -> Inked
@@ -234,12 +234,12 @@ fn pen_wanted<'a, 'b>(
 }
 
 // The same of any value; nothing where it is not wanted, as most are not.
-fn pen_value<'a, 'b>(
-    out: &'a mut [u8],
+fn pen_value(
+    out: &mut [u8],
     column: usize,
     style: u8,
     mark: u8,
-    s: &'b [u8],
+    s: &[u8],
     at: usize,
     wanted: bool,
     begun: bool,
@@ -258,12 +258,12 @@ fn pen_value<'a, 'b>(
 }
 
 // The values of one kind, of the components from a place on.
-fn pen_kind<'a, 'b>(
-    out: &'a mut [u8],
+fn pen_kind(
+    out: &mut [u8],
     column: usize,
     style: u8,
     mark: u8,
-    s: &'b [u8],
+    s: &[u8],
     at: usize,
     kind: usize,
     begun: bool,
@@ -307,15 +307,15 @@ fn pen_kind<'a, 'b>(
 }
 
 // The values of one kind, by the rows of the components from a place on.
-pub fn pen_listed<'a, 'b, 'c, 'd>(
-    out: &'a mut [u8],
+pub fn pen_listed(
+    out: &mut [u8],
     column: usize,
     style: u8,
     mark: u8,
-    s: &'b [u8],
+    s: &[u8],
     at: usize,
-    kinds: &'c [usize],
-    values: &'d [usize],
+    kinds: &[usize],
+    values: &[usize],
     rows: usize,
     kind: usize,
     begun: bool,

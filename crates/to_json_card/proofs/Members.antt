@@ -1,9 +1,9 @@
 -- The members of JSPROP, line by line.
-use mathlib.Core.Path.{_≡_, refl, sym, ap, subst, _∙_}
+use mathlib.Core.Path.{_≡_, refl, sym, ap, _∙_}
 use mathlib.Core.Bool.{Bool, true, false, _&&_, not}
 use mathlib.Core.List.{List, [], _∷_, _++_}
 use mathlib.Core.Option.{Option, none, some}
-use Prim.Native.Nat.{ℕ, zero, suc, _+_, _-_, _≤_, _<_}
+use Prim.Native.Nat.{ℕ, _+_, _-_, _≤_, _<_}
 use native.Mathlib.Omega.{arith}
 use lib.Dec.{eqb, leb, ltb}
 use lib.ListN.{length, take, drop, getD, length-take, length-drop}
@@ -11,7 +11,7 @@ use borrow.Author.Tests.{eqb-true, eqb-false}
 use borrow.Rule.Slice.PartMut.{midOf, putMid}
 use Rattle.text.specs.Choice.{pick, with-some, provided}
 use Rattle.text.specs.Bytes.{Bytes, ascii, same, lowered, empty}
-use Rattle.text.proofs.Cases.{byBool, not-both}
+use Rattle.text.proofs.Cases.{not-both}
 use Rattle.text.proofs.Choices.{some-same}
 use Rattle.json.specs.Tree.{Json, Member, member}
 use Rattle.line.specs.Grammar.{Line, readLine}

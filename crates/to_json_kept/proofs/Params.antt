@@ -4,21 +4,18 @@ use mathlib.Core.Bool.{Bool, true, false, _||_, _&&_, not}
 use mathlib.Core.List.{List, [], _∷_, _++_, map, map-append, append-nil, append-assoc}
 use Prim.Native.Nat.{ℕ, zero, suc, _+_, _-_, _≤_, _<_}
 use native.Mathlib.Omega.{arith}
-use lib.ListN.{length, getD}
+use lib.ListN.{getD}
 use Rattle.text.specs.Choice.{pick}
 use Rattle.text.specs.Bytes.{Bytes, ascii, same, lowered, empty, flat, any, keep}
-use Rattle.text.proofs.Cases.{byBool}
 use Rattle.json.specs.Tree.{Json, Member, member}
 use Rattle.json.specs.Compact.{quoted, written}
-use Rattle.line.specs.Grammar.{Param, param}
+use Rattle.line.specs.Grammar.{param}
 use Rattle.line.specs.Params.{valuesNamed, besidesValue, lacking, named}
-use Rattle.convert.specs.Model.{Kept}
 use Rattle.convert.specs.FromCard.{keptLine}
 use Rattle.convert.specs.ToJson.{valuesJson, paramJson}
 use Rattle.convert_put.specs.Pieces.{memberBytes, inside}
 use Rattle.convert_put.proofs.Compact.{quoted-append, inside-append}
 use Rattle.output.specs.Put.{Puts, Sofar}
-use Rattle.output.specs.declared.Wrote.{Wrote}
 use Rattle.output.specs.declared.Wrote.the-variants.{Bytes as Wrote-Bytes, Full}
 use Rattle.output.proofs.Laws.{start, done, more, puts-as, sofar-as}
 use Rattle.line_table.specs.Table.{nameAt, rowsIn, lineIn}

@@ -4,10 +4,9 @@ use mathlib.Core.List.{List, [], _∷_, _++_, map}
 use mathlib.Core.Option.{none}
 use Prim.Native.Nat.{ℕ}
 use Prim.Native.String.{String}
-use Rattle.text.specs.Bytes.{Bytes, ascii}
+use Rattle.text.specs.Bytes.{ascii}
 use Rattle.convert.specs.Answers.{no, yes}
 use Rattle.convert.specs.Worked.{text, worked-opened}
-use Rattle.stream.specs.Plain.{fresh}
 use Rattle.stream.specs.Calls.{Call, piece, end, shows-more, shows, Reply, plainReplies}
 use Rattle.stream.proofs.Opened.{stream-opened}
 

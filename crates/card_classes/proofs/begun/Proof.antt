@@ -1,4 +1,3 @@
-use Rattle.card_classes.specs.Pass.{fresh}
 use borrow.Author.Needs.{needs}
 use Rattle.card_classes.proofs.begun.Statement.{statement}
 use Rattle.card_classes.proofs.begun.Tie as tie

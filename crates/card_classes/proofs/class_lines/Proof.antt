@@ -150,30 +150,6 @@ returns-2 c =
 pub class-lines-spec : {M : Type 1} → statement M
 class-lines-spec =
     tie.close
-    (tie.spec
-    Inv-loop
-    μ-loop
-    begun-requires
-    loop-holds
-    mul-at
-    shared-slice-read-at
-    line-at-requires
-    fill-requires
-    add-t21
-    same-length
-    same-length-2
-    same-length-3
-    same-length-4
-    same-length-5
-    returns
-    next-line-requires
-    add-k
-    loop-less
-    loop-again
-    refusal-of-requires
-    same-length-6
-    same-length-7
-    same-length-8
-    same-length-9
-    same-length-10
-    returns-2)
+    (tie.spec Inv-loop μ-loop begun-requires loop-holds mul-at shared-slice-read-at line-at-requires fill-requires add-t21 same-length same-length-2
+    same-length-3 same-length-4 same-length-5 returns next-line-requires add-k loop-less loop-again refusal-of-requires same-length-6 same-length-7
+    same-length-8 same-length-9 same-length-10 returns-2)

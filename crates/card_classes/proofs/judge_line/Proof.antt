@@ -30,10 +30,4 @@ returns c =
 pub judge-line-spec : {M : Type 1} → statement M
 judge-line-spec =
     tie.close
-    (tie.spec
-    is-misused-requires
-    is-emptied-requires
-    is-version-line-requires
-    add-judge
-    judge-requires
-    returns)
+    (tie.spec is-misused-requires is-emptied-requires is-version-line-requires add-judge judge-requires returns)

@@ -1,6 +1,5 @@
 use mathlib.Core.Path.{refl}
 use denote.Ref.{now}
-use native.Mathlib.Omega.{arith}
 use Rattle.convert_entry.proofs.Entry.{clear-eight}
 use Rattle.class_line.proofs.Lines.{numbered}
 use Rattle.card_classes.proofs.Names.{coded}
@@ -101,28 +100,7 @@ returns c =
 pub next-line-spec : {M : Type 1} → statement M
 next-line-spec =
     tie.close
-    (tie.spec
-    slice-aggregate-scan-rows
-    slice-aggregate-scan-rows-2
-    slice-aggregate-scan-rows-3
-    scan-rows-requires
-    shared-slice-read-a
-    shared-slice-read-b
-    sub-name-code
-    part-name-code-start
-    part-name-code-end
-    name-code-requires
-    slice-aggregate-judge-line
-    slice-aggregate-judge-line-2
-    slice-aggregate-judge-line-3
-    judge-line-requires
-    slice-aggregate-class-numbered
-    slice-aggregate-class-numbered-2
-    slice-aggregate-class-numbered-3
-    class-numbered-requires
-    pass-line-requires
-    same-length
-    same-length-2
-    same-length-3
-    same-length-4
-    returns)
+    (tie.spec slice-aggregate-scan-rows slice-aggregate-scan-rows-2 slice-aggregate-scan-rows-3 scan-rows-requires shared-slice-read-a
+    shared-slice-read-b sub-name-code part-name-code-start part-name-code-end name-code-requires slice-aggregate-judge-line
+    slice-aggregate-judge-line-2 slice-aggregate-judge-line-3 judge-line-requires slice-aggregate-class-numbered slice-aggregate-class-numbered-2
+    slice-aggregate-class-numbered-3 class-numbered-requires pass-line-requires same-length same-length-2 same-length-3 same-length-4 returns)

@@ -13,9 +13,6 @@ use Rattle.card_entry.specs.Rows.{keyOf, keyFrom}
 use Rattle.card_entry.proofs.Keys.{key-here, key-byte, no-key-end}
 use Rattle.card_entry.proofs.key_end.Statement.{statement}
 use Rattle.card_entry.proofs.key_end.Tie as tie
-use Rattle.card_entry.proofs.key_end.Reads as reads
-use Rattle.card_entry.proofs.key_end.Lts as lts
-use Rattle.card_entry.proofs.is_key.Reads as is-key-reads
 
 abbrev Inv-loop : tie.InvT-loop
 Inv-loop s at i₀ i = (at ≤ i) × (i ≤ length s) × (keyOf (decodedAt s at) ≡ keyFrom (i - at) (decodedAt s i))
@@ -67,14 +64,4 @@ returns-2 c =
 pub key-end-spec : {M : Type 1} → statement M
 key-end-spec =
     tie.close
-    (tie.spec
-    Inv-loop
-    μ-loop
-    loop-holds
-    shared-slice-read-is-key
-    is-key-requires
-    returns
-    add-i
-    loop-less
-    loop-again
-    returns-2)
+    (tie.spec Inv-loop μ-loop loop-holds shared-slice-read-is-key is-key-requires returns add-i loop-less loop-again returns-2)

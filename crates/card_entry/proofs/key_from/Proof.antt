@@ -12,10 +12,6 @@ use Rattle.card_entry.specs.Rows.{keyOf, keyFrom}
 use Rattle.card_entry.proofs.Keys.{key-first, key-end, key-bad, key-long, key-on}
 use Rattle.card_entry.proofs.key_from.Statement.{statement}
 use Rattle.card_entry.proofs.key_from.Tie as tie
-use Rattle.card_entry.proofs.key_from.Reads as reads
-use Rattle.card_entry.proofs.key_from.Lts as lts
-use Rattle.card_entry.proofs.is_key.Reads as is-key-reads
-use Rattle.json_strings.proofs.next_byte.Reads as next-byte-reads
 
 abbrev Inv-loop : tie.InvT-loop
 Inv-loop s at i₀ h₀ k₀ i h k = (i ≤ length s) × (k ≤ 255) × (keyOf (decodedAt s at) ≡ keyFrom k (left s i h))
@@ -95,19 +91,5 @@ loop-again c =
 pub key-from-spec : {M : Type 1} → statement M
 key-from-spec =
     tie.close
-    (tie.spec
-    Inv-loop
-    μ-loop
-    loop-holds
-    next-byte-requires
-    enum-told
-    returns
-    enum-told-2
-    returns-2
-    enum-known-b
-    is-key-requires
-    returns-3
-    returns-4
-    add-k
-    loop-less
-    loop-again)
+    (tie.spec Inv-loop μ-loop loop-holds next-byte-requires enum-told returns enum-told-2 returns-2 enum-known-b is-key-requires returns-3 returns-4
+    add-k loop-less loop-again)

@@ -2,18 +2,10 @@ use Rattle.card_entry.proofs.Lines.{line-pieces}
 use Rattle.line_pen.proofs.Laws.{Here, first!, next!, in!, fit!, same!, pens-as}
 use Rattle.card_params.specs.Params.{spanOf}
 use denote.Ref.{now}
-use mathlib.Core.Path.{_∙_}
 use native.Mathlib.Nat.{le-refl}
 use borrow.Author.Needs.{needs}
 use Rattle.card_entry.proofs.pen_head.Statement.{statement}
 use Rattle.card_entry.proofs.pen_head.Tie as tie
-use Rattle.card_entry.proofs.pen_head.Reads as reads
-use Rattle.card_entry.proofs.pen_head.Lts as lts
-use Rattle.card_params.proofs.pen_pref.Reads as pen-pref-reads
-use Rattle.card_params.proofs.pen_types.Reads as pen-types-reads
-use Rattle.card_pen.proofs.pen_string.Reads as pen-string-reads
-use Rattle.json_index.proofs.nth_name.Reads as nth-name-reads
-use Rattle.line_pen.proofs.pen_bytes.Reads as pen-bytes-reads
 
 abbrev s1 : tie.After-slice-known2 → Here
 s1 c = first! (c .before .before .pen-bytes .ensures)
@@ -30,119 +22,90 @@ s4 c = next! (s3 (c .before .before .before .before .before)) (c .before .before
 abbrev s5 : tie.After-struct-known4 → Here
 s5 c = next! (s4 (c .before .before .before .before .before .before)) (c .before .before .before .pen-types .ensures)
 
--- src/lib.rt:174:9
 nth-name-requires : tie.Need-nth-name-requires
 nth-name-requires c κs = tt
 
--- src/lib.rt:177:31
 sub-pen-bytes : tie.Need-sub-pen-bytes
 sub-pen-bytes c = c .before .nth-name .ensures .ordered
 
--- src/lib.rt:177:31
 part-pen-bytes-start : tie.Need-part-pen-bytes-start
 part-pen-bytes-start c = search needs
 
--- src/lib.rt:177:31
 part-pen-bytes-end : tie.Need-part-pen-bytes-end
 part-pen-bytes-end c = c .before .nth-name .ensures .inside
 
--- src/lib.rt:177:9
 pen-bytes-requires : tie.Need-pen-bytes-requires
 pen-bytes-requires c κs = tt
 
--- src/lib.rt:179:23
 sub-pen-bytes-2 : tie.Need-sub-pen-bytes-2
 sub-pen-bytes-2 c = in! (s1 c)
 
--- src/lib.rt:179:23
 part-pen-bytes-start-2 : tie.Need-part-pen-bytes-start-2
 part-pen-bytes-start-2 c = in! (s1 c)
 
--- src/lib.rt:179:23
 part-pen-bytes-end-2 : tie.Need-part-pen-bytes-end-2
 part-pen-bytes-end-2 c = le-refl _
 
--- src/lib.rt:179:49
 slice-aggregate-pen-bytes : tie.Need-slice-aggregate-pen-bytes
 slice-aggregate-pen-bytes c = search needs
 
--- src/lib.rt:179:9
 pen-bytes-requires-2 : tie.Need-pen-bytes-requires-2
 pen-bytes-requires-2 c κs = tt
 
--- src/lib.rt:180:14
 add-n2 : tie.Need-add-n2
 add-n2 c = fit! (s2 c) (c .before .before .before .before .before .before .before .before .before .before .before .before .before .before .before .before .good .0 .0)
 
--- src/lib.rt:181:24
 sub-pen-string : tie.Need-sub-pen-string
 sub-pen-string c = in! (s2 c)
 
--- src/lib.rt:181:24
 part-pen-string-start : tie.Need-part-pen-string-start
 part-pen-string-start c = in! (s2 c)
 
--- src/lib.rt:181:24
 part-pen-string-end : tie.Need-part-pen-string-end
 part-pen-string-end c = le-refl _
 
--- src/lib.rt:181:9
 pen-string-requires : tie.Need-pen-string-requires
 pen-string-requires c κs = tt
 
--- src/lib.rt:182:14
 add-n3 : tie.Need-add-n3
 add-n3 c = fit! (s3 c) (c .before .before .before .before .before .before .before .before .before .before .before .before .before .before .before .before .before .before .before .before .before .good .0 .0)
 
--- src/lib.rt:183:22
 sub-pen-pref : tie.Need-sub-pen-pref
 sub-pen-pref c = in! (s3 c)
 
--- src/lib.rt:183:22
 part-pen-pref-start : tie.Need-part-pen-pref-start
 part-pen-pref-start c = in! (s3 c)
 
--- src/lib.rt:183:22
 part-pen-pref-end : tie.Need-part-pen-pref-end
 part-pen-pref-end c = le-refl _
 
--- src/lib.rt:183:9
 pen-pref-requires : tie.Need-pen-pref-requires
 pen-pref-requires c κs = tt
 
--- src/lib.rt:184:14
 add-n4 : tie.Need-add-n4
 add-n4 c = fit! (s4 c) (c .before .before .before .before .before .before .before .before .before .before .before .before .before .before .before .before .before .before .before .before .before .before .before .before .before .before .good .0 .0)
 
--- src/lib.rt:185:23
 sub-pen-types : tie.Need-sub-pen-types
 sub-pen-types c = in! (s4 c)
 
--- src/lib.rt:185:23
 part-pen-types-start : tie.Need-part-pen-types-start
 part-pen-types-start c = in! (s4 c)
 
--- src/lib.rt:185:23
 part-pen-types-end : tie.Need-part-pen-types-end
 part-pen-types-end c = le-refl _
 
--- src/lib.rt:185:49
 slice-aggregate-pen-types : tie.Need-slice-aggregate-pen-types
 slice-aggregate-pen-types c = search needs
 
--- src/lib.rt:185:9
 pen-types-requires : tie.Need-pen-types-requires
 pen-types-requires c κs = c .before .before .before .before .before .before .before .before .before .before .before .before .before .before .before .before .before .before .before .before .before .before .before .before .before .before .before .before .pre
 
--- src/lib.rt:186:14
 add-n5 : tie.Need-add-n5
 add-n5 c = fit! (s5 c) (c .before .before .before .before .before .before .before .before .before .before .before .before .before .before .before .before .before .before .before .before .before .before .before .before .before .before .before .before .before .before .before .before .good .0 .0)
 
--- src/lib.rt:161:1
 same-length : tie.Need-same-length
 same-length c = same! (s5 c)
 
--- src/lib.rt:161:1
 returns : tie.Need-returns
 returns c =
     let args = c .before .before .before .before .before .before .before .before .before .before .before .before .before .before .before .before .before .before .before .before .before .before .before .before .before .before .before .before .before .before .before .before .args in
@@ -159,33 +122,7 @@ returns c =
 pub pen-head-spec : {M : Type 1} → statement M
 pen-head-spec =
     tie.close
-    (tie.spec
-    nth-name-requires
-    sub-pen-bytes
-    part-pen-bytes-start
-    part-pen-bytes-end
-    pen-bytes-requires
-    sub-pen-bytes-2
-    part-pen-bytes-start-2
-    part-pen-bytes-end-2
-    slice-aggregate-pen-bytes
-    pen-bytes-requires-2
-    add-n2
-    sub-pen-string
-    part-pen-string-start
-    part-pen-string-end
-    pen-string-requires
-    add-n3
-    sub-pen-pref
-    part-pen-pref-start
-    part-pen-pref-end
-    pen-pref-requires
-    add-n4
-    sub-pen-types
-    part-pen-types-start
-    part-pen-types-end
-    slice-aggregate-pen-types
-    pen-types-requires
-    add-n5
-    same-length
-    returns)
+    (tie.spec nth-name-requires sub-pen-bytes part-pen-bytes-start part-pen-bytes-end pen-bytes-requires sub-pen-bytes-2 part-pen-bytes-start-2
+    part-pen-bytes-end-2 slice-aggregate-pen-bytes pen-bytes-requires-2 add-n2 sub-pen-string part-pen-string-start part-pen-string-end
+    pen-string-requires add-n3 sub-pen-pref part-pen-pref-start part-pen-pref-end pen-pref-requires add-n4 sub-pen-types part-pen-types-start
+    part-pen-types-end slice-aggregate-pen-types pen-types-requires add-n5 same-length returns)

@@ -49,18 +49,5 @@ returns-3 c = λ raw laid. lines-whole laid
 pub all-lines-spec : {M : Type 1} → statement M
 all-lines-spec =
     tie.close
-    (tie.spec
-    sub-result
-    part-result-start
-    part-result-end
-    returns
-    mul-end
-    shared-slice-read-end
-    sub-result-2
-    part-result-start-2
-    part-result-end-2
-    returns-2
-    sub-result-3
-    part-result-start-3
-    part-result-end-3
-    returns-3)
+    (tie.spec sub-result part-result-start part-result-end returns mul-end shared-slice-read-end sub-result-2 part-result-start-2 part-result-end-2
+    returns-2 sub-result-3 part-result-start-3 part-result-end-3 returns-3)

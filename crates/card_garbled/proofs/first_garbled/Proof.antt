@@ -78,19 +78,5 @@ returns-3 c = sought-end (c .before .loop .inv .1) (omega (arith, c .loop-test .
 pub first-garbled-spec : {M : Type 1} → statement M
 first-garbled-spec =
     tie.close
-    (tie.spec
-    Inv-loop
-    μ-loop
-    all-lines-requires
-    has-odd-requires
-    returns
-    has-control-requires
-    loop-holds
-    line-at-requires
-    is-garbled-in-requires
-    add-result
-    returns-2
-    add-k
-    loop-less
-    loop-again
-    returns-3)
+    (tie.spec Inv-loop μ-loop all-lines-requires has-odd-requires returns has-control-requires loop-holds line-at-requires is-garbled-in-requires
+    add-result returns-2 add-k loop-less loop-again returns-3)

@@ -141,32 +141,6 @@ returns-5 c =
 pub flags-in-spec : {M : Type 1} → statement M
 flags-in-spec =
     tie.close
-    (tie.spec
-    Inv-loop
-    μ-loop
-    returns
-    first-member-requires
-    loop-holds
-    enum-known-m
-    kind-at-requires
-    kind-code-requires
-    same-length
-    returns-2
-    sub-which-name
-    part-which-name-start
-    part-which-name-end
-    which-name-requires
-    same-length-2
-    returns-3
-    add-c
-    slice-write-row
-    skip-value-requires
-    next-member-requires
-    loop-less
-    loop-again
-    enum-known-m-2
-    same-length-3
-    returns-4
-    enum-told
-    same-length-4
-    returns-5)
+    (tie.spec Inv-loop μ-loop returns first-member-requires loop-holds enum-known-m kind-at-requires kind-code-requires same-length returns-2
+    sub-which-name part-which-name-start part-which-name-end which-name-requires same-length-2 returns-3 add-c slice-write-row skip-value-requires
+    next-member-requires loop-less loop-again enum-known-m-2 same-length-3 returns-4 enum-told same-length-4 returns-5)

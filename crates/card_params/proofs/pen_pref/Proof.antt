@@ -4,63 +4,46 @@ use denote.Ref.{now}
 use borrow.Author.Needs.{needs}
 use Rattle.card_params.proofs.pen_pref.Statement.{statement}
 use Rattle.card_params.proofs.pen_pref.Tie as tie
-use Rattle.card_params.proofs.pen_pref.Reads as reads
-use Rattle.card_params.proofs.pen_pref.Lts as lts
-use Rattle.line_pen.proofs.pen_bytes.Reads as pen-bytes-reads
 
--- src/lib.rt:143:9
 returns : tie.Need-returns
 returns c = pens-no-pref _ (span-past (now (c .before .before .before .args .s)) (c .before .before .before .args .a) (c .before .before .before .args .e) (c .if1 .taken))
 
--- src/lib.rt:149:9
 returns-2 : tie.Need-returns-2
 returns-2 c = pens-no-pref _ (span-none (now (c .before .before .before .before .args .s)) (c .before .before .before .before .args .a) (c .before .before .before .before .args .e) (c .before .if1 .left) (c .if2 .taken))
 
--- src/lib.rt:154:36
 slice-aggregate-pen-bytes : tie.Need-slice-aggregate-pen-bytes
 slice-aggregate-pen-bytes c = search needs
 
--- src/lib.rt:154:9
 pen-bytes-requires : tie.Need-pen-bytes-requires
 pen-bytes-requires c κs = search needs
 
--- src/lib.rt:156:23
 sub-pen-bytes : tie.Need-sub-pen-bytes
 sub-pen-bytes c = search needs
 
--- src/lib.rt:156:23
 part-pen-bytes-start : tie.Need-part-pen-bytes-start
 part-pen-bytes-start c = search needs
 
--- src/lib.rt:156:23
 part-pen-bytes-end : tie.Need-part-pen-bytes-end
 part-pen-bytes-end c = search needs
 
--- src/lib.rt:156:48
 sub-pen-bytes-2 : tie.Need-sub-pen-bytes-2
 sub-pen-bytes-2 c = search needs
 
--- src/lib.rt:156:48
 part-pen-bytes-start-2 : tie.Need-part-pen-bytes-start-2
 part-pen-bytes-start-2 c = search needs
 
--- src/lib.rt:156:48
 part-pen-bytes-end-2 : tie.Need-part-pen-bytes-end-2
 part-pen-bytes-end-2 c = search needs
 
--- src/lib.rt:156:9
 pen-bytes-requires-2 : tie.Need-pen-bytes-requires-2
 pen-bytes-requires-2 c κs = search needs
 
--- src/lib.rt:157:13
 add-t : tie.Need-add-t
 add-t c = search needs
 
--- src/lib.rt:139:1
 same-length : tie.Need-same-length
 same-length c = search needs
 
--- src/lib.rt:139:1
 returns-3 : tie.Need-returns-3
 returns-3 c =
     let args = c .before .before .before .before .before .before .before .before .before .before .before .before .before .before .before .args in
@@ -73,18 +56,5 @@ returns-3 c =
 pub pen-pref-spec : {M : Type 1} → statement M
 pen-pref-spec =
     tie.close
-    (tie.spec
-    returns
-    returns-2
-    slice-aggregate-pen-bytes
-    pen-bytes-requires
-    sub-pen-bytes
-    part-pen-bytes-start
-    part-pen-bytes-end
-    sub-pen-bytes-2
-    part-pen-bytes-start-2
-    part-pen-bytes-end-2
-    pen-bytes-requires-2
-    add-t
-    same-length
-    returns-3)
+    (tie.spec returns returns-2 slice-aggregate-pen-bytes pen-bytes-requires sub-pen-bytes part-pen-bytes-start part-pen-bytes-end sub-pen-bytes-2
+    part-pen-bytes-start-2 part-pen-bytes-end-2 pen-bytes-requires-2 add-t same-length returns-3)

@@ -6,61 +6,43 @@ use denote.Ref.{now}
 use borrow.Author.Needs.{needs}
 use Rattle.card_params.proofs.pen_type.Statement.{statement}
 use Rattle.card_params.proofs.pen_type.Tie as tie
-use Rattle.card_params.proofs.pen_type.Reads as reads
-use Rattle.card_params.proofs.pen_type.Lts as lts
-use Rattle.card_params.proofs.pen_lead.Reads as pen-lead-reads
-use Rattle.json_index.proofs.nth_name.Reads as nth-name-reads
-use Rattle.line_pen.proofs.pen_bytes.Reads as pen-bytes-reads
 
--- src/lib.rt:187:9
 returns : tie.Need-returns
 returns c = part-off (parts 44 (now (c .before .before .before .args .names))) (c .before .before .before .args .c) (c .before .before .before .args .on) (c .before .before .before .args .begun) (not-true _ (c .if1 .taken))
 
--- src/lib.rt:192:9
 nth-name-requires : tie.Need-nth-name-requires
 nth-name-requires c κs = search needs
 
--- src/lib.rt:195:9
 pen-lead-requires : tie.Need-pen-lead-requires
 pen-lead-requires c κs = search needs
 
--- src/lib.rt:197:23
 sub-pen-bytes : tie.Need-sub-pen-bytes
 sub-pen-bytes c = search needs
 
--- src/lib.rt:197:23
 part-pen-bytes-start : tie.Need-part-pen-bytes-start
 part-pen-bytes-start c = search needs
 
--- src/lib.rt:197:23
 part-pen-bytes-end : tie.Need-part-pen-bytes-end
 part-pen-bytes-end c = search needs
 
--- src/lib.rt:197:48
 sub-pen-bytes-2 : tie.Need-sub-pen-bytes-2
 sub-pen-bytes-2 c = search needs
 
--- src/lib.rt:197:48
 part-pen-bytes-start-2 : tie.Need-part-pen-bytes-start-2
 part-pen-bytes-start-2 c = search needs
 
--- src/lib.rt:197:48
 part-pen-bytes-end-2 : tie.Need-part-pen-bytes-end-2
 part-pen-bytes-end-2 c = search needs
 
--- src/lib.rt:197:9
 pen-bytes-requires : tie.Need-pen-bytes-requires
 pen-bytes-requires c κs = search needs
 
--- src/lib.rt:198:13
 add-t : tie.Need-add-t
 add-t c = search needs
 
--- src/lib.rt:176:1
 same-length : tie.Need-same-length
 same-length c = search needs
 
--- src/lib.rt:176:1
 returns-2 : tie.Need-returns-2
 returns-2 c =
     let args = c .before .before .before .before .before .before .before .before .before .before .before .before .before .before .args in
@@ -74,17 +56,5 @@ returns-2 c =
 pub pen-type-spec : {M : Type 1} → statement M
 pen-type-spec =
     tie.close
-    (tie.spec
-    returns
-    nth-name-requires
-    pen-lead-requires
-    sub-pen-bytes
-    part-pen-bytes-start
-    part-pen-bytes-end
-    sub-pen-bytes-2
-    part-pen-bytes-start-2
-    part-pen-bytes-end-2
-    pen-bytes-requires
-    add-t
-    same-length
-    returns-2)
+    (tie.spec returns nth-name-requires pen-lead-requires sub-pen-bytes part-pen-bytes-start part-pen-bytes-end sub-pen-bytes-2 part-pen-bytes-start-2
+    part-pen-bytes-end-2 pen-bytes-requires add-t same-length returns-2)

@@ -7,9 +7,6 @@ use native.Mathlib.Omega.{arith}
 use denote.Ref.{now}
 use Rattle.card_params.proofs.pen_types.Statement.{statement}
 use Rattle.card_params.proofs.pen_types.Tie as tie
-use Rattle.card_params.proofs.pen_types.Reads as reads
-use Rattle.card_params.proofs.pen_types.Lts as lts
-use Rattle.card_params.proofs.pen_type.Reads as pen-type-reads
 
 abbrev Inv-loop : tie.InvT-loop
 Inv-loop out₀ column names row at₀ k₀ begun₀ c₀ out at k begun c = (c ≤ 9) × Far (parts 44 names) row out₀ column at k begun c out
@@ -17,69 +14,44 @@ Inv-loop out₀ column names row at₀ k₀ begun₀ c₀ out at k begun c = (c 
 abbrev μ-loop : tie.MeasureT-loop
 μ-loop out₀ column names row at₀ k₀ begun₀ c₀ out at k begun c = 9 - c
 
--- src/lib.rt:215:5
 loop-holds : tie.Need-loop-holds Inv-loop μ-loop
 loop-holds c = (omega arith, far-first (parts 44 (now (c .before .before .before .args .names))) (now (c .before .before .before .args .row)) (now (c .before .before .before .args .out)) (c .before .before .before .args .column))
 
--- src/lib.rt:216:18
 shared-slice-read-on : tie.Need-shared-slice-read-on Inv-loop μ-loop
 shared-slice-read-on c = omega (arith, c .before .before .before .before .before .before .pre, c .before .loop-test .taken)
 
--- src/lib.rt:217:26
 sub-pen-type : tie.Need-sub-pen-type Inv-loop μ-loop
 sub-pen-type c = omega (arith, pens-in (c .before .before .loop .inv .1 .pens), pens-length (c .before .before .loop .inv .1 .pens))
 
--- src/lib.rt:217:26
 part-pen-type-start : tie.Need-part-pen-type-start Inv-loop μ-loop
 part-pen-type-start c = omega (arith, pens-in (c .before .before .loop .inv .1 .pens), pens-length (c .before .before .loop .inv .1 .pens))
 
--- src/lib.rt:217:26
 part-pen-type-end : tie.Need-part-pen-type-end Inv-loop μ-loop
 part-pen-type-end c = le-refl _
 
--- src/lib.rt:217:13
 pen-type-requires : tie.Need-pen-type-requires Inv-loop μ-loop
 pen-type-requires c κs = tt
 
--- src/lib.rt:218:9
 add-at : tie.Need-add-at Inv-loop μ-loop
 add-at c = record { fits = omega (arith, pens-in (pens-then (c .before .before .before .before .before .before .before .loop .inv .1 .pens) (c .before .before .before .pen-type .ensures)), c .before .before .before .before .before .before .before .before .before .before .before .good .0 .0) }
 
--- src/lib.rt:221:9
 add-c : tie.Need-add-c Inv-loop μ-loop
 add-c c = omega (arith, c .before .before .before .before .before .before .loop-test .taken)
 
--- src/lib.rt:215:5
 loop-less : tie.Need-loop-less Inv-loop μ-loop
 loop-less c = omega (arith, c .before .before .before .before .before .before .loop-test .taken)
 
--- src/lib.rt:215:5
 loop-again : tie.Need-loop-again Inv-loop μ-loop
 loop-again c = (omega (arith, c .before .before .before .before .before .before .loop-test .taken), far-on (c .before .before .before .before .before .before .before .loop .inv .1) (c .before .before .before .before .before .before .loop-test .taken) (c .before .before .before .pen-type .ensures))
 
--- src/lib.rt:207:1
 same-length : tie.Need-same-length Inv-loop μ-loop
 same-length c = pens-length (c .before .loop .inv .1 .pens)
 
--- src/lib.rt:207:1
 returns : tie.Need-returns Inv-loop μ-loop
 returns c = far-end (c .before .loop .inv .1) (c .loop-test .left)
 
 pub pen-types-spec : {M : Type 1} → statement M
 pen-types-spec =
     tie.close
-    (tie.spec
-    Inv-loop
-    μ-loop
-    loop-holds
-    shared-slice-read-on
-    sub-pen-type
-    part-pen-type-start
-    part-pen-type-end
-    pen-type-requires
-    add-at
-    add-c
-    loop-less
-    loop-again
-    same-length
-    returns)
+    (tie.spec Inv-loop μ-loop loop-holds shared-slice-read-on sub-pen-type part-pen-type-start part-pen-type-end pen-type-requires add-at add-c
+    loop-less loop-again same-length returns)

@@ -5,26 +5,16 @@ use denote.Ref.{now}
 use borrow.Author.Needs.{needs}
 use Rattle.card_params.proofs.pref_in.Statement.{statement}
 use Rattle.card_params.proofs.pref_in.Tie as tie
-use Rattle.card_params.proofs.pref_in.Reads as reads
-use Rattle.card_params.proofs.pref_in.Lts as lts
-use Rattle.card_params.proofs.kind_code.Reads as kind-code-reads
-use Rattle.convert_tests.proofs.is_pref.Reads as is-pref-reads
-use Rattle.json_access.proofs.element_at.Reads as element-at-reads
-use Rattle.json_access.proofs.kind_at.Reads as kind-at-reads
 
--- src/lib.rt:123:9
 returns : tie.Need-returns
 returns c = pref-absent (now (c .before .before .args .s)) (c .before .before .args .slot) (c .if1 .taken)
 
--- src/lib.rt:125:23
 kind-at-requires : tie.Need-kind-at-requires
 kind-at-requires c κs = search needs
 
--- src/lib.rt:125:9
 kind-code-requires : tie.Need-kind-code-requires
 kind-code-requires c κs = search needs
 
--- src/lib.rt:127:9
 returns-2 : tie.Need-returns-2
 returns-2 c =
     let args = c .before .before .before .before .before .args in
@@ -33,27 +23,21 @@ returns-2 c =
     let kind-code = c .before .kind-code in
     pref-other (now (args .s)) (args .slot) (if1 .left) (kind-at .result) (kind-at .ensures) (kind-code .result) (kind-code .ensures) (c .if2 .taken)
 
--- src/lib.rt:129:9
 element-at-requires : tie.Need-element-at-requires
 element-at-requires c κs = search needs
 
--- src/lib.rt:132:17
 sub-is-pref : tie.Need-sub-is-pref
 sub-is-pref c = search needs
 
--- src/lib.rt:132:17
 part-is-pref-start : tie.Need-part-is-pref-start
 part-is-pref-start c = search needs
 
--- src/lib.rt:132:17
 part-is-pref-end : tie.Need-part-is-pref-end
 part-is-pref-end c = search needs
 
--- src/lib.rt:132:9
 is-pref-requires : tie.Need-is-pref-requires
 is-pref-requires c κs = search needs
 
--- src/lib.rt:133:9
 returns-3 : tie.Need-returns-3
 returns-3 c =
     let args = c .before .before .before .before .before .before .before .before .before .args in
@@ -65,7 +49,6 @@ returns-3 c =
     pref-bad (now (args .s)) (args .slot) (if1 .left) (kind-at .result) (kind-at .ensures) (kind-code .result) (kind-code .ensures) (if2 .left)
     (element-at .result) (element-at .ensures .1) (element-at .ensures .0) (sym (c .before .is-pref .ensures) ∙ not-true _ (c .if3 .taken))
 
--- src/lib.rt:119:1
 returns-4 : tie.Need-returns-4
 returns-4 c =
     let args = c .before .before .before .before .before .before .before .before .before .args in
@@ -80,15 +63,5 @@ returns-4 c =
 pub pref-in-spec : {M : Type 1} → statement M
 pref-in-spec =
     tie.close
-    (tie.spec
-    returns
-    kind-at-requires
-    kind-code-requires
-    returns-2
-    element-at-requires
-    sub-is-pref
-    part-is-pref-start
-    part-is-pref-end
-    is-pref-requires
-    returns-3
-    returns-4)
+    (tie.spec returns kind-at-requires kind-code-requires returns-2 element-at-requires sub-is-pref part-is-pref-start part-is-pref-end
+    is-pref-requires returns-3 returns-4)

@@ -7,11 +7,6 @@ use Rattle.card_pen.proofs.Plain.{quote-next, bare-next, in-whole, byte
 use borrow.Author.Needs.{needs}
 use Rattle.card_pen.proofs.byte_at.Statement.{statement}
 use Rattle.card_pen.proofs.byte_at.Tie as tie
-use Rattle.card_pen.proofs.byte_at.Reads as reads
-use Rattle.card_pen.proofs.byte_at.Lts as lts
-use Rattle.json_strings.proofs.next_byte.Reads as next-byte-reads
-use Rattle.text.proofs.in_range.Reads as in-range-reads
-use Rattle.text.proofs.look.Reads as look-reads
 
 look-requires : tie.Need-look-requires
 look-requires c κs = search needs
@@ -63,15 +58,5 @@ returns-3 c =
 pub byte-at-spec : {M : Type 1} → statement M
 byte-at-spec =
     tie.close
-    (tie.spec
-    look-requires
-    returns
-    in-range-requires
-    cast-t10
-    add-t11
-    returns-2
-    sub-next-byte
-    part-next-byte-start
-    part-next-byte-end
-    next-byte-requires
-    returns-3)
+    (tie.spec look-requires returns in-range-requires cast-t10 add-t11 returns-2 sub-next-byte part-next-byte-start part-next-byte-end
+    next-byte-requires returns-3)

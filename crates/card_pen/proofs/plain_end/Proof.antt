@@ -11,10 +11,6 @@ use Rattle.card_pen.specs.Styles.{PlainByte, PlainRun}
 use Rattle.card_pen.proofs.Plain.{run-none, run-more}
 use Rattle.card_pen.proofs.plain_end.Statement.{statement}
 use Rattle.card_pen.proofs.plain_end.Tie as tie
-use Rattle.card_pen.proofs.plain_end.Reads as reads
-use Rattle.card_pen.proofs.plain_end.Lts as lts
-use Rattle.card_pen.proofs.is_plain.Reads as is-plain-reads
-use Rattle.text.proofs.look.Reads as look-reads
 
 abbrev Inv-loop : tie.InvT-loop
 Inv-loop s at hold i₀ i = (at ≤ i) × (i ≤ length s) × PlainRun s hold at i
@@ -61,14 +57,4 @@ loop-again c =
 pub plain-end-spec : {M : Type 1} → statement M
 plain-end-spec =
     tie.close
-    (tie.spec
-    Inv-loop
-    μ-loop
-    returns
-    loop-holds
-    look-requires
-    is-plain-requires
-    returns-2
-    add-i
-    loop-less
-    loop-again)
+    (tie.spec Inv-loop μ-loop returns loop-holds look-requires is-plain-requires returns-2 add-i loop-less loop-again)

@@ -46,13 +46,4 @@ returns-3 c =
 pub is-emptied-spec : {M : Type 1} → statement M
 is-emptied-spec =
     tie.close
-    (tie.spec
-    shared-slice-read-a
-    shared-slice-read-b
-    returns
-    sub-is-word
-    part-is-word-start
-    part-is-word-end
-    is-word-requires
-    returns-2
-    returns-3)
+    (tie.spec shared-slice-read-a shared-slice-read-b returns sub-is-word part-is-word-start part-is-word-end is-word-requires returns-2 returns-3)

@@ -92,17 +92,5 @@ returns-7 c =
 pub is-misused-spec : {M : Type 1} → statement M
 is-misused-spec =
     tie.close
-    (tie.spec
-    shared-slice-read-if1
-    returns
-    value-fits-requires
-    returns-2
-    has-group-requires
-    returns-3
-    only-uri-requires
-    returns-4
-    has-group-requires-2
-    returns-5
-    shared-slice-read-result
-    returns-6
-    returns-7)
+    (tie.spec shared-slice-read-if1 returns value-fits-requires returns-2 has-group-requires returns-3 only-uri-requires returns-4
+    has-group-requires-2 returns-5 shared-slice-read-result returns-6 returns-7)

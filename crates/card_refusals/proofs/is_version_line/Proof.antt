@@ -69,17 +69,5 @@ returns-4 c =
 pub is-version-line-spec : {M : Type 1} → statement M
 is-version-line-spec =
     tie.close
-    (tie.spec
-    returns
-    has-group-requires
-    returns-2
-    shared-slice-read-if3
-    returns-3
-    shared-slice-read-a
-    shared-slice-read-b
-    sub-same-bytes
-    part-same-bytes-start
-    part-same-bytes-end
-    slice-aggregate-same-bytes
-    same-bytes-requires
-    returns-4)
+    (tie.spec returns has-group-requires returns-2 shared-slice-read-if3 returns-3 shared-slice-read-a shared-slice-read-b sub-same-bytes
+    part-same-bytes-start part-same-bytes-end slice-aggregate-same-bytes same-bytes-requires returns-4)

@@ -1,5 +1,5 @@
 use denote.Ref.{now}
-use mathlib.Core.Path.{sym, ap, _∙_}
+use mathlib.Core.Path.{sym, _∙_}
 use Rattle.card_refusals.proofs.Lines.{no-word, word-all}
 use borrow.Author.Needs.{needs}
 use Rattle.card_refusals.proofs.is_word.Statement.{statement}

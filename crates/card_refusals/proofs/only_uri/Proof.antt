@@ -1,5 +1,5 @@
 use denote.Ref.{now}
-use mathlib.Core.Path.{sym, ap, _∙_}
+use mathlib.Core.Path.{sym}
 use Rattle.card_refusals.proofs.Lines.{only-none, only-others, only-value}
 use borrow.Author.Needs.{needs}
 use Rattle.card_refusals.proofs.only_uri.Statement.{statement}
@@ -32,10 +32,4 @@ returns-3 c =
 pub only-uri-spec : {M : Type 1} → statement M
 only-uri-spec =
     tie.close
-    (tie.spec
-    shared-slice-read-n
-    returns
-    shared-slice-read-if2
-    returns-2
-    value-kind-requires
-    returns-3)
+    (tie.spec shared-slice-read-n returns shared-slice-read-if2 returns-2 value-kind-requires returns-3)

@@ -1,5 +1,3 @@
-use mathlib.Core.Path.{ap}
-use mathlib.Core.Bool.{not}
 use borrow.Author.Tests.{eq-eqb, ne-eqb}
 use Rattle.card_refusals.specs.Judged.{refusalOf}
 use Rattle.card_refusals.proofs.refusal_of.Statement.{statement}

@@ -1,5 +1,4 @@
-use denote.Ref.{now}
-use mathlib.Core.Path.{sym, ap, _∙_}
+use mathlib.Core.Path.{sym, _∙_}
 use native.Mathlib.Omega.{arith}
 use Rattle.convert_entry.proofs.Tests.{first-kind}
 use Rattle.card_refusals.proofs.Lines.{value-none, value-many, value-one}
@@ -46,14 +45,5 @@ returns-3 c = λ ps r. c .is-word .ensures ∙ sym (value-one r (c .before .befo
 pub value-fits-spec : {M : Type 1} → statement M
 value-fits-spec =
     tie.close
-    (tie.spec
-    shared-slice-read-k
-    returns
-    returns-2
-    shared-slice-read-a
-    shared-slice-read-b
-    sub-is-word
-    part-is-word-start
-    part-is-word-end
-    is-word-requires
-    returns-3)
+    (tie.spec shared-slice-read-k returns returns-2 shared-slice-read-a shared-slice-read-b sub-is-word part-is-word-start part-is-word-end
+    is-word-requires returns-3)

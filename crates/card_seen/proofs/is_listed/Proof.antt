@@ -1,9 +1,8 @@
 use borrow.Author.Needs.{needs}
-use Prim.Native.Nat.{_-_, _≤_, _<_}
+use Prim.Native.Nat.{_-_, _≤_}
 use mathlib.Core.Path.{_≡_, refl, sym, _∙_}
 use native.Mathlib.Omega.{arith}
 use denote.Ref.{now}
-use lib.ListN.{length}
 use Rattle.text.specs.Bytes.{any}
 use Rattle.convert.specs.Classify.{isId}
 use Rattle.card_seen.specs.Ids.{idsAt}
@@ -104,22 +103,5 @@ returns-2 c =
 pub is-listed-spec : {M : Type 1} → statement M
 is-listed-spec =
     tie.close
-    (tie.spec
-    Inv-loop
-    μ-loop
-    loop-holds
-    sub-k
-    mul-at
-    mul-j
-    shared-slice-read-j
-    add-a
-    mul-a
-    shared-slice-read-a
-    add-b
-    mul-b
-    shared-slice-read-b
-    is-id-requires
-    returns
-    loop-less
-    loop-again
-    returns-2)
+    (tie.spec Inv-loop μ-loop loop-holds sub-k mul-at mul-j shared-slice-read-j add-a mul-a shared-slice-read-a add-b mul-b shared-slice-read-b
+    is-id-requires returns loop-less loop-again returns-2)

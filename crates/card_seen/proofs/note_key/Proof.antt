@@ -1,7 +1,4 @@
-use denote.Ref.{now}
 use native.Mathlib.Omega.{arith}
-use lib.ListN.{length, length-append}
-use mathlib.Core.Path.{ap}
 use Rattle.card_seen.proofs.Keys.{cut-span}
 use Rattle.card_seen.proofs.Settling.{notes-not, notes-one}
 use borrow.Author.Needs.{needs}
@@ -72,21 +69,5 @@ returns-2 c =
 pub note-key-spec : {M : Type 1} → statement M
 note-key-spec =
     tie.close
-    (tie.spec
-    sub-print-of
-    part-print-of-start
-    part-print-of-end
-    print-of-requires
-    sub-is-used
-    part-is-used-start
-    part-is-used-end
-    is-used-requires
-    same-length
-    same-length-2
-    returns
-    add-put-id
-    add-put-id-2
-    put-id-requires
-    same-length-3
-    same-length-4
-    returns-2)
+    (tie.spec sub-print-of part-print-of-start part-print-of-end print-of-requires sub-is-used part-is-used-start part-is-used-end is-used-requires
+    same-length same-length-2 returns add-put-id add-put-id-2 put-id-requires same-length-3 same-length-4 returns-2)

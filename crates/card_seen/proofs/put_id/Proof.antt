@@ -1,6 +1,5 @@
 use mathlib.Core.Path.{refl}
 use native.Mathlib.Omega.{arith}
-use denote.Ref.{now}
 use lib.ListN.{length-set}
 use Rattle.card_seen.specs.Ids.{withId}
 use borrow.Author.Needs.{needs}
@@ -56,19 +55,5 @@ returns c = (refl, refl, refl)
 pub put-id-spec : {M : Type 1} → statement M
 put-id-spec =
     tie.close
-    (tie.spec
-    mul-at
-    mul-ids
-    slice-write-ids
-    add-ids
-    mul-ids-2
-    slice-write-ids-2
-    add-ids-2
-    mul-ids-3
-    slice-write-ids-3
-    mul-prints
-    slice-write-prints
-    add-result
-    same-length
-    same-length-2
-    returns)
+    (tie.spec mul-at mul-ids slice-write-ids add-ids mul-ids-2 slice-write-ids-2 add-ids-2 mul-ids-3 slice-write-ids-3 mul-prints slice-write-prints
+    add-result same-length same-length-2 returns)

@@ -1,8 +1,8 @@
 use denote.Ref.{now}
 use mathlib.Core.Path.{refl, subst}
 use native.Mathlib.Omega.{arith}
-use Rattle.class_line.specs.declared.Class.the-variants.{Kept, Dropped, Version, Uid, Kind, Full, Parts, Entry, Keyed, Member}
-use Rattle.class_line.specs.Class.{ClassIn, Points}
+use Rattle.class_line.specs.declared.Class.the-variants.{Kept, Dropped, Version, Uid, Kind, Entry}
+use Rattle.class_line.specs.Class.{ClassIn}
 use Rattle.card_seen.proofs.Settling.{settles-same, settles-full, settles-parts, key-used, key-new, member-used, member-new}
 use borrow.Author.Needs.{needs}
 use Rattle.card_seen.proofs.settle.Statement.{statement}
@@ -142,38 +142,7 @@ returns-12 c =
 pub settle-spec : {M : Type 1} → statement M
 settle-spec =
     tie.close
-    (tie.spec
-    enum-told
-    enum-told-2
-    enum-told-3
-    enum-told-4
-    enum-told-5
-    enum-told-6
-    enum-told-7
-    enum-known-class
-    cast-t19
-    enum-known-class-2
-    note-key-requires
-    same-length
-    same-length-2
-    returns
-    cast-t25
-    enum-known-class-3
-    note-key-requires-2
-    same-length-3
-    same-length-4
-    returns-2
-    returns-3
-    returns-4
-    returns-5
-    returns-6
-    returns-7
-    returns-8
-    returns-9
-    returns-10
-    same-length-5
-    same-length-6
-    returns-11
-    same-length-7
-    same-length-8
-    returns-12)
+    (tie.spec enum-told enum-told-2 enum-told-3 enum-told-4 enum-told-5 enum-told-6 enum-told-7 enum-known-class cast-t19 enum-known-class-2
+    note-key-requires same-length same-length-2 returns cast-t25 enum-known-class-3 note-key-requires-2 same-length-3 same-length-4 returns-2
+    returns-3 returns-4 returns-5 returns-6 returns-7 returns-8 returns-9 returns-10 same-length-5 same-length-6 returns-11 same-length-7
+    same-length-8 returns-12)

@@ -100,19 +100,5 @@ returns-6 c =
 pub card-to-json-spec : {M : Type 1} → statement M
 card-to-json-spec =
     tie.close
-    (tie.spec
-    is-stem-requires
-    returns
-    is-card-number-requires
-    returns-2
-    size-of-requires
-    returns-3
-    small-requires
-    same-length
-    returns-4
-    medium-requires
-    same-length-2
-    returns-5
-    large-requires
-    same-length-3
-    returns-6)
+    (tie.spec is-stem-requires returns is-card-number-requires returns-2 size-of-requires returns-3 small-requires same-length returns-4
+    medium-requires same-length-2 returns-5 large-requires same-length-3 returns-6)

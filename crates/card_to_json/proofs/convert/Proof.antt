@@ -87,24 +87,5 @@ returns-3 c =
 pub convert-spec : {M : Type 1} → statement M
 convert-spec =
     tie.close
-    (tie.spec
-    lines-of-requires
-    enum-told
-    same-length
-    same-length-2
-    returns
-    enum-told-2
-    same-length-3
-    same-length-4
-    returns-2
-    enum-known-n
-    json-of-requires
-    same-length-5
-    same-length-6
-    same-length-7
-    same-length-8
-    same-length-9
-    same-length-10
-    same-length-11
-    same-length-12
-    returns-3)
+    (tie.spec lines-of-requires enum-told same-length same-length-2 returns enum-told-2 same-length-3 same-length-4 returns-2 enum-known-n
+    json-of-requires same-length-5 same-length-6 same-length-7 same-length-8 same-length-9 same-length-10 same-length-11 same-length-12 returns-3)

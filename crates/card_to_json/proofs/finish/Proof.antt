@@ -38,12 +38,4 @@ returns-3 c =
 pub finish-spec : {M : Type 1} → statement M
 finish-spec =
     tie.close
-    (tie.spec
-    returns
-    put-text-requires
-    enum-known-k
-    enum-told
-    same-length
-    returns-2
-    same-length-2
-    returns-3)
+    (tie.spec returns put-text-requires enum-known-k enum-told same-length returns-2 same-length-2 returns-3)

@@ -73,21 +73,5 @@ returns-2 c =
 pub json-of-spec : {M : Type 1} → statement M
 json-of-spec =
     tie.close
-    (tie.spec
-    refusal-in-requires
-    enum-known-k
-    enum-told
-    put-json-requires
-    same-length
-    same-length-2
-    same-length-3
-    same-length-4
-    same-length-5
-    same-length-6
-    returns
-    same-length-7
-    same-length-8
-    same-length-9
-    same-length-10
-    same-length-11
-    returns-2)
+    (tie.spec refusal-in-requires enum-known-k enum-told put-json-requires same-length same-length-2 same-length-3 same-length-4 same-length-5
+    same-length-6 returns same-length-7 same-length-8 same-length-9 same-length-10 same-length-11 returns-2)

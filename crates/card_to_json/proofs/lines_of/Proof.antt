@@ -83,20 +83,5 @@ returns-3 c =
 pub lines-of-spec : {M : Type 1} → statement M
 lines-of-spec =
     tie.close
-    (tie.spec
-    frame-of-requires
-    enum-known-a
-    enum-told
-    returns
-    sub-unfold
-    part-unfold-start
-    part-unfold-end
-    unfold-requires
-    enum-known-n
-    enum-told-2
-    same-length
-    same-length-2
-    returns-2
-    same-length-3
-    same-length-4
-    returns-3)
+    (tie.spec frame-of-requires enum-known-a enum-told returns sub-unfold part-unfold-start part-unfold-end unfold-requires enum-known-n enum-told-2
+    same-length same-length-2 returns-2 same-length-3 same-length-4 returns-3)

@@ -46,15 +46,5 @@ returns-2 c =
 pub put-json-spec : {M : Type 1} → statement M
 put-json-spec =
     tie.close
-    (tie.spec
-    put-card-requires
-    enum-known-k
-    enum-told
-    same-length
-    same-length-2
-    same-length-3
-    returns
-    same-length-4
-    same-length-5
-    same-length-6
+    (tie.spec put-card-requires enum-known-k enum-told same-length same-length-2 same-length-3 returns same-length-4 same-length-5 same-length-6
     returns-2)

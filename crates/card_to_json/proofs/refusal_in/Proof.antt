@@ -42,13 +42,4 @@ returns-2 c =
 pub refusal-in-spec : {M : Type 1} → statement M
 refusal-in-spec =
     tie.close
-    (tie.spec
-    first-garbled-requires
-    returns
-    class-lines-requires
-    same-length
-    same-length-2
-    same-length-3
-    same-length-4
-    same-length-5
-    returns-2)
+    (tie.spec first-garbled-requires returns class-lines-requires same-length same-length-2 same-length-3 same-length-4 same-length-5 returns-2)

@@ -2,31 +2,22 @@ use Rattle.card_value.proofs.Pieces.{tel-0, tel-1, tel-2, tel-3, tel-on
 use borrow.Author.Needs.{needs}
 use Rattle.card_value.proofs.fits_tel.Statement.{statement}
 use Rattle.card_value.proofs.fits_tel.Tie as tie
-use Rattle.card_value.proofs.fits_tel.Reads as reads
-use Rattle.card_value.proofs.fits_tel.Lts as lts
-use Rattle.card_pen.proofs.is_control.Reads as is-control-reads
 
--- src/lib.rt:102:9
 returns : tie.Need-returns
 returns c = tel-0 _ _ (c .if1 .taken)
 
--- src/lib.rt:105:9
 returns-2 : tie.Need-returns-2
 returns-2 c = tel-1 _ _ (c .before .if1 .left) (c .if2 .taken)
 
--- src/lib.rt:108:9
 returns-3 : tie.Need-returns-3
 returns-3 c = tel-2 _ _ (c .before .before .if1 .left) (c .before .if2 .left) (c .if3 .taken)
 
--- src/lib.rt:111:9
 returns-4 : tie.Need-returns-4
 returns-4 c = tel-3 _ _ (c .before .before .before .if1 .left) (c .before .before .if2 .left) (c .before .if3 .left) (c .if4 .taken)
 
--- src/lib.rt:113:6
 is-control-requires : tie.Need-is-control-requires
 is-control-requires c κs = search needs
 
--- src/lib.rt:98:1
 returns-5 : tie.Need-returns-5
 returns-5 c = tel-on _ _ (c .before .before .before .before .if1 .left) (c .before .before .before .if2 .left) (c .before .before .if3 .left) (c .before .if4 .left) (c .is-control .ensures)
 

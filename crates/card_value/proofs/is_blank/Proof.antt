@@ -7,39 +7,28 @@ use denote.Ref.{now}
 use borrow.Author.Needs.{needs}
 use Rattle.card_value.proofs.is_blank.Statement.{statement}
 use Rattle.card_value.proofs.is_blank.Tie as tie
-use Rattle.card_value.proofs.is_blank.Reads as reads
-use Rattle.card_value.proofs.is_blank.Lts as lts
-use Rattle.card_pen.proofs.byte_at.Reads as byte-at-reads
 
--- src/lib.rt:88:9
 returns : tie.Need-returns
 returns c = blank-none _ (decoded-past (now (c .before .before .args .s)) (c .before .before .args .at) (c .if1 .taken))
 
--- src/lib.rt:90:11
 byte-at-requires : tie.Need-byte-at-requires
 byte-at-requires c κs = search needs
 
--- src/lib.rt:91:24
 enum-told : tie.Need-enum-told
 enum-told c = search needs
 
--- src/lib.rt:92:22
 enum-told-2 : tie.Need-enum-told-2
 enum-told-2 c = search needs
 
--- src/lib.rt:93:19
 enum-known-b : tie.Need-enum-known-b
 enum-known-b c = search needs
 
--- src/lib.rt:84:1
 returns-2 : tie.Need-returns-2
 returns-2 c = blank-none _ (sym (left-none (now (c .before .before .before .before .before .args .s)) (c .before .before .before .before .before .args .at)) ∙ is-alone (now (c .before .before .before .before .before .args .s)) (c .before .before .byte-at .ensures .0) (c .enum-told .given .1))
 
--- src/lib.rt:84:1
 returns-3 : tie.Need-returns-3
 returns-3 c = blank-end _ (sym (left-none (now (c .before .before .before .before .before .args .s)) (c .before .before .before .before .before .args .at)) ∙ is-end (now (c .before .before .before .before .before .args .s)) (c .before .before .byte-at .ensures .0) (c .enum-told2 .given .1))
 
--- src/lib.rt:84:1
 returns-4 : tie.Need-returns-4
 returns-4 c =
     let args = c .before .before .before .before .before .before .args in
@@ -51,12 +40,4 @@ returns-4 c =
 pub is-blank-spec : {M : Type 1} → statement M
 is-blank-spec =
     tie.close
-    (tie.spec
-    returns
-    byte-at-requires
-    enum-told
-    enum-told-2
-    enum-known-b
-    returns-2
-    returns-3
-    returns-4)
+    (tie.spec returns byte-at-requires enum-told enum-told-2 enum-known-b returns-2 returns-3 returns-4)

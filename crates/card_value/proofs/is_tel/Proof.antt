@@ -12,11 +12,6 @@ use denote.Ref.{now}
 use borrow.Author.Needs.{needs}
 use Rattle.card_value.proofs.is_tel.Statement.{statement}
 use Rattle.card_value.proofs.is_tel.Tie as tie
-use Rattle.card_value.proofs.is_tel.Reads as reads
-use Rattle.card_value.proofs.is_tel.Lts as lts
-use Rattle.card_value.proofs.fits_tel.Reads as fits-tel-reads
-use Rattle.card_value.proofs.onward.Reads as onward-reads
-use Rattle.card_pen.proofs.byte_at.Reads as byte-at-reads
 
 abbrev Inv-loop : tie.InvT-loop
 Inv-loop form s at i₀ h₀ k₀ i h k = (i ≤ length s) × (telOf (decodedAt s at) ≡ telSeen k (left s i h))
@@ -24,27 +19,21 @@ Inv-loop form s at i₀ h₀ k₀ i h k = (i ≤ length s) × (telOf (decodedAt 
 abbrev μ-loop : tie.MeasureT-loop
 μ-loop form s at i₀ h₀ k₀ i h k = weight s i h
 
--- src/lib.rt:130:9
 returns : tie.Need-returns Inv-loop μ-loop
 returns c = no-form _ (ne-eqb _ _ (c .if1 .taken))
 
--- src/lib.rt:133:9
 returns-2 : tie.Need-returns-2 Inv-loop μ-loop
 returns-2 c = the-form (eq-eqb _ _ (c .before .if1 .left)) (sym (ap telOf (decoded-past (now (c .before .before .before .args .s)) (c .before .before .before .args .at) (c .if2 .taken))))
 
--- src/lib.rt:138:5
 loop-holds : tie.Need-loop-holds Inv-loop μ-loop
 loop-holds c = (c .if2 .left, tel-first _ _ (left-none (now (c .before .before .before .args .s)) (c .before .before .before .args .at)))
 
--- src/lib.rt:139:15
 byte-at-requires : tie.Need-byte-at-requires Inv-loop μ-loop
 byte-at-requires c κs = c .loop .inv .0
 
--- src/lib.rt:141:17
 enum-told : tie.Need-enum-told Inv-loop μ-loop
 enum-told c = search needs
 
--- src/lib.rt:141:17
 returns-3 : tie.Need-returns-3 Inv-loop μ-loop
 returns-3 c =
     let args = c .before .before .before .before .before .before .before .args in
@@ -53,11 +42,9 @@ returns-3 c =
     the-form (eq-eqb _ _ (if1 .left))
     (sym (loop .inv .1 ∙ ap (telSeen (loop .k)) (is-alone (now (args .s)) (c .before .before .byte-at .ensures .0) (c .enum-told .given .1))))
 
--- src/lib.rt:144:17
 enum-told-2 : tie.Need-enum-told-2 Inv-loop μ-loop
 enum-told-2 c = search needs
 
--- src/lib.rt:144:17
 returns-4 : tie.Need-returns-4 Inv-loop μ-loop
 returns-4 c =
     let args = c .before .before .before .before .before .before .before .args in
@@ -67,15 +54,12 @@ returns-4 c =
     (tel-end (loop .k) ∙ sym
     (loop .inv .1 ∙ ap (telSeen (loop .k)) (is-end (now (args .s)) (c .before .before .byte-at .ensures .0) (c .enum-told2 .given .1))))
 
--- src/lib.rt:146:23
 enum-known-b : tie.Need-enum-known-b Inv-loop μ-loop
 enum-known-b c = search needs
 
--- src/lib.rt:147:21
 fits-tel-requires : tie.Need-fits-tel-requires Inv-loop μ-loop
 fits-tel-requires c κs = tt
 
--- src/lib.rt:148:21
 returns-5 : tie.Need-returns-5 Inv-loop μ-loop
 returns-5 c =
     let args = c .before .before .before .before .before .before .before .before .before .before .args in
@@ -88,11 +72,9 @@ returns-5 c =
     (sym (c .before .fits-tel .ensures) ∙ not-true _ (c .if3 .taken)) ∙ sym
     (loop .inv .1 ∙ ap (telSeen (loop .k)) (is-one (now (args .s)) (byte-at .ensures .0) (b .given .1))))
 
--- src/lib.rt:150:17
 onward-requires : tie.Need-onward-requires Inv-loop μ-loop
 onward-requires c κs = tt
 
--- src/lib.rt:138:5
 loop-less : tie.Need-loop-less Inv-loop μ-loop
 loop-less c =
     let args = c .before .before .before .before .before .before .before .before .before .before .before .args in
@@ -101,7 +83,6 @@ loop-less c =
     let b = c .before .before .before .before .b in
     byte-in (now (args .s)) (loop .i) (loop .h) (byte-at .ensures .1) (b .given .1) .1
 
--- src/lib.rt:138:5
 loop-again : tie.Need-loop-again Inv-loop μ-loop
 loop-again c =
     let args = c .before .before .before .before .before .before .before .before .before .before .before .args in
@@ -115,20 +96,5 @@ loop-again c =
 pub is-tel-spec : {M : Type 1} → statement M
 is-tel-spec =
     tie.close
-    (tie.spec
-    Inv-loop
-    μ-loop
-    returns
-    returns-2
-    loop-holds
-    byte-at-requires
-    enum-told
-    returns-3
-    enum-told-2
-    returns-4
-    enum-known-b
-    fits-tel-requires
-    returns-5
-    onward-requires
-    loop-less
-    loop-again)
+    (tie.spec Inv-loop μ-loop returns returns-2 loop-holds byte-at-requires enum-told returns-3 enum-told-2 returns-4 enum-known-b fits-tel-requires
+    returns-5 onward-requires loop-less loop-again)

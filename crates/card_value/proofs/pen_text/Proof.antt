@@ -2,52 +2,32 @@ use Rattle.line_pen.proofs.Laws.{pens-then}
 use borrow.Author.Needs.{needs}
 use Rattle.card_value.proofs.pen_text.Statement.{statement}
 use Rattle.card_value.proofs.pen_text.Tie as tie
-use Rattle.card_value.proofs.pen_text.Reads as reads
-use Rattle.card_value.proofs.pen_text.Lts as lts
-use Rattle.card_pen.proofs.pen_string.Reads as pen-string-reads
-use Rattle.line_pen.proofs.pen_bytes.Reads as pen-bytes-reads
 
--- src/lib.rt:169:9
 pen-bytes-requires : tie.Need-pen-bytes-requires
 pen-bytes-requires c κs = search needs
 
--- src/lib.rt:171:24
 sub-pen-string : tie.Need-sub-pen-string
 sub-pen-string c = search needs
 
--- src/lib.rt:171:24
 part-pen-string-start : tie.Need-part-pen-string-start
 part-pen-string-start c = search needs
 
--- src/lib.rt:171:24
 part-pen-string-end : tie.Need-part-pen-string-end
 part-pen-string-end c = search needs
 
--- src/lib.rt:171:9
 pen-string-requires : tie.Need-pen-string-requires
 pen-string-requires c κs = search needs
 
--- src/lib.rt:172:13
 add-t : tie.Need-add-t
 add-t c = search needs
 
--- src/lib.rt:159:1
 same-length : tie.Need-same-length
 same-length c = search needs
 
--- src/lib.rt:159:1
 returns : tie.Need-returns
 returns c = record { text = c .before .before .before .pen-string .ensures .text; is = c .before .before .before .pen-string .ensures .is; pens = pens-then (c .before .before .before .before .before .before .before .pen-bytes .ensures) (c .before .before .before .pen-string .ensures .pens); carried = c .before .before .before .pen-string .ensures .carried }
 
 pub pen-text-spec : {M : Type 1} → statement M
 pen-text-spec =
     tie.close
-    (tie.spec
-    pen-bytes-requires
-    sub-pen-string
-    part-pen-string-start
-    part-pen-string-end
-    pen-string-requires
-    add-t
-    same-length
-    returns)
+    (tie.spec pen-bytes-requires sub-pen-string part-pen-string-start part-pen-string-end pen-string-requires add-t same-length returns)

@@ -3,42 +3,26 @@ use denote.Ref.{now}
 use borrow.Author.Needs.{needs}
 use Rattle.card_value.proofs.pen_unit.Statement.{statement}
 use Rattle.card_value.proofs.pen_unit.Tie as tie
-use Rattle.card_value.proofs.pen_unit.Reads as reads
-use Rattle.card_value.proofs.pen_unit.Lts as lts
-use Rattle.card_value.proofs.is_blank.Reads as is-blank-reads
-use Rattle.card_value.proofs.pen_text.Reads as pen-text-reads
 
--- src/lib.rt:186:8
 is-blank-requires : tie.Need-is-blank-requires
 is-blank-requires c κs = search needs
 
--- src/lib.rt:187:9
 returns : tie.Need-returns
 returns c = unit-blank (now (c .before .before .before .before .args .s)) (c .before .before .before .before .args .at) (c .before .is-blank .ensures) (c .if1 .taken)
 
--- src/lib.rt:194:35
 slice-aggregate-pen-text : tie.Need-slice-aggregate-pen-text
 slice-aggregate-pen-text c = search needs
 
--- src/lib.rt:194:9
 pen-text-requires : tie.Need-pen-text-requires
 pen-text-requires c κs = search needs
 
--- src/lib.rt:183:1
 same-length : tie.Need-same-length
 same-length c = search needs
 
--- src/lib.rt:183:1
 returns-2 : tie.Need-returns-2
 returns-2 c = unit-filled (now (c .before .before .before .before .before .before .before .before .before .args .s)) (c .before .before .before .before .before .before .before .before .before .args .at) (c .before .before .before .before .before .before .is-blank .ensures) (c .before .before .before .before .before .if1 .left) (c .before .before .pen-text .ensures)
 
 pub pen-unit-spec : {M : Type 1} → statement M
 pen-unit-spec =
     tie.close
-    (tie.spec
-    is-blank-requires
-    returns
-    slice-aggregate-pen-text
-    pen-text-requires
-    same-length
-    returns-2)
+    (tie.spec is-blank-requires returns slice-aggregate-pen-text pen-text-requires same-length returns-2)

@@ -5,26 +5,16 @@ use denote.Ref.{now}
 use borrow.Author.Needs.{needs}
 use Rattle.card_value.proofs.put_name.Statement.{statement}
 use Rattle.card_value.proofs.put_name.Tie as tie
-use Rattle.card_value.proofs.put_name.Reads as reads
-use Rattle.card_value.proofs.put_name.Lts as lts
-use Rattle.card_value.proofs.is_blank.Reads as is-blank-reads
-use Rattle.card_value.proofs.pen_text.Reads as pen-text-reads
-use Rattle.card_value.proofs.string_in.Reads as string-in-reads
-use Rattle.line_pen.proofs.pen_bytes.Reads as pen-bytes-reads
 
--- src/lib.rt:287:40
 slice-aggregate-pen-bytes : tie.Need-slice-aggregate-pen-bytes
 slice-aggregate-pen-bytes c = search needs
 
--- src/lib.rt:287:13
 pen-bytes-requires : tie.Need-pen-bytes-requires
 pen-bytes-requires c κs = search needs
 
--- src/lib.rt:290:9
 same-length : tie.Need-same-length
 same-length c = search needs
 
--- src/lib.rt:290:9
 returns : tie.Need-returns
 returns c =
     let args = c .before .before .before .before .before .before .before .before .args in
@@ -34,31 +24,24 @@ returns c =
       (pens-length (pen-bytes .ensures), name-absent (now (args .s)) (args .slot) _ _ _ (if1 .taken) (pen-bytes .ensures)),
     )
 
--- src/lib.rt:297:9
 string-in-requires : tie.Need-string-in-requires
 string-in-requires c κs = search needs
 
--- src/lib.rt:299:9
 returns-2 : tie.Need-returns-2
 returns-2 c = (tt, (refl, name-wrong (now (c .before .before .before .before .before .args .s)) (c .before .before .before .before .before .args .slot) _ _ _ (c .before .before .if1 .left) (c .before .string-in .result) (c .before .string-in .ensures) (c .if2 .taken)))
 
--- src/lib.rt:301:35
 slice-aggregate-pen-text : tie.Need-slice-aggregate-pen-text
 slice-aggregate-pen-text c = search needs
 
--- src/lib.rt:301:9
 pen-text-requires : tie.Need-pen-text-requires
 pen-text-requires c κs = search needs
 
--- src/lib.rt:305:9
 is-blank-requires : tie.Need-is-blank-requires
 is-blank-requires c κs = search needs
 
--- src/lib.rt:281:1
 same-length-2 : tie.Need-same-length-2
 same-length-2 c = search needs
 
--- src/lib.rt:281:1
 returns-3 : tie.Need-returns-3
 returns-3 c =
     let args = c .before .before .before .before .before .before .before .before .before .before .before .args in
@@ -73,15 +56,5 @@ returns-3 c =
 pub put-name-spec : {M : Type 1} → statement M
 put-name-spec =
     tie.close
-    (tie.spec
-    slice-aggregate-pen-bytes
-    pen-bytes-requires
-    same-length
-    returns
-    string-in-requires
-    returns-2
-    slice-aggregate-pen-text
-    pen-text-requires
-    is-blank-requires
-    same-length-2
-    returns-3)
+    (tie.spec slice-aggregate-pen-bytes pen-bytes-requires same-length returns string-in-requires returns-2 slice-aggregate-pen-text pen-text-requires
+    is-blank-requires same-length-2 returns-3)

@@ -5,28 +5,19 @@ use native.Mathlib.Omega.{arith}
 use borrow.Author.Needs.{needs}
 use Rattle.card_value.proofs.put_organization.Statement.{statement}
 use Rattle.card_value.proofs.put_organization.Tie as tie
-use Rattle.card_value.proofs.put_organization.Reads as reads
-use Rattle.card_value.proofs.put_organization.Lts as lts
-use Rattle.card_value.proofs.put_name.Reads as put-name-reads
-use Rattle.card_value.proofs.put_units.Reads as put-units-reads
 
--- src/lib.rt:331:9
 put-name-requires : tie.Need-put-name-requires
 put-name-requires c κs = search needs
 
--- src/lib.rt:327:16
 enum-known-n : tie.Need-enum-known-n
 enum-known-n c = search needs
 
--- src/lib.rt:333:9
 enum-told : tie.Need-enum-told
 enum-told c = search needs
 
--- src/lib.rt:333:9
 same-length : tie.Need-same-length
 same-length c = c .before .before .before .before .put-name .ensures .1 .0
 
--- src/lib.rt:333:9
 returns : tie.Need-returns
 returns c =
     let args = c .before .before .before .before .before .before .before .before .args in
@@ -35,31 +26,24 @@ returns c =
       (put-name .ensures .1 .0, org-no-name (now (args .s)) (args .name) (args .units) _ (args .column) _ (put-name .result) (put-name .ensures .1 .1) _ (c .enum-told .given .1)),
     )
 
--- src/lib.rt:340:19
 sub-put-units : tie.Need-sub-put-units
 sub-put-units c = omega (arith, ink-in (c .before .before .before .before .before .put-name .ensures .0) (c .before .n .given .1), c .before .before .before .before .before .put-name .ensures .1 .0)
 
--- src/lib.rt:340:19
 part-put-units-start : tie.Need-part-put-units-start
 part-put-units-start c = omega (arith, ink-in (c .before .before .before .before .before .put-name .ensures .0) (c .before .n .given .1), c .before .before .before .before .before .put-name .ensures .1 .0)
 
--- src/lib.rt:340:19
 part-put-units-end : tie.Need-part-put-units-end
 part-put-units-end c = search needs
 
--- src/lib.rt:340:9
 put-units-requires : tie.Need-put-units-requires
 put-units-requires c κs = search needs
 
--- src/lib.rt:336:16
 enum-known-m : tie.Need-enum-known-m
 enum-known-m c = search needs
 
--- src/lib.rt:342:9
 enum-told-2 : tie.Need-enum-told-2
 enum-told-2 c = search needs
 
--- src/lib.rt:342:9
 same-length-2 : tie.Need-same-length-2
 same-length-2 c =
     let put-name = c .before .before .before .before .before .before .before .before .before .before .before .put-name in
@@ -68,7 +52,6 @@ same-length-2 c =
     part-length (n .given .0 .0) (put-name .last .0) (put-units .last .0)
     (omega (arith, ink-in (put-name .ensures .0) (n .given .1), put-name .ensures .1 .0)) (put-units .ensures .1 .0) ∙ (put-name .ensures .1 .0)
 
--- src/lib.rt:342:9
 returns-2 : tie.Need-returns-2
 returns-2 c =
     let args = c .before .before .before .before .before .before .before .before .before .before .before .before .before .before .before .args in
@@ -84,7 +67,6 @@ returns-2 c =
       ),
     )
 
--- src/lib.rt:346:9
 same-length-3 : tie.Need-same-length-3
 same-length-3 c =
     let put-name = c .before .before .before .before .before .before .before .before .before .before .before .before .before .put-name in
@@ -93,7 +75,6 @@ same-length-3 c =
     part-length (n .given .0 .0) (put-name .last .0) (put-units .last .0)
     (omega (arith, ink-in (put-name .ensures .0) (n .given .1), put-name .ensures .1 .0)) (put-units .ensures .1 .0) ∙ (put-name .ensures .1 .0)
 
--- src/lib.rt:346:9
 returns-3 : tie.Need-returns-3
 returns-3 c =
     let args = c .before .before .before .before .before .before .before .before .before .before .before .before .before .before .before .before .before .args in
@@ -109,7 +90,6 @@ returns-3 c =
       ),
     )
 
--- src/lib.rt:348:13
 add-t : tie.Need-add-t
 add-t c =
     let good = c .before .before .before .before .before .before .before .before .before .before .before .before .before .before .before .before .before .good in
@@ -125,7 +105,6 @@ add-t c =
       );
     }
 
--- src/lib.rt:315:1
 same-length-4 : tie.Need-same-length-4
 same-length-4 c =
     let put-name = c .before .before .before .before .before .before .before .before .before .before .before .before .before .put-name in
@@ -134,7 +113,6 @@ same-length-4 c =
     part-length (n .given .0 .0) (put-name .last .0) (put-units .last .0)
     (omega (arith, ink-in (put-name .ensures .0) (n .given .1), put-name .ensures .1 .0)) (put-units .ensures .1 .0) ∙ (put-name .ensures .1 .0)
 
--- src/lib.rt:315:1
 returns-4 : tie.Need-returns-4
 returns-4 c =
     let args = c .before .before .before .before .before .before .before .before .before .before .before .before .before .before .before .before .before .args in
@@ -154,22 +132,5 @@ returns-4 c =
 pub put-organization-spec : {M : Type 1} → statement M
 put-organization-spec =
     tie.close
-    (tie.spec
-    put-name-requires
-    enum-known-n
-    enum-told
-    same-length
-    returns
-    sub-put-units
-    part-put-units-start
-    part-put-units-end
-    put-units-requires
-    enum-known-m
-    enum-told-2
-    same-length-2
-    returns-2
-    same-length-3
-    returns-3
-    add-t
-    same-length-4
-    returns-4)
+    (tie.spec put-name-requires enum-known-n enum-told same-length returns sub-put-units part-put-units-start part-put-units-end put-units-requires
+    enum-known-m enum-told-2 same-length-2 returns-2 same-length-3 returns-3 add-t same-length-4 returns-4)

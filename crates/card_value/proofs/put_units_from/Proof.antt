@@ -9,12 +9,6 @@ use native.Mathlib.Omega.{arith}
 use borrow.Author.Needs.{needs}
 use Rattle.card_value.proofs.put_units_from.Statement.{statement}
 use Rattle.card_value.proofs.put_units_from.Tie as tie
-use Rattle.card_value.proofs.put_units_from.Reads as reads
-use Rattle.card_value.proofs.put_units_from.Lts as lts
-use Rattle.card_value.proofs.pen_unit.Reads as pen-unit-reads
-use Rattle.card_value.proofs.unit_in.Reads as unit-in-reads
-use Rattle.json_access.proofs.element_at.Reads as element-at-reads
-use Rattle.json_marks.proofs.separator.Reads as separator-reads
 
 abbrev Inv-loop : tie.InvT-loop
 Inv-loop out₀ column s at i₀ n₀ k₀ ok₀ filled₀ out i n k ok filled = (i ≤ length s) × Going s at out₀ column i n k ok filled out
@@ -22,23 +16,18 @@ Inv-loop out₀ column s at i₀ n₀ k₀ ok₀ filled₀ out i n k ok filled =
 abbrev μ-loop : tie.MeasureT-loop
 μ-loop out₀ column s at i₀ n₀ k₀ ok₀ filled₀ out i n k ok filled = length s - i
 
--- src/lib.rt:218:5
 loop-holds : tie.Need-loop-holds Inv-loop μ-loop
 loop-holds c = (c .before .before .pre, going-first (now (c .before .before .args .s)) (c .before .before .args .at) (now (c .before .before .args .out)) (c .before .before .args .column))
 
--- src/lib.rt:219:13
 element-at-requires : tie.Need-element-at-requires Inv-loop μ-loop
 element-at-requires c κs = tt
 
--- src/lib.rt:222:13
 unit-in-requires : tie.Need-unit-in-requires Inv-loop μ-loop
 unit-in-requires c κs = omega (arith, c .element-at .ensures .0 .ordered, c .element-at .ensures .0 .end-in)
 
--- src/lib.rt:224:13
 same-length : tie.Need-same-length Inv-loop μ-loop
 same-length c = pens-length (c .before .before .before .loop .inv .1 .pens)
 
--- src/lib.rt:224:13
 returns : tie.Need-returns Inv-loop μ-loop
 returns c =
     let args = c .before .before .before .before .before .before .args in
@@ -49,23 +38,18 @@ returns c =
       (pens-length (loop .inv .1 .pens), units-wrong (now (args .s)) (args .at) (now (args .out)) (args .column) (loop .i) (loop .n) (loop .k) (loop .ok) (loop .filled) (loop .out) (loop .inv .1) (element-at .result) (element-at .ensures .1) (unit-in .result) (unit-in .ensures) _ (c .if1 .taken)),
     )
 
--- src/lib.rt:226:26
 sub-pen-unit : tie.Need-sub-pen-unit Inv-loop μ-loop
 sub-pen-unit c = omega (arith, pens-in (c .before .before .before .loop .inv .1 .pens), pens-length (c .before .before .before .loop .inv .1 .pens))
 
--- src/lib.rt:226:26
 part-pen-unit-start : tie.Need-part-pen-unit-start Inv-loop μ-loop
 part-pen-unit-start c = omega (arith, pens-in (c .before .before .before .loop .inv .1 .pens), pens-length (c .before .before .before .loop .inv .1 .pens))
 
--- src/lib.rt:226:26
 part-pen-unit-end : tie.Need-part-pen-unit-end Inv-loop μ-loop
 part-pen-unit-end c = le-refl _
 
--- src/lib.rt:226:13
 pen-unit-requires : tie.Need-pen-unit-requires Inv-loop μ-loop
 pen-unit-requires c κs = tt
 
--- src/lib.rt:227:9
 add-n : tie.Need-add-n Inv-loop μ-loop
 add-n c =
     let good = c .before .before .before .before .before .before .before .before .before .before .before .good in
@@ -73,15 +57,12 @@ add-n c =
     let pen-unit = c .before .before .before .pen-unit in
     record { fits = omega (arith, pens-in (pens-then (loop .inv .1 .pens) (pen-unit .ensures .pens)), good .0 .0) }
 
--- src/lib.rt:231:15
 separator-requires : tie.Need-separator-requires Inv-loop μ-loop
 separator-requires c κs = (c .before .before .before .before .before .before .before .before .before .element-at .ensures .0 .end-in, omega arith)
 
--- src/lib.rt:232:22
 enum-known-j : tie.Need-enum-known-j Inv-loop μ-loop
 enum-known-j c = search needs
 
--- src/lib.rt:218:5
 loop-less : tie.Need-loop-less Inv-loop μ-loop
 loop-less c =
     let loop = c .before .before .before .before .before .before .before .before .before .before .before .before .before .before .loop in
@@ -90,7 +71,6 @@ loop-less c =
     let h = turn-as (separator .ensures) (c .before .j .given .1) in omega
     (arith, h .within .0, h .within .1, element-at .ensures .0 .from (loop .inv .0), element-at .ensures .0 .ordered)
 
--- src/lib.rt:218:5
 loop-again : tie.Need-loop-again Inv-loop μ-loop
 loop-again c =
     let args = c .before .before .before .before .before .before .before .before .before .before .before .before .before .before .before .before .before .args in
@@ -105,15 +85,12 @@ loop-again c =
       units-on (now (args .s)) (args .at) (now (args .out)) (args .column) (loop .i) (loop .n) (loop .k) (loop .ok) (loop .filled) (loop .out) (loop .inv .1) (element-at .result) (element-at .ensures .1) (unit-in .result) (unit-in .ensures) (if1 .left) (pen-unit .result) _ (pen-unit .ensures) _ h,
     )
 
--- src/lib.rt:235:24
 enum-known-r : tie.Need-enum-known-r Inv-loop μ-loop
 enum-known-r c = search needs
 
--- src/lib.rt:236:17
 same-length-2 : tie.Need-same-length-2 Inv-loop μ-loop
 same-length-2 c = pens-length (pens-then (c .before .before .before .before .before .before .before .before .before .before .before .before .before .before .loop .inv .1 .pens) (c .before .before .before .before .before .before .before .before .before .pen-unit .ensures .pens))
 
--- src/lib.rt:236:17
 returns-2 : tie.Need-returns-2 Inv-loop μ-loop
 returns-2 c =
     let args = c .before .before .before .before .before .before .before .before .before .before .before .before .before .before .before .before .before .args in
@@ -135,23 +112,5 @@ returns-2 c =
 pub put-units-from-spec : {M : Type 1} → statement M
 put-units-from-spec =
     tie.close
-    (tie.spec
-    Inv-loop
-    μ-loop
-    loop-holds
-    element-at-requires
-    unit-in-requires
-    same-length
-    returns
-    sub-pen-unit
-    part-pen-unit-start
-    part-pen-unit-end
-    pen-unit-requires
-    add-n
-    separator-requires
-    enum-known-j
-    loop-less
-    loop-again
-    enum-known-r
-    same-length-2
-    returns-2)
+    (tie.spec Inv-loop μ-loop loop-holds element-at-requires unit-in-requires same-length returns sub-pen-unit part-pen-unit-start part-pen-unit-end
+    pen-unit-requires add-n separator-requires enum-known-j loop-less loop-again enum-known-r same-length-2 returns-2)

@@ -5,22 +5,13 @@ use denote.Ref.{now}
 use borrow.Author.Needs.{needs}
 use Rattle.card_value.proofs.put_value.Statement.{statement}
 use Rattle.card_value.proofs.put_value.Tie as tie
-use Rattle.card_value.proofs.put_value.Reads as reads
-use Rattle.card_value.proofs.put_value.Lts as lts
-use Rattle.card_value.proofs.is_tel.Reads as is-tel-reads
-use Rattle.card_value.proofs.pen_text.Reads as pen-text-reads
-use Rattle.card_value.proofs.put_organization.Reads as put-organization-reads
-use Rattle.card_value.proofs.text_in.Reads as text-in-reads
 
--- src/lib.rt:366:9
 put-organization-requires : tie.Need-put-organization-requires
 put-organization-requires c κs = search needs
 
--- src/lib.rt:366:9
 same-length : tie.Need-same-length
 same-length c = search needs
 
--- src/lib.rt:366:9
 returns : tie.Need-returns
 returns c =
     let args = c .before .before .before .before .before .before .before .args in
@@ -30,11 +21,9 @@ returns c =
       (put-organization .ensures .1 .0, value-org (now (args .s)) (args .content) (args .units) (args .form) _ _ _ _ (if1 .taken) (put-organization .ensures .1 .1)),
     )
 
--- src/lib.rt:368:9
 text-in-requires : tie.Need-text-in-requires
 text-in-requires c κs = search needs
 
--- src/lib.rt:370:9
 returns-2 : tie.Need-returns-2
 returns-2 c =
     let args = c .before .before .before .before .before .args in
@@ -43,23 +32,18 @@ returns-2 c =
       (refl, value-none (now (args .s)) (args .content) (args .units) (args .form) _ _ _ (c .before .before .if1 .left) (text-in .result) (text-in .ensures) (c .if2 .taken)),
     )
 
--- src/lib.rt:372:8
 is-tel-requires : tie.Need-is-tel-requires
 is-tel-requires c κs = search needs
 
--- src/lib.rt:373:39
 slice-aggregate-pen-text : tie.Need-slice-aggregate-pen-text
 slice-aggregate-pen-text c = search needs
 
--- src/lib.rt:373:13
 pen-text-requires : tie.Need-pen-text-requires
 pen-text-requires c κs = search needs
 
--- src/lib.rt:376:9
 same-length-2 : tie.Need-same-length-2
 same-length-2 c = search needs
 
--- src/lib.rt:376:9
 returns-3 : tie.Need-returns-3
 returns-3 c =
     let args = c .before .before .before .before .before .before .before .before .before .before .before .before .args in
@@ -73,19 +57,15 @@ returns-3 c =
       (pens-length (pen-text .ensures .pens), value-tel (now (args .s)) (args .content) (args .units) (args .form) _ _ _ (if1 .left) (text-in .result) (text-in .ensures) (if2 .left) (is-tel .result) (is-tel .ensures) (pen-text .result) (if3 .taken) (pen-text .ensures)),
     )
 
--- src/lib.rt:379:39
 slice-aggregate-pen-text-2 : tie.Need-slice-aggregate-pen-text-2
 slice-aggregate-pen-text-2 c = search needs
 
--- src/lib.rt:379:13
 pen-text-requires-2 : tie.Need-pen-text-requires-2
 pen-text-requires-2 c κs = search needs
 
--- src/lib.rt:382:9
 same-length-3 : tie.Need-same-length-3
 same-length-3 c = search needs
 
--- src/lib.rt:382:9
 returns-4 : tie.Need-returns-4
 returns-4 c =
     let args = c .before .before .before .before .before .before .before .before .before .before .before .before .before .args in
@@ -100,19 +80,15 @@ returns-4 c =
       (pens-length (pen-text2 .ensures .pens), value-raw (now (args .s)) (args .content) (args .units) (args .form) _ _ _ (if1 .left) (text-in .result) (text-in .ensures) (if2 .left) (is-tel .result) (is-tel .ensures) (pen-text2 .result) (if3 .left) (if4 .taken) (pen-text2 .ensures)),
     )
 
--- src/lib.rt:384:35
 slice-aggregate-pen-text-3 : tie.Need-slice-aggregate-pen-text-3
 slice-aggregate-pen-text-3 c = search needs
 
--- src/lib.rt:384:9
 pen-text-requires-3 : tie.Need-pen-text-requires-3
 pen-text-requires-3 c κs = search needs
 
--- src/lib.rt:353:1
 same-length-4 : tie.Need-same-length-4
 same-length-4 c = search needs
 
--- src/lib.rt:353:1
 returns-5 : tie.Need-returns-5
 returns-5 c =
     let args = c .before .before .before .before .before .before .before .before .before .before .before .before .before .args in
@@ -130,22 +106,6 @@ returns-5 c =
 pub put-value-spec : {M : Type 1} → statement M
 put-value-spec =
     tie.close
-    (tie.spec
-    put-organization-requires
-    same-length
-    returns
-    text-in-requires
-    returns-2
-    is-tel-requires
-    slice-aggregate-pen-text
-    pen-text-requires
-    same-length-2
-    returns-3
-    slice-aggregate-pen-text-2
-    pen-text-requires-2
-    same-length-3
-    returns-4
-    slice-aggregate-pen-text-3
-    pen-text-requires-3
-    same-length-4
-    returns-5)
+    (tie.spec put-organization-requires same-length returns text-in-requires returns-2 is-tel-requires slice-aggregate-pen-text pen-text-requires
+    same-length-2 returns-3 slice-aggregate-pen-text-2 pen-text-requires-2 same-length-3 returns-4 slice-aggregate-pen-text-3 pen-text-requires-3
+    same-length-4 returns-5)

@@ -4,10 +4,6 @@ use Rattle.class_line.proofs.Lines.{numbered}
 use borrow.Author.Needs.{needs}
 use Rattle.class_line.proofs.class_line.Statement.{statement}
 use Rattle.class_line.proofs.class_line.Tie as tie
-use Rattle.class_line.proofs.class_line.Reads as reads
-use Rattle.class_line.proofs.class_line.Lts as lts
-use Rattle.class_line.proofs.class_numbered.Reads as class-numbered-reads
-use Rattle.class_names.proofs.name_code.Reads as name-code-reads
 
 shared-slice-read-a : tie.Need-shared-slice-read-a
 shared-slice-read-a c = search needs
@@ -45,13 +41,5 @@ returns c = search needs
 pub class-line-spec : {M : Type 1} → statement M
 class-line-spec =
     tie.close
-    (tie.spec
-    shared-slice-read-a
-    shared-slice-read-b
-    sub-name-code
-    part-name-code-start
-    part-name-code-end
-    name-code-requires
-    class-numbered-requires
-    same-length
-    returns)
+    (tie.spec shared-slice-read-a shared-slice-read-b sub-name-code part-name-code-start part-name-code-end name-code-requires class-numbered-requires
+    same-length returns)

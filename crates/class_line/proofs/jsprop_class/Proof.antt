@@ -5,9 +5,6 @@ use Rattle.class_line.proofs.Answers.{of-no-member, of-member}
 use borrow.Author.Needs.{needs}
 use Rattle.class_line.proofs.jsprop_class.Statement.{statement}
 use Rattle.class_line.proofs.jsprop_class.Tie as tie
-use Rattle.class_line.proofs.jsprop_class.Reads as reads
-use Rattle.class_line.proofs.jsprop_class.Lts as lts
-use Rattle.class_member.proofs.member_class.Reads as member-class-reads
 
 member-class-requires : tie.Need-member-class-requires
 member-class-requires c κs = search needs
@@ -45,11 +42,4 @@ returns-2 c =
 pub jsprop-class-spec : {M : Type 1} → statement M
 jsprop-class-spec =
     tie.close
-    (tie.spec
-    member-class-requires
-    enum-told
-    same-length
-    returns
-    enum-known-a
-    same-length-2
-    returns-2)
+    (tie.spec member-class-requires enum-told same-length returns enum-known-a same-length-2 returns-2)

@@ -5,11 +5,6 @@ use Rattle.class_line.proofs.Answers.{of-bad, of-free, of-keyed}
 use borrow.Author.Needs.{needs}
 use Rattle.class_line.proofs.map_class.Statement.{statement}
 use Rattle.class_line.proofs.map_class.Tie as tie
-use Rattle.class_line.proofs.map_class.Reads as reads
-use Rattle.class_line.proofs.map_class.Lts as lts
-use Rattle.class_names.proofs.form_of.Reads as form-of-reads
-use Rattle.class_names.proofs.types_of.Reads as types-of-reads
-use Rattle.table_entry.proofs.entry_key.Reads as entry-key-reads
 
 types-of-requires : tie.Need-types-of-requires
 types-of-requires c κs = search needs
@@ -66,13 +61,4 @@ returns-3 c =
 pub map-class-spec : {M : Type 1} → statement M
 map-class-spec =
     tie.close
-    (tie.spec
-    types-of-requires
-    form-of-requires
-    entry-key-requires
-    enum-told
-    returns
-    enum-told-2
-    returns-2
-    enum-known-a
-    returns-3)
+    (tie.spec types-of-requires form-of-requires entry-key-requires enum-told returns enum-told-2 returns-2 enum-known-a returns-3)

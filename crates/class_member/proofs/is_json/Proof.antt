@@ -4,10 +4,6 @@ use Rattle.class_member.proofs.Values.{never-full, written, soundly, ju
 use borrow.Author.Needs.{needs}
 use Rattle.class_member.proofs.is_json.Statement.{statement}
 use Rattle.class_member.proofs.is_json.Tie as tie
-use Rattle.class_member.proofs.is_json.Reads as reads
-use Rattle.class_member.proofs.is_json.Lts as lts
-use Rattle.json_read.proofs.read.Reads as read-reads
-use Rattle.line_text.proofs.read_text.Reads as read-text-reads
 
 read-text-requires : tie.Need-read-text-requires
 read-text-requires c κs = search needs
@@ -87,22 +83,5 @@ returns-4 c =
 pub is-json-spec : {M : Type 1} → statement M
 is-json-spec =
     tie.close
-    (tie.spec
-    read-text-requires
-    enum-known-n
-    enum-told
-    same-length
-    returns
-    sub-read
-    part-read-start
-    part-read-end
-    read-requires
-    enum-told-2
-    same-length-2
-    returns-2
-    enum-told-3
-    same-length-3
-    returns-3
-    enum-told-4
-    same-length-4
-    returns-4)
+    (tie.spec read-text-requires enum-known-n enum-told same-length returns sub-read part-read-start part-read-end read-requires enum-told-2
+    same-length-2 returns-2 enum-told-3 same-length-3 returns-3 enum-told-4 same-length-4 returns-4)

@@ -11,14 +11,6 @@ use Rattle.class_member.proofs.Members.{member-many, member-others, mem
 use borrow.Author.Needs.{needs}
 use Rattle.class_member.proofs.member_class.Statement.{statement}
 use Rattle.class_member.proofs.member_class.Tie as tie
-use Rattle.class_member.proofs.member_class.Reads as reads
-use Rattle.class_member.proofs.member_class.Lts as lts
-use Rattle.class_member.proofs.is_head.Reads as is-head-reads
-use Rattle.class_member.proofs.is_json.Reads as is-json-reads
-use Rattle.class_member.proofs.is_pointer.Reads as is-pointer-reads
-use Rattle.class_member.proofs.is_section.Reads as is-section-reads
-use Rattle.class_member.proofs.none_but_pointer.Reads as none-but-pointer-reads
-use Rattle.class_name.proofs.is_bare.Reads as is-bare-reads
 
 shared-slice-read-if1 : tie.Need-shared-slice-read-if1
 shared-slice-read-if1 c = search needs
@@ -248,37 +240,7 @@ returns-8 c =
 pub member-class-spec : {M : Type 1} → statement M
 member-class-spec =
     tie.close
-    (tie.spec
-    shared-slice-read-if1
-    returns
-    none-but-pointer-requires
-    returns-2
-    is-bare-requires
-    returns-3
-    shared-slice-read-a
-    shared-slice-read-b
-    sub-is-pointer
-    part-is-pointer-start
-    part-is-pointer-end
-    is-pointer-requires
-    returns-4
-    sub-is-head
-    part-is-head-start
-    part-is-head-end
-    is-head-requires
-    returns-5
-    sub-is-section
-    part-is-section-start
-    part-is-section-end
-    is-section-requires
-    returns-6
-    shared-slice-read-c
-    shared-slice-read-d
-    sub-is-json
-    part-is-json-start
-    part-is-json-end
-    is-json-requires
-    same-length
-    returns-7
-    same-length-2
-    returns-8)
+    (tie.spec shared-slice-read-if1 returns none-but-pointer-requires returns-2 is-bare-requires returns-3 shared-slice-read-a shared-slice-read-b
+    sub-is-pointer part-is-pointer-start part-is-pointer-end is-pointer-requires returns-4 sub-is-head part-is-head-start part-is-head-end
+    is-head-requires returns-5 sub-is-section part-is-section-start part-is-section-end is-section-requires returns-6 shared-slice-read-c
+    shared-slice-read-d sub-is-json part-is-json-start part-is-json-end is-json-requires same-length returns-7 same-length-2 returns-8)

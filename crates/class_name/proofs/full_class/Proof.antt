@@ -11,12 +11,6 @@ use Rattle.class_name.proofs.Full.{full-unbare, full-dropped, full-agai
 use borrow.Author.Needs.{needs}
 use Rattle.class_name.proofs.full_class.Statement.{statement}
 use Rattle.class_name.proofs.full_class.Tie as tie
-use Rattle.class_name.proofs.full_class.Reads as reads
-use Rattle.class_name.proofs.full_class.Lts as lts
-use Rattle.class_name.proofs.is_bare.Reads as is-bare-reads
-use Rattle.class_name.proofs.is_derived.Reads as is-derived-reads
-use Rattle.class_name.proofs.no_params.Reads as no-params-reads
-use Rattle.line_text.proofs.is_text.Reads as is-text-reads
 
 is-bare-requires : tie.Need-is-bare-requires
 is-bare-requires c κs = search needs
@@ -107,19 +101,5 @@ returns-6 c =
 pub full-class-spec : {M : Type 1} → statement M
 full-class-spec =
     tie.close
-    (tie.spec
-    is-bare-requires
-    returns
-    is-derived-requires
-    returns-2
-    returns-3
-    no-params-requires
-    returns-4
-    shared-slice-read-a
-    shared-slice-read-b
-    sub-is-text
-    part-is-text-start
-    part-is-text-end
-    is-text-requires
-    returns-5
-    returns-6)
+    (tie.spec is-bare-requires returns is-derived-requires returns-2 returns-3 no-params-requires returns-4 shared-slice-read-a shared-slice-read-b
+    sub-is-text part-is-text-start part-is-text-end is-text-requires returns-5 returns-6)

@@ -6,10 +6,6 @@ use Rattle.class_name.proofs.Full.{grouped, bare-kind}
 use borrow.Author.Needs.{needs}
 use Rattle.class_name.proofs.is_bare.Statement.{statement}
 use Rattle.class_name.proofs.is_bare.Tie as tie
-use Rattle.class_name.proofs.is_bare.Reads as reads
-use Rattle.class_name.proofs.is_bare.Lts as lts
-use Rattle.convert_entry.proofs.value_kind.Reads as value-kind-reads
-use Rattle.table_entry.proofs.has_group.Reads as has-group-reads
 
 has-group-requires : tie.Need-has-group-requires
 has-group-requires c κs = search needs

@@ -7,10 +7,6 @@ use Rattle.class_name.proofs.Derived.{derived-many, derived-others, der
 use borrow.Author.Needs.{needs}
 use Rattle.class_name.proofs.is_derived.Statement.{statement}
 use Rattle.class_name.proofs.is_derived.Tie as tie
-use Rattle.class_name.proofs.is_derived.Reads as reads
-use Rattle.class_name.proofs.is_derived.Lts as lts
-use Rattle.class_name.proofs.none_but_derived.Reads as none-but-derived-reads
-use Rattle.line_name.proofs.is_named.Reads as is-named-reads
 
 shared-slice-read-if1 : tie.Need-shared-slice-read-if1
 shared-slice-read-if1 c = search needs
@@ -68,16 +64,5 @@ returns-3 c =
 pub is-derived-spec : {M : Type 1} → statement M
 is-derived-spec =
     tie.close
-    (tie.spec
-    shared-slice-read-if1
-    returns
-    none-but-derived-requires
-    returns-2
-    shared-slice-read-a
-    shared-slice-read-b
-    sub-is-named
-    part-is-named-start
-    part-is-named-end
-    slice-aggregate-is-named
-    is-named-requires
-    returns-3)
+    (tie.spec shared-slice-read-if1 returns none-but-derived-requires returns-2 shared-slice-read-a shared-slice-read-b sub-is-named
+    part-is-named-start part-is-named-end slice-aggregate-is-named is-named-requires returns-3)

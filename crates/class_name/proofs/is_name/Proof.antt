@@ -4,11 +4,6 @@ use Rattle.class_name.proofs.Names.{too-many-parts, all-empty, escapes-
 use borrow.Author.Needs.{needs}
 use Rattle.class_name.proofs.is_name.Statement.{statement}
 use Rattle.class_name.proofs.is_name.Tie as tie
-use Rattle.class_name.proofs.is_name.Reads as reads
-use Rattle.class_name.proofs.is_name.Lts as lts
-use Rattle.line_parts.proofs.few_parts.Reads as few-parts-reads
-use Rattle.line_parts.proofs.has_other.Reads as has-other-reads
-use Rattle.line_text.proofs.is_text.Reads as is-text-reads
 
 few-parts-requires : tie.Need-few-parts-requires
 few-parts-requires c κs = search needs

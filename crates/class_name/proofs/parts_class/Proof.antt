@@ -11,11 +11,6 @@ use Rattle.class_name.proofs.Full.{parts-again, parts-unbare, parts-par
 use borrow.Author.Needs.{needs}
 use Rattle.class_name.proofs.parts_class.Statement.{statement}
 use Rattle.class_name.proofs.parts_class.Tie as tie
-use Rattle.class_name.proofs.parts_class.Reads as reads
-use Rattle.class_name.proofs.parts_class.Lts as lts
-use Rattle.class_name.proofs.is_bare.Reads as is-bare-reads
-use Rattle.class_name.proofs.is_name.Reads as is-name-reads
-use Rattle.class_name.proofs.no_params.Reads as no-params-reads
 
 returns : tie.Need-returns
 returns c =
@@ -86,17 +81,5 @@ returns-5 c =
 pub parts-class-spec : {M : Type 1} → statement M
 parts-class-spec =
     tie.close
-    (tie.spec
-    returns
-    is-bare-requires
-    returns-2
-    no-params-requires
-    returns-3
-    shared-slice-read-a
-    shared-slice-read-b
-    sub-is-name
-    part-is-name-start
-    part-is-name-end
-    is-name-requires
-    returns-4
-    returns-5)
+    (tie.spec returns is-bare-requires returns-2 no-params-requires returns-3 shared-slice-read-a shared-slice-read-b sub-is-name part-is-name-start
+    part-is-name-end is-name-requires returns-4 returns-5)

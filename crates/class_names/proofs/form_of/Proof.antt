@@ -4,18 +4,13 @@ use borrow.Author.Tests.{eq-eqb, ne-eqb}
 use Rattle.class_names.proofs.Numbers.{form-is}
 use Rattle.class_names.proofs.form_of.Statement.{statement}
 use Rattle.class_names.proofs.form_of.Tie as tie
-use Rattle.class_names.proofs.form_of.Reads as reads
-use Rattle.class_names.proofs.form_of.Lts as lts
 
--- src/lib.rt:107:9
 returns : tie.Need-returns
 returns c = (sym (form-is (c .before .args .i) ∙ rw (eq-eqb (c .before .args .i) 0 (c .if1 .taken))), omega arith)
 
--- src/lib.rt:110:9
 returns-2 : tie.Need-returns-2
 returns-2 c = (sym (form-is (c .before .before .args .i) ∙ rw (ne-eqb (c .before .before .args .i) 0 (c .before .if1 .left), eq-eqb (c .before .before .args .i) 2 (c .if2 .taken))), omega arith)
 
--- src/lib.rt:113:9
 returns-3 : tie.Need-returns-3
 returns-3 c = (
   sym (form-is (c .before .before .before .args .i) ∙ rw (
@@ -27,7 +22,6 @@ returns-3 c = (
   omega arith,
 )
 
--- src/lib.rt:116:9
 returns-4 : tie.Need-returns-4
 returns-4 c = (
   sym (form-is (c .before .before .before .before .args .i) ∙ rw (
@@ -41,7 +35,6 @@ returns-4 c = (
   omega arith,
 )
 
--- src/lib.rt:103:1
 returns-5 : tie.Need-returns-5
 returns-5 c = (
   sym (form-is (c .before .before .before .before .args .i) ∙ rw (

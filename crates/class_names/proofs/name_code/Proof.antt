@@ -5,98 +5,70 @@ use Rattle.class_names.proofs.Numbers.{number-is, no-name, number-n, nu
 use borrow.Author.Needs.{needs}
 use Rattle.class_names.proofs.name_code.Statement.{statement}
 use Rattle.class_names.proofs.name_code.Tie as tie
-use Rattle.class_names.proofs.name_code.Reads as reads
-use Rattle.class_names.proofs.name_code.Lts as lts
-use Rattle.class_names.proofs.name_of_five.Reads as name-of-five-reads
-use Rattle.class_names.proofs.name_of_four.Reads as name-of-four-reads
-use Rattle.class_names.proofs.name_of_three.Reads as name-of-three-reads
-use Rattle.line_name.proofs.is_named.Reads as is-named-reads
 
--- src/lib.rt:63:9
 name-of-three-requires : tie.Need-name-of-three-requires
 name-of-three-requires c κs = search needs
 
--- src/lib.rt:63:9
 returns : tie.Need-returns
 returns c = search needs
 
--- src/lib.rt:66:9
 name-of-five-requires : tie.Need-name-of-five-requires
 name-of-five-requires c κs = search needs
 
--- src/lib.rt:66:9
 returns-2 : tie.Need-returns-2
 returns-2 c = search needs
 
--- src/lib.rt:69:9
 name-of-four-requires : tie.Need-name-of-four-requires
 name-of-four-requires c κs = search needs
 
--- src/lib.rt:69:9
 returns-3 : tie.Need-returns-3
 returns-3 c = search needs
 
--- src/lib.rt:71:23
 slice-aggregate-is-named : tie.Need-slice-aggregate-is-named
 slice-aggregate-is-named c = search needs
 
--- src/lib.rt:71:8
 is-named-requires : tie.Need-is-named-requires
 is-named-requires c κs = search needs
 
--- src/lib.rt:72:9
 returns-4 : tie.Need-returns-4
 returns-4 c = number-is _ (ascii "n") _ number-n (sym (c .before .is-named .ensures) ∙ (c .if4 .taken))
 
--- src/lib.rt:74:23
 slice-aggregate-is-named-2 : tie.Need-slice-aggregate-is-named-2
 slice-aggregate-is-named-2 c = search needs
 
--- src/lib.rt:74:8
 is-named-requires-2 : tie.Need-is-named-requires-2
 is-named-requires-2 c κs = search needs
 
--- src/lib.rt:75:9
 returns-5 : tie.Need-returns-5
 returns-5 c = number-is _ (ascii "fn") _ number-fn (sym (c .before .is-named2 .ensures) ∙ (c .if5 .taken))
 
--- src/lib.rt:77:23
 slice-aggregate-is-named-3 : tie.Need-slice-aggregate-is-named-3
 slice-aggregate-is-named-3 c = search needs
 
--- src/lib.rt:77:8
 is-named-requires-3 : tie.Need-is-named-requires-3
 is-named-requires-3 c κs = search needs
 
--- src/lib.rt:78:9
 returns-6 : tie.Need-returns-6
 returns-6 c = number-is _ (ascii "version") _ number-version (sym (c .before .is-named3 .ensures) ∙ (c .if6 .taken))
 
--- src/lib.rt:80:23
 slice-aggregate-is-named-4 : tie.Need-slice-aggregate-is-named-4
 slice-aggregate-is-named-4 c = search needs
 
--- src/lib.rt:80:8
 is-named-requires-4 : tie.Need-is-named-requires-4
 is-named-requires-4 c κs = search needs
 
--- src/lib.rt:81:9
 returns-7 : tie.Need-returns-7
 returns-7 c = number-is _ (ascii "nickname") _ number-nickname (sym (c .before .is-named4 .ensures) ∙ (c .if7 .taken))
 
--- src/lib.rt:83:23
 slice-aggregate-is-named-5 : tie.Need-slice-aggregate-is-named-5
 slice-aggregate-is-named-5 c = search needs
 
--- src/lib.rt:83:8
 is-named-requires-5 : tie.Need-is-named-requires-5
 is-named-requires-5 c κs = search needs
 
--- src/lib.rt:84:9
 returns-8 : tie.Need-returns-8
 returns-8 c = number-is _ (ascii "jsprop") _ number-jsprop (sym (c .before .is-named5 .ensures) ∙ (c .if8 .taken))
 
--- src/lib.rt:58:1
 returns-9 : tie.Need-returns-9
 returns-9 c =
     no-name _ (λ e. c .before .before .before .before .before .before .before .before .before .before .before .before .before .before .before .before .before .if1 .left
@@ -113,26 +85,6 @@ returns-9 c =
 pub name-code-spec : {M : Type 1} → statement M
 name-code-spec =
     tie.close
-    (tie.spec
-    name-of-three-requires
-    returns
-    name-of-five-requires
-    returns-2
-    name-of-four-requires
-    returns-3
-    slice-aggregate-is-named
-    is-named-requires
-    returns-4
-    slice-aggregate-is-named-2
-    is-named-requires-2
-    returns-5
-    slice-aggregate-is-named-3
-    is-named-requires-3
-    returns-6
-    slice-aggregate-is-named-4
-    is-named-requires-4
-    returns-7
-    slice-aggregate-is-named-5
-    is-named-requires-5
-    returns-8
-    returns-9)
+    (tie.spec name-of-three-requires returns name-of-five-requires returns-2 name-of-four-requires returns-3 slice-aggregate-is-named
+    is-named-requires returns-4 slice-aggregate-is-named-2 is-named-requires-2 returns-5 slice-aggregate-is-named-3 is-named-requires-3 returns-6
+    slice-aggregate-is-named-4 is-named-requires-4 returns-7 slice-aggregate-is-named-5 is-named-requires-5 returns-8 returns-9)

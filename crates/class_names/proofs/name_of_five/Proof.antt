@@ -5,35 +5,25 @@ use Rattle.class_names.proofs.Numbers.{number-is, no-five, number-email
 use borrow.Author.Needs.{needs}
 use Rattle.class_names.proofs.name_of_five.Statement.{statement}
 use Rattle.class_names.proofs.name_of_five.Tie as tie
-use Rattle.class_names.proofs.name_of_five.Reads as reads
-use Rattle.class_names.proofs.name_of_five.Lts as lts
-use Rattle.line_name.proofs.is_named.Reads as is-named-reads
 
--- src/lib.rt:48:23
 slice-aggregate-is-named : tie.Need-slice-aggregate-is-named
 slice-aggregate-is-named c = search needs
 
--- src/lib.rt:48:8
 is-named-requires : tie.Need-is-named-requires
 is-named-requires c κs = search needs
 
--- src/lib.rt:49:9
 returns : tie.Need-returns
 returns c = number-is _ (ascii "email") _ number-email (sym (c .before .is-named .ensures) ∙ (c .if1 .taken))
 
--- src/lib.rt:51:23
 slice-aggregate-is-named-2 : tie.Need-slice-aggregate-is-named-2
 slice-aggregate-is-named-2 c = search needs
 
--- src/lib.rt:51:8
 is-named-requires-2 : tie.Need-is-named-requires-2
 is-named-requires-2 c κs = search needs
 
--- src/lib.rt:52:9
 returns-2 : tie.Need-returns-2
 returns-2 c = number-is _ (ascii "title") _ number-title (sym (c .before .is-named2 .ensures) ∙ (c .if2 .taken))
 
--- src/lib.rt:44:1
 returns-3 : tie.Need-returns-3
 returns-3 c =
     no-five _ (lowered-length _ ∙ (c .before .before .before .before .before .before .before .pre))
@@ -42,11 +32,4 @@ returns-3 c =
 pub name-of-five-spec : {M : Type 1} → statement M
 name-of-five-spec =
     tie.close
-    (tie.spec
-    slice-aggregate-is-named
-    is-named-requires
-    returns
-    slice-aggregate-is-named-2
-    is-named-requires-2
-    returns-2
-    returns-3)
+    (tie.spec slice-aggregate-is-named is-named-requires returns slice-aggregate-is-named-2 is-named-requires-2 returns-2 returns-3)

@@ -5,47 +5,34 @@ use Rattle.class_names.proofs.Numbers.{number-is, no-four, number-note,
 use borrow.Author.Needs.{needs}
 use Rattle.class_names.proofs.name_of_four.Statement.{statement}
 use Rattle.class_names.proofs.name_of_four.Tie as tie
-use Rattle.class_names.proofs.name_of_four.Reads as reads
-use Rattle.class_names.proofs.name_of_four.Lts as lts
-use Rattle.line_name.proofs.is_named.Reads as is-named-reads
 
--- src/lib.rt:32:23
 slice-aggregate-is-named : tie.Need-slice-aggregate-is-named
 slice-aggregate-is-named c = search needs
 
--- src/lib.rt:32:8
 is-named-requires : tie.Need-is-named-requires
 is-named-requires c κs = search needs
 
--- src/lib.rt:33:9
 returns : tie.Need-returns
 returns c = number-is _ (ascii "note") _ number-note (sym (c .before .is-named .ensures) ∙ (c .if1 .taken))
 
--- src/lib.rt:35:23
 slice-aggregate-is-named-2 : tie.Need-slice-aggregate-is-named-2
 slice-aggregate-is-named-2 c = search needs
 
--- src/lib.rt:35:8
 is-named-requires-2 : tie.Need-is-named-requires-2
 is-named-requires-2 c κs = search needs
 
--- src/lib.rt:36:9
 returns-2 : tie.Need-returns-2
 returns-2 c = number-is _ (ascii "role") _ number-role (sym (c .before .is-named2 .ensures) ∙ (c .if2 .taken))
 
--- src/lib.rt:38:23
 slice-aggregate-is-named-3 : tie.Need-slice-aggregate-is-named-3
 slice-aggregate-is-named-3 c = search needs
 
--- src/lib.rt:38:8
 is-named-requires-3 : tie.Need-is-named-requires-3
 is-named-requires-3 c κs = search needs
 
--- src/lib.rt:39:9
 returns-3 : tie.Need-returns-3
 returns-3 c = number-is _ (ascii "kind") _ number-kind (sym (c .before .is-named3 .ensures) ∙ (c .if3 .taken))
 
--- src/lib.rt:28:1
 returns-4 : tie.Need-returns-4
 returns-4 c =
     no-four _ (lowered-length _ ∙ (c .before .before .before .before .before .before .before .before .before .before .pre))
@@ -55,14 +42,5 @@ returns-4 c =
 pub name-of-four-spec : {M : Type 1} → statement M
 name-of-four-spec =
     tie.close
-    (tie.spec
-    slice-aggregate-is-named
-    is-named-requires
-    returns
-    slice-aggregate-is-named-2
-    is-named-requires-2
-    returns-2
-    slice-aggregate-is-named-3
-    is-named-requires-3
-    returns-3
-    returns-4)
+    (tie.spec slice-aggregate-is-named is-named-requires returns slice-aggregate-is-named-2 is-named-requires-2 returns-2 slice-aggregate-is-named-3
+    is-named-requires-3 returns-3 returns-4)

@@ -4,18 +4,13 @@ use borrow.Author.Tests.{eq-eqb, ne-eqb, le-ltb, lt-ltb}
 use Rattle.class_names.proofs.Numbers.{types-is}
 use Rattle.class_names.proofs.types_of.Statement.{statement}
 use Rattle.class_names.proofs.types_of.Tie as tie
-use Rattle.class_names.proofs.types_of.Reads as reads
-use Rattle.class_names.proofs.types_of.Lts as lts
 
--- src/lib.rt:94:9
 returns : tie.Need-returns
 returns c = sym (types-is (c .before .args .i) ∙ rw (eq-eqb (c .before .args .i) 2 (c .if1 .taken)))
 
--- src/lib.rt:97:9
 returns-2 : tie.Need-returns-2
 returns-2 c = sym (types-is (c .before .before .args .i) ∙ rw (ne-eqb (c .before .before .args .i) 2 (c .before .if1 .left), le-ltb (c .before .before .args .i) 4 (omega (arith, c .if2 .taken))))
 
--- src/lib.rt:90:1
 returns-3 : tie.Need-returns-3
 returns-3 c = sym (types-is (c .before .before .args .i) ∙ rw (ne-eqb (c .before .before .args .i) 2 (c .before .if1 .left), lt-ltb (c .before .before .args .i) 4 (omega (arith, c .if2 .left))))
 

@@ -68,18 +68,5 @@ returns-2 c =
 pub note-value-spec : {M : Type 1} → statement M
 note-value-spec =
     tie.close
-    (tie.spec
-    returns
-    sub-print-text
-    part-print-text-start
-    part-print-text-end
-    print-text-requires
-    cast-places
-    mul-places
-    slice-write-places
-    mul-prints
-    slice-write-prints
-    add-result
-    same-length
-    same-length-2
-    returns-2)
+    (tie.spec returns sub-print-text part-print-text-start part-print-text-end print-text-requires cast-places mul-places slice-write-places
+    mul-prints slice-write-prints add-result same-length same-length-2 returns-2)

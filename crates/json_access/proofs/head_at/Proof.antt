@@ -43,12 +43,4 @@ returns-2 c =
 pub head-at-spec : {M : Type 1} → statement M
 head-at-spec =
     tie.close
-    (tie.spec
-    returns
-    mark-requires
-    place-requires
-    string-stop-requires
-    mark-requires-2
-    place-requires-2
-    skip-space-requires
-    returns-2)
+    (tie.spec returns mark-requires place-requires string-stop-requires mark-requires-2 place-requires-2 skip-space-requires returns-2)

@@ -77,14 +77,4 @@ returns-8 c =
 pub kind-at-spec : {M : Type 1} → statement M
 kind-at-spec =
     tie.close
-    (tie.spec
-    returns
-    skip-space-requires
-    look-requires
-    returns-2
-    returns-3
-    returns-4
-    returns-5
-    returns-6
-    returns-7
-    returns-8)
+    (tie.spec returns skip-space-requires look-requires returns-2 returns-3 returns-4 returns-5 returns-6 returns-7 returns-8)

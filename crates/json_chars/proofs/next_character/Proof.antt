@@ -125,30 +125,6 @@ returns-9 c = none (c .before .before .before .before) (by-lead _ (sym (ap dueOf
 pub next-character-spec : {M : Type 1} → statement M
 next-character-spec =
     tie.close
-    (tie.spec
-    look-requires
-    add-t12
-    returns
-    add-escape-at
-    escape-at-requires
-    enum-known-e
-    enum-known-x
-    returns-2
-    returns-3
-    in-range-requires
-    add-t19
-    returns-4
-    returns-5
-    cast-due-after
-    due-after-requires
-    enum-known-low
-    add-wide-end
-    wide-end-requires
-    enum-known-e-2
-    enum-known-x-2
-    enum-told
-    enum-told-2
-    returns-6
-    returns-7
-    returns-8
-    returns-9)
+    (tie.spec look-requires add-t12 returns add-escape-at escape-at-requires enum-known-e enum-known-x returns-2 returns-3 in-range-requires add-t19
+    returns-4 returns-5 cast-due-after due-after-requires enum-known-low add-wide-end wide-end-requires enum-known-e-2 enum-known-x-2 enum-told
+    enum-told-2 returns-6 returns-7 returns-8 returns-9)

@@ -68,15 +68,5 @@ returns-4 c =
 pub piece-end-spec : {M : Type 1} → statement M
 piece-end-spec =
     tie.close
-    (tie.spec
-    look-requires
-    is-space-requires
-    add-t5
-    returns
-    add-string-end
-    string-end-requires
-    returns-2
-    in-range-requires
-    add-t9
-    returns-3
+    (tie.spec look-requires is-space-requires add-t5 returns add-string-end string-end-requires returns-2 in-range-requires add-t9 returns-3
     returns-4)

@@ -63,15 +63,5 @@ returns-3 c =
 pub put-piece-spec : {M : Type 1} → statement M
 put-piece-spec =
     tie.close
-    (tie.spec
-    look-requires
-    is-space-requires
-    returns
-    add-put-requoted
-    put-requoted-requires
-    same-length
-    returns-2
-    shared-slice-read-put-byte
-    put-byte-requires
-    same-length-2
-    returns-3)
+    (tie.spec look-requires is-space-requires returns add-put-requoted put-requoted-requires same-length returns-2 shared-slice-read-put-byte
+    put-byte-requires same-length-2 returns-3)

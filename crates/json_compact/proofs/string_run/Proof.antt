@@ -44,12 +44,4 @@ returns-3 c =
 pub string-run-spec : {M : Type 1} → statement M
 string-run-spec =
     tie.close
-    (tie.spec
-    add-from
-    text-end-requires
-    look-requires
-    returns
-    has-delete-requires
-    returns-2
-    add-result
-    returns-3)
+    (tie.spec add-from text-end-requires look-requires returns has-delete-requires returns-2 add-result returns-3)

@@ -154,27 +154,6 @@ returns-5 c =
 pub code-at-spec : {M : Type 1} → statement M
 code-at-spec =
     tie.close
-    (tie.spec
-    digit-at-requires
-    enum-known-x
-    enum-known-a
-    digit-at-requires-2
-    enum-known-x-2
-    enum-known-b
-    digit-at-requires-3
-    enum-known-x-3
-    enum-known-c
-    digit-at-requires-4
-    enum-known-x-4
-    enum-known-d
-    mul-t23
-    mul-t24
-    add-t25
-    mul-t26
-    add-t27
-    add-t28
-    returns
-    returns-2
-    returns-3
-    returns-4
+    (tie.spec digit-at-requires enum-known-x enum-known-a digit-at-requires-2 enum-known-x-2 enum-known-b digit-at-requires-3 enum-known-x-3
+    enum-known-c digit-at-requires-4 enum-known-x-4 enum-known-d mul-t23 mul-t24 add-t25 mul-t26 add-t27 add-t28 returns returns-2 returns-3 returns-4
     returns-5)

@@ -88,17 +88,5 @@ returns-4 c =
 pub escape-at-spec : {M : Type 1} → statement M
 escape-at-spec =
     tie.close
-    (tie.spec
-    look-requires
-    add-code-at
-    code-at-requires
-    enum-known-x
-    enum-known-v
-    add-t11
-    returns
-    returns-2
-    is-short-requires
-    short-of-requires
-    add-t14
-    returns-3
-    returns-4)
+    (tie.spec look-requires add-code-at code-at-requires enum-known-x enum-known-v add-t11 returns returns-2 is-short-requires short-of-requires
+    add-t14 returns-3 returns-4)

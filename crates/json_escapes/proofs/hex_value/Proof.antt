@@ -40,15 +40,5 @@ returns-3 c = let h = digit-af _ (c .before .before .before .before .pre) (sym (
 pub hex-value-spec : {M : Type 1} → statement M
 hex-value-spec =
     tie.close
-    (tie.spec
-    in-range-requires
-    sub-result
-    cast-result
-    returns
-    in-range-requires-2
-    sub-result-2
-    cast-result-2
-    returns-2
-    sub-result-3
-    cast-result-3
+    (tie.spec in-range-requires sub-result cast-result returns in-range-requires-2 sub-result-2 cast-result-2 returns-2 sub-result-3 cast-result-3
     returns-3)

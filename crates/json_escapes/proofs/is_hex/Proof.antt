@@ -28,10 +28,4 @@ returns-3 c = rw (sym (c .before .before .before .before .in-range .ensures) ∙
 pub is-hex-spec : {M : Type 1} → statement M
 is-hex-spec =
     tie.close
-    (tie.spec
-    in-range-requires
-    returns
-    in-range-requires-2
-    returns-2
-    in-range-requires-3
-    returns-3)
+    (tie.spec in-range-requires returns in-range-requires-2 returns-2 in-range-requires-3 returns-3)

@@ -87,18 +87,5 @@ returns-5 c =
 pub unit-at-spec : {M : Type 1} → statement M
 unit-at-spec =
     tie.close
-    (tie.spec
-    look-requires
-    add-t8
-    returns
-    add-escape-at
-    escape-at-requires
-    enum-known-x
-    enum-known-u
-    returns-2
-    returns-3
-    in-range-requires
-    cast-t13
-    add-t14
-    returns-4
-    returns-5)
+    (tie.spec look-requires add-t8 returns add-escape-at escape-at-requires enum-known-x enum-known-u returns-2 returns-3 in-range-requires cast-t13
+    add-t14 returns-4 returns-5)

@@ -37,11 +37,4 @@ returns-5 c =
 pub differs-spec : {M : Type 1} → statement M
 differs-spec =
     tie.close
-    (tie.spec
-    returns
-    returns-2
-    shared-slice-read-b
-    shared-slice-read-c
-    returns-3
-    returns-4
-    returns-5)
+    (tie.spec returns returns-2 shared-slice-read-b shared-slice-read-c returns-3 returns-4 returns-5)

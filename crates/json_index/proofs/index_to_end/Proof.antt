@@ -7,11 +7,6 @@ use Rattle.json_index.proofs.Objects.{no-object, empty-ends, no-member,
 use borrow.Author.Needs.{needs}
 use Rattle.json_index.proofs.index_to_end.Statement.{statement}
 use Rattle.json_index.proofs.index_to_end.Tie as tie
-use Rattle.json_index.proofs.index_to_end.Reads as reads
-use Rattle.json_index.proofs.index_to_end.Lts as lts
-use Rattle.json_index.proofs.index_from.Reads as index-from-reads
-use Rattle.json_marks.proofs.skip_space.Reads as skip-space-reads
-use Rattle.text.proofs.look.Reads as look-reads
 
 skip-space-requires : tie.Need-skip-space-requires
 skip-space-requires c κs = search needs
@@ -78,15 +73,5 @@ returns-3 c =
 pub index-to-end-spec : {M : Type 1} → statement M
 index-to-end-spec =
     tie.close
-    (tie.spec
-    skip-space-requires
-    look-requires
-    returns
-    add-skip-space
-    skip-space-requires-2
-    look-requires-2
-    add-result
-    returns-2
-    index-from-requires
-    same-length
-    returns-3)
+    (tie.spec skip-space-requires look-requires returns add-skip-space skip-space-requires-2 look-requires-2 add-result returns-2 index-from-requires
+    same-length returns-3)

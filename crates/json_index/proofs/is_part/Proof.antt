@@ -46,13 +46,4 @@ returns-3 c = search needs
 pub is-part-spec : {M : Type 1} → statement M
 is-part-spec =
     tie.close
-    (tie.spec
-    differs-requires
-    returns
-    shared-slice-read-if2
-    returns-2
-    sub-equals
-    part-equals-start
-    part-equals-end
-    equals-requires
-    returns-3)
+    (tie.spec differs-requires returns shared-slice-read-if2 returns-2 sub-equals part-equals-start part-equals-end equals-requires returns-3)

@@ -77,13 +77,5 @@ returns c =
 pub member-called-spec : {M : Type 1} → statement M
 member-called-spec =
     tie.close
-    (tie.spec
-    mark-requires
-    place-requires
-    called-requires
-    string-stop-requires
-    mark-requires-2
-    place-requires-2
-    skip-space-requires
-    skip-value-requires
-    returns)
+    (tie.spec mark-requires place-requires called-requires string-stop-requires mark-requires-2 place-requires-2 skip-space-requires
+    skip-value-requires returns)

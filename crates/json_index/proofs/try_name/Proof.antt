@@ -51,14 +51,4 @@ returns-3 c =
 pub try-name-spec : {M : Type 1} → statement M
 try-name-spec =
     tie.close
-    (tie.spec
-    differs-requires
-    name-stop-requires
-    returns
-    alike-requires
-    sub-m
-    add-m
-    name-stop-requires-2
-    is-part-requires
-    returns-2
-    returns-3)
+    (tie.spec differs-requires name-stop-requires returns alike-requires sub-m add-m name-stop-requires-2 is-part-requires returns-2 returns-3)

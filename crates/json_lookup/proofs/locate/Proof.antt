@@ -32,12 +32,4 @@ returns-3 c = (record { ordered = omega arith; inside = omega arith }, not-sound
 pub locate-spec : {M : Type 1} → statement M
 locate-spec =
     tie.close
-    (tie.spec
-    read-requires
-    enum-told
-    find-in-requires
-    enum-told-2
-    enum-known-b
-    returns
-    returns-2
-    returns-3)
+    (tie.spec read-requires enum-told find-in-requires enum-told-2 enum-known-b returns returns-2 returns-3)

@@ -30,12 +30,4 @@ returns-3 c = exp-none _ _ (c .before .before .look .result) (c .before .before 
 pub exp-end-spec : {M : Type 1} → statement M
 exp-end-spec =
     tie.close
-    (tie.spec
-    look-requires
-    add-power-end
-    power-end-requires
-    returns
-    add-power-end-2
-    power-end-requires-2
-    returns-2
-    returns-3)
+    (tie.spec look-requires add-power-end power-end-requires returns add-power-end-2 power-end-requires-2 returns-2 returns-3)

@@ -67,18 +67,5 @@ returns-4 c =
 pub number-end-spec : {M : Type 1} → statement M
 number-end-spec =
     tie.close
-    (tie.spec
-    opt-end-requires
-    enum-known-b
-    enum-known-k
-    int-end-requires
-    enum-known-b-2
-    enum-known-j
-    frac-end-requires
-    enum-known-b-3
-    enum-known-i
-    exp-end-requires
-    returns
-    returns-2
-    returns-3
-    returns-4)
+    (tie.spec opt-end-requires enum-known-b enum-known-k int-end-requires enum-known-b-2 enum-known-j frac-end-requires enum-known-b-3 enum-known-i
+    exp-end-requires returns returns-2 returns-3 returns-4)

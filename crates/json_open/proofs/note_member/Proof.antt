@@ -41,12 +41,4 @@ returns-2 c = noted-taken _ _ _ (c .if1 .left) ∙ ap (λ k. noted (now (c .befo
 pub note-member-spec : {M : Type 1} → statement M
 note-member-spec =
     tie.close
-    (tie.spec
-    which-name-requires
-    mul-if1
-    slice-read-if1
-    mul-slots
-    slice-write-slots
-    same-length
-    returns
-    returns-2)
+    (tie.spec which-name-requires mul-if1 slice-read-if1 mul-slots slice-write-slots same-length returns returns-2)

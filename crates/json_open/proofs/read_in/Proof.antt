@@ -79,20 +79,5 @@ returns-2 c =
 pub read-in-spec : {M : Type 1} → statement M
 read-in-spec =
     tie.close
-    (tie.spec
-    skip-space-requires
-    look-requires
-    add-sound-members
-    sound-members-requires
-    verdict-on-requires
-    answer-requires
-    same-length
-    same-length-2
-    same-length-3
-    returns
-    sound-value-requires
-    verdict-on-requires-2
-    answer-requires-2
-    same-length-4
-    same-length-5
-    returns-2)
+    (tie.spec skip-space-requires look-requires add-sound-members sound-members-requires verdict-on-requires answer-requires same-length same-length-2
+    same-length-3 returns sound-value-requires verdict-on-requires-2 answer-requires-2 same-length-4 same-length-5 returns-2)

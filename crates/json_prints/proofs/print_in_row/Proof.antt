@@ -57,13 +57,5 @@ returns-2 c =
 pub print-in-row-spec : {M : Type 1} → statement M
 print-in-row-spec =
     tie.close
-    (tie.spec
-    past-blocks-requires
-    past-blocks-requires-2
-    past-blocks-requires-3
-    sub-if1
-    sub-any-print
-    any-print-requires
-    returns
-    print-in-requires
+    (tie.spec past-blocks-requires past-blocks-requires-2 past-blocks-requires-3 sub-if1 sub-any-print any-print-requires returns print-in-requires
     returns-2)

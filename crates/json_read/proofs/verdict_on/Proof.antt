@@ -42,12 +42,4 @@ returns-3 c d judged =
 pub verdict-on-spec : {M : Type 1} → statement M
 verdict-on-spec =
     tie.close
-    (tie.spec
-    enum-known-r
-    enum-known-r-2
-    ended-requires
-    enum-known-r-3
-    ended-requires-2
-    returns
-    returns-2
-    returns-3)
+    (tie.spec enum-known-r enum-known-r-2 ended-requires enum-known-r-3 ended-requires-2 returns returns-2 returns-3)

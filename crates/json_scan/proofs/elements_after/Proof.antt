@@ -29,10 +29,4 @@ returns-2 c = later-go enil (loop (item (value (c .before .before .before .befor
 pub elements-after-spec : {M : Type 1} → statement M
 elements-after-spec =
     tie.close
-    (tie.spec
-    separator-requires
-    enum-known-r
-    enum-known-j
-    elements-from-requires
-    returns
-    returns-2)
+    (tie.spec separator-requires enum-known-r enum-known-j elements-from-requires returns returns-2)

@@ -67,18 +67,5 @@ returns-4 c =
 pub four-end-spec : {M : Type 1} → statement M
 four-end-spec =
     tie.close
-    (tie.spec
-    byte-requires
-    enum-known-x
-    enum-known-k
-    byte-requires-2
-    enum-known-x-2
-    enum-known-j
-    byte-requires-3
-    enum-known-x-3
-    enum-known-i
-    byte-requires-4
-    returns
-    returns-2
-    returns-3
-    returns-4)
+    (tie.spec byte-requires enum-known-x enum-known-k byte-requires-2 enum-known-x-2 enum-known-j byte-requires-3 enum-known-x-3 enum-known-i
+    byte-requires-4 returns returns-2 returns-3 returns-4)

@@ -25,10 +25,4 @@ returns-2 c = λ us. then-next _ (gives-as (c .before .before .before .before .v
 pub members-after-name-spec : {M : Type 1} → statement M
 members-after-name-spec =
     tie.close
-    (tie.spec
-    value-end-requires
-    enum-known-b
-    enum-known-e
-    members-after-requires
-    returns
-    returns-2)
+    (tie.spec value-end-requires enum-known-b enum-known-e members-after-requires returns returns-2)

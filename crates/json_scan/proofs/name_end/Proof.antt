@@ -40,14 +40,4 @@ returns-3 c = then-next _ (gives-as (c .before .before .before .before .before .
 pub name-end-spec : {M : Type 1} → statement M
 name-end-spec =
     tie.close
-    (tie.spec
-    mark-requires
-    enum-known-b
-    enum-known-j
-    string-end-requires
-    enum-known-b-2
-    enum-known-i
-    mark-requires-2
-    returns
-    returns-2
-    returns-3)
+    (tie.spec mark-requires enum-known-b enum-known-j string-end-requires enum-known-b-2 enum-known-i mark-requires-2 returns returns-2 returns-3)

@@ -58,17 +58,5 @@ returns-5 c = not-on (is 34) _ _ (c .before .before .before .before .before .loo
 pub scalar-end-spec : {M : Type 1} → statement M
 scalar-end-spec =
     tie.close
-    (tie.spec
-    look-requires
-    add-string-end
-    string-end-requires
-    returns
-    four-end-requires
-    returns-2
-    add-four-end
-    four-end-requires-2
-    returns-3
-    four-end-requires-3
-    returns-4
-    number-end-requires
-    returns-5)
+    (tie.spec look-requires add-string-end string-end-requires returns four-end-requires returns-2 add-four-end four-end-requires-2 returns-3
+    four-end-requires-3 returns-4 number-end-requires returns-5)

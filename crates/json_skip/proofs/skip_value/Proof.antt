@@ -97,24 +97,6 @@ returns-6 c =
 pub skip-value-spec : {M : Type 1} → statement M
 skip-value-spec =
     tie.close
-    (tie.spec
-    returns
-    skip-space-requires
-    look-requires
-    add-string-stop
-    string-stop-requires
-    returns-2
-    add-bracket-stop
-    bracket-stop-requires
-    returns-3
-    add-bracket-stop-2
-    bracket-stop-requires-2
-    returns-4
-    sub-scalar-end
-    part-scalar-end-start
-    part-scalar-end-end
-    scalar-end-requires
-    enum-known-e
-    enum-known-x
-    returns-5
-    returns-6)
+    (tie.spec returns skip-space-requires look-requires add-string-stop string-stop-requires returns-2 add-bracket-stop bracket-stop-requires
+    returns-3 add-bracket-stop-2 bracket-stop-requires-2 returns-4 sub-scalar-end part-scalar-end-start part-scalar-end-end scalar-end-requires
+    enum-known-e enum-known-x returns-5 returns-6)

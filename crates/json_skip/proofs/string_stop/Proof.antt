@@ -96,22 +96,5 @@ returns-3 c = record {
 pub string-stop-spec : {M : Type 1} → statement M
 string-stop-spec =
     tie.close
-    (tie.spec
-    Inv-loop
-    μ-loop
-    loop-holds
-    shared-slice-read-b
-    add-i
-    loop-less
-    loop-again
-    add-result
-    returns
-    sub-if4
-    returns-2
-    add-i-2
-    loop-less-2
-    loop-again-2
-    add-i-3
-    loop-less-3
-    loop-again-3
-    returns-3)
+    (tie.spec Inv-loop μ-loop loop-holds shared-slice-read-b add-i loop-less loop-again add-result returns sub-if4 returns-2 add-i-2 loop-less-2
+    loop-again-2 add-i-3 loop-less-3 loop-again-3 returns-3)

@@ -71,17 +71,5 @@ returns-7 c =
 pub escape-end-spec : {M : Type 1} → statement M
 escape-end-spec =
     tie.close
-    (tie.spec
-    look-requires
-    returns
-    add-escape-at
-    escape-at-requires
-    enum-told
-    enum-known-u
-    returns-2
-    returns-3
-    returns-4
-    low-end-requires
-    returns-5
-    returns-6
-    returns-7)
+    (tie.spec look-requires returns add-escape-at escape-at-requires enum-told enum-known-u returns-2 returns-3 returns-4 low-end-requires returns-5
+    returns-6 returns-7)

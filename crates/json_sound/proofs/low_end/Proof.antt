@@ -46,14 +46,4 @@ returns-5 c =
 pub low-end-spec : {M : Type 1} → statement M
 low-end-spec =
     tie.close
-    (tie.spec
-    look-requires
-    returns
-    add-escape-at
-    escape-at-requires
-    enum-told
-    enum-known-u
-    returns-2
-    returns-3
-    returns-4
-    returns-5)
+    (tie.spec look-requires returns add-escape-at escape-at-requires enum-told enum-known-u returns-2 returns-3 returns-4 returns-5)

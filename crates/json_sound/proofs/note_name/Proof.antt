@@ -197,28 +197,6 @@ returns-5 c =
 pub note-name-spec : {M : Type 1} → statement M
 note-name-spec =
     tie.close
-    (tie.spec
-    mark-requires
-    enum-known-b
-    enum-known-q
-    name-start-requires
-    name-rest-requires
-    enum-known-b-2
-    enum-known-v
-    print-rest-requires
-    returns
-    cast-p
-    is-noted-requires
-    same-length
-    same-length-2
-    returns-2
-    cast-places
-    mul-places
-    slice-write-places
-    mul-prints
-    slice-write-prints
-    returns-3
-    returns-4
-    same-length-3
-    same-length-4
-    returns-5)
+    (tie.spec mark-requires enum-known-b enum-known-q name-start-requires name-rest-requires enum-known-b-2 enum-known-v print-rest-requires returns
+    cast-p is-noted-requires same-length same-length-2 returns-2 cast-places mul-places slice-write-places mul-prints slice-write-prints returns-3
+    returns-4 same-length-3 same-length-4 returns-5)

@@ -48,11 +48,4 @@ returns-3 c =
 pub sound-twice-spec : {M : Type 1} → statement M
 sound-twice-spec =
     tie.close
-    (tie.spec
-    string-end-requires
-    enum-known-b
-    enum-known-e
-    is-paired-requires
-    returns
-    returns-2
-    returns-3)
+    (tie.spec string-end-requires enum-known-b enum-known-e is-paired-requires returns returns-2 returns-3)

@@ -57,16 +57,4 @@ returns c =
 pub copy-sixteen-spec : {M : Type 1} → statement M
 copy-sixteen-spec =
     tie.close
-    (tie.spec
-    Inv-loop
-    μ-loop
-    loop-holds
-    add-out
-    shared-slice-read-out
-    add-out-2
-    slice-write-out
-    add-k
-    loop-less
-    loop-again
-    same-length
-    returns)
+    (tie.spec Inv-loop μ-loop loop-holds add-out shared-slice-read-out add-out-2 slice-write-out add-k loop-less loop-again same-length returns)

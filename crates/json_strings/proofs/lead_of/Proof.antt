@@ -44,15 +44,4 @@ returns-4 c = rw (le-ltb _ _ (c .before .before .if1 .left), le-ltb _ _ (c .befo
 pub lead-of-spec : {M : Type 1} → statement M
 lead-of-spec =
     tie.close
-    (tie.spec
-    cast-result
-    returns
-    add-result
-    cast-result-2
-    returns-2
-    add-result-2
-    cast-result-3
-    returns-3
-    add-result-3
-    cast-result-4
-    returns-4)
+    (tie.spec cast-result returns add-result cast-result-2 returns-2 add-result-2 cast-result-3 returns-3 add-result-3 cast-result-4 returns-4)

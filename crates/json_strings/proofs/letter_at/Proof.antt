@@ -92,18 +92,5 @@ returns-6 c =
 pub letter-at-spec : {M : Type 1} → statement M
 letter-at-spec =
     tie.close
-    (tie.spec
-    unit-at-requires
-    enum-known-b
-    enum-known-e
-    enum-known-u
-    cast-t11
-    returns
-    within-requires
-    pair-at-requires
-    returns-2
-    within-requires-2
-    returns-3
-    returns-4
-    returns-5
-    returns-6)
+    (tie.spec unit-at-requires enum-known-b enum-known-e enum-known-u cast-t11 returns within-requires pair-at-requires returns-2 within-requires-2
+    returns-3 returns-4 returns-5 returns-6)

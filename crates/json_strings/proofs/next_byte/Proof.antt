@@ -77,17 +77,5 @@ returns-5 c =
 pub next-byte-spec : {M : Type 1} → statement M
 next-byte-spec =
     tie.close
-    (tie.spec
-    cast-t10
-    returns
-    letter-at-requires
-    enum-told
-    enum-told-2
-    enum-known-b
-    enum-known-v
-    lead-of-requires
-    rest-of-requires
-    returns-2
-    returns-3
-    returns-4
-    returns-5)
+    (tie.spec cast-t10 returns letter-at-requires enum-told enum-told-2 enum-known-b enum-known-v lead-of-requires rest-of-requires returns-2
+    returns-3 returns-4 returns-5)

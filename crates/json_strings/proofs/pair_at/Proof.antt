@@ -95,19 +95,5 @@ returns-5 c =
 pub pair-at-spec : {M : Type 1} → statement M
 pair-at-spec =
     tie.close
-    (tie.spec
-    unit-at-requires
-    enum-known-b
-    enum-known-e
-    enum-known-u
-    returns
-    within-requires
-    sub-t13
-    mul-t14
-    add-t15
-    sub-t16
-    add-t17
-    returns-2
-    returns-3
-    returns-4
-    returns-5)
+    (tie.spec unit-at-requires enum-known-b enum-known-e enum-known-u returns within-requires sub-t13 mul-t14 add-t15 sub-t16 add-t17 returns-2
+    returns-3 returns-4 returns-5)

@@ -59,20 +59,5 @@ returns-4 c = rw (le-ltb _ _ (c .before .before .if1 .left), le-ltb _ _ (c .befo
 pub rest-of-spec : {M : Type 1} → statement M
 rest-of-spec =
     tie.close
-    (tie.spec
-    returns
-    add-result
-    returns-2
-    add-result-2
-    add-result-3
-    mul-result
-    add-result-4
-    returns-3
-    add-result-5
-    add-result-6
-    add-result-7
-    mul-result-2
-    add-result-8
-    mul-result-3
-    add-result-9
-    returns-4)
+    (tie.spec returns add-result returns-2 add-result-2 add-result-3 mul-result add-result-4 returns-3 add-result-5 add-result-6 add-result-7
+    mul-result-2 add-result-8 mul-result-3 add-result-9 returns-4)

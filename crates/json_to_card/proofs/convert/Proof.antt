@@ -129,37 +129,7 @@ returns-5 c =
 pub convert-spec : {M : Type 1} → statement M
 convert-spec =
     tie.close
-    (tie.spec
-    put-card-requires
-    enum-known-n
-    enum-told
-    same-length
-    same-length-2
-    same-length-3
-    same-length-4
-    same-length-5
-    returns
-    same-length-6
-    same-length-7
-    same-length-8
-    same-length-9
-    same-length-10
-    returns-2
-    same-length-11
-    same-length-12
-    same-length-13
-    same-length-14
-    same-length-15
-    returns-3
-    same-length-16
-    same-length-17
-    same-length-18
-    same-length-19
-    same-length-20
-    returns-4
-    same-length-21
-    same-length-22
-    same-length-23
-    same-length-24
-    same-length-25
-    returns-5)
+    (tie.spec put-card-requires enum-known-n enum-told same-length same-length-2 same-length-3 same-length-4 same-length-5 returns same-length-6
+    same-length-7 same-length-8 same-length-9 same-length-10 returns-2 same-length-11 same-length-12 same-length-13 same-length-14 same-length-15
+    returns-3 same-length-16 same-length-17 same-length-18 same-length-19 same-length-20 returns-4 same-length-21 same-length-22 same-length-23
+    same-length-24 same-length-25 returns-5)

@@ -83,23 +83,6 @@ returns-3 c =
 pub convert-long-spec : {M : Type 1} → statement M
 convert-long-spec =
     tie.close
-    (tie.spec
-    slice-aggregate-convert
-    slice-aggregate-convert-2
-    sub-convert
-    part-b-start
-    part-b-end
-    slice-aggregate-convert-3
-    slice-aggregate-convert-4
-    convert-requires
-    enum-known-k
-    returns
-    enum-told
-    returns-2
-    enum-known-k-2
-    sub-put-served
-    part-put-served-start
-    part-put-served-end
-    put-served-requires
-    same-length
-    returns-3)
+    (tie.spec slice-aggregate-convert slice-aggregate-convert-2 sub-convert part-b-start part-b-end slice-aggregate-convert-3
+    slice-aggregate-convert-4 convert-requires enum-known-k returns enum-told returns-2 enum-known-k-2 sub-put-served part-put-served-start
+    part-put-served-end put-served-requires same-length returns-3)

@@ -1,4 +1,3 @@
-use native.Mathlib.Omega.{arith}
 use denote.Ref.{now}
 use Rattle.json_to_card.proofs.Inner.{too-long}
 use Rattle.json_to_card.proofs.Serving.{served-no, seen}
@@ -47,14 +46,4 @@ returns-4 c =
 pub json-to-card-spec : {M : Type 1} → statement M
 json-to-card-spec =
     tie.close
-    (tie.spec
-    tiny-requires
-    same-length
-    returns
-    small-requires
-    same-length-2
-    returns-2
-    returns-3
-    large-requires
-    same-length-3
-    returns-4)
+    (tie.spec tiny-requires same-length returns small-requires same-length-2 returns-2 returns-3 large-requires same-length-3 returns-4)

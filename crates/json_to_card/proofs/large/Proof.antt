@@ -1,10 +1,10 @@
 use native.Mathlib.Omega.{arith}
 use denote.Ref.{now}
-use mathlib.Core.Path.{refl, ap, sym, subst}
+use mathlib.Core.Path.{refl, ap, subst}
 use Rattle.json_open.specs.Opened.{asVerdict, Opens}
 use Rattle.to_card_card.specs.Whole.{cardNames}
 use Rattle.to_card_card.proofs.Names.{clear-fourteen}
-use Rattle.json_to_card.proofs.Serving.{read-large, read-not-json, read-not-object, read-short, read-sound, read-object, served-no, served-as}
+use Rattle.json_to_card.proofs.Serving.{read-large, read-not-json, read-not-object, read-sound, read-object, served-no, served-as}
 use borrow.Author.Needs.{needs}
 use Rattle.json_to_card.proofs.large.Statement.{statement}
 use Rattle.json_to_card.proofs.large.Tie as tie
@@ -91,19 +91,5 @@ returns-4 c =
 pub large-spec : {M : Type 1} → statement M
 large-spec =
     tie.close
-    (tie.spec
-    slice-aggregate-read-members
-    slice-aggregate-read-members-2
-    slice-aggregate-read-members-3
-    read-members-requires
-    enum-told
-    returns
-    enum-known-p
-    returns-2
-    enum-told-2
-    returns-3
-    enum-told-3
-    slice-aggregate-convert-long
-    convert-long-requires
-    same-length
-    returns-4)
+    (tie.spec slice-aggregate-read-members slice-aggregate-read-members-2 slice-aggregate-read-members-3 read-members-requires enum-told returns
+    enum-known-p returns-2 enum-told-2 returns-3 enum-told-3 slice-aggregate-convert-long convert-long-requires same-length returns-4)

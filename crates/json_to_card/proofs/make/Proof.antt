@@ -1,4 +1,3 @@
-use native.Mathlib.Omega.{arith}
 use denote.Ref.{now}
 use mathlib.Core.Path.{refl, ap, sym, subst}
 use Rattle.json_open.specs.Opened.{asVerdict, Opens}
@@ -123,29 +122,6 @@ returns-4 c =
 pub make-spec : {M : Type 1} → statement M
 make-spec =
     tie.close
-    (tie.spec
-    slice-aggregate-read-members
-    read-members-requires
-    enum-told
-    same-length
-    same-length-2
-    returns
-    enum-known-p
-    same-length-3
-    same-length-4
-    returns-2
-    enum-told-2
-    same-length-5
-    same-length-6
-    returns-3
-    enum-told-3
-    slice-aggregate-convert
-    convert-requires
-    same-length-7
-    same-length-8
-    same-length-9
-    same-length-10
-    same-length-11
-    same-length-12
-    same-length-13
-    returns-4)
+    (tie.spec slice-aggregate-read-members read-members-requires enum-told same-length same-length-2 returns enum-known-p same-length-3 same-length-4
+    returns-2 enum-told-2 same-length-5 same-length-6 returns-3 enum-told-3 slice-aggregate-convert convert-requires same-length-7 same-length-8
+    same-length-9 same-length-10 same-length-11 same-length-12 same-length-13 returns-4)

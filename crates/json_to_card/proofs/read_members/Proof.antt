@@ -1,5 +1,4 @@
 use native.Mathlib.Omega.{arith}
-use denote.Ref.{now}
 use Rattle.to_card_card.proofs.Names.{reserved-names}
 use borrow.Author.Needs.{needs}
 use Rattle.json_to_card.proofs.read_members.Statement.{statement}
@@ -28,10 +27,4 @@ returns c = search needs
 pub read-members-spec : {M : Type 1} → statement M
 read-members-spec =
     tie.close
-    (tie.spec
-    slice-aggregate-read-indexed
-    read-indexed-requires
-    same-length
-    same-length-2
-    same-length-3
-    returns)
+    (tie.spec slice-aggregate-read-indexed read-indexed-requires same-length same-length-2 same-length-3 returns)

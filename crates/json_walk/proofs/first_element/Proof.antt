@@ -6,7 +6,6 @@ use Rattle.json_walk.proofs.Steps.{element-first, element-none, no-arra
 use borrow.Author.Needs.{needs}
 use Rattle.json_walk.proofs.first_element.Statement.{statement}
 use Rattle.json_walk.proofs.first_element.Tie as tie
-use Rattle.text.proofs.look.Reads as look-reads
 
 returns : tie.Need-returns
 returns c = (tt, no-array (now (c .before .before .args .s)) (c .before .before .args .at) (none-past (now (c .before .before .args .s)) (c .before .before .args .at) (c .if1 .taken) 91 (λ z. omega arith)))
@@ -56,14 +55,4 @@ returns-4 c =
 pub first-element-spec : {M : Type 1} → statement M
 first-element-spec =
     tie.close
-    (tie.spec
-    returns
-    skip-space-requires
-    look-requires
-    returns-2
-    add-skip-space
-    skip-space-requires-2
-    look-requires-2
-    add-t8
-    returns-3
-    returns-4)
+    (tie.spec returns skip-space-requires look-requires returns-2 add-skip-space skip-space-requires-2 look-requires-2 add-t8 returns-3 returns-4)

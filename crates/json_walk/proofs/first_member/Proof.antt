@@ -9,7 +9,6 @@ use Rattle.json_walk.proofs.Steps.{first-told}
 use borrow.Author.Needs.{needs}
 use Rattle.json_walk.proofs.first_member.Statement.{statement}
 use Rattle.json_walk.proofs.first_member.Tie as tie
-use Rattle.text.proofs.look.Reads as look-reads
 
 returns : tie.Need-returns
 returns c =
@@ -67,15 +66,5 @@ returns-4 c =
 pub first-member-spec : {M : Type 1} → statement M
 first-member-spec =
     tie.close
-    (tie.spec
-    returns
-    skip-space-requires
-    look-requires
-    returns-2
-    add-skip-space
-    skip-space-requires-2
-    look-requires-2
-    add-t11
-    returns-3
-    head-at-requires
-    returns-4)
+    (tie.spec returns skip-space-requires look-requires returns-2 add-skip-space skip-space-requires-2 look-requires-2 add-t11 returns-3
+    head-at-requires returns-4)

@@ -46,12 +46,4 @@ returns-3 c =
 pub next-element-spec : {M : Type 1} → statement M
 next-element-spec =
     tie.close
-    (tie.spec
-    returns
-    separator-requires
-    enum-known-j
-    skip-space-requires
-    enum-known-r
-    place-requires
-    returns-2
-    returns-3)
+    (tie.spec returns separator-requires enum-known-j skip-space-requires enum-known-r place-requires returns-2 returns-3)

@@ -51,12 +51,4 @@ returns-3 c =
 pub next-member-spec : {M : Type 1} → statement M
 next-member-spec =
     tie.close
-    (tie.spec
-    returns
-    separator-requires
-    enum-known-j
-    head-at-requires
-    enum-known-r
-    place-requires
-    returns-2
-    returns-3)
+    (tie.spec returns separator-requires enum-known-j head-at-requires enum-known-r place-requires returns-2 returns-3)

@@ -42,11 +42,4 @@ returns-4 c =
 pub put-run-spec : {M : Type 1} → statement M
 put-run-spec =
     tie.close
-    (tie.spec
-    returns
-    returns-2
-    shared-slice-read-if3
-    returns-3
-    put-bare-requires
-    same-length
-    returns-4)
+    (tie.spec returns returns-2 shared-slice-read-if3 returns-3 put-bare-requires same-length returns-4)

@@ -166,33 +166,7 @@ returns-7 c =
 pub four-at-spec : {M : Type 1} → statement M
 four-at-spec =
     tie.close
-    (tie.spec
-    skip-space-requires
-    look-requires
-    returns
-    add-skip-space
-    skip-space-requires-2
-    look-requires-2
-    returns-2
-    element-at-requires
-    separator-requires
-    enum-known-j2
-    enum-told
-    returns-3
-    element-at-requires-2
-    separator-requires-2
-    enum-known-j3
-    enum-told-2
-    returns-4
-    element-at-requires-3
-    separator-requires-3
-    enum-known-j4
-    enum-told-3
-    returns-5
-    element-at-requires-4
-    separator-requires-4
-    enum-known-r
-    enum-told-4
-    returns-6
-    place-requires
-    returns-7)
+    (tie.spec skip-space-requires look-requires returns add-skip-space skip-space-requires-2 look-requires-2 returns-2 element-at-requires
+    separator-requires enum-known-j2 enum-told returns-3 element-at-requires-2 separator-requires-2 enum-known-j3 enum-told-2 returns-4
+    element-at-requires-3 separator-requires-3 enum-known-j4 enum-told-3 returns-5 element-at-requires-4 separator-requires-4 enum-known-r enum-told-4
+    returns-6 place-requires returns-7)

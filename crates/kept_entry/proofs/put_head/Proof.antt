@@ -5,42 +5,31 @@ use Rattle.kept_entry.specs.Entry.{headedAt}
 use borrow.Author.Needs.{needs}
 use Rattle.kept_entry.proofs.put_head.Statement.{statement}
 use Rattle.kept_entry.proofs.put_head.Tie as tie
-use Rattle.kept_entry.proofs.put_head.Reads as reads
-use Rattle.kept_entry.proofs.put_head.Lts as lts
 
--- src/lib.rt:187:5
 slice-write-t : tie.Need-slice-write-t
 slice-write-t c = search needs
 
--- src/lib.rt:188:5
 slice-write-t-2 : tie.Need-slice-write-t-2
 slice-write-t-2 c = simp length-set (omega (arith, c .pre))
 
--- src/lib.rt:189:5
 slice-write-t-3 : tie.Need-slice-write-t-3
 slice-write-t-3 c = simp length-set (omega (arith, c .pre))
 
--- src/lib.rt:190:5
 slice-write-t-4 : tie.Need-slice-write-t-4
 slice-write-t-4 c = simp length-set (omega (arith, c .pre))
 
--- src/lib.rt:191:5
 slice-write-t-5 : tie.Need-slice-write-t-5
 slice-write-t-5 c = simp length-set (omega (arith, c .pre))
 
--- src/lib.rt:192:5
 slice-write-t-6 : tie.Need-slice-write-t-6
 slice-write-t-6 c = simp length-set (omega (arith, c .pre))
 
--- src/lib.rt:193:5
 slice-write-t-7 : tie.Need-slice-write-t-7
 slice-write-t-7 c = simp length-set (omega (arith, c .pre))
 
--- src/lib.rt:175:1
 same-length : tie.Need-same-length
 same-length c = search needs
 
--- src/lib.rt:175:1
 returns : tie.Need-returns
 unfolding headedAt
 returns c = refl
@@ -48,13 +37,4 @@ returns c = refl
 pub put-head-spec : {M : Type 1} → statement M
 put-head-spec =
     tie.close
-    (tie.spec
-    slice-write-t
-    slice-write-t-2
-    slice-write-t-3
-    slice-write-t-4
-    slice-write-t-5
-    slice-write-t-6
-    slice-write-t-7
-    same-length
-    returns)
+    (tie.spec slice-write-t slice-write-t-2 slice-write-t-3 slice-write-t-4 slice-write-t-5 slice-write-t-6 slice-write-t-7 same-length returns)

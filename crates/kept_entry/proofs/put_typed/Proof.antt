@@ -1,59 +1,39 @@
 use denote.Ref.{now}
 use native.Mathlib.Omega.{arith}
-use mathlib.Core.Path.{_≡_, refl, sym, ap, _∙_}
+use mathlib.Core.Path.{refl, sym, _∙_}
 use borrow.Author.Tests.{not-true, not-false}
 use Rattle.text.specs.Bytes.{ascii}
-use Rattle.text.proofs.Places.{turn-as}
-use Rattle.json_strings.specs.Decoded.{textAt}
-use Rattle.kept_strings.proofs.Putting.{puts-long, part-same, grew, no-room}
+use Rattle.kept_strings.proofs.Putting.{part-same, grew, no-room}
 use Rattle.kept_strings.proofs.Values.{rows-in}
-use Rattle.kept_entry.specs.declared.Four.the-variants.{At, Bad}
-use Rattle.kept_entry.proofs.Words.{word-full, word-in, word-other, word-is, name-none, name-never, name-word}
-use Rattle.kept_entry.proofs.Fours.{four-other, four-empty, by-elems, four-1, four-2, four-3, four-more, four-here}
-use Rattle.kept_entry.proofs.Types.{typed-full, typed-rows, typed-wrong, typed-other, typed-all, type-none, unknown-many, unknown-fits, value-many, value-typed}
-use lib.ListN.{length}
+use Rattle.kept_entry.proofs.Types.{typed-full, typed-rows, typed-wrong, typed-other, typed-all}
 use borrow.Author.Needs.{needs}
 use Rattle.kept_entry.proofs.put_typed.Statement.{statement}
 use Rattle.kept_entry.proofs.put_typed.Tie as tie
-use Rattle.kept_entry.proofs.put_typed.Reads as reads
-use Rattle.kept_entry.proofs.put_typed.Lts as lts
-use Rattle.kept_strings.proofs.is_word.Reads as is-word-reads
-use Rattle.kept_strings.proofs.put_value.Reads as put-value-reads
-use Rattle.output.proofs.put_text.Reads as put-text-reads
 
--- src/lib.rt:127:36
 sub-put-text : tie.Need-sub-put-text
 sub-put-text c = search needs
 
--- src/lib.rt:127:36
 part-put-text-start : tie.Need-part-put-text-start
 part-put-text-start c = search needs
 
--- src/lib.rt:127:36
 part-put-text-end : tie.Need-part-put-text-end
 part-put-text-end c = search needs
 
--- src/lib.rt:127:49
 slice-aggregate-put-text : tie.Need-slice-aggregate-put-text
 slice-aggregate-put-text c = search needs
 
--- src/lib.rt:127:27
 put-text-requires : tie.Need-put-text-requires
 put-text-requires c κs = search needs
 
--- src/lib.rt:127:22
 enum-known-k : tie.Need-enum-known-k
 enum-known-k c = search needs
 
--- src/lib.rt:128:9
 enum-told : tie.Need-enum-told
 enum-told c = search needs
 
--- src/lib.rt:128:9
 same-length : tie.Need-same-length
 same-length c = search needs
 
--- src/lib.rt:128:9
 returns : tie.Need-returns
 returns c =
     let args = c .before .before .before .before .before .before .before .before .before .before .args in
@@ -64,7 +44,6 @@ returns c =
       (tt, typed-full (now (args .b)) (args .n) (now (args .t)) (args .m) (now (args .s)) (args .at) (z .1) _ _),
     )
 
--- src/lib.rt:130:13
 add-a : tie.Need-add-a
 add-a c =
     let good = c .before .before .before .before .before .before .before .before .before .before .before .good in
@@ -76,7 +55,6 @@ add-a c =
           in omega (arith, g .within, good .0 .0);
     }
 
--- src/lib.rt:131:37
 put-value-requires : tie.Need-put-value-requires
 put-value-requires c κs =
     let args = c .before .before .before .before .before .before .before .before .before .before .before .before .before .args in
@@ -86,23 +64,18 @@ put-value-requires c κs =
     let g = grew (now (args .b)) (args .n) (pre .0) (ascii "value") _ (put-text .result) (put-text .ensures) (k .given .1) in
     (omega (arith, g .within, g .long), pre .1)
 
--- src/lib.rt:131:22
 enum-known-end : tie.Need-enum-known-end
 enum-known-end c = search needs
 
--- src/lib.rt:132:9
 enum-told-2 : tie.Need-enum-told-2
 enum-told-2 c = search needs
 
--- src/lib.rt:132:9
 same-length-2 : tie.Need-same-length-2
 same-length-2 c = search needs
 
--- src/lib.rt:132:9
 same-length-3 : tie.Need-same-length-3
 same-length-3 c = search needs
 
--- src/lib.rt:132:9
 returns-2 : tie.Need-returns-2
 returns-2 c =
     let args = c .before .before .before .before .before .before .before .before .before .before .before .before .before .before .before .before .before .before .before .before .args in
@@ -119,31 +92,24 @@ returns-2 c =
       ),
     )
 
--- src/lib.rt:134:17
 sub-is-word : tie.Need-sub-is-word
 sub-is-word c = let g = rows-in (c .before .before .before .before .before .before .before .put-value .ensures .1 .0) (c .before .end .given .1) in omega (arith, g .0, g .1, c .before .before .before .before .before .before .before .put-value .ensures .0 .long)
 
--- src/lib.rt:134:17
 part-is-word-start : tie.Need-part-is-word-start
 part-is-word-start c = let g = rows-in (c .before .before .before .before .before .before .before .before .put-value .ensures .1 .0) (c .before .before .end .given .1) in omega (arith, g .0, g .1, c .before .before .before .before .before .before .before .before .put-value .ensures .0 .long)
 
--- src/lib.rt:134:17
 part-is-word-end : tie.Need-part-is-word-end
 part-is-word-end c = let g = rows-in (c .before .before .before .before .before .before .before .before .put-value .ensures .1 .0) (c .before .before .end .given .1) in omega (arith, g .0, g .1, c .before .before .before .before .before .before .before .before .put-value .ensures .0 .long)
 
--- src/lib.rt:134:9
 is-word-requires : tie.Need-is-word-requires
 is-word-requires c κs = search needs
 
--- src/lib.rt:135:9
 same-length-4 : tie.Need-same-length-4
 same-length-4 c = search needs
 
--- src/lib.rt:135:9
 same-length-5 : tie.Need-same-length-5
 same-length-5 c = search needs
 
--- src/lib.rt:135:9
 returns-3 : tie.Need-returns-3
 returns-3 c =
     let args = c .before .before .before .before .before .before .before .before .before .before .before .before .before .before .before .before .before .before .before .before .before .before .before .before .before .args in
@@ -161,15 +127,12 @@ returns-3 c =
       ),
     )
 
--- src/lib.rt:113:1
 same-length-6 : tie.Need-same-length-6
 same-length-6 c = search needs
 
--- src/lib.rt:113:1
 same-length-7 : tie.Need-same-length-7
 same-length-7 c = search needs
 
--- src/lib.rt:113:1
 returns-4 : tie.Need-returns-4
 returns-4 c =
     let args = c .before .before .before .before .before .before .before .before .before .before .before .before .before .before .before .before .before .before .before .before .before .before .before .before .before .args in
@@ -191,30 +154,6 @@ returns-4 c =
 pub put-typed-spec : {M : Type 1} → statement M
 put-typed-spec =
     tie.close
-    (tie.spec
-    sub-put-text
-    part-put-text-start
-    part-put-text-end
-    slice-aggregate-put-text
-    put-text-requires
-    enum-known-k
-    enum-told
-    same-length
-    returns
-    add-a
-    put-value-requires
-    enum-known-end
-    enum-told-2
-    same-length-2
-    same-length-3
-    returns-2
-    sub-is-word
-    part-is-word-start
-    part-is-word-end
-    is-word-requires
-    same-length-4
-    same-length-5
-    returns-3
-    same-length-6
-    same-length-7
-    returns-4)
+    (tie.spec sub-put-text part-put-text-start part-put-text-end slice-aggregate-put-text put-text-requires enum-known-k enum-told same-length returns
+    add-a put-value-requires enum-known-end enum-told-2 same-length-2 same-length-3 returns-2 sub-is-word part-is-word-start part-is-word-end
+    is-word-requires same-length-4 same-length-5 returns-3 same-length-6 same-length-7 returns-4)

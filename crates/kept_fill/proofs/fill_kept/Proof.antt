@@ -1,6 +1,6 @@
 use denote.Ref.{now}
 use native.Mathlib.Omega.{arith}
-use mathlib.Core.Path.{_≡_, refl, _∙_}
+use mathlib.Core.Path.{refl, _∙_}
 use Rattle.text.proofs.Cases.{not-true, not-false}
 use Rattle.kept_table.proofs.Params.{to-in}
 use Rattle.kept_table.proofs.Members.{step-in}
@@ -132,26 +132,6 @@ returns-5 c =
 pub fill-kept-spec : {M : Type 1} → statement M
 fill-kept-spec =
     tie.close
-    (tie.spec
-    four-at-requires
-    enum-known-name
-    enum-told
-    returns
-    put-name-requires
-    enum-known-e
-    enum-told-2
-    same-length
-    returns-2
-    put-object-requires
-    enum-known-f
-    enum-told-3
-    same-length-2
-    same-length-3
-    returns-3
-    put-rest-requires
-    same-length-4
-    same-length-5
-    returns-4
-    same-length-6
-    same-length-7
+    (tie.spec four-at-requires enum-known-name enum-told returns put-name-requires enum-known-e enum-told-2 same-length returns-2 put-object-requires
+    enum-known-f enum-told-3 same-length-2 same-length-3 returns-3 put-rest-requires same-length-4 same-length-5 returns-4 same-length-6 same-length-7
     returns-5)

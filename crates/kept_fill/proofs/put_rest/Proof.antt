@@ -1,6 +1,6 @@
 use denote.Ref.{now}
 use native.Mathlib.Omega.{arith}
-use mathlib.Core.Path.{_≡_, ap, _∙_}
+use mathlib.Core.Path.{ap, _∙_}
 use lib.ListN.{length}
 use Rattle.kept_strings.proofs.Values.{rows-in}
 use Rattle.kept_entry.proofs.Final.{headed-length}
@@ -83,20 +83,5 @@ returns-3 c =
 pub put-rest-spec : {M : Type 1} → statement M
 put-rest-spec =
     tie.close
-    (tie.spec
-    put-type-requires
-    enum-known-end
-    enum-told
-    same-length
-    same-length-2
-    returns
-    put-string-requires
-    enum-known-x
-    enum-told-2
-    same-length-3
-    same-length-4
-    returns-2
-    put-head-requires
-    same-length-5
-    same-length-6
-    returns-3)
+    (tie.spec put-type-requires enum-known-end enum-told same-length same-length-2 returns put-string-requires enum-known-x enum-told-2 same-length-3
+    same-length-4 returns-2 put-head-requires same-length-5 same-length-6 returns-3)

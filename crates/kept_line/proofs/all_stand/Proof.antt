@@ -6,9 +6,6 @@ use lib.ListN.{length}
 use Rattle.kept_line.proofs.Bytes.{StandSofar, stand-first, stand-on, stand-all}
 use Rattle.kept_line.proofs.all_stand.Statement.{statement}
 use Rattle.kept_line.proofs.all_stand.Tie as tie
-use Rattle.kept_line.proofs.all_stand.Reads as reads
-use Rattle.kept_line.proofs.all_stand.Lts as lts
-use Rattle.card_pen.proofs.can_stand.Reads as can-stand-reads
 
 abbrev Inv-loop : tie.InvT-loop
 Inv-loop style s ok₀ i₀ ok i = (i ≤ length s) × StandSofar style s ok i
@@ -40,13 +37,4 @@ returns c = stand-all (c .before .before .before .args .style) (now (c .before .
 pub all-stand-spec : {M : Type 1} → statement M
 all-stand-spec =
     tie.close
-    (tie.spec
-    Inv-loop
-    μ-loop
-    loop-holds
-    shared-slice-read-can-stand
-    can-stand-requires
-    add-i
-    loop-less
-    loop-again
-    returns)
+    (tie.spec Inv-loop μ-loop loop-holds shared-slice-read-can-stand can-stand-requires add-i loop-less loop-again returns)

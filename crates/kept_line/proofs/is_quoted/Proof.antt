@@ -9,69 +9,52 @@ use Rattle.kept_line.specs.Line.{isPointer}
 use borrow.Author.Needs.{needs}
 use Rattle.kept_line.proofs.is_quoted.Statement.{statement}
 use Rattle.kept_line.proofs.is_quoted.Tie as tie
-use Rattle.kept_line.proofs.is_quoted.Reads as reads
-use Rattle.kept_line.proofs.is_quoted.Lts as lts
-use Rattle.line_name.proofs.is_named.Reads as is-named-reads
 
--- src/lib.rt:141:9
 returns : tie.Need-returns
 returns c = search needs
 
--- src/lib.rt:143:13
 mul-k : tie.Need-mul-k
 mul-k c = search needs
 
--- src/lib.rt:143:13
 add-k : tie.Need-add-k
 add-k c = search needs
 
--- src/lib.rt:144:13
 mul-a : tie.Need-mul-a
 mul-a c = search needs
 
--- src/lib.rt:144:13
 shared-slice-read-a : tie.Need-shared-slice-read-a
 shared-slice-read-a c = search needs
 
--- src/lib.rt:145:15
 add-e : tie.Need-add-e
 add-e c = search needs
 
--- src/lib.rt:145:13
 mul-e : tie.Need-mul-e
 mul-e c = search needs
 
--- src/lib.rt:145:13
 shared-slice-read-e : tie.Need-shared-slice-read-e
 shared-slice-read-e c = search needs
 
--- src/lib.rt:146:14
 sub-is-named : tie.Need-sub-is-named
 sub-is-named c =
     let h = c .before .before .before .before .before .pre in
     let v = h .0 .rows .name (c .before .before .before .before .before .args .i) (h .1) in omega (arith, v .ordered, v .within)
 
--- src/lib.rt:146:14
 part-is-named-start : tie.Need-part-is-named-start
 part-is-named-start c =
     let h = c .before .before .before .before .before .pre in
     let v = h .0 .rows .name (c .before .before .before .before .before .args .i) (h .1) in omega (arith, v .ordered, v .within)
 
--- src/lib.rt:146:14
 part-is-named-end : tie.Need-part-is-named-end
 part-is-named-end c =
     let h = c .before .before .before .before .before .pre in
     let v = h .0 .rows .name (c .before .before .before .before .before .args .i) (h .1) in omega (arith, v .ordered, v .within)
 
--- src/lib.rt:146:24
 slice-aggregate-is-named : tie.Need-slice-aggregate-is-named
 slice-aggregate-is-named c = search needs
 
--- src/lib.rt:146:5
 is-named-requires : tie.Need-is-named-requires
 is-named-requires c κs = search needs
 
--- src/lib.rt:136:1
 returns-2 : tie.Need-returns-2
 returns-2 c =
     let a = c .before .before .before .before .before .before .before .before .args in
@@ -81,18 +64,5 @@ returns-2 c =
 pub is-quoted-spec : {M : Type 1} → statement M
 is-quoted-spec =
     tie.close
-    (tie.spec
-    returns
-    mul-k
-    add-k
-    mul-a
-    shared-slice-read-a
-    add-e
-    mul-e
-    shared-slice-read-e
-    sub-is-named
-    part-is-named-start
-    part-is-named-end
-    slice-aggregate-is-named
-    is-named-requires
-    returns-2)
+    (tie.spec returns mul-k add-k mul-a shared-slice-read-a add-e mul-e shared-slice-read-e sub-is-named part-is-named-start part-is-named-end
+    slice-aggregate-is-named is-named-requires returns-2)

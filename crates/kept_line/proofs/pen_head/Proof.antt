@@ -5,75 +5,54 @@ use Rattle.kept_line.proofs.Lines.{group-none, group-some}
 use borrow.Author.Needs.{needs}
 use Rattle.kept_line.proofs.pen_head.Statement.{statement}
 use Rattle.kept_line.proofs.pen_head.Tie as tie
-use Rattle.kept_line.proofs.pen_head.Reads as reads
-use Rattle.kept_line.proofs.pen_head.Lts as lts
-use Rattle.kept_line.proofs.pen_upper.Reads as pen-upper-reads
-use Rattle.line_pen.proofs.pen_byte.Reads as pen-byte-reads
-use Rattle.line_pen.proofs.pen_bytes.Reads as pen-bytes-reads
 
--- src/lib.rt:212:9
 pen-upper-requires : tie.Need-pen-upper-requires
 pen-upper-requires c κs = search needs
 
--- src/lib.rt:212:9
 same-length : tie.Need-same-length
 same-length c = search needs
 
--- src/lib.rt:212:9
 returns : tie.Need-returns
 returns c =
     let a = c .before .before .before .before .before .before .before .before .args in
     pens-as (group-none (now (a .group)) (uppered (now (a .name))) (c .before .before .before .before .if1 .taken)) (c .before .before .pen-upper .ensures)
 
--- src/lib.rt:214:9
 pen-bytes-requires : tie.Need-pen-bytes-requires
 pen-bytes-requires c κs = search needs
 
--- src/lib.rt:216:22
 sub-pen-byte : tie.Need-sub-pen-byte
 sub-pen-byte c = search needs
 
--- src/lib.rt:216:22
 part-pen-byte-start : tie.Need-part-pen-byte-start
 part-pen-byte-start c = search needs
 
--- src/lib.rt:216:22
 part-pen-byte-end : tie.Need-part-pen-byte-end
 part-pen-byte-end c = search needs
 
--- src/lib.rt:216:9
 pen-byte-requires : tie.Need-pen-byte-requires
 pen-byte-requires c κs = search needs
 
--- src/lib.rt:217:14
 add-n2 : tie.Need-add-n2
 add-n2 c = search needs
 
--- src/lib.rt:218:23
 sub-pen-upper : tie.Need-sub-pen-upper
 sub-pen-upper c = search needs
 
--- src/lib.rt:218:23
 part-pen-upper-start : tie.Need-part-pen-upper-start
 part-pen-upper-start c = search needs
 
--- src/lib.rt:218:23
 part-pen-upper-end : tie.Need-part-pen-upper-end
 part-pen-upper-end c = search needs
 
--- src/lib.rt:218:9
 pen-upper-requires-2 : tie.Need-pen-upper-requires-2
 pen-upper-requires-2 c κs = search needs
 
--- src/lib.rt:219:14
 add-n3 : tie.Need-add-n3
 add-n3 c = search needs
 
--- src/lib.rt:208:1
 same-length-2 : tie.Need-same-length-2
 same-length-2 c = search needs
 
--- src/lib.rt:208:1
 returns-2 : tie.Need-returns-2
 returns-2 c =
     let a = c .before .before .before .before .before .before .before .before .before .before .before .before .before .before .before .before .before .before .args in
@@ -86,20 +65,5 @@ returns-2 c =
 pub pen-head-spec : {M : Type 1} → statement M
 pen-head-spec =
     tie.close
-    (tie.spec
-    pen-upper-requires
-    same-length
-    returns
-    pen-bytes-requires
-    sub-pen-byte
-    part-pen-byte-start
-    part-pen-byte-end
-    pen-byte-requires
-    add-n2
-    sub-pen-upper
-    part-pen-upper-start
-    part-pen-upper-end
-    pen-upper-requires-2
-    add-n3
-    same-length-2
-    returns-2)
+    (tie.spec pen-upper-requires same-length returns pen-bytes-requires sub-pen-byte part-pen-byte-start part-pen-byte-end pen-byte-requires add-n2
+    sub-pen-upper part-pen-upper-start part-pen-upper-end pen-upper-requires-2 add-n3 same-length-2 returns-2)

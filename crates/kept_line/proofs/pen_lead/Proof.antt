@@ -4,74 +4,54 @@ use Rattle.kept_line.proofs.Lines.{lead-more, lead-new}
 use borrow.Author.Needs.{needs}
 use Rattle.kept_line.proofs.pen_lead.Statement.{statement}
 use Rattle.kept_line.proofs.pen_lead.Tie as tie
-use Rattle.kept_line.proofs.pen_lead.Reads as reads
-use Rattle.kept_line.proofs.pen_lead.Lts as lts
-use Rattle.kept_line.proofs.pen_upper.Reads as pen-upper-reads
-use Rattle.line_pen.proofs.pen_byte.Reads as pen-byte-reads
 
--- src/lib.rt:107:9
 pen-byte-requires : tie.Need-pen-byte-requires
 pen-byte-requires c κs = search needs
 
--- src/lib.rt:107:9
 same-length : tie.Need-same-length
 same-length c = search needs
 
--- src/lib.rt:107:9
 returns : tie.Need-returns
 returns c =
     let a = c .before .before .before .before .before .before .before .args in
     pens-as (lead-more (a .more) (now (a .name)) (c .before .before .before .before .if1 .taken)) (c .before .before .pen-byte .ensures)
 
--- src/lib.rt:109:9
 pen-byte-requires-2 : tie.Need-pen-byte-requires-2
 pen-byte-requires-2 c κs = search needs
 
--- src/lib.rt:111:23
 sub-pen-upper : tie.Need-sub-pen-upper
 sub-pen-upper c = search needs
 
--- src/lib.rt:111:23
 part-pen-upper-start : tie.Need-part-pen-upper-start
 part-pen-upper-start c = search needs
 
--- src/lib.rt:111:23
 part-pen-upper-end : tie.Need-part-pen-upper-end
 part-pen-upper-end c = search needs
 
--- src/lib.rt:111:9
 pen-upper-requires : tie.Need-pen-upper-requires
 pen-upper-requires c κs = search needs
 
--- src/lib.rt:112:14
 add-n2 : tie.Need-add-n2
 add-n2 c = search needs
 
--- src/lib.rt:113:22
 sub-pen-byte : tie.Need-sub-pen-byte
 sub-pen-byte c = search needs
 
--- src/lib.rt:113:22
 part-pen-byte-start : tie.Need-part-pen-byte-start
 part-pen-byte-start c = search needs
 
--- src/lib.rt:113:22
 part-pen-byte-end : tie.Need-part-pen-byte-end
 part-pen-byte-end c = search needs
 
--- src/lib.rt:113:9
 pen-byte-requires-3 : tie.Need-pen-byte-requires-3
 pen-byte-requires-3 c κs = search needs
 
--- src/lib.rt:114:14
 add-n3 : tie.Need-add-n3
 add-n3 c = search needs
 
--- src/lib.rt:103:1
 same-length-2 : tie.Need-same-length-2
 same-length-2 c = search needs
 
--- src/lib.rt:103:1
 returns-2 : tie.Need-returns-2
 returns-2 c =
     let a = c .before .before .before .before .before .before .before .before .before .before .before .before .before .before .before .before .before .args in
@@ -84,20 +64,5 @@ returns-2 c =
 pub pen-lead-spec : {M : Type 1} → statement M
 pen-lead-spec =
     tie.close
-    (tie.spec
-    pen-byte-requires
-    same-length
-    returns
-    pen-byte-requires-2
-    sub-pen-upper
-    part-pen-upper-start
-    part-pen-upper-end
-    pen-upper-requires
-    add-n2
-    sub-pen-byte
-    part-pen-byte-start
-    part-pen-byte-end
-    pen-byte-requires-3
-    add-n3
-    same-length-2
-    returns-2)
+    (tie.spec pen-byte-requires same-length returns pen-byte-requires-2 sub-pen-upper part-pen-upper-start part-pen-upper-end pen-upper-requires
+    add-n2 sub-pen-byte part-pen-byte-start part-pen-byte-end pen-byte-requires-3 add-n3 same-length-2 returns-2)

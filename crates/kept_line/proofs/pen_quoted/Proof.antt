@@ -7,60 +7,43 @@ use Rattle.kept_line.proofs.Bytes.{tells-as}
 use borrow.Author.Needs.{needs}
 use Rattle.kept_line.proofs.pen_quoted.Statement.{statement}
 use Rattle.kept_line.proofs.pen_quoted.Tie as tie
-use Rattle.kept_line.proofs.pen_quoted.Reads as reads
-use Rattle.kept_line.proofs.pen_quoted.Lts as lts
-use Rattle.kept_line.proofs.pen_told.Reads as pen-told-reads
-use Rattle.line_pen.proofs.pen_byte.Reads as pen-byte-reads
 
--- src/lib.rt:74:9
 pen-byte-requires : tie.Need-pen-byte-requires
 pen-byte-requires c κs = search needs
 
--- src/lib.rt:76:22
 sub-pen-told : tie.Need-sub-pen-told
 sub-pen-told c = search needs
 
--- src/lib.rt:76:22
 part-pen-told-start : tie.Need-part-pen-told-start
 part-pen-told-start c = search needs
 
--- src/lib.rt:76:22
 part-pen-told-end : tie.Need-part-pen-told-end
 part-pen-told-end c = search needs
 
--- src/lib.rt:76:9
 pen-told-requires : tie.Need-pen-told-requires
 pen-told-requires c κs = search needs
 
--- src/lib.rt:77:14
 add-n2 : tie.Need-add-n2
 add-n2 c = search needs
 
--- src/lib.rt:78:22
 sub-pen-byte : tie.Need-sub-pen-byte
 sub-pen-byte c = search needs
 
--- src/lib.rt:78:22
 part-pen-byte-start : tie.Need-part-pen-byte-start
 part-pen-byte-start c = search needs
 
--- src/lib.rt:78:22
 part-pen-byte-end : tie.Need-part-pen-byte-end
 part-pen-byte-end c = search needs
 
--- src/lib.rt:78:9
 pen-byte-requires-2 : tie.Need-pen-byte-requires-2
 pen-byte-requires-2 c κs = search needs
 
--- src/lib.rt:79:14
 add-n3 : tie.Need-add-n3
 add-n3 c = search needs
 
--- src/lib.rt:71:1
 same-length : tie.Need-same-length
 same-length c = search needs
 
--- src/lib.rt:71:1
 returns : tie.Need-returns
 returns c =
     let pen-byte = c .before .before .before .before .before .before .before .before .before .before .before .before .pen-byte in
@@ -72,17 +55,5 @@ returns c =
 pub pen-quoted-spec : {M : Type 1} → statement M
 pen-quoted-spec =
     tie.close
-    (tie.spec
-    pen-byte-requires
-    sub-pen-told
-    part-pen-told-start
-    part-pen-told-end
-    pen-told-requires
-    add-n2
-    sub-pen-byte
-    part-pen-byte-start
-    part-pen-byte-end
-    pen-byte-requires-2
-    add-n3
-    same-length
-    returns)
+    (tie.spec pen-byte-requires sub-pen-told part-pen-told-start part-pen-told-end pen-told-requires add-n2 sub-pen-byte part-pen-byte-start
+    part-pen-byte-end pen-byte-requires-2 add-n3 same-length returns)

@@ -5,131 +5,100 @@ use Rattle.kept_line.proofs.Bytes.{row-tells}
 use borrow.Author.Needs.{needs}
 use Rattle.kept_line.proofs.pen_row.Statement.{statement}
 use Rattle.kept_line.proofs.pen_row.Tie as tie
-use Rattle.kept_line.proofs.pen_row.Reads as reads
-use Rattle.kept_line.proofs.pen_row.Lts as lts
-use Rattle.kept_line.proofs.pen_lead.Reads as pen-lead-reads
-use Rattle.kept_line.proofs.pen_value.Reads as pen-value-reads
 
--- src/lib.rt:162:13
 mul-k : tie.Need-mul-k
 mul-k c = search needs
 
--- src/lib.rt:162:13
 add-k : tie.Need-add-k
 add-k c = search needs
 
--- src/lib.rt:163:13
 mul-a : tie.Need-mul-a
 mul-a c = search needs
 
--- src/lib.rt:163:13
 shared-slice-read-a : tie.Need-shared-slice-read-a
 shared-slice-read-a c = search needs
 
--- src/lib.rt:164:15
 add-e : tie.Need-add-e
 add-e c = search needs
 
--- src/lib.rt:164:13
 mul-e : tie.Need-mul-e
 mul-e c = search needs
 
--- src/lib.rt:164:13
 shared-slice-read-e : tie.Need-shared-slice-read-e
 shared-slice-read-e c = search needs
 
--- src/lib.rt:165:15
 add-c : tie.Need-add-c
 add-c c = search needs
 
--- src/lib.rt:165:13
 mul-c : tie.Need-mul-c
 mul-c c = search needs
 
--- src/lib.rt:165:13
 shared-slice-read-c : tie.Need-shared-slice-read-c
 shared-slice-read-c c = search needs
 
--- src/lib.rt:166:15
 add-d : tie.Need-add-d
 add-d c = search needs
 
--- src/lib.rt:166:13
 mul-d : tie.Need-mul-d
 mul-d c = search needs
 
--- src/lib.rt:166:13
 shared-slice-read-d : tie.Need-shared-slice-read-d
 shared-slice-read-d c = search needs
 
--- src/lib.rt:167:41
 sub-pen-lead : tie.Need-sub-pen-lead
 sub-pen-lead c =
     let h = c .before .before .before .before .before .before .before .before .pre in
     let v = h .0 .rows .name (c .before .before .before .before .before .before .before .before .args .i) (h .1) in omega (arith, v .ordered, v .within)
 
--- src/lib.rt:167:41
 part-pen-lead-start : tie.Need-part-pen-lead-start
 part-pen-lead-start c =
     let h = c .before .before .before .before .before .before .before .before .pre in
     let v = h .0 .rows .name (c .before .before .before .before .before .before .before .before .args .i) (h .1) in omega (arith, v .ordered, v .within)
 
--- src/lib.rt:167:41
 part-pen-lead-end : tie.Need-part-pen-lead-end
 part-pen-lead-end c =
     let h = c .before .before .before .before .before .before .before .before .pre in
     let v = h .0 .rows .name (c .before .before .before .before .before .before .before .before .args .i) (h .1) in omega (arith, v .ordered, v .within)
 
--- src/lib.rt:167:9
 pen-lead-requires : tie.Need-pen-lead-requires
 pen-lead-requires c κs = search needs
 
--- src/lib.rt:169:23
 sub-pen-value : tie.Need-sub-pen-value
 sub-pen-value c = search needs
 
--- src/lib.rt:169:23
 part-pen-value-start : tie.Need-part-pen-value-start
 part-pen-value-start c = search needs
 
--- src/lib.rt:169:23
 part-pen-value-end : tie.Need-part-pen-value-end
 part-pen-value-end c = search needs
 
--- src/lib.rt:169:57
 sub-pen-value-2 : tie.Need-sub-pen-value-2
 sub-pen-value-2 c =
     let h = c .before .before .before .before .before .before .before .before .before .before .before .before .before .pre in
     let a = c .before .before .before .before .before .before .before .before .before .before .before .before .before .args in
     let v = h .0 .rows .value (a .i) (h .1) in omega (arith, v .ordered, v .within)
 
--- src/lib.rt:169:57
 part-pen-value-start-2 : tie.Need-part-pen-value-start-2
 part-pen-value-start-2 c =
     let h = c .before .before .before .before .before .before .before .before .before .before .before .before .before .pre in
     let a = c .before .before .before .before .before .before .before .before .before .before .before .before .before .args in
     let v = h .0 .rows .value (a .i) (h .1) in omega (arith, v .ordered, v .within)
 
--- src/lib.rt:169:57
 part-pen-value-end-2 : tie.Need-part-pen-value-end-2
 part-pen-value-end-2 c =
     let h = c .before .before .before .before .before .before .before .before .before .before .before .before .before .pre in
     let a = c .before .before .before .before .before .before .before .before .before .before .before .before .before .args in
     let v = h .0 .rows .value (a .i) (h .1) in omega (arith, v .ordered, v .within)
 
--- src/lib.rt:169:9
 pen-value-requires : tie.Need-pen-value-requires
 pen-value-requires c κs = search needs
 
--- src/lib.rt:170:14
 add-n2 : tie.Need-add-n2
 add-n2 c = search needs
 
--- src/lib.rt:150:1
 same-length : tie.Need-same-length
 same-length c = search needs
 
--- src/lib.rt:150:1
 returns : tie.Need-returns
 returns c =
     let a = c .before .before .before .before .before .before .before .before .before .before .before .before .before .before .before .before .before .before .args in
@@ -140,31 +109,6 @@ returns c =
 pub pen-row-spec : {M : Type 1} → statement M
 pen-row-spec =
     tie.close
-    (tie.spec
-    mul-k
-    add-k
-    mul-a
-    shared-slice-read-a
-    add-e
-    mul-e
-    shared-slice-read-e
-    add-c
-    mul-c
-    shared-slice-read-c
-    add-d
-    mul-d
-    shared-slice-read-d
-    sub-pen-lead
-    part-pen-lead-start
-    part-pen-lead-end
-    pen-lead-requires
-    sub-pen-value
-    part-pen-value-start
-    part-pen-value-end
-    sub-pen-value-2
-    part-pen-value-start-2
-    part-pen-value-end-2
-    pen-value-requires
-    add-n2
-    same-length
-    returns)
+    (tie.spec mul-k add-k mul-a shared-slice-read-a add-e mul-e shared-slice-read-e add-c mul-c shared-slice-read-c add-d mul-d shared-slice-read-d
+    sub-pen-lead part-pen-lead-start part-pen-lead-end pen-lead-requires sub-pen-value part-pen-value-start part-pen-value-end sub-pen-value-2
+    part-pen-value-start-2 part-pen-value-end-2 pen-value-requires add-n2 same-length returns)

@@ -10,10 +10,6 @@ use Rattle.line_pen.proofs.Laws.{pens-in, pens-length, pens-then}
 use Rattle.kept_line.proofs.Bytes.{upper-first, upper-on, upper-all}
 use Rattle.kept_line.proofs.pen_upper.Statement.{statement}
 use Rattle.kept_line.proofs.pen_upper.Tie as tie
-use Rattle.kept_line.proofs.pen_upper.Reads as reads
-use Rattle.kept_line.proofs.pen_upper.Lts as lts
-use Rattle.line_name.proofs.upper_of.Reads as upper-of-reads
-use Rattle.line_pen.proofs.pen_byte.Reads as pen-byte-reads
 
 abbrev Inv-loop : tie.InvT-loop
 Inv-loop out₀ column name at₀ k₀ i₀ out at k i = (i ≤ length name) × Pens out₀ column (uppered (take i name)) (record { bytes = at; column = k }) out
@@ -21,47 +17,36 @@ Inv-loop out₀ column name at₀ k₀ i₀ out at k i = (i ≤ length name) × 
 abbrev μ-loop : tie.MeasureT-loop
 μ-loop out₀ column name at₀ k₀ i₀ out at k i = length name - i
 
--- src/lib.rt:34:5
 loop-holds : tie.Need-loop-holds Inv-loop μ-loop
 loop-holds c = (omega arith, upper-first (now (c .before .before .args .out)) (now (c .before .before .args .name)) (c .before .before .args .column))
 
--- src/lib.rt:35:26
 shared-slice-read-upper-of : tie.Need-shared-slice-read-upper-of Inv-loop μ-loop
 shared-slice-read-upper-of c = c .before .loop-test .taken
 
--- src/lib.rt:35:13
 upper-of-requires : tie.Need-upper-of-requires Inv-loop μ-loop
 upper-of-requires c κs = tt
 
--- src/lib.rt:36:26
 sub-pen-byte : tie.Need-sub-pen-byte Inv-loop μ-loop
 sub-pen-byte c = omega (arith, pens-in (c .before .before .before .loop .inv .1), pens-length (c .before .before .before .loop .inv .1))
 
--- src/lib.rt:36:26
 part-pen-byte-start : tie.Need-part-pen-byte-start Inv-loop μ-loop
 part-pen-byte-start c = omega (arith, pens-in (c .before .before .before .loop .inv .1), pens-length (c .before .before .before .loop .inv .1))
 
--- src/lib.rt:36:26
 part-pen-byte-end : tie.Need-part-pen-byte-end Inv-loop μ-loop
 part-pen-byte-end c = le-refl _
 
--- src/lib.rt:36:13
 pen-byte-requires : tie.Need-pen-byte-requires Inv-loop μ-loop
 pen-byte-requires c κs = tt
 
--- src/lib.rt:37:9
 add-at : tie.Need-add-at Inv-loop μ-loop
 add-at c = record { fits = omega (arith, pens-in (pens-then (c .before .before .before .before .before .before .before .before .loop .inv .1) (c .before .before .before .pen-byte .ensures)), c .before .before .before .before .before .before .before .before .before .before .before .good .0 .0) }
 
--- src/lib.rt:39:9
 add-i : tie.Need-add-i Inv-loop μ-loop
 add-i c = search needs
 
--- src/lib.rt:34:5
 loop-less : tie.Need-loop-less Inv-loop μ-loop
 loop-less c = search needs
 
--- src/lib.rt:34:5
 loop-again : tie.Need-loop-again Inv-loop μ-loop
 loop-again c =
     let w = c .before .before .before .before .before .before .before .loop-test in
@@ -71,30 +56,14 @@ loop-again c =
     let pen-byte = c .before .before .before .pen-byte in
     (omega (arith, w .taken), upper-on (now (a .name)) (l .inv .1) (w .taken) (upper-of .ensures) (pen-byte .ensures))
 
--- src/lib.rt:28:1
 same-length : tie.Need-same-length Inv-loop μ-loop
 same-length c = pens-length (c .before .loop .inv .1)
 
--- src/lib.rt:28:1
 returns : tie.Need-returns Inv-loop μ-loop
 returns c = upper-all (now (c .before .before .before .before .args .name)) (c .before .loop .inv .1) (c .loop-test .left)
 
 pub pen-upper-spec : {M : Type 1} → statement M
 pen-upper-spec =
     tie.close
-    (tie.spec
-    Inv-loop
-    μ-loop
-    loop-holds
-    shared-slice-read-upper-of
-    upper-of-requires
-    sub-pen-byte
-    part-pen-byte-start
-    part-pen-byte-end
-    pen-byte-requires
-    add-at
-    add-i
-    loop-less
-    loop-again
-    same-length
-    returns)
+    (tie.spec Inv-loop μ-loop loop-holds shared-slice-read-upper-of upper-of-requires sub-pen-byte part-pen-byte-start part-pen-byte-end
+    pen-byte-requires add-at add-i loop-less loop-again same-length returns)

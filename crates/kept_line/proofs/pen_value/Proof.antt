@@ -7,37 +7,25 @@ use Rattle.line_write.proofs.Naming.{value-always, value-quoted, value-bare}
 use borrow.Author.Needs.{needs}
 use Rattle.kept_line.proofs.pen_value.Statement.{statement}
 use Rattle.kept_line.proofs.pen_value.Tie as tie
-use Rattle.kept_line.proofs.pen_value.Reads as reads
-use Rattle.kept_line.proofs.pen_value.Lts as lts
-use Rattle.kept_line.proofs.pen_quoted.Reads as pen-quoted-reads
-use Rattle.kept_line.proofs.pen_told.Reads as pen-told-reads
-use Rattle.line_class.proofs.all_of.Reads as all-of-reads
 
--- src/lib.rt:94:9
 pen-quoted-requires : tie.Need-pen-quoted-requires
 pen-quoted-requires c κs = search needs
 
--- src/lib.rt:94:9
 same-length : tie.Need-same-length
 same-length c = search needs
 
--- src/lib.rt:94:9
 returns : tie.Need-returns
 returns c = tells-as (value-always (now (c .before .before .before .before .before .before .before .args .v)) _ (c .before .before .before .before .if1 .taken)) refl (c .before .before .pen-quoted .ensures)
 
--- src/lib.rt:96:9
 all-of-requires : tie.Need-all-of-requires
 all-of-requires c κs = search needs
 
--- src/lib.rt:97:9
 pen-quoted-requires-2 : tie.Need-pen-quoted-requires-2
 pen-quoted-requires-2 c κs = search needs
 
--- src/lib.rt:97:9
 same-length-2 : tie.Need-same-length-2
 same-length-2 c = search needs
 
--- src/lib.rt:97:9
 returns-2 : tie.Need-returns-2
 returns-2 c =
     let a = c .before .before .before .before .before .before .before .before .before .args in
@@ -47,15 +35,12 @@ returns-2 c =
     let pen-quoted2 = c .before .before .pen-quoted2 in
     tells-as (value-quoted (now (a .v)) _ (if1 .left) (sym (all-of .ensures) ∙ not-true _ (if2 .taken))) refl (pen-quoted2 .ensures)
 
--- src/lib.rt:99:5
 pen-told-requires : tie.Need-pen-told-requires
 pen-told-requires c κs = search needs
 
--- src/lib.rt:90:1
 same-length-3 : tie.Need-same-length-3
 same-length-3 c = search needs
 
--- src/lib.rt:90:1
 returns-3 : tie.Need-returns-3
 returns-3 c =
     let a = c .before .before .before .before .before .before .before .before .before .args in
@@ -68,14 +53,5 @@ returns-3 c =
 pub pen-value-spec : {M : Type 1} → statement M
 pen-value-spec =
     tie.close
-    (tie.spec
-    pen-quoted-requires
-    same-length
-    returns
-    all-of-requires
-    pen-quoted-requires-2
-    same-length-2
-    returns-2
-    pen-told-requires
-    same-length-3
+    (tie.spec pen-quoted-requires same-length returns all-of-requires pen-quoted-requires-2 same-length-2 returns-2 pen-told-requires same-length-3
     returns-3)

@@ -9,113 +9,82 @@ use Rattle.kept_line.proofs.Lines.{end-then, kept-put}
 use borrow.Author.Needs.{needs}
 use Rattle.kept_line.proofs.put_kept_line.Statement.{statement}
 use Rattle.kept_line.proofs.put_kept_line.Tie as tie
-use Rattle.kept_line.proofs.put_kept_line.Reads as reads
-use Rattle.kept_line.proofs.put_kept_line.Lts as lts
-use Rattle.kept_line.proofs.pen_end.Reads as pen-end-reads
-use Rattle.kept_line.proofs.pen_head.Reads as pen-head-reads
-use Rattle.kept_line.proofs.pen_params.Reads as pen-params-reads
 
--- src/lib.rt:251:13
 shared-slice-read-a : tie.Need-shared-slice-read-a
 shared-slice-read-a c = search needs
 
--- src/lib.rt:252:13
 shared-slice-read-e : tie.Need-shared-slice-read-e
 shared-slice-read-e c = search needs
 
--- src/lib.rt:253:13
 shared-slice-read-c : tie.Need-shared-slice-read-c
 shared-slice-read-c c = search needs
 
--- src/lib.rt:254:13
 shared-slice-read-d : tie.Need-shared-slice-read-d
 shared-slice-read-d c = search needs
 
--- src/lib.rt:255:27
 sub-pen-head : tie.Need-sub-pen-head
 sub-pen-head c = search needs
 
--- src/lib.rt:255:27
 part-pen-head-start : tie.Need-part-pen-head-start
 part-pen-head-start c = search needs
 
--- src/lib.rt:255:27
 part-pen-head-end : tie.Need-part-pen-head-end
 part-pen-head-end c = search needs
 
--- src/lib.rt:255:37
 sub-pen-head-2 : tie.Need-sub-pen-head-2
 sub-pen-head-2 c = search needs
 
--- src/lib.rt:255:37
 part-pen-head-start-2 : tie.Need-part-pen-head-start-2
 part-pen-head-start-2 c = search needs
 
--- src/lib.rt:255:37
 part-pen-head-end-2 : tie.Need-part-pen-head-end-2
 part-pen-head-end-2 c = search needs
 
--- src/lib.rt:255:9
 pen-head-requires : tie.Need-pen-head-requires
 pen-head-requires c κs = search needs
 
--- src/lib.rt:257:24
 sub-pen-params : tie.Need-sub-pen-params
 sub-pen-params c = search needs
 
--- src/lib.rt:257:24
 part-pen-params-start : tie.Need-part-pen-params-start
 part-pen-params-start c = search needs
 
--- src/lib.rt:257:24
 part-pen-params-end : tie.Need-part-pen-params-end
 part-pen-params-end c = search needs
 
--- src/lib.rt:257:9
 pen-params-requires : tie.Need-pen-params-requires
 pen-params-requires c κs = search needs
 
--- src/lib.rt:258:14
 add-n2 : tie.Need-add-n2
 add-n2 c = search needs
 
--- src/lib.rt:259:13
 shared-slice-read-v : tie.Need-shared-slice-read-v
 shared-slice-read-v c = search needs
 
--- src/lib.rt:260:13
 shared-slice-read-w : tie.Need-shared-slice-read-w
 shared-slice-read-w c = search needs
 
--- src/lib.rt:261:21
 sub-pen-end : tie.Need-sub-pen-end
 sub-pen-end c = search needs
 
--- src/lib.rt:261:21
 part-pen-end-start : tie.Need-part-pen-end-start
 part-pen-end-start c = search needs
 
--- src/lib.rt:261:21
 part-pen-end-end : tie.Need-part-pen-end-end
 part-pen-end-end c = search needs
 
--- src/lib.rt:261:47
 sub-pen-end-2 : tie.Need-sub-pen-end-2
 sub-pen-end-2 c = search needs
 
--- src/lib.rt:261:47
 part-pen-end-start-2 : tie.Need-part-pen-end-start-2
 part-pen-end-start-2 c = search needs
 
--- src/lib.rt:261:47
 part-pen-end-end-2 : tie.Need-part-pen-end-end-2
 part-pen-end-end-2 c = search needs
 
--- src/lib.rt:261:9
 pen-end-requires : tie.Need-pen-end-requires
 pen-end-requires c κs = search needs
 
--- src/lib.rt:262:14
 add-n3 : tie.Need-add-n3
 add-n3 c =
     let a = c .before .before .before .before .before .before .before .before .before .before .before .before .before .before .before .before .before .before .before .before .before .before .before .before .before .before .args in
@@ -125,11 +94,9 @@ add-n3 c =
     let g = c .before .before .before .before .before .before .before .before .before .before .before .before .before .before .before .before .before .before .before .before .before .before .before .before .before .before .good in
     record { fits = omega (arith, fills-in (end-then (58 ∷ part (now (a .b)) (getD (now (a .t)) 4 0) (getD (now (a .t)) 5 0)) (next! (first! (pen-head .ensures)) (pen-params .ensures .pens) .so) (pen-end .ensures .0)), g .0 .0) }
 
--- src/lib.rt:245:1
 same-length : tie.Need-same-length
 same-length c = search needs
 
--- src/lib.rt:245:1
 returns : tie.Need-returns
 returns c =
     let a = c .before .before .before .before .before .before .before .before .before .before .before .before .before .before .before .before .before .before .before .before .before .before .before .before .before .before .before .before .args in
@@ -142,32 +109,7 @@ returns c =
 pub put-kept-line-spec : {M : Type 1} → statement M
 put-kept-line-spec =
     tie.close
-    (tie.spec
-    shared-slice-read-a
-    shared-slice-read-e
-    shared-slice-read-c
-    shared-slice-read-d
-    sub-pen-head
-    part-pen-head-start
-    part-pen-head-end
-    sub-pen-head-2
-    part-pen-head-start-2
-    part-pen-head-end-2
-    pen-head-requires
-    sub-pen-params
-    part-pen-params-start
-    part-pen-params-end
-    pen-params-requires
-    add-n2
-    shared-slice-read-v
-    shared-slice-read-w
-    sub-pen-end
-    part-pen-end-start
-    part-pen-end-end
-    sub-pen-end-2
-    part-pen-end-start-2
-    part-pen-end-end-2
-    pen-end-requires
-    add-n3
-    same-length
-    returns)
+    (tie.spec shared-slice-read-a shared-slice-read-e shared-slice-read-c shared-slice-read-d sub-pen-head part-pen-head-start part-pen-head-end
+    sub-pen-head-2 part-pen-head-start-2 part-pen-head-end-2 pen-head-requires sub-pen-params part-pen-params-start part-pen-params-end
+    pen-params-requires add-n2 shared-slice-read-v shared-slice-read-w sub-pen-end part-pen-end-start part-pen-end-end sub-pen-end-2
+    part-pen-end-start-2 part-pen-end-end-2 pen-end-requires add-n3 same-length returns)

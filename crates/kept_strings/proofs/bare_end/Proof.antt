@@ -2,16 +2,13 @@ use borrow.Author.Needs.{needs}
 use native.Mathlib.Omega.{arith}
 use denote.Ref.{now}
 use mathlib.Core.Path.{subst}
-use Prim.Native.Nat.{_-_, _≤_}
+use Prim.Native.Nat.{_-_}
 use lib.ListN.{length, getD}
 use Rattle.text.proofs.Cases.{not-false}
 use Rattle.json_index.specs.Index.{RawByte}
 use Rattle.kept_strings.proofs.Bare.{BareTo, bare-none, bare-more, bare-ends}
 use Rattle.kept_strings.proofs.bare_end.Statement.{statement}
 use Rattle.kept_strings.proofs.bare_end.Tie as tie
-use Rattle.kept_strings.proofs.bare_end.Reads as reads
-use Rattle.kept_strings.proofs.bare_end.Lts as lts
-use Rattle.json_index.proofs.is_raw.Reads as is-raw-reads
 
 abbrev Inv-loop : tie.InvT-loop
 Inv-loop s at i₀ i = BareTo s at i
@@ -60,15 +57,4 @@ returns-3 c = λ h. absurd (omega (arith, h))
 pub bare-end-spec : {M : Type 1} → statement M
 bare-end-spec =
     tie.close
-    (tie.spec
-    Inv-loop
-    μ-loop
-    loop-holds
-    shared-slice-read-c
-    is-raw-requires
-    returns
-    returns-2
-    add-i
-    loop-less
-    loop-again
-    returns-3)
+    (tie.spec Inv-loop μ-loop loop-holds shared-slice-read-c is-raw-requires returns returns-2 add-i loop-less loop-again returns-3)

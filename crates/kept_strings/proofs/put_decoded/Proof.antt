@@ -6,11 +6,6 @@ use Rattle.kept_strings.proofs.Bare.{bare-puts}
 use borrow.Author.Needs.{needs}
 use Rattle.kept_strings.proofs.put_decoded.Statement.{statement}
 use Rattle.kept_strings.proofs.put_decoded.Tie as tie
-use Rattle.kept_strings.proofs.put_decoded.Reads as reads
-use Rattle.kept_strings.proofs.put_decoded.Lts as lts
-use Rattle.kept_strings.proofs.bare_end.Reads as bare-end-reads
-use Rattle.kept_strings.proofs.put_escaped.Reads as put-escaped-reads
-use Rattle.output.proofs.put_text.Reads as put-text-reads
 
 bare-end-requires : tie.Need-bare-end-requires
 bare-end-requires c κs = search needs
@@ -92,22 +87,5 @@ returns-3 c =
 pub put-decoded-spec : {M : Type 1} → statement M
 put-decoded-spec =
     tie.close
-    (tie.spec
-    bare-end-requires
-    put-escaped-requires
-    same-length
-    returns
-    sub-put-text
-    part-put-text-start
-    part-put-text-end
-    sub-put-text-2
-    part-put-text-start-2
-    part-put-text-end-2
-    put-text-requires
-    enum-known-k
-    enum-told
-    same-length-2
-    returns-2
-    add-t7
-    same-length-3
-    returns-3)
+    (tie.spec bare-end-requires put-escaped-requires same-length returns sub-put-text part-put-text-start part-put-text-end sub-put-text-2
+    part-put-text-start-2 part-put-text-end-2 put-text-requires enum-known-k enum-told same-length-2 returns-2 add-t7 same-length-3 returns-3)

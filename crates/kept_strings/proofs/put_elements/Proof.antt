@@ -1,22 +1,13 @@
 use borrow.Author.Needs.{needs}
 use denote.Ref.{now}
 use native.Mathlib.Omega.{arith}
-use mathlib.Core.Path.{_≡_, refl, sym, ap, _∙_}
+use mathlib.Core.Path.{_≡_, refl, _∙_}
 use Prim.Native.Nat.{_≤_, _-_}
 use lib.ListN.{length}
-use borrow.Author.Tests.{not-true, not-false}
 use Rattle.text.proofs.Places.{turn-as}
-use Rattle.json_strings.specs.Decoded.{textAt}
-use Rattle.kept_strings.proofs.Putting.{puts-long, puts-within}
-use Rattle.kept_strings.proofs.Values.{value-over, value-none, value-one, value-rows, rows-in, stored-long, Going, going-first, from-wrong, from-on, from-all}
-use Rattle.kept_strings.proofs.Whole.{values-one, values-none, values-many, sole-one, sole-none, sole-many, sole-elem, no-group, group-full, group-in, group-other, group-is}
+use Rattle.kept_strings.proofs.Values.{rows-in, Going, going-first, from-wrong, from-on, from-all}
 use Rattle.kept_strings.proofs.put_elements.Statement.{statement}
 use Rattle.kept_strings.proofs.put_elements.Tie as tie
-use Rattle.kept_strings.proofs.put_elements.Reads as reads
-use Rattle.kept_strings.proofs.put_elements.Lts as lts
-use Rattle.json_access.proofs.element_at.Reads as element-at-reads
-use Rattle.json_marks.proofs.separator.Reads as separator-reads
-use Rattle.kept_strings.proofs.put_value.Reads as put-value-reads
 
 abbrev Inv-loop : tie.InvT-loop
 Inv-loop b₀ n t₀ m a e s at i₀ k₀ rows₀ b t i k rows = (i ≤ length s) × (k ≤ length b) × (length b ≡ length b₀) × (length t ≡ length t₀) × (n ≤ k) × Going b₀ n t₀ m a e s at i k rows b t
@@ -24,7 +15,6 @@ Inv-loop b₀ n t₀ m a e s at i₀ k₀ rows₀ b t i k rows = (i ≤ length s
 abbrev μ-loop : tie.MeasureT-loop
 μ-loop b₀ n t₀ m a e s at i₀ k₀ rows₀ b t i k rows = length s - i
 
--- src/lib.rt:118:5
 loop-holds : tie.Need-loop-holds Inv-loop μ-loop
 loop-holds c =
     let pre = c .before .before .before .pre in
@@ -37,31 +27,24 @@ loop-holds c =
       going-first (now (args .b)) (args .n) (now (args .t)) (args .m) (args .a) (args .e) (now (args .s)) (args .at) (pre .0),
     )
 
--- src/lib.rt:119:13
 element-at-requires : tie.Need-element-at-requires Inv-loop μ-loop
 element-at-requires c κs = tt
 
--- src/lib.rt:122:41
 put-value-requires : tie.Need-put-value-requires Inv-loop μ-loop
 put-value-requires c κs = (c .before .before .before .loop .inv .1, omega (arith, c .before .before .before .loop .inv .3, c .before .before .before .before .before .before .before .pre .1 .0))
 
--- src/lib.rt:122:26
 enum-known-end : tie.Need-enum-known-end Inv-loop μ-loop
 enum-known-end c = search needs
 
--- src/lib.rt:123:13
 enum-told : tie.Need-enum-told Inv-loop μ-loop
 enum-told c = search needs
 
--- src/lib.rt:123:13
 same-length : tie.Need-same-length Inv-loop μ-loop
 same-length c = c .before .before .before .before .before .before .put-value .ensures .0 .long ∙ (c .before .before .before .before .before .before .before .before .before .before .loop .inv .2)
 
--- src/lib.rt:123:13
 same-length-2 : tie.Need-same-length-2 Inv-loop μ-loop
 same-length-2 c = c .before .before .before .before .before .before .put-value .ensures .0 .wide ∙ (c .before .before .before .before .before .before .before .before .before .before .loop .inv .3)
 
--- src/lib.rt:123:13
 returns : tie.Need-returns Inv-loop μ-loop
 returns c =
     let args = c .before .before .before .before .before .before .before .before .before .before .before .before .before .before .args in
@@ -77,15 +60,12 @@ returns c =
       ),
     )
 
--- src/lib.rt:127:15
 separator-requires : tie.Need-separator-requires Inv-loop μ-loop
 separator-requires c κs = (c .before .before .before .before .before .before .before .before .before .before .element-at .ensures .0 .end-in, omega arith)
 
--- src/lib.rt:128:22
 enum-known-j : tie.Need-enum-known-j Inv-loop μ-loop
 enum-known-j c = search needs
 
--- src/lib.rt:118:5
 loop-less : tie.Need-loop-less Inv-loop μ-loop
 loop-less c =
     let loop = c .before .before .before .before .before .before .before .before .before .before .before .before .before .before .before .loop in
@@ -94,7 +74,6 @@ loop-less c =
     let h = turn-as (separator .ensures) (c .before .j .given .1) in omega
     (arith, h .within .0, h .within .1, element-at .ensures .0 .from (loop .inv .0), element-at .ensures .0 .ordered)
 
--- src/lib.rt:118:5
 loop-again : tie.Need-loop-again Inv-loop μ-loop
 loop-again c =
     let args = c .before .before .before .before .before .before .before .before .before .before .before .before .before .before .before .before .before .before .before .args in
@@ -114,19 +93,15 @@ loop-again c =
           (end .given .1) _ h,
     )
 
--- src/lib.rt:131:24
 enum-known-r : tie.Need-enum-known-r Inv-loop μ-loop
 enum-known-r c = search needs
 
--- src/lib.rt:132:17
 same-length-3 : tie.Need-same-length-3 Inv-loop μ-loop
 same-length-3 c = c .before .before .before .before .before .before .before .before .before .before .before .put-value .ensures .0 .long ∙ (c .before .before .before .before .before .before .before .before .before .before .before .before .before .before .before .loop .inv .2)
 
--- src/lib.rt:132:17
 same-length-4 : tie.Need-same-length-4 Inv-loop μ-loop
 same-length-4 c = c .before .before .before .before .before .before .before .before .before .before .before .put-value .ensures .0 .wide ∙ (c .before .before .before .before .before .before .before .before .before .before .before .before .before .before .before .loop .inv .3)
 
--- src/lib.rt:132:17
 returns-2 : tie.Need-returns-2 Inv-loop μ-loop
 returns-2 c =
     let args = c .before .before .before .before .before .before .before .before .before .before .before .before .before .before .before .before .before .before .before .args in
@@ -148,22 +123,5 @@ returns-2 c =
 pub put-elements-spec : {M : Type 1} → statement M
 put-elements-spec =
     tie.close
-    (tie.spec
-    Inv-loop
-    μ-loop
-    loop-holds
-    element-at-requires
-    put-value-requires
-    enum-known-end
-    enum-told
-    same-length
-    same-length-2
-    returns
-    separator-requires
-    enum-known-j
-    loop-less
-    loop-again
-    enum-known-r
-    same-length-3
-    same-length-4
-    returns-2)
+    (tie.spec Inv-loop μ-loop loop-holds element-at-requires put-value-requires enum-known-end enum-told same-length same-length-2 returns
+    separator-requires enum-known-j loop-less loop-again enum-known-r same-length-3 same-length-4 returns-2)

@@ -1,43 +1,32 @@
 use denote.Ref.{now}
 use native.Mathlib.Omega.{arith}
 use Rattle.json_strings.specs.Decoded.{textAt}
-use Rattle.kept_strings.proofs.Putting.{part-same, grew, no-room, puts-long, puts-within, no-string, a-string, word-none, word-some}
+use Rattle.kept_strings.proofs.Putting.{grew, no-room}
 use borrow.Author.Needs.{needs}
 use Rattle.kept_strings.proofs.put_escaped.Statement.{statement}
 use Rattle.kept_strings.proofs.put_escaped.Tie as tie
-use Rattle.kept_strings.proofs.put_escaped.Reads as reads
-use Rattle.kept_strings.proofs.put_escaped.Lts as lts
-use Rattle.json_strings.proofs.decode_into.Reads as decode-into-reads
 
--- src/lib.rt:47:39
 sub-decode-into : tie.Need-sub-decode-into
 sub-decode-into c = search needs
 
--- src/lib.rt:47:39
 part-decode-into-start : tie.Need-part-decode-into-start
 part-decode-into-start c = search needs
 
--- src/lib.rt:47:39
 part-decode-into-end : tie.Need-part-decode-into-end
 part-decode-into-end c = search needs
 
--- src/lib.rt:47:27
 decode-into-requires : tie.Need-decode-into-requires
 decode-into-requires c κs = search needs
 
--- src/lib.rt:47:22
 enum-known-k : tie.Need-enum-known-k
 enum-known-k c = search needs
 
--- src/lib.rt:48:9
 enum-told : tie.Need-enum-told
 enum-told c = search needs
 
--- src/lib.rt:48:9
 same-length : tie.Need-same-length
 same-length c = search needs
 
--- src/lib.rt:48:9
 returns : tie.Need-returns
 returns c =
     let pre = c .before .before .before .before .before .before .before .before .pre in
@@ -46,7 +35,6 @@ returns c =
     no-room (now (args .b)) (args .n) (pre) (textAt (now (args .s)) (args .at)) _ (decode-into .result) (decode-into .ensures)
     (c .enum-told .given .1)
 
--- src/lib.rt:50:13
 add-t8 : tie.Need-add-t8
 add-t8 c =
     let pre = c .before .before .before .before .before .before .before .before .before .pre in
@@ -58,11 +46,9 @@ add-t8 c =
           (c .before .k .given .1) in omega (arith, g .within, good .0 .0);
     }
 
--- src/lib.rt:43:1
 same-length-2 : tie.Need-same-length-2
 same-length-2 c = search needs
 
--- src/lib.rt:43:1
 returns-2 : tie.Need-returns-2
 returns-2 c =
     let pre = c .before .before .before .before .before .before .before .before .before .pre in
@@ -73,15 +59,5 @@ returns-2 c =
 pub put-escaped-spec : {M : Type 1} → statement M
 put-escaped-spec =
     tie.close
-    (tie.spec
-    sub-decode-into
-    part-decode-into-start
-    part-decode-into-end
-    decode-into-requires
-    enum-known-k
-    enum-told
-    same-length
-    returns
-    add-t8
-    same-length-2
-    returns-2)
+    (tie.spec sub-decode-into part-decode-into-start part-decode-into-end decode-into-requires enum-known-k enum-told same-length returns add-t8
+    same-length-2 returns-2)

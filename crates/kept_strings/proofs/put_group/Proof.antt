@@ -1,51 +1,35 @@
 use denote.Ref.{now}
 use native.Mathlib.Omega.{arith}
-use mathlib.Core.Path.{_≡_, refl, sym, ap, _∙_}
-use Prim.Native.Nat.{_≤_, _-_}
-use lib.ListN.{length}
+use mathlib.Core.Path.{refl, sym, _∙_}
 use borrow.Author.Tests.{not-true, not-false}
-use Rattle.text.proofs.Places.{turn-as}
 use Rattle.json_strings.specs.Decoded.{textAt}
-use Rattle.kept_strings.proofs.Putting.{puts-long, puts-within}
-use Rattle.kept_strings.proofs.Values.{value-over, value-none, value-one, value-rows, rows-in, stored-long, Going, going-first, from-wrong, from-on, from-all}
-use Rattle.kept_strings.proofs.Whole.{values-one, values-none, values-many, sole-one, sole-none, sole-many, sole-elem, no-group, group-full, group-in, group-other, group-is}
+use Rattle.kept_strings.proofs.Putting.{puts-long}
+use Rattle.kept_strings.proofs.Whole.{no-group, group-full, group-in, group-other, group-is}
 use borrow.Author.Needs.{needs}
 use Rattle.kept_strings.proofs.put_group.Statement.{statement}
 use Rattle.kept_strings.proofs.put_group.Tie as tie
-use Rattle.kept_strings.proofs.put_group.Reads as reads
-use Rattle.kept_strings.proofs.put_group.Lts as lts
-use Rattle.kept_strings.proofs.is_word.Reads as is-word-reads
-use Rattle.kept_strings.proofs.put_decoded.Reads as put-decoded-reads
-use Rattle.kept_strings.proofs.sole_string.Reads as sole-string-reads
 
--- src/lib.rt:200:9
 sole-string-requires : tie.Need-sole-string-requires
 sole-string-requires c κs = search needs
 
--- src/lib.rt:202:9
 returns : tie.Need-returns
 returns c =
     let args = c .before .before .before .before .args in
     let sole-string = c .before .sole-string in
     (refl, (tt, no-group (now (args .b)) (args .n) (now (args .s)) (args .at) (sole-string .result) (sole-string .ensures) (c .if1 .taken) _))
 
--- src/lib.rt:204:22
 put-decoded-requires : tie.Need-put-decoded-requires
 put-decoded-requires c κs = search needs
 
--- src/lib.rt:204:17
 enum-known-k : tie.Need-enum-known-k
 enum-known-k c = search needs
 
--- src/lib.rt:205:9
 enum-told : tie.Need-enum-told
 enum-told c = search needs
 
--- src/lib.rt:205:9
 same-length : tie.Need-same-length
 same-length c = search needs
 
--- src/lib.rt:205:9
 returns-2 : tie.Need-returns-2
 returns-2 c =
     let args = c .before .before .before .before .before .before .before .before .before .before .args in
@@ -56,7 +40,6 @@ returns-2 c =
       (tt, group-full (now (args .b)) (args .n) (now (args .s)) (args .at) (sole-string .result) (sole-string .ensures) (if1 .left) (put-decoded .result) _ (put-decoded .ensures) (c .enum-told .given .1)),
     )
 
--- src/lib.rt:207:17
 sub-is-word : tie.Need-sub-is-word
 sub-is-word c =
     let args = c .before .before .before .before .before .before .before .before .before .before .before .args in
@@ -66,7 +49,6 @@ sub-is-word c =
     let g = group-in (now (args .b)) (args .n) (now (args .s)) (args .at) (sole-string .result) (sole-string .ensures) (if1 .left)
     (put-decoded .result) _ (put-decoded .ensures) _ (c .before .k .given .1) in omega (arith, g .to, g .within, g .long)
 
--- src/lib.rt:207:17
 part-is-word-start : tie.Need-part-is-word-start
 part-is-word-start c =
     let args = c .before .before .before .before .before .before .before .before .before .before .before .before .args in
@@ -76,7 +58,6 @@ part-is-word-start c =
     let g = group-in (now (args .b)) (args .n) (now (args .s)) (args .at) (sole-string .result) (sole-string .ensures) (if1 .left)
     (put-decoded .result) _ (put-decoded .ensures) _ (c .before .before .k .given .1) in omega (arith, g .to, g .within, g .long)
 
--- src/lib.rt:207:17
 part-is-word-end : tie.Need-part-is-word-end
 part-is-word-end c =
     let args = c .before .before .before .before .before .before .before .before .before .before .before .before .args in
@@ -86,15 +67,12 @@ part-is-word-end c =
     let g = group-in (now (args .b)) (args .n) (now (args .s)) (args .at) (sole-string .result) (sole-string .ensures) (if1 .left)
     (put-decoded .result) _ (put-decoded .ensures) _ (c .before .before .k .given .1) in omega (arith, g .to, g .within, g .long)
 
--- src/lib.rt:207:9
 is-word-requires : tie.Need-is-word-requires
 is-word-requires c κs = search needs
 
--- src/lib.rt:208:9
 same-length-2 : tie.Need-same-length-2
 same-length-2 c = search needs
 
--- src/lib.rt:208:9
 returns-3 : tie.Need-returns-3
 returns-3 c =
     let args = c .before .before .before .before .before .before .before .before .before .before .before .before .before .before .before .args in
@@ -107,11 +85,9 @@ returns-3 c =
       (tt, group-other (now (args .b)) (args .n) (now (args .s)) (args .at) (sole-string .result) (sole-string .ensures) (if1 .left) (put-decoded .result) _ (put-decoded .ensures) _ (k .given .1) (pre .0) (sym (c .before .is-word .ensures) ∙ not-true _ (c .if2 .taken))),
     )
 
--- src/lib.rt:193:1
 same-length-3 : tie.Need-same-length-3
 same-length-3 c = search needs
 
--- src/lib.rt:193:1
 returns-4 : tie.Need-returns-4
 returns-4 c =
     let args = c .before .before .before .before .before .before .before .before .before .before .before .before .before .before .before .args in
@@ -129,19 +105,5 @@ returns-4 c =
 pub put-group-spec : {M : Type 1} → statement M
 put-group-spec =
     tie.close
-    (tie.spec
-    sole-string-requires
-    returns
-    put-decoded-requires
-    enum-known-k
-    enum-told
-    same-length
-    returns-2
-    sub-is-word
-    part-is-word-start
-    part-is-word-end
-    is-word-requires
-    same-length-2
-    returns-3
-    same-length-3
-    returns-4)
+    (tie.spec sole-string-requires returns put-decoded-requires enum-known-k enum-told same-length returns-2 sub-is-word part-is-word-start
+    part-is-word-end is-word-requires same-length-2 returns-3 same-length-3 returns-4)

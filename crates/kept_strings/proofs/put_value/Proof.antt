@@ -1,23 +1,11 @@
 use denote.Ref.{now}
-use native.Mathlib.Omega.{arith}
-use mathlib.Core.Path.{_≡_, refl, sym, ap, _∙_}
-use Prim.Native.Nat.{_≤_, _-_}
+use mathlib.Core.Path.{refl, ap, _∙_}
 use lib.ListN.{length}
-use borrow.Author.Tests.{not-true, not-false}
-use Rattle.text.proofs.Places.{turn-as}
-use Rattle.json_strings.specs.Decoded.{textAt}
-use Rattle.kept_strings.proofs.Putting.{puts-long, puts-within}
-use Rattle.kept_strings.proofs.Values.{value-over, value-none, value-one, value-rows, rows-in, stored-long, Going, going-first, from-wrong, from-on, from-all}
-use Rattle.kept_strings.proofs.Whole.{values-one, values-none, values-many, sole-one, sole-none, sole-many, sole-elem, no-group, group-full, group-in, group-other, group-is}
+use Rattle.kept_strings.proofs.Values.{value-over, value-none, value-one, value-rows, stored-long}
 use borrow.Author.Needs.{needs}
 use Rattle.kept_strings.proofs.put_value.Statement.{statement}
 use Rattle.kept_strings.proofs.put_value.Tie as tie
-use Rattle.kept_strings.proofs.put_value.Reads as reads
-use Rattle.kept_strings.proofs.put_value.Lts as lts
-use Rattle.kept_strings.proofs.put_string.Reads as put-string-reads
-use Rattle.line_table.proofs.put_row.Reads as put-row-reads
 
--- src/lib.rt:85:9
 returns : tie.Need-returns
 returns c =
     let args = c .before .before .before .before .args in (
@@ -25,23 +13,18 @@ returns c =
       (tt, value-over (now (args .b)) (args .n) (now (args .t)) (args .m) (args .a) (args .e) (now (args .s)) (args .at) (c .if1 .taken)),
     )
 
--- src/lib.rt:87:22
 put-string-requires : tie.Need-put-string-requires
 put-string-requires c κs = search needs
 
--- src/lib.rt:87:17
 enum-known-k : tie.Need-enum-known-k
 enum-known-k c = search needs
 
--- src/lib.rt:88:9
 enum-told : tie.Need-enum-told
 enum-told c = search needs
 
--- src/lib.rt:88:9
 same-length : tie.Need-same-length
 same-length c = search needs
 
--- src/lib.rt:88:9
 returns-2 : tie.Need-returns-2
 returns-2 c =
     let args = c .before .before .before .before .before .before .before .before .before .before .args in
@@ -51,19 +34,15 @@ returns-2 c =
       (tt, value-none (now (args .b)) (args .n) (now (args .t)) (args .m) (args .a) (args .e) (now (args .s)) (args .at) (if1 .left) (put-string .result) _ (put-string .ensures .1 .1) (c .enum-told .given .1)),
     )
 
--- src/lib.rt:90:9
 put-row-requires : tie.Need-put-row-requires
 put-row-requires c κs = search needs
 
--- src/lib.rt:68:1
 same-length-2 : tie.Need-same-length-2
 same-length-2 c = search needs
 
--- src/lib.rt:68:1
 same-length-3 : tie.Need-same-length-3
 same-length-3 c = search needs
 
--- src/lib.rt:68:1
 returns-3 : tie.Need-returns-3
 returns-3 c =
     let args = c .before .before .before .before .before .before .before .before .before .before .before .before .before .before .before .args in
@@ -84,14 +63,4 @@ returns-3 c =
 pub put-value-spec : {M : Type 1} → statement M
 put-value-spec =
     tie.close
-    (tie.spec
-    returns
-    put-string-requires
-    enum-known-k
-    enum-told
-    same-length
-    returns-2
-    put-row-requires
-    same-length-2
-    same-length-3
-    returns-3)
+    (tie.spec returns put-string-requires enum-known-k enum-told same-length returns-2 put-row-requires same-length-2 same-length-3 returns-3)

@@ -1,45 +1,25 @@
 use denote.Ref.{now}
-use native.Mathlib.Omega.{arith}
-use mathlib.Core.Path.{_≡_, refl, sym, ap, _∙_}
-use Prim.Native.Nat.{_≤_, _-_}
-use lib.ListN.{length}
-use borrow.Author.Tests.{not-true, not-false}
-use Rattle.text.proofs.Places.{turn-as}
-use Rattle.json_strings.specs.Decoded.{textAt}
-use Rattle.kept_strings.proofs.Putting.{puts-long, puts-within}
-use Rattle.kept_strings.proofs.Values.{value-over, value-none, value-one, value-rows, rows-in, stored-long, Going, going-first, from-wrong, from-on, from-all}
-use Rattle.kept_strings.proofs.Whole.{values-one, values-none, values-many, sole-one, sole-none, sole-many, sole-elem, no-group, group-full, group-in, group-other, group-is}
+use mathlib.Core.Path.{refl}
+use Rattle.kept_strings.proofs.Whole.{values-one, values-none, values-many}
 use borrow.Author.Needs.{needs}
 use Rattle.kept_strings.proofs.put_values.Statement.{statement}
 use Rattle.kept_strings.proofs.put_values.Tie as tie
-use Rattle.kept_strings.proofs.put_values.Reads as reads
-use Rattle.kept_strings.proofs.put_values.Lts as lts
-use Rattle.json_marks.proofs.skip_space.Reads as skip-space-reads
-use Rattle.kept_strings.proofs.put_elements.Reads as put-elements-reads
-use Rattle.kept_strings.proofs.put_value.Reads as put-value-reads
-use Rattle.text.proofs.look.Reads as look-reads
 
--- src/lib.rt:159:9
 skip-space-requires : tie.Need-skip-space-requires
 skip-space-requires c κs = search needs
 
--- src/lib.rt:160:8
 look-requires : tie.Need-look-requires
 look-requires c κs = search needs
 
--- src/lib.rt:161:9
 put-value-requires : tie.Need-put-value-requires
 put-value-requires c κs = search needs
 
--- src/lib.rt:161:9
 same-length : tie.Need-same-length
 same-length c = search needs
 
--- src/lib.rt:161:9
 same-length-2 : tie.Need-same-length-2
 same-length-2 c = search needs
 
--- src/lib.rt:161:9
 returns : tie.Need-returns
 returns c =
     let args = c .before .before .before .before .before .before .before .before .before .before .before .before .before .args in
@@ -51,19 +31,15 @@ returns c =
       (put-value .ensures .1 .0, values-one (now (args .b)) (args .n) (now (args .t)) (args .m) (args .a) (args .e) (now (args .s)) (args .at) (skip-space .result) (look .result) (skip-space .ensures) (look .ensures .0) (if1 .taken) (put-value .result) _ _ (put-value .ensures .1 .1)),
     )
 
--- src/lib.rt:163:27
 add-skip-space : tie.Need-add-skip-space
 add-skip-space c = search needs
 
--- src/lib.rt:163:9
 skip-space-requires-2 : tie.Need-skip-space-requires-2
 skip-space-requires-2 c κs = search needs
 
--- src/lib.rt:164:8
 look-requires-2 : tie.Need-look-requires-2
 look-requires-2 c κs = search needs
 
--- src/lib.rt:165:9
 returns-2 : tie.Need-returns-2
 returns-2 c =
     let args = c .before .before .before .before .before .before .before .before .before .args in
@@ -76,19 +52,15 @@ returns-2 c =
       (tt, values-none (now (args .b)) (args .n) (now (args .t)) (args .m) (args .a) (args .e) (now (args .s)) (args .at) (skip-space .result) (look .result) (skip-space .ensures) (look .ensures .0) (if1 .left) (skip-space2 .result) (look2 .result) (skip-space2 .ensures) (look2 .ensures .0) (c .if2 .taken)),
     )
 
--- src/lib.rt:167:5
 put-elements-requires : tie.Need-put-elements-requires
 put-elements-requires c κs = search needs
 
--- src/lib.rt:142:1
 same-length-3 : tie.Need-same-length-3
 same-length-3 c = search needs
 
--- src/lib.rt:142:1
 same-length-4 : tie.Need-same-length-4
 same-length-4 c = search needs
 
--- src/lib.rt:142:1
 returns-3 : tie.Need-returns-3
 returns-3 c =
     let args = c .before .before .before .before .before .before .before .before .before .before .before .before .before .before .before .before .args in
@@ -106,18 +78,5 @@ returns-3 c =
 pub put-values-spec : {M : Type 1} → statement M
 put-values-spec =
     tie.close
-    (tie.spec
-    skip-space-requires
-    look-requires
-    put-value-requires
-    same-length
-    same-length-2
-    returns
-    add-skip-space
-    skip-space-requires-2
-    look-requires-2
-    returns-2
-    put-elements-requires
-    same-length-3
-    same-length-4
-    returns-3)
+    (tie.spec skip-space-requires look-requires put-value-requires same-length same-length-2 returns add-skip-space skip-space-requires-2
+    look-requires-2 returns-2 put-elements-requires same-length-3 same-length-4 returns-3)

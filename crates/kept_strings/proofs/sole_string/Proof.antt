@@ -1,31 +1,19 @@
 use denote.Ref.{now}
-use native.Mathlib.Omega.{arith}
 use Rattle.text.proofs.Places.{turn-as}
 use Rattle.kept_strings.proofs.Whole.{sole-one, sole-none, sole-many, sole-elem}
 use borrow.Author.Needs.{needs}
 use Rattle.kept_strings.proofs.sole_string.Statement.{statement}
 use Rattle.kept_strings.proofs.sole_string.Tie as tie
-use Rattle.kept_strings.proofs.sole_string.Reads as reads
-use Rattle.kept_strings.proofs.sole_string.Lts as lts
-use Rattle.card_value.proofs.string_in.Reads as string-in-reads
-use Rattle.json_access.proofs.element_at.Reads as element-at-reads
-use Rattle.json_marks.proofs.separator.Reads as separator-reads
-use Rattle.json_marks.proofs.skip_space.Reads as skip-space-reads
-use Rattle.text.proofs.look.Reads as look-reads
 
--- src/lib.rt:175:9
 skip-space-requires : tie.Need-skip-space-requires
 skip-space-requires c κs = search needs
 
--- src/lib.rt:176:8
 look-requires : tie.Need-look-requires
 look-requires c κs = search needs
 
--- src/lib.rt:177:9
 string-in-requires : tie.Need-string-in-requires
 string-in-requires c κs = search needs
 
--- src/lib.rt:177:9
 returns : tie.Need-returns
 returns c =
     let args = c .before .before .before .before .before .args in
@@ -34,19 +22,15 @@ returns c =
     sole-one (now (args .s)) (args .at) (skip-space .result) (look .result) (skip-space .ensures) (look .ensures .0) (c .before .if1 .taken)
     (c .string-in .result) (c .string-in .ensures)
 
--- src/lib.rt:179:27
 add-skip-space : tie.Need-add-skip-space
 add-skip-space c = search needs
 
--- src/lib.rt:179:9
 skip-space-requires-2 : tie.Need-skip-space-requires-2
 skip-space-requires-2 c κs = search needs
 
--- src/lib.rt:180:8
 look-requires-2 : tie.Need-look-requires-2
 look-requires-2 c κs = search needs
 
--- src/lib.rt:181:9
 returns-2 : tie.Need-returns-2
 returns-2 c =
     let args = c .before .before .before .before .before .before .before .args in
@@ -58,19 +42,15 @@ returns-2 c =
     sole-none (now (args .s)) (args .at) (skip-space .result) (look .result) (skip-space .ensures) (look .ensures .0) (if1 .left)
     (skip-space2 .result) (look2 .result) (skip-space2 .ensures) (look2 .ensures .0) (c .if2 .taken)
 
--- src/lib.rt:183:9
 element-at-requires : tie.Need-element-at-requires
 element-at-requires c κs = search needs
 
--- src/lib.rt:186:11
 separator-requires : tie.Need-separator-requires
 separator-requires c κs = search needs
 
--- src/lib.rt:187:18
 enum-known-k : tie.Need-enum-known-k
 enum-known-k c = search needs
 
--- src/lib.rt:188:13
 returns-3 : tie.Need-returns-3
 returns-3 c =
     let args = c .before .before .before .before .before .before .before .before .before .before .before .before .args in
@@ -86,15 +66,12 @@ returns-3 c =
     (skip-space2 .result) (look2 .result) (skip-space2 .ensures) (look2 .ensures .0) (if2 .left) (element-at .result) (element-at .ensures .1) _
     (turn-as (separator .ensures) (c .before .k .given .1))
 
--- src/lib.rt:190:20
 enum-known-r : tie.Need-enum-known-r
 enum-known-r c = search needs
 
--- src/lib.rt:191:13
 string-in-requires-2 : tie.Need-string-in-requires-2
 string-in-requires-2 c κs = search needs
 
--- src/lib.rt:191:13
 returns-4 : tie.Need-returns-4
 returns-4 c =
     let args = c .before .before .before .before .before .before .before .before .before .before .before .before .before .args in
@@ -113,19 +90,5 @@ returns-4 c =
 pub sole-string-spec : {M : Type 1} → statement M
 sole-string-spec =
     tie.close
-    (tie.spec
-    skip-space-requires
-    look-requires
-    string-in-requires
-    returns
-    add-skip-space
-    skip-space-requires-2
-    look-requires-2
-    returns-2
-    element-at-requires
-    separator-requires
-    enum-known-k
-    returns-3
-    enum-known-r
-    string-in-requires-2
-    returns-4)
+    (tie.spec skip-space-requires look-requires string-in-requires returns add-skip-space skip-space-requires-2 look-requires-2 returns-2
+    element-at-requires separator-requires enum-known-k returns-3 enum-known-r string-in-requires-2 returns-4)

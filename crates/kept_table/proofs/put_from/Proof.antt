@@ -1,23 +1,13 @@
 use denote.Ref.{now}
 use native.Mathlib.Omega.{arith}
-use mathlib.Core.Path.{_≡_, refl, sym, ap, _∙_}
+use mathlib.Core.Path.{_≡_, refl, _∙_}
 use Prim.Native.Nat.{_≤_, _-_}
 use lib.ListN.{length}
 use borrow.Author.Needs.{needs}
-use borrow.Author.Tests.{not-true, not-false}
 use Rattle.text.proofs.Places.{turn-as}
-use Rattle.json_strings.specs.Decoded.{textAt}
-use Rattle.kept_strings.proofs.Putting.{puts-long}
-use Rattle.kept_strings.proofs.Values.{rows-in}
-use Rattle.kept_table.proofs.Params.{param-full, name-in, param-other, param-value, param-all, rows-lower, to-in}
-use Rattle.kept_table.proofs.Members.{step-in, member-again, member-nogroup, member-group, member-wrong, member-param, Going, going-first, from-bad, from-on, from-all, object-none, object-empty, object-all}
+use Rattle.kept_table.proofs.Members.{step-in, Going, going-first, from-bad, from-on, from-all}
 use Rattle.kept_table.proofs.put_from.Statement.{statement}
 use Rattle.kept_table.proofs.put_from.Tie as tie
-use Rattle.kept_table.proofs.put_from.Reads as reads
-use Rattle.kept_table.proofs.put_from.Lts as lts
-use Rattle.json_access.proofs.member_at.Reads as member-at-reads
-use Rattle.json_marks.proofs.separator.Reads as separator-reads
-use Rattle.kept_table.proofs.put_member.Reads as put-member-reads
 
 abbrev Inv-loop : tie.InvT-loop
 Inv-loop b₀ n t₀ s at i₀ f₀ b t i f = (i ≤ length s) × (f .end ≤ length b) × (length b ≡ length b₀) × (length t ≡ length t₀) × (n ≤ f .end) × (f .rows ≤ 64) × (f .count ≤ i) × Going b₀ n s at i f b t
@@ -25,7 +15,6 @@ Inv-loop b₀ n t₀ s at i₀ f₀ b t i f = (i ≤ length s) × (f .end ≤ le
 abbrev μ-loop : tie.MeasureT-loop
 μ-loop b₀ n t₀ s at i₀ f₀ b t i f = length s - i
 
--- src/lib.rt:130:5
 loop-holds : tie.Need-loop-holds Inv-loop μ-loop
 loop-holds c =
     let args = c .before .before .before .args in
@@ -40,11 +29,9 @@ loop-holds c =
       going-first (now (args .b)) (args .n) (now (args .t)) (now (args .s)) (args .at) (pre .0),
     )
 
--- src/lib.rt:131:13
 member-at-requires : tie.Need-member-at-requires Inv-loop μ-loop
 member-at-requires c κs = tt
 
--- src/lib.rt:135:27
 put-member-requires : tie.Need-put-member-requires Inv-loop μ-loop
 put-member-requires c κs =
     let pre = c .before .before .before .before .before .before .before .pre in
@@ -54,23 +41,18 @@ put-member-requires c κs =
       (omega (arith, loop .inv .3, pre .1 .0), (omega (arith, member-at .ensures .1 .0 .ordered, member-at .ensures .1 .0 .end-in), (omega (arith, loop .inv .6, loop .inv .0), loop .inv .5))),
     )
 
--- src/lib.rt:135:22
 enum-known-g : tie.Need-enum-known-g Inv-loop μ-loop
 enum-known-g c = search needs
 
--- src/lib.rt:136:13
 enum-told : tie.Need-enum-told Inv-loop μ-loop
 enum-told c = search needs
 
--- src/lib.rt:136:13
 same-length : tie.Need-same-length Inv-loop μ-loop
 same-length c = c .before .before .before .before .before .before .put-member .ensures .0 .long ∙ (c .before .before .before .before .before .before .before .before .before .before .loop .inv .2)
 
--- src/lib.rt:136:13
 same-length-2 : tie.Need-same-length-2 Inv-loop μ-loop
 same-length-2 c = c .before .before .before .before .before .before .put-member .ensures .0 .wide ∙ (c .before .before .before .before .before .before .before .before .before .before .loop .inv .3)
 
--- src/lib.rt:136:13
 returns : tie.Need-returns Inv-loop μ-loop
 returns c =
     let args = c .before .before .before .before .before .before .before .before .before .before .before .before .before .before .args in
@@ -81,15 +63,12 @@ returns c =
       (tt, from-bad (now (args .b)) (args .n) (now (args .s)) (args .at) (loop .i) (loop .f) (loop .b) (loop .t) (loop .inv .7) (member-at .result) (member-at .ensures .1 .1) (put-member .result) _ _ (put-member .ensures .1 .1) (c .enum-told .given .1) _ _),
     )
 
--- src/lib.rt:139:15
 separator-requires : tie.Need-separator-requires Inv-loop μ-loop
 separator-requires c κs = (c .before .before .before .before .before .before .before .before .before .before .member-at .ensures .1 .0 .end-in, omega arith)
 
--- src/lib.rt:140:22
 enum-known-j : tie.Need-enum-known-j Inv-loop μ-loop
 enum-known-j c = search needs
 
--- src/lib.rt:130:5
 loop-less : tie.Need-loop-less Inv-loop μ-loop
 loop-less c =
     let loop = c .before .before .before .before .before .before .before .before .before .before .before .before .before .before .before .loop in
@@ -98,7 +77,6 @@ loop-less c =
     let h = turn-as (separator .ensures) (c .before .j .given .1) in omega
     (arith, h .within .0, h .within .1, member-at .ensures .1 .0 .from (loop .inv .0), member-at .ensures .1 .0 .ordered)
 
--- src/lib.rt:130:5
 loop-again : tie.Need-loop-again Inv-loop μ-loop
 loop-again c =
     let args = c .before .before .before .before .before .before .before .before .before .before .before .before .before .before .before .before .before .before .before .args in
@@ -118,19 +96,15 @@ loop-again c =
       from-on (now (args .b)) (args .n) (now (args .s)) (args .at) (loop .i) (loop .f) (loop .b) (loop .t) (loop .inv .7) (member-at .result) (member-at .ensures .1 .1) (put-member .result) _ _ (put-member .ensures .1 .1) _ (g .given .1) _ h,
     )
 
--- src/lib.rt:143:24
 enum-known-r : tie.Need-enum-known-r Inv-loop μ-loop
 enum-known-r c = search needs
 
--- src/lib.rt:144:17
 same-length-3 : tie.Need-same-length-3 Inv-loop μ-loop
 same-length-3 c = c .before .before .before .before .before .before .before .before .before .before .before .put-member .ensures .0 .long ∙ (c .before .before .before .before .before .before .before .before .before .before .before .before .before .before .before .loop .inv .2)
 
--- src/lib.rt:144:17
 same-length-4 : tie.Need-same-length-4 Inv-loop μ-loop
 same-length-4 c = c .before .before .before .before .before .before .before .before .before .before .before .put-member .ensures .0 .wide ∙ (c .before .before .before .before .before .before .before .before .before .before .before .before .before .before .before .loop .inv .3)
 
--- src/lib.rt:144:17
 returns-2 : tie.Need-returns-2 Inv-loop μ-loop
 returns-2 c =
     let args = c .before .before .before .before .before .before .before .before .before .before .before .before .before .before .before .before .before .before .before .args in
@@ -152,22 +126,5 @@ returns-2 c =
 pub put-from-spec : {M : Type 1} → statement M
 put-from-spec =
     tie.close
-    (tie.spec
-    Inv-loop
-    μ-loop
-    loop-holds
-    member-at-requires
-    put-member-requires
-    enum-known-g
-    enum-told
-    same-length
-    same-length-2
-    returns
-    separator-requires
-    enum-known-j
-    loop-less
-    loop-again
-    enum-known-r
-    same-length-3
-    same-length-4
-    returns-2)
+    (tie.spec Inv-loop μ-loop loop-holds member-at-requires put-member-requires enum-known-g enum-told same-length same-length-2 returns
+    separator-requires enum-known-j loop-less loop-again enum-known-r same-length-3 same-length-4 returns-2)

@@ -1,42 +1,27 @@
 use denote.Ref.{now}
 use native.Mathlib.Omega.{arith}
-use mathlib.Core.Path.{_≡_, refl, sym, ap, _∙_}
-use Prim.Native.Nat.{_≤_, _-_}
+use mathlib.Core.Path.{refl, sym, _∙_}
 use lib.ListN.{length}
 use borrow.Author.Tests.{not-true, not-false}
-use Rattle.text.proofs.Places.{turn-as}
 use Rattle.json_strings.specs.Decoded.{textAt}
 use Rattle.kept_strings.proofs.Putting.{puts-long}
-use Rattle.kept_strings.proofs.Values.{rows-in}
-use Rattle.kept_table.proofs.Params.{param-full, name-in, param-other, param-value, param-all, rows-lower, to-in}
-use Rattle.kept_table.proofs.Members.{step-in, member-again, member-nogroup, member-group, member-wrong, member-param, Going, going-first, from-bad, from-on, from-all, object-none, object-empty, object-all}
+use Rattle.kept_table.proofs.Params.{param-full, name-in, param-other, param-value, param-all, rows-lower}
 use borrow.Author.Needs.{needs}
 use Rattle.kept_table.proofs.put_param.Statement.{statement}
 use Rattle.kept_table.proofs.put_param.Tie as tie
-use Rattle.kept_table.proofs.put_param.Reads as reads
-use Rattle.kept_table.proofs.put_param.Lts as lts
-use Rattle.json_strings.proofs.equals.Reads as equals-reads
-use Rattle.kept_strings.proofs.is_word.Reads as is-word-reads
-use Rattle.kept_strings.proofs.put_decoded.Reads as put-decoded-reads
-use Rattle.kept_strings.proofs.put_values.Reads as put-values-reads
 
--- src/lib.rt:51:22
 put-decoded-requires : tie.Need-put-decoded-requires
 put-decoded-requires c κs = search needs
 
--- src/lib.rt:51:17
 enum-known-k : tie.Need-enum-known-k
 enum-known-k c = search needs
 
--- src/lib.rt:52:9
 enum-told : tie.Need-enum-told
 enum-told c = search needs
 
--- src/lib.rt:52:9
 same-length : tie.Need-same-length
 same-length c = search needs
 
--- src/lib.rt:52:9
 returns : tie.Need-returns
 returns c =
     let args = c .before .before .before .before .before .before .before .before .before .args in
@@ -46,7 +31,6 @@ returns c =
       (tt, param-full (now (args .b)) (args .n) (now (args .t)) (args .m) (now (args .s)) (args .q) (args .at) (pre .0) (put-decoded .result) _ (put-decoded .ensures) (c .enum-told .given .1)),
     )
 
--- src/lib.rt:54:17
 sub-is-word : tie.Need-sub-is-word
 sub-is-word c =
     let args = c .before .before .before .before .before .before .before .before .before .before .args in
@@ -55,7 +39,6 @@ sub-is-word c =
     let g = name-in (now (args .b)) (args .n) (now (args .t)) (args .m) (now (args .s)) (args .q) (args .at) (pre .0) (put-decoded .result) _
     (put-decoded .ensures) _ (c .before .k .given .1) in omega (arith, g .to, g .within, g .long)
 
--- src/lib.rt:54:17
 part-is-word-start : tie.Need-part-is-word-start
 part-is-word-start c =
     let args = c .before .before .before .before .before .before .before .before .before .before .before .args in
@@ -64,7 +47,6 @@ part-is-word-start c =
     let g = name-in (now (args .b)) (args .n) (now (args .t)) (args .m) (now (args .s)) (args .q) (args .at) (pre .0) (put-decoded .result) _
     (put-decoded .ensures) _ (c .before .before .k .given .1) in omega (arith, g .to, g .within, g .long)
 
--- src/lib.rt:54:17
 part-is-word-end : tie.Need-part-is-word-end
 part-is-word-end c =
     let args = c .before .before .before .before .before .before .before .before .before .before .before .args in
@@ -73,15 +55,12 @@ part-is-word-end c =
     let g = name-in (now (args .b)) (args .n) (now (args .t)) (args .m) (now (args .s)) (args .q) (args .at) (pre .0) (put-decoded .result) _
     (put-decoded .ensures) _ (c .before .before .k .given .1) in omega (arith, g .to, g .within, g .long)
 
--- src/lib.rt:54:9
 is-word-requires : tie.Need-is-word-requires
 is-word-requires c κs = search needs
 
--- src/lib.rt:55:9
 same-length-2 : tie.Need-same-length-2
 same-length-2 c = search needs
 
--- src/lib.rt:55:9
 returns-2 : tie.Need-returns-2
 returns-2 c =
     let args = c .before .before .before .before .before .before .before .before .before .before .before .before .before .before .args in
@@ -92,19 +71,15 @@ returns-2 c =
       (tt, param-other (now (args .b)) (args .n) (now (args .t)) (args .m) (now (args .s)) (args .q) (args .at) (pre .0) (put-decoded .result) _ (put-decoded .ensures) _ (k .given .1) (sym (c .before .is-word .ensures) ∙ not-true _ (c .if1 .taken))),
     )
 
--- src/lib.rt:57:21
 slice-aggregate-equals : tie.Need-slice-aggregate-equals
 slice-aggregate-equals c = search needs
 
--- src/lib.rt:57:8
 equals-requires : tie.Need-equals-requires
 equals-requires c κs = search needs
 
--- src/lib.rt:58:9
 same-length-3 : tie.Need-same-length-3
 same-length-3 c = search needs
 
--- src/lib.rt:58:9
 returns-3 : tie.Need-returns-3
 returns-3 c =
     let pre = c .before .before .before .before .before .before .before .before .before .before .before .before .before .before .before .before .before .pre in
@@ -115,7 +90,6 @@ returns-3 c =
       (tt, param-value (now (args .b)) (args .n) (now (args .t)) (args .m) (now (args .s)) (args .q) (args .at) (pre .0) (put-decoded .result) _ (put-decoded .ensures) _ (k .given .1) (sym (c .before .equals .ensures) ∙ (c .if2 .taken))),
     )
 
--- src/lib.rt:60:5
 put-values-requires : tie.Need-put-values-requires
 put-values-requires c κs =
     let args = c .before .before .before .before .before .before .before .before .before .before .before .before .before .before .before .before .before .before .before .args in
@@ -125,15 +99,12 @@ put-values-requires c κs =
     let g = name-in (now (args .b)) (args .n) (now (args .t)) (args .m) (now (args .s)) (args .q) (args .at) (pre .0) (put-decoded .result) _
     (put-decoded .ensures) _ (k .given .1) in (omega (arith, g .within, g .long), (pre .1 .0, pre .1 .1))
 
--- src/lib.rt:35:1
 same-length-4 : tie.Need-same-length-4
 same-length-4 c = search needs
 
--- src/lib.rt:35:1
 same-length-5 : tie.Need-same-length-5
 same-length-5 c = search needs
 
--- src/lib.rt:35:1
 returns-4 : tie.Need-returns-4
 returns-4 c =
     let args = c .before .before .before .before .before .before .before .before .before .before .before .before .before .before .before .before .before .before .before .before .before .before .before .before .args in
@@ -159,23 +130,5 @@ returns-4 c =
 pub put-param-spec : {M : Type 1} → statement M
 put-param-spec =
     tie.close
-    (tie.spec
-    put-decoded-requires
-    enum-known-k
-    enum-told
-    same-length
-    returns
-    sub-is-word
-    part-is-word-start
-    part-is-word-end
-    is-word-requires
-    same-length-2
-    returns-2
-    slice-aggregate-equals
-    equals-requires
-    same-length-3
-    returns-3
-    put-values-requires
-    same-length-4
-    same-length-5
-    returns-4)
+    (tie.spec put-decoded-requires enum-known-k enum-told same-length returns sub-is-word part-is-word-start part-is-word-end is-word-requires
+    same-length-2 returns-2 slice-aggregate-equals equals-requires same-length-3 returns-3 put-values-requires same-length-4 same-length-5 returns-4)

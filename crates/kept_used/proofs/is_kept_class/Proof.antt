@@ -133,33 +133,6 @@ returns-10 c =
 pub is-kept-class-spec : {M : Type 1} → statement M
 is-kept-class-spec =
     tie.close
-    (tie.spec
-    enum-told
-    enum-told-2
-    enum-told-3
-    enum-told-4
-    enum-told-5
-    enum-told-6
-    enum-told-7
-    enum-known-class
-    enum-known-class-2
-    sub-id-used
-    part-id-used-start
-    part-id-used-end
-    id-used-requires
-    enum-known-class-3
-    sub-pointer-used
-    part-pointer-used-start
-    part-pointer-used-end
-    pointer-used-requires
-    returns
-    returns-2
-    returns-3
-    returns-4
-    returns-5
-    returns-6
-    returns-7
-    returns-8
-    returns-9
-    same-length
-    returns-10)
+    (tie.spec enum-told enum-told-2 enum-told-3 enum-told-4 enum-told-5 enum-told-6 enum-told-7 enum-known-class enum-known-class-2 sub-id-used
+    part-id-used-start part-id-used-end id-used-requires enum-known-class-3 sub-pointer-used part-pointer-used-start part-pointer-used-end
+    pointer-used-requires returns returns-2 returns-3 returns-4 returns-5 returns-6 returns-7 returns-8 returns-9 same-length returns-10)

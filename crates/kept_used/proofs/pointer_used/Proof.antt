@@ -50,15 +50,5 @@ returns-2 c =
 pub pointer-used-spec : {M : Type 1} → statement M
 pointer-used-spec =
     tie.close
-    (tie.spec
-    read-pointer-requires
-    enum-known-n
-    enum-told
-    same-length
-    returns
-    sub-has-name
-    part-has-name-start
-    part-has-name-end
-    has-name-requires
-    same-length-2
-    returns-2)
+    (tie.spec read-pointer-requires enum-known-n enum-told same-length returns sub-has-name part-has-name-start part-has-name-end has-name-requires
+    same-length-2 returns-2)

@@ -40,15 +40,5 @@ returns-4 c = search needs
 pub in-run-spec : {M : Type 1} → statement M
 in-run-spec =
     tie.close
-    (tie.spec
-    enum-told
-    is-name-requires
-    enum-told-2
-    is-bare-requires
-    enum-told-3
-    is-quotable-requires
-    in-class-requires
-    returns
-    returns-2
-    returns-3
+    (tie.spec enum-told is-name-requires enum-told-2 is-bare-requires enum-told-3 is-quotable-requires in-class-requires returns returns-2 returns-3
     returns-4)

@@ -1,4 +1,3 @@
-use Prim.Native.Nat.{_-_}
 use mathlib.Core.Path.{sym, _∙_}
 use borrow.Author.Needs.{needs}
 use borrow.Author.Tests.{not-true, not-false}
@@ -59,16 +58,5 @@ returns-4 c =
 pub frame-of-spec : {M : Type 1} → statement M
 frame-of-spec =
     tie.close
-    (tie.spec
-    returns
-    next-line-requires
-    sub-is-begin
-    part-is-begin-start
-    part-is-begin-end
-    is-begin-requires
-    returns-2
-    end-from-requires
-    enum-known-stop
-    enum-told
-    returns-3
-    returns-4)
+    (tie.spec returns next-line-requires sub-is-begin part-is-begin-start part-is-begin-end is-begin-requires returns-2 end-from-requires
+    enum-known-stop enum-told returns-3 returns-4)

@@ -5,11 +5,6 @@ use Rattle.line_table.proofs.Filling.{param-unnamed, param-other, param
 use borrow.Author.Needs.{needs}
 use Rattle.line_table.proofs.fill_param.Statement.{statement}
 use Rattle.line_table.proofs.fill_param.Tie as tie
-use Rattle.line_table.proofs.fill_param.Reads as reads
-use Rattle.line_table.proofs.fill_param.Lts as lts
-use Rattle.line_class.proofs.run_end.Reads as run-end-reads
-use Rattle.line_table.proofs.fill_values.Reads as fill-values-reads
-use Rattle.text.proofs.look.Reads as look-reads
 
 run-end-requires : tie.Need-run-end-requires
 run-end-requires c κs = search needs
@@ -52,12 +47,4 @@ returns-3 c =
 pub fill-param-spec : {M : Type 1} → statement M
 fill-param-spec =
     tie.close
-    (tie.spec
-    run-end-requires
-    returns
-    look-requires
-    returns-2
-    add-fill-values
-    fill-values-requires
-    same-length
-    returns-3)
+    (tie.spec run-end-requires returns look-requires returns-2 add-fill-values fill-values-requires same-length returns-3)

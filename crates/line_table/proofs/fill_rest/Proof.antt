@@ -4,11 +4,6 @@ use Rattle.line_table.proofs.Filling.{frame-refused, params-refused, li
 use borrow.Author.Needs.{needs}
 use Rattle.line_table.proofs.fill_rest.Statement.{statement}
 use Rattle.line_table.proofs.fill_rest.Tie as tie
-use Rattle.line_table.proofs.fill_rest.Reads as reads
-use Rattle.line_table.proofs.fill_rest.Lts as lts
-use Rattle.line_scan.proofs.is_frame_name.Reads as is-frame-name-reads
-use Rattle.line_table.proofs.fill_params.Reads as fill-params-reads
-use Rattle.line_table.proofs.put_head.Reads as put-head-reads
 
 sub-is-frame-name : tie.Need-sub-is-frame-name
 sub-is-frame-name c = search needs
@@ -67,17 +62,5 @@ returns-3 c =
 pub fill-rest-spec : {M : Type 1} → statement M
 fill-rest-spec =
     tie.close
-    (tie.spec
-    sub-is-frame-name
-    part-is-frame-name-start
-    part-is-frame-name-end
-    is-frame-name-requires
-    returns
-    fill-params-requires
-    enum-known-value
-    enum-told
-    same-length
-    returns-2
-    put-head-requires
-    same-length-2
-    returns-3)
+    (tie.spec sub-is-frame-name part-is-frame-name-start part-is-frame-name-end is-frame-name-requires returns fill-params-requires enum-known-value
+    enum-told same-length returns-2 put-head-requires same-length-2 returns-3)

@@ -1,4 +1,3 @@
-use Prim.Native.Nat.{_-_}
 use borrow.Author.Needs.{needs}
 use denote.Ref.{now}
 use Rattle.line.specs.Text.{escaped}
@@ -47,13 +46,4 @@ returns-7 c =
 pub escaped-char-spec : {M : Type 1} → statement M
 escaped-char-spec =
     tie.close
-    (tie.spec
-    returns
-    shared-slice-read-c
-    add-e
-    returns-2
-    returns-3
-    returns-4
-    returns-5
-    returns-6
-    returns-7)
+    (tie.spec returns shared-slice-read-c add-e returns-2 returns-3 returns-4 returns-5 returns-6 returns-7)

@@ -1,4 +1,3 @@
-use Prim.Native.Nat.{_-_}
 use mathlib.Core.Path.{sym, ap}
 use borrow.Author.Needs.{needs}
 use Rattle.line.specs.Text.{escape}
@@ -82,23 +81,6 @@ returns-5 c =
 pub put-escape-spec : {M : Type 1} → statement M
 put-escape-spec =
     tie.close
-    (tie.spec
-    slice-aggregate-put-text
-    put-text-requires
-    same-length
-    returns
-    slice-aggregate-put-text-2
-    put-text-requires-2
-    same-length-2
-    returns-2
-    slice-aggregate-put-text-3
-    put-text-requires-3
-    same-length-3
-    returns-3
-    slice-aggregate-put-text-4
-    put-text-requires-4
-    same-length-4
-    returns-4
-    put-byte-requires
-    same-length-5
-    returns-5)
+    (tie.spec slice-aggregate-put-text put-text-requires same-length returns slice-aggregate-put-text-2 put-text-requires-2 same-length-2 returns-2
+    slice-aggregate-put-text-3 put-text-requires-3 same-length-3 returns-3 slice-aggregate-put-text-4 put-text-requires-4 same-length-4 returns-4
+    put-byte-requires same-length-5 returns-5)

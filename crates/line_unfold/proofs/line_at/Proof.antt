@@ -1,4 +1,4 @@
-use Prim.Native.Nat.{_+_, _-_}
+use Prim.Native.Nat.{_+_}
 use native.Mathlib.Omega.{arith}
 use borrow.Author.Needs.{needs}
 use borrow.Author.Tests.{lt-ltb, le-ltb, le-leb, lt-leb}
@@ -91,29 +91,6 @@ returns-5 c = rw (lt-leb (length (now (c .before .before .before .before .before
 pub line-at-spec : {M : Type 1} → statement M
 line-at-spec =
     tie.close
-    (tie.spec
-    sub-result
-    part-result-start
-    part-result-end
-    returns
-    sub-if2
-    sub-result-2
-    part-result-start-2
-    part-result-end-2
-    returns-2
-    mul-a
-    shared-slice-read-a
-    add-b
-    mul-b
-    shared-slice-read-b
-    sub-result-3
-    part-result-start-3
-    part-result-end-3
-    returns-3
-    sub-result-4
-    part-result-start-4
-    part-result-end-4
-    returns-4
-    part-result-start-5
-    part-result-end-5
-    returns-5)
+    (tie.spec sub-result part-result-start part-result-end returns sub-if2 sub-result-2 part-result-start-2 part-result-end-2 returns-2 mul-a
+    shared-slice-read-a add-b mul-b shared-slice-read-b sub-result-3 part-result-start-3 part-result-end-3 returns-3 sub-result-4 part-result-start-4
+    part-result-end-4 returns-4 part-result-start-5 part-result-end-5 returns-5)

@@ -124,21 +124,6 @@ returns-2 c =
 pub has-name-spec : {M : Type 1} → statement M
 has-name-spec =
     tie.close
-    (tie.spec
-    has-walked-requires
-    returns
-    mul-a
-    shared-slice-read-a
-    add-e
-    mul-e
-    shared-slice-read-e
-    mul-is-key-noted
-    sub-is-key-noted
-    part-is-key-noted-start
-    part-is-key-noted-end
-    mul-is-key-noted-2
-    sub-is-key-noted-2
-    part-is-key-noted-start-2
-    part-is-key-noted-end-2
-    is-key-noted-requires
-    returns-2)
+    (tie.spec has-walked-requires returns mul-a shared-slice-read-a add-e mul-e shared-slice-read-e mul-is-key-noted sub-is-key-noted
+    part-is-key-noted-start part-is-key-noted-end mul-is-key-noted-2 sub-is-key-noted-2 part-is-key-noted-start-2 part-is-key-noted-end-2
+    is-key-noted-requires returns-2)

@@ -40,12 +40,4 @@ returns-3 c =
 pub has-walked-spec : {M : Type 1} → statement M
 has-walked-spec =
     tie.close
-    (tie.spec
-    has-member-requires
-    returns
-    add-k
-    mul-at
-    shared-slice-read-at
-    returns-2
-    has-member-requires-2
-    returns-3)
+    (tie.spec has-member-requires returns add-k mul-at shared-slice-read-at returns-2 has-member-requires-2 returns-3)

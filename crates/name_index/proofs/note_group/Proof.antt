@@ -57,16 +57,5 @@ returns-3 c =
 pub note-group-spec : {M : Type 1} → statement M
 note-group-spec =
     tie.close
-    (tie.spec
-    note-names-requires
-    same-length
-    same-length-2
-    returns
-    add-k
-    mul-at
-    shared-slice-read-at
-    returns-2
-    note-names-requires-2
-    same-length-3
-    same-length-4
-    returns-3)
+    (tie.spec note-names-requires same-length same-length-2 returns add-k mul-at shared-slice-read-at returns-2 note-names-requires-2 same-length-3
+    same-length-4 returns-3)

@@ -143,33 +143,6 @@ returns-2 c =
 pub note-groups-spec : {M : Type 1} → statement M
 note-groups-spec =
     tie.close
-    (tie.spec
-    Inv-loop
-    μ-loop
-    slice-write-ends
-    loop-holds
-    mul-note-group
-    sub-note-group
-    part-note-group-start
-    part-note-group-end
-    mul-note-group-2
-    sub-note-group-2
-    part-note-group-start-2
-    part-note-group-end-2
-    note-group-requires
-    enum-known-k
-    enum-told
-    same-length
-    same-length-2
-    same-length-3
-    returns
-    add-n
-    add-i
-    mul-ends
-    slice-write-ends-2
-    loop-less
-    loop-again
-    same-length-4
-    same-length-5
-    same-length-6
-    returns-2)
+    (tie.spec Inv-loop μ-loop slice-write-ends loop-holds mul-note-group sub-note-group part-note-group-start part-note-group-end mul-note-group-2
+    sub-note-group-2 part-note-group-start-2 part-note-group-end-2 note-group-requires enum-known-k enum-told same-length same-length-2 same-length-3
+    returns add-n add-i mul-ends slice-write-ends-2 loop-less loop-again same-length-4 same-length-5 same-length-6 returns-2)

@@ -51,17 +51,5 @@ returns-4 c =
 pub note-name-spec : {M : Type 1} → statement M
 note-name-spec =
     tie.close
-    (tie.spec
-    returns
-    returns-2
-    print-from-requires
-    returns-3
-    cast-places
-    mul-places
-    slice-write-places
-    cast-prints
-    mul-prints
-    slice-write-prints
-    same-length
-    same-length-2
-    returns-4)
+    (tie.spec returns returns-2 print-from-requires returns-3 cast-places mul-places slice-write-places cast-prints mul-prints slice-write-prints
+    same-length same-length-2 returns-4)

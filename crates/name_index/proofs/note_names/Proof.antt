@@ -98,21 +98,5 @@ loop-again c =
 pub note-names-spec : {M : Type 1} → statement M
 note-names-spec =
     tie.close
-    (tie.spec
-    Inv-loop
-    μ-loop
-    first-member-requires
-    loop-holds
-    enum-known-m
-    same-length
-    same-length-2
-    returns
-    note-name-requires
-    same-length-3
-    same-length-4
-    returns-2
-    add-k
-    skip-value-requires
-    next-member-requires
-    loop-less
-    loop-again)
+    (tie.spec Inv-loop μ-loop first-member-requires loop-holds enum-known-m same-length same-length-2 returns note-name-requires same-length-3
+    same-length-4 returns-2 add-k skip-value-requires next-member-requires loop-less loop-again)

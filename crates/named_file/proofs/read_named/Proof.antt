@@ -62,23 +62,6 @@ returns-3 c = search needs
 pub read-named-spec : {M : Type 1} → statement M
 read-named-spec =
     tie.close
-    (tie.spec
-    arg-requires
-    errno-requires
-    slice-aggregate-fail
-    fail-requires
-    same-length
-    returns
-    slice-reshare-prefix-open-read
-    slice-aggregate-open-read
-    open-read-requires
-    slice-reshare-prefix-fail
-    slice-aggregate-fail-2
-    fail-requires-2
-    same-length-2
-    returns-2
-    read-full-requires
-    close-requires
-    same-length-3
-    same-length-4
-    returns-3)
+    (tie.spec arg-requires errno-requires slice-aggregate-fail fail-requires same-length returns slice-reshare-prefix-open-read
+    slice-aggregate-open-read open-read-requires slice-reshare-prefix-fail slice-aggregate-fail-2 fail-requires-2 same-length-2 returns-2
+    read-full-requires close-requires same-length-3 same-length-4 returns-3)

@@ -37,12 +37,4 @@ returns-3 c =
 pub put-served-spec : {M : Type 1} → statement M
 put-served-spec =
     tie.close
-    (tie.spec
-    returns
-    put-text-requires
-    enum-known-k
-    enum-told
-    same-length
-    returns-2
-    same-length-2
-    returns-3)
+    (tie.spec returns put-text-requires enum-known-k enum-told same-length returns-2 same-length-2 returns-3)

@@ -48,15 +48,5 @@ returns-3 c =
 pub say-spec : {M : Type 1} → statement M
 say-spec =
     tie.close
-    (tie.spec
-    enum-told
-    enum-known-event
-    enum-known-event-2
-    sub-card-to-json
-    part-card-to-json-start
-    part-card-to-json-end
-    card-to-json-requires
-    returns
-    returns-2
-    same-length
-    returns-3)
+    (tie.spec enum-told enum-known-event enum-known-event-2 sub-card-to-json part-card-to-json-start part-card-to-json-end card-to-json-requires
+    returns returns-2 same-length returns-3)

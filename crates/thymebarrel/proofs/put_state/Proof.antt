@@ -57,18 +57,5 @@ returns-2 c =
 pub put-state-spec : {M : Type 1} → statement M
 put-state-spec =
     tie.close
-    (tie.spec
-    returns
-    slice-write-row
-    bit-of-requires
-    slice-write-row-2
-    slice-write-row-3
-    slice-write-row-4
-    bit-of-requires-2
-    slice-write-row-5
-    bit-of-requires-3
-    slice-write-row-6
-    bit-of-requires-4
-    slice-write-row-7
-    same-length
-    returns-2)
+    (tie.spec returns slice-write-row bit-of-requires slice-write-row-2 slice-write-row-3 slice-write-row-4 bit-of-requires-2 slice-write-row-5
+    bit-of-requires-3 slice-write-row-6 bit-of-requires-4 slice-write-row-7 same-length returns-2)

@@ -34,13 +34,5 @@ returns-2 c = row-read (now (c .before .before .before .before .before .before .
 pub state-in-spec : {M : Type 1} → statement M
 state-in-spec =
     tie.close
-    (tie.spec
-    returns
-    shared-slice-read-t2
-    shared-slice-read-t6
-    shared-slice-read-t8
-    shared-slice-read-t10
-    shared-slice-read-t12
-    shared-slice-read-t16
-    shared-slice-read-t20
-    returns-2)
+    (tie.spec returns shared-slice-read-t2 shared-slice-read-t6 shared-slice-read-t8 shared-slice-read-t10 shared-slice-read-t12 shared-slice-read-t16
+    shared-slice-read-t20 returns-2)

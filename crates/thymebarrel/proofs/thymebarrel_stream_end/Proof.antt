@@ -34,11 +34,4 @@ returns c =
 pub thymebarrel-stream-end-spec : {M : Type 1} → statement M
 thymebarrel-stream-end-spec =
     tie.close
-    (tie.spec
-    state-in-requires
-    end-requires
-    tell-call-requires
-    same-length
-    same-length-2
-    same-length-3
-    returns)
+    (tie.spec state-in-requires end-requires tell-call-requires same-length same-length-2 same-length-3 returns)

@@ -34,11 +34,4 @@ returns c =
 pub thymebarrel-stream-step-spec : {M : Type 1} → statement M
 thymebarrel-stream-step-spec =
     tie.close
-    (tie.spec
-    state-in-requires
-    step-requires
-    tell-call-requires
-    same-length
-    same-length-2
-    same-length-3
-    returns)
+    (tie.spec state-in-requires step-requires tell-call-requires same-length same-length-2 same-length-3 returns)

@@ -14,11 +14,6 @@ use Rattle.to_card_card.proofs.Joining.{few-at}
 use Rattle.to_card_card.proofs.Steps.{body-first, body-second, body-all}
 use Rattle.to_card_card.proofs.put_body.Statement.{statement}
 use Rattle.to_card_card.proofs.put_body.Tie as tie
-use Rattle.to_card_card.proofs.put_body.Reads as reads
-use Rattle.to_card_card.proofs.put_body.Lts as lts
-use Rattle.to_card_card.proofs.put_rest.Reads as put-rest-reads
-use Rattle.to_card_card.proofs.up_to.Reads as up-to-reads
-use Rattle.to_card_name.proofs.put_name.Reads as put-name-reads
 
 shared-slice-read-name : tie.Need-shared-slice-read-name
 shared-slice-read-name c = search needs
@@ -173,32 +168,6 @@ returns-3 c =
 pub put-body-spec : {M : Type 1} → statement M
 put-body-spec =
     tie.close
-    (tie.spec
-    shared-slice-read-name
-    put-name-requires
-    enum-known-n
-    enum-told
-    same-length
-    returns
-    sub-put-rest
-    part-put-rest-start
-    part-put-rest-end
-    put-rest-requires
-    enum-known-m
-    enum-told-2
-    same-length-2
-    same-length-3
-    same-length-4
-    same-length-5
-    same-length-6
-    returns-2
-    add-bytes
-    up-to-requires
-    add-up-to
-    up-to-requires-2
-    same-length-7
-    same-length-8
-    same-length-9
-    same-length-10
-    same-length-11
-    returns-3)
+    (tie.spec shared-slice-read-name put-name-requires enum-known-n enum-told same-length returns sub-put-rest part-put-rest-start part-put-rest-end
+    put-rest-requires enum-known-m enum-told-2 same-length-2 same-length-3 same-length-4 same-length-5 same-length-6 returns-2 add-bytes
+    up-to-requires add-up-to up-to-requires-2 same-length-7 same-length-8 same-length-9 same-length-10 same-length-11 returns-3)

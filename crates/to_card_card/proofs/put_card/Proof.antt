@@ -231,41 +231,7 @@ returns-3 c =
 pub put-card-spec : {M : Type 1} → statement M
 put-card-spec =
     tie.close
-    (tie.spec
-    shared-slice-read-card
-    shared-slice-read-version
-    shared-slice-read-uid
-    shared-slice-read-kind
-    put-head-requires
-    enum-known-n
-    enum-told
-    same-length
-    returns
-    sub-put-body
-    part-put-body-start
-    part-put-body-end
-    put-body-requires
-    enum-known-m
-    enum-told-2
-    same-length-2
-    same-length-3
-    same-length-4
-    same-length-5
-    same-length-6
-    returns-2
-    add-e
-    sub-fill
-    part-fill-start
-    part-fill-end
-    slice-aggregate-fill
-    fill-requires
-    add-bytes
-    up-to-requires
-    add-up-to
-    up-to-requires-2
-    same-length-7
-    same-length-8
-    same-length-9
-    same-length-10
-    same-length-11
-    returns-3)
+    (tie.spec shared-slice-read-card shared-slice-read-version shared-slice-read-uid shared-slice-read-kind put-head-requires enum-known-n enum-told
+    same-length returns sub-put-body part-put-body-start part-put-body-end put-body-requires enum-known-m enum-told-2 same-length-2 same-length-3
+    same-length-4 same-length-5 same-length-6 returns-2 add-e sub-fill part-fill-start part-fill-end slice-aggregate-fill fill-requires add-bytes
+    up-to-requires add-up-to up-to-requires-2 same-length-7 same-length-8 same-length-9 same-length-10 same-length-11 returns-3)

@@ -5,10 +5,6 @@ use Rattle.to_card_head.proofs.Slots.{filled-absent, filled-there, test
 use borrow.Author.Needs.{needs}
 use Rattle.to_card_head.proofs.filled_in.Statement.{statement}
 use Rattle.to_card_head.proofs.filled_in.Tie as tie
-use Rattle.to_card_head.proofs.filled_in.Reads as reads
-use Rattle.to_card_head.proofs.filled_in.Lts as lts
-use Rattle.card_value.proofs.string_in.Reads as string-in-reads
-use Rattle.to_card_head.proofs.is_filled.Reads as is-filled-reads
 
 returns : tie.Need-returns
 returns c = filled-absent (now (c .before .before .args .s)) (c .before .before .args .slot) (c .if1 .taken)

@@ -3,9 +3,6 @@ use Rattle.to_card_head.proofs.Words.{filled-past, filled-alone, filled
 use borrow.Author.Needs.{needs}
 use Rattle.to_card_head.proofs.is_filled.Statement.{statement}
 use Rattle.to_card_head.proofs.is_filled.Tie as tie
-use Rattle.to_card_head.proofs.is_filled.Reads as reads
-use Rattle.to_card_head.proofs.is_filled.Lts as lts
-use Rattle.card_pen.proofs.byte_at.Reads as byte-at-reads
 
 returns : tie.Need-returns
 returns c = filled-past (now (c .before .before .args .s)) (c .before .before .args .at) (c .if1 .taken)
@@ -34,12 +31,4 @@ returns-4 c = filled-one (now (c .before .before .before .before .before .before
 pub is-filled-spec : {M : Type 1} → statement M
 is-filled-spec =
     tie.close
-    (tie.spec
-    returns
-    byte-at-requires
-    enum-told
-    enum-told-2
-    enum-known-b
-    returns-2
-    returns-3
-    returns-4)
+    (tie.spec returns byte-at-requires enum-told enum-told-2 enum-known-b returns-2 returns-3 returns-4)

@@ -1,20 +1,13 @@
 use denote.Ref.{now}
-use mathlib.Core.Path.{refl, subst, _≡_}
+use mathlib.Core.Path.{refl, subst}
 use Prim.Native.Nat.{ℕ}
 use Rattle.text.proofs.Cases.{not-true, not-false}
-use Rattle.to_card_lines.proofs.Laws.{fills-in, fills-length, begun, onto, row-fits, row-in}
+use Rattle.to_card_lines.proofs.Laws.{fills-in, fills-length, begun, onto, row-fits}
 use Rattle.to_card_head.specs.Head.{FilledIn, WordIn}
 use Rattle.to_card_head.proofs.Head.{no-card, no-version, no-uid, no-kind, head-plain, kind-row, head-kind}
 use borrow.Author.Needs.{needs}
 use Rattle.to_card_head.proofs.put_head.Statement.{statement}
 use Rattle.to_card_head.proofs.put_head.Tie as tie
-use Rattle.to_card_head.proofs.put_head.Reads as reads
-use Rattle.to_card_head.proofs.put_head.Lts as lts
-use Rattle.to_card_head.proofs.filled_in.Reads as filled-in-reads
-use Rattle.to_card_head.proofs.holds.Reads as holds-reads
-use Rattle.to_card_head.proofs.put_start.Reads as put-start-reads
-use Rattle.to_card_head.proofs.word_in.Reads as word-in-reads
-use Rattle.to_card_lines.proofs.put_string_line.Reads as put-string-line-reads
 
 slice-aggregate-holds : tie.Need-slice-aggregate-holds
 slice-aggregate-holds c = search needs
@@ -149,26 +142,6 @@ returns-6 c =
 pub put-head-spec : {M : Type 1} → statement M
 put-head-spec =
     tie.close
-    (tie.spec
-    slice-aggregate-holds
-    holds-requires
-    returns
-    slice-aggregate-holds-2
-    holds-requires-2
-    returns-2
-    filled-in-requires
-    returns-3
-    put-start-requires
-    same-length
-    returns-4
-    word-in-requires
-    returns-5
-    put-start-requires-2
-    sub-put-string-line
-    part-put-string-line-start
-    part-put-string-line-end
-    slice-aggregate-put-string-line
-    put-string-line-requires
-    add-m
-    same-length-2
-    returns-6)
+    (tie.spec slice-aggregate-holds holds-requires returns slice-aggregate-holds-2 holds-requires-2 returns-2 filled-in-requires returns-3
+    put-start-requires same-length returns-4 word-in-requires returns-5 put-start-requires-2 sub-put-string-line part-put-string-line-start
+    part-put-string-line-end slice-aggregate-put-string-line put-string-line-requires add-m same-length-2 returns-6)

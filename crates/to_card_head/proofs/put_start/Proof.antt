@@ -3,10 +3,6 @@ use Rattle.to_card_head.proofs.Head.{starts}
 use borrow.Author.Needs.{needs}
 use Rattle.to_card_head.proofs.put_start.Statement.{statement}
 use Rattle.to_card_head.proofs.put_start.Tie as tie
-use Rattle.to_card_head.proofs.put_start.Reads as reads
-use Rattle.to_card_head.proofs.put_start.Lts as lts
-use Rattle.line_pen.proofs.fill.Reads as fill-reads
-use Rattle.to_card_lines.proofs.put_string_line.Reads as put-string-line-reads
 
 slice-aggregate-fill : tie.Need-slice-aggregate-fill
 slice-aggregate-fill c = search needs
@@ -45,14 +41,5 @@ returns c =
 pub put-start-spec : {M : Type 1} → statement M
 put-start-spec =
     tie.close
-    (tie.spec
-    slice-aggregate-fill
-    fill-requires
-    sub-put-string-line
-    part-put-string-line-start
-    part-put-string-line-end
-    slice-aggregate-put-string-line
-    put-string-line-requires
-    add-m
-    same-length
-    returns)
+    (tie.spec slice-aggregate-fill fill-requires sub-put-string-line part-put-string-line-start part-put-string-line-end
+    slice-aggregate-put-string-line put-string-line-requires add-m same-length returns)

@@ -53,16 +53,5 @@ returns c =
 pub is-kept-line-spec : {M : Type 1} → statement M
 is-kept-line-spec =
     tie.close
-    (tie.spec
-    slice-aggregate-scan-rows
-    slice-aggregate-scan-rows-2
-    slice-aggregate-scan-rows-3
-    scan-rows-requires
-    slice-aggregate-class-line
-    slice-aggregate-class-line-2
-    slice-aggregate-class-line-3
-    class-line-requires
-    questions-requires
-    is-kept-class-requires
-    same-length
-    returns)
+    (tie.spec slice-aggregate-scan-rows slice-aggregate-scan-rows-2 slice-aggregate-scan-rows-3 scan-rows-requires slice-aggregate-class-line
+    slice-aggregate-class-line-2 slice-aggregate-class-line-3 class-line-requires questions-requires is-kept-class-requires same-length returns)

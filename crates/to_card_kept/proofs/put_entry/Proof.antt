@@ -126,25 +126,6 @@ returns-4 c =
 pub put-entry-spec : {M : Type 1} → statement M
 put-entry-spec =
     tie.close
-    (tie.spec
-    fill-kept-requires
-    enum-known-end
-    enum-told
-    same-length
-    same-length-2
-    returns
-    is-sound-requires
-    same-length-3
-    same-length-4
-    returns-2
-    is-kept-line-requires
-    same-length-5
-    same-length-6
-    same-length-7
-    returns-3
-    put-kept-line-requires
-    same-length-8
-    same-length-9
-    same-length-10
-    same-length-11
-    returns-4)
+    (tie.spec fill-kept-requires enum-known-end enum-told same-length same-length-2 returns is-sound-requires same-length-3 same-length-4 returns-2
+    is-kept-line-requires same-length-5 same-length-6 same-length-7 returns-3 put-kept-line-requires same-length-8 same-length-9 same-length-10
+    same-length-11 returns-4)

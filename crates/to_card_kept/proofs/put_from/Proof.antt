@@ -177,35 +177,7 @@ returns-3 c =
 pub put-from-spec : {M : Type 1} → statement M
 put-from-spec =
     tie.close
-    (tie.spec
-    slice-aggregate-put-run
-    slice-aggregate-put-run-2
-    sub-put-run
-    part-put-run-start
-    part-put-run-end
-    put-run-requires
-    enum-known-r
-    enum-known-n
-    sub-put-noted
-    part-put-noted-start
-    part-put-noted-end
-    put-noted-requires
-    enum-known-m
-    enum-told
-    same-length
-    same-length-2
-    same-length-3
-    same-length-4
-    returns
-    add-t39
-    add-t48
-    same-length-5
-    same-length-6
-    same-length-7
-    same-length-8
-    returns-2
-    same-length-9
-    same-length-10
-    same-length-11
-    same-length-12
-    returns-3)
+    (tie.spec slice-aggregate-put-run slice-aggregate-put-run-2 sub-put-run part-put-run-start part-put-run-end put-run-requires enum-known-r
+    enum-known-n sub-put-noted part-put-noted-start part-put-noted-end put-noted-requires enum-known-m enum-told same-length same-length-2
+    same-length-3 same-length-4 returns add-t39 add-t48 same-length-5 same-length-6 same-length-7 same-length-8 returns-2 same-length-9 same-length-10
+    same-length-11 same-length-12 returns-3)

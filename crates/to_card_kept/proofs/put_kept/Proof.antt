@@ -88,20 +88,5 @@ returns-5 c =
 pub put-kept-spec : {M : Type 1} → statement M
 put-kept-spec =
     tie.close
-    (tie.spec
-    shared-slice-read-at
-    returns
-    returns-2
-    skip-space-requires
-    look-requires
-    returns-3
-    add-skip-space
-    skip-space-requires-2
-    look-requires-2
-    returns-4
-    put-from-requires
-    same-length
-    same-length-2
-    same-length-3
-    same-length-4
-    returns-5)
+    (tie.spec shared-slice-read-at returns returns-2 skip-space-requires look-requires returns-3 add-skip-space skip-space-requires-2 look-requires-2
+    returns-4 put-from-requires same-length same-length-2 same-length-3 same-length-4 returns-5)

@@ -93,27 +93,6 @@ returns-2 c =
 pub put-noted-spec : {M : Type 1} → statement M
 put-noted-spec =
     tie.close
-    (tie.spec
-    slice-aggregate-note-groups
-    slice-aggregate-note-groups-2
-    slice-aggregate-note-groups-3
-    note-groups-requires
-    add-most
-    slice-aggregate-put-run
-    slice-aggregate-put-run-2
-    sub-put-run
-    part-put-run-start
-    part-put-run-end
-    put-run-requires
-    enum-known-r
-    enum-known-n
-    same-length
-    same-length-2
-    same-length-3
-    same-length-4
-    returns
-    same-length-5
-    same-length-6
-    same-length-7
-    same-length-8
-    returns-2)
+    (tie.spec slice-aggregate-note-groups slice-aggregate-note-groups-2 slice-aggregate-note-groups-3 note-groups-requires add-most
+    slice-aggregate-put-run slice-aggregate-put-run-2 sub-put-run part-put-run-start part-put-run-end put-run-requires enum-known-r enum-known-n
+    same-length same-length-2 same-length-3 same-length-4 returns same-length-5 same-length-6 same-length-7 same-length-8 returns-2)

@@ -3,10 +3,6 @@ use Rattle.to_card_members.proofs.Pointers.{pointed-tilde, pointed-slas
 use borrow.Author.Needs.{needs}
 use Rattle.to_card_members.proofs.pen_pointed.Statement.{statement}
 use Rattle.to_card_members.proofs.pen_pointed.Tie as tie
-use Rattle.to_card_members.proofs.pen_pointed.Reads as reads
-use Rattle.to_card_members.proofs.pen_pointed.Lts as lts
-use Rattle.line_pen.proofs.pen_byte.Reads as pen-byte-reads
-use Rattle.line_pen.proofs.pen_bytes.Reads as pen-bytes-reads
 
 slice-aggregate-pen-bytes : tie.Need-slice-aggregate-pen-bytes
 slice-aggregate-pen-bytes c = search needs
@@ -44,15 +40,5 @@ returns-3 c = pens-as (pointed-other (c .before .before .before .before .before 
 pub pen-pointed-spec : {M : Type 1} → statement M
 pen-pointed-spec =
     tie.close
-    (tie.spec
-    slice-aggregate-pen-bytes
-    pen-bytes-requires
-    same-length
-    returns
-    slice-aggregate-pen-bytes-2
-    pen-bytes-requires-2
-    same-length-2
-    returns-2
-    pen-byte-requires
-    same-length-3
-    returns-3)
+    (tie.spec slice-aggregate-pen-bytes pen-bytes-requires same-length returns slice-aggregate-pen-bytes-2 pen-bytes-requires-2 same-length-2
+    returns-2 pen-byte-requires same-length-3 returns-3)

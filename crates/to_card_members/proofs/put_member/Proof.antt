@@ -1,20 +1,12 @@
-use native.Mathlib.Omega.{arith}
 use native.Mathlib.Nat.{le-refl}
 use denote.Ref.{now}
 use Rattle.line_pen.proofs.Filling.{then}
-use Rattle.line_pen.proofs.Laws.{filled, first!, next!, in!, fit!, same! }
-use Rattle.to_card_lines.proofs.Laws.{fills-in, fills-length, begun, onto, row-fits, row-in}
+use Rattle.line_pen.proofs.Laws.{filled, first!, next!, in!, fit! }
+use Rattle.to_card_lines.proofs.Laws.{fills-length, begun, row-fits}
 use Rattle.to_card_members.proofs.Values.{member-line}
 use borrow.Author.Needs.{needs}
 use Rattle.to_card_members.proofs.put_member.Statement.{statement}
 use Rattle.to_card_members.proofs.put_member.Tie as tie
-use Rattle.to_card_members.proofs.put_member.Reads as reads
-use Rattle.to_card_members.proofs.put_member.Lts as lts
-use Rattle.line_pen.proofs.fill.Reads as fill-reads
-use Rattle.line_pen.proofs.pen_bytes.Reads as pen-bytes-reads
-use Rattle.to_card_members.proofs.pen_pointer.Reads as pen-pointer-reads
-use Rattle.to_card_members.proofs.pen_text.Reads as pen-text-reads
-use Rattle.to_card_members.proofs.put_value.Reads as put-value-reads
 
 slice-aggregate-pen-bytes : tie.Need-slice-aggregate-pen-bytes
 slice-aggregate-pen-bytes c = search needs
@@ -170,35 +162,7 @@ returns c =
 pub put-member-spec : {M : Type 1} → statement M
 put-member-spec =
     tie.close
-    (tie.spec
-    slice-aggregate-pen-bytes
-    pen-bytes-requires
-    sub-pen-pointer
-    part-pen-pointer-start
-    part-pen-pointer-end
-    pen-pointer-requires
-    add-n2
-    sub-pen-bytes
-    part-pen-bytes-start
-    part-pen-bytes-end
-    slice-aggregate-pen-bytes-2
-    pen-bytes-requires-2
-    add-n3
-    put-value-requires
-    sub-pen-text
-    part-pen-text-start
-    part-pen-text-end
-    sub-pen-text-2
-    part-pen-text-start-2
-    part-pen-text-end-2
-    pen-text-requires
-    add-n4
-    sub-fill
-    part-fill-start
-    part-fill-end
-    slice-aggregate-fill
-    fill-requires
-    add-n5
-    same-length
-    same-length-2
-    returns)
+    (tie.spec slice-aggregate-pen-bytes pen-bytes-requires sub-pen-pointer part-pen-pointer-start part-pen-pointer-end pen-pointer-requires add-n2
+    sub-pen-bytes part-pen-bytes-start part-pen-bytes-end slice-aggregate-pen-bytes-2 pen-bytes-requires-2 add-n3 put-value-requires sub-pen-text
+    part-pen-text-start part-pen-text-end sub-pen-text-2 part-pen-text-start-2 part-pen-text-end-2 pen-text-requires add-n4 sub-fill part-fill-start
+    part-fill-end slice-aggregate-fill fill-requires add-n5 same-length same-length-2 returns)

@@ -5,11 +5,6 @@ use Rattle.to_card_members.proofs.Loop.{members-other, members-empty, m
 use borrow.Author.Needs.{needs}
 use Rattle.to_card_members.proofs.put_members.Statement.{statement}
 use Rattle.to_card_members.proofs.put_members.Tie as tie
-use Rattle.to_card_members.proofs.put_members.Reads as reads
-use Rattle.to_card_members.proofs.put_members.Lts as lts
-use Rattle.json_marks.proofs.skip_space.Reads as skip-space-reads
-use Rattle.text.proofs.look.Reads as look-reads
-use Rattle.to_card_members.proofs.put_from.Reads as put-from-reads
 
 skip-space-requires : tie.Need-skip-space-requires
 skip-space-requires c κs = search needs
@@ -65,15 +60,5 @@ returns-3 c =
 pub put-members-spec : {M : Type 1} → statement M
 put-members-spec =
     tie.close
-    (tie.spec
-    skip-space-requires
-    look-requires
-    returns
-    add-skip-space
-    skip-space-requires-2
-    look-requires-2
-    returns-2
-    put-from-requires
-    same-length
-    same-length-2
-    returns-3)
+    (tie.spec skip-space-requires look-requires returns add-skip-space skip-space-requires-2 look-requires-2 returns-2 put-from-requires same-length
+    same-length-2 returns-3)

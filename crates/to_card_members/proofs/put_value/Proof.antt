@@ -2,9 +2,6 @@ use Rattle.to_card_members.proofs.Values.{fills-bytes, fills-full}
 use borrow.Author.Needs.{needs}
 use Rattle.to_card_members.proofs.put_value.Statement.{statement}
 use Rattle.to_card_members.proofs.put_value.Tie as tie
-use Rattle.to_card_members.proofs.put_value.Reads as reads
-use Rattle.to_card_members.proofs.put_value.Lts as lts
-use Rattle.json_compact.proofs.put_compact.Reads as put-compact-reads
 
 sub-put-compact : tie.Need-sub-put-compact
 sub-put-compact c = search needs
@@ -39,14 +36,5 @@ returns-2 c = fills-full (c .before .before .before .before .put-compact .ensure
 pub put-value-spec : {M : Type 1} → statement M
 put-value-spec =
     tie.close
-    (tie.spec
-    sub-put-compact
-    part-put-compact-start
-    part-put-compact-end
-    put-compact-requires
-    enum-known-n
-    enum-told
-    same-length
-    returns
-    same-length-2
-    returns-2)
+    (tie.spec sub-put-compact part-put-compact-start part-put-compact-end put-compact-requires enum-known-n enum-told same-length returns
+    same-length-2 returns-2)

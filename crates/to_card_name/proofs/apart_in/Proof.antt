@@ -3,9 +3,6 @@ use Rattle.to_card_name.proofs.Members.{apart-no-one, apart-no-other, a
 use borrow.Author.Needs.{needs}
 use Rattle.to_card_name.proofs.apart_in.Statement.{statement}
 use Rattle.to_card_name.proofs.apart_in.Tie as tie
-use Rattle.to_card_name.proofs.apart_in.Reads as reads
-use Rattle.to_card_name.proofs.apart_in.Lts as lts
-use Rattle.to_card_order.proofs.are_apart.Reads as are-apart-reads
 
 mul-if1 : tie.Need-mul-if1
 mul-if1 c = search needs
@@ -44,12 +41,4 @@ returns-3 c =
 pub apart-in-spec : {M : Type 1} → statement M
 apart-in-spec =
     tie.close
-    (tie.spec
-    mul-if1
-    shared-slice-read-if1
-    returns
-    mul-if2
-    shared-slice-read-if2
-    returns-2
-    are-apart-requires
-    returns-3)
+    (tie.spec mul-if1 shared-slice-read-if1 returns mul-if2 shared-slice-read-if2 returns-2 are-apart-requires returns-3)

@@ -3,9 +3,6 @@ use Rattle.to_card_name.proofs.Members.{unordered-absent, unordered-is}
 use borrow.Author.Needs.{needs}
 use Rattle.to_card_name.proofs.is_unordered.Statement.{statement}
 use Rattle.to_card_name.proofs.is_unordered.Tie as tie
-use Rattle.to_card_name.proofs.is_unordered.Reads as reads
-use Rattle.to_card_name.proofs.is_unordered.Lts as lts
-use Rattle.json_access.proofs.kind_at.Reads as kind-at-reads
 
 returns : tie.Need-returns
 returns c = unordered-absent (now (c .before .before .args .s)) (c .before .before .args .slot) (c .if1 .taken)
@@ -86,20 +83,5 @@ returns-8 c =
 pub is-unordered-spec : {M : Type 1} → statement M
 is-unordered-spec =
     tie.close
-    (tie.spec
-    returns
-    kind-at-requires
-    enum-told
-    enum-told-2
-    enum-told-3
-    enum-told-4
-    enum-told-5
-    enum-told-6
-    enum-told-7
-    returns-2
-    returns-3
-    returns-4
-    returns-5
-    returns-6
-    returns-7
-    returns-8)
+    (tie.spec returns kind-at-requires enum-told enum-told-2 enum-told-3 enum-told-4 enum-told-5 enum-told-6 enum-told-7 returns-2 returns-3 returns-4
+    returns-5 returns-6 returns-7 returns-8)

@@ -4,10 +4,6 @@ use Rattle.to_card_name.proofs.Members.{list-absent, list-past, list-wr
 use borrow.Author.Needs.{needs}
 use Rattle.to_card_name.proofs.list_components.Statement.{statement}
 use Rattle.to_card_name.proofs.list_components.Tie as tie
-use Rattle.to_card_name.proofs.list_components.Reads as reads
-use Rattle.to_card_name.proofs.list_components.Lts as lts
-use Rattle.to_card_parts.proofs.list_rows.Reads as list-rows-reads
-use Rattle.to_card_parts.proofs.open_array.Reads as open-array-reads
 
 returns : tie.Need-returns
 returns c =
@@ -98,21 +94,5 @@ returns-6 c =
 pub list-components-spec : {M : Type 1} → statement M
 list-components-spec =
     tie.close
-    (tie.spec
-    returns
-    returns-2
-    open-array-requires
-    enum-told
-    enum-told-2
-    enum-known-j
-    list-rows-requires
-    same-length
-    same-length-2
-    same-length-3
-    returns-3
-    returns-4
-    returns-5
-    same-length-4
-    same-length-5
-    same-length-6
-    returns-6)
+    (tie.spec returns returns-2 open-array-requires enum-told enum-told-2 enum-known-j list-rows-requires same-length same-length-2 same-length-3
+    returns-3 returns-4 returns-5 same-length-4 same-length-5 same-length-6 returns-6)

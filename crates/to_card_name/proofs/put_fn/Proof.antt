@@ -4,10 +4,6 @@ use Rattle.to_card_name.proofs.Rows.{fn-full, fn-derived}
 use borrow.Author.Needs.{needs}
 use Rattle.to_card_name.proofs.put_fn.Statement.{statement}
 use Rattle.to_card_name.proofs.put_fn.Tie as tie
-use Rattle.to_card_name.proofs.put_fn.Reads as reads
-use Rattle.to_card_name.proofs.put_fn.Lts as lts
-use Rattle.to_card_lines.proofs.put_string_line.Reads as put-string-line-reads
-use Rattle.to_card_name.proofs.put_order_line.Reads as put-order-line-reads
 
 slice-aggregate-put-string-line : tie.Need-slice-aggregate-put-string-line
 slice-aggregate-put-string-line c = search needs
@@ -49,13 +45,5 @@ returns-2 c =
 pub put-fn-spec : {M : Type 1} → statement M
 put-fn-spec =
     tie.close
-    (tie.spec
-    slice-aggregate-put-string-line
-    put-string-line-requires
-    same-length
-    returns
-    slice-aggregate-put-order-line
-    slice-aggregate-put-order-line-2
-    put-order-line-requires
-    same-length-2
-    returns-2)
+    (tie.spec slice-aggregate-put-string-line put-string-line-requires same-length returns slice-aggregate-put-order-line
+    slice-aggregate-put-order-line-2 put-order-line-requires same-length-2 returns-2)

@@ -5,11 +5,6 @@ use Rattle.to_card_name.proofs.Whole.{clear-seven, listed-in, list-twel
 use borrow.Author.Needs.{needs}
 use Rattle.to_card_name.proofs.put_list.Statement.{statement}
 use Rattle.to_card_name.proofs.put_list.Tie as tie
-use Rattle.to_card_name.proofs.put_list.Reads as reads
-use Rattle.to_card_name.proofs.put_list.Lts as lts
-use Rattle.to_card_name.proofs.list_components.Reads as list-components-reads
-use Rattle.to_card_name.proofs.put_alone.Reads as put-alone-reads
-use Rattle.to_card_name.proofs.put_both.Reads as put-both-reads
 
 slice-aggregate-list-components : tie.Need-slice-aggregate-list-components
 slice-aggregate-list-components c = search needs
@@ -88,21 +83,6 @@ returns-3 c =
 pub put-list-spec : {M : Type 1} → statement M
 put-list-spec =
     tie.close
-    (tie.spec
-    slice-aggregate-list-components
-    slice-aggregate-list-components-2
-    slice-aggregate-list-components-3
-    list-components-requires
-    enum-told
-    enum-told-2
-    put-alone-requires
-    enum-known-j
-    slice-aggregate-put-both
-    slice-aggregate-put-both-2
-    slice-aggregate-put-both-3
-    put-both-requires
-    returns
-    same-length
-    returns-2
-    same-length-2
-    returns-3)
+    (tie.spec slice-aggregate-list-components slice-aggregate-list-components-2 slice-aggregate-list-components-3 list-components-requires enum-told
+    enum-told-2 put-alone-requires enum-known-j slice-aggregate-put-both slice-aggregate-put-both-2 slice-aggregate-put-both-3 put-both-requires
+    returns same-length returns-2 same-length-2 returns-3)

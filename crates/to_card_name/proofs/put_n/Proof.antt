@@ -6,11 +6,6 @@ use Rattle.to_card_name.proofs.Rows.{n-none, n-line}
 use borrow.Author.Needs.{needs}
 use Rattle.to_card_name.proofs.put_n.Statement.{statement}
 use Rattle.to_card_name.proofs.put_n.Tie as tie
-use Rattle.to_card_name.proofs.put_n.Reads as reads
-use Rattle.to_card_name.proofs.put_n.Lts as lts
-use Rattle.to_card_name.proofs.apart_in.Reads as apart-in-reads
-use Rattle.to_card_name.proofs.has_parts.Reads as has-parts-reads
-use Rattle.to_card_name.proofs.put_order_line.Reads as put-order-line-reads
 
 has-parts-requires : tie.Need-has-parts-requires
 has-parts-requires c κs = c .before .before .before .before .before .pre .1 .0
@@ -56,13 +51,5 @@ returns-2 c =
 pub put-n-spec : {M : Type 1} → statement M
 put-n-spec =
     tie.close
-    (tie.spec
-    has-parts-requires
-    returns
-    slice-aggregate-put-order-line
-    slice-aggregate-put-order-line-2
-    put-order-line-requires
-    apart-in-requires
-    apart-in-requires-2
-    same-length
-    returns-2)
+    (tie.spec has-parts-requires returns slice-aggregate-put-order-line slice-aggregate-put-order-line-2 put-order-line-requires apart-in-requires
+    apart-in-requires-2 same-length returns-2)

@@ -11,11 +11,6 @@ use Rattle.to_card_name.proofs.Fulls.{full-absent, full-told}
 use borrow.Author.Needs.{needs}
 use Rattle.to_card_name.proofs.put_name.Statement.{statement}
 use Rattle.to_card_name.proofs.put_name.Tie as tie
-use Rattle.to_card_name.proofs.put_name.Reads as reads
-use Rattle.to_card_name.proofs.put_name.Lts as lts
-use Rattle.json_index.proofs.index_object.Reads as index-object-reads
-use Rattle.to_card_name.proofs.put_alone.Reads as put-alone-reads
-use Rattle.to_card_name.proofs.put_slots.Reads as put-slots-reads
 
 put-alone-requires : tie.Need-put-alone-requires
 put-alone-requires c κs = search needs
@@ -119,27 +114,6 @@ returns-6 c =
 pub put-name-spec : {M : Type 1} → statement M
 put-name-spec =
     tie.close
-    (tie.spec
-    put-alone-requires
-    enum-known-n
-    enum-told
-    same-length
-    returns
-    same-length-2
-    returns-2
-    returns-3
-    slice-aggregate-index-object
-    slice-aggregate-index-object-2
-    index-object-requires
-    returns-4
-    array-read-a
-    array-read-b
-    array-read-c
-    array-read-d
-    put-slots-requires
-    enum-known-n-2
-    enum-told-2
-    same-length-3
-    returns-5
-    same-length-4
-    returns-6)
+    (tie.spec put-alone-requires enum-known-n enum-told same-length returns same-length-2 returns-2 returns-3 slice-aggregate-index-object
+    slice-aggregate-index-object-2 index-object-requires returns-4 array-read-a array-read-b array-read-c array-read-d put-slots-requires
+    enum-known-n-2 enum-told-2 same-length-3 returns-5 same-length-4 returns-6)

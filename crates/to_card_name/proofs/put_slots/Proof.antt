@@ -5,11 +5,6 @@ use Rattle.to_card_name.proofs.Whole.{slots-other, slots-neither, slots
 use borrow.Author.Needs.{needs}
 use Rattle.to_card_name.proofs.put_slots.Statement.{statement}
 use Rattle.to_card_name.proofs.put_slots.Tie as tie
-use Rattle.to_card_name.proofs.put_slots.Reads as reads
-use Rattle.to_card_name.proofs.put_slots.Lts as lts
-use Rattle.to_card_name.proofs.full_in.Reads as full-in-reads
-use Rattle.to_card_name.proofs.is_unordered.Reads as is-unordered-reads
-use Rattle.to_card_name.proofs.put_list.Reads as put-list-reads
 
 returns : tie.Need-returns
 returns c =
@@ -103,19 +98,5 @@ returns-6 c =
 pub put-slots-spec : {M : Type 1} → statement M
 put-slots-spec =
     tie.close
-    (tie.spec
-    returns
-    returns-2
-    is-unordered-requires
-    returns-3
-    full-in-requires
-    enum-told
-    enum-told-2
-    put-list-requires
-    enum-known-q
-    put-list-requires-2
-    returns-4
-    same-length
-    returns-5
-    same-length-2
-    returns-6)
+    (tie.spec returns returns-2 is-unordered-requires returns-3 full-in-requires enum-told enum-told-2 put-list-requires enum-known-q
+    put-list-requires-2 returns-4 same-length returns-5 same-length-2 returns-6)

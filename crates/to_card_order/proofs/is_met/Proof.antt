@@ -1,4 +1,3 @@
-use native.Mathlib.Omega.{arith}
 use denote.Ref.{now}
 use Rattle.to_card_order.proofs.Noted.{meets-none, meets-as}
 use borrow.Author.Needs.{needs}

@@ -1,4 +1,3 @@
-use native.Mathlib.Omega.{arith}
 use denote.Ref.{now}
 use Rattle.to_card_order.proofs.Noted.{notes-none, notes-more, notes-anew}
 use borrow.Author.Needs.{needs}
@@ -75,22 +74,5 @@ returns-3 c =
 pub note-value-spec : {M : Type 1} → statement M
 note-value-spec =
     tie.close
-    (tie.spec
-    value-print-requires
-    returns
-    mul-places
-    slice-write-places
-    cast-prints
-    mul-prints
-    slice-write-prints
-    add-t12
-    same-length
-    same-length-2
-    returns-2
-    none-met-requires
-    slice-write-places-2
-    cast-prints-2
-    slice-write-prints-2
-    same-length-3
-    same-length-4
-    returns-3)
+    (tie.spec value-print-requires returns mul-places slice-write-places cast-prints mul-prints slice-write-prints add-t12 same-length same-length-2
+    returns-2 none-met-requires slice-write-places-2 cast-prints-2 slice-write-prints-2 same-length-3 same-length-4 returns-3)

@@ -70,16 +70,5 @@ returns-5 c =
 pub pen-place-spec : {M : Type 1} → statement M
 pen-place-spec =
     tie.close
-    (tie.spec
-    pen-byte-requires
-    same-length
-    returns
-    returns-2
-    cast-kind
-    returns-3
-    mul-if4
-    shared-slice-read-if4
-    returns-4
-    pen-listed-requires
-    same-length-2
-    returns-5)
+    (tie.spec pen-byte-requires same-length returns returns-2 cast-kind returns-3 mul-if4 shared-slice-read-if4 returns-4 pen-listed-requires
+    same-length-2 returns-5)

@@ -4,10 +4,6 @@ use Rattle.to_card_parts.proofs.Components.{kinds-are, slots-kind, slot
 use borrow.Author.Needs.{needs}
 use Rattle.to_card_parts.proofs.component_of.Statement.{statement}
 use Rattle.to_card_parts.proofs.component_of.Tie as tie
-use Rattle.to_card_parts.proofs.component_of.Reads as reads
-use Rattle.to_card_parts.proofs.component_of.Lts as lts
-use Rattle.card_value.proofs.string_in.Reads as string-in-reads
-use Rattle.json_index.proofs.which_name.Reads as which-name-reads
 
 returns : tie.Need-returns
 returns c = (tt, slots-kind (now (c .before .before .args .s)) (c .before .before .args .kind) (c .before .before .args .value) (c .if1 .taken))
@@ -75,14 +71,5 @@ returns-6 c =
 pub component-of-spec : {M : Type 1} → statement M
 component-of-spec =
     tie.close
-    (tie.spec
-    returns
-    returns-2
-    string-in-requires
-    returns-3
-    slice-aggregate-which-name
-    which-name-requires
-    returns-4
-    string-in-requires-2
-    returns-5
+    (tie.spec returns returns-2 string-in-requires returns-3 slice-aggregate-which-name which-name-requires returns-4 string-in-requires-2 returns-5
     returns-6)

@@ -9,10 +9,6 @@ use Rattle.to_card_parts.proofs.Components.{clear-three, names-are, obj
 use borrow.Author.Needs.{needs}
 use Rattle.to_card_parts.proofs.component_to_end.Statement.{statement}
 use Rattle.to_card_parts.proofs.component_to_end.Tie as tie
-use Rattle.to_card_parts.proofs.component_to_end.Reads as reads
-use Rattle.to_card_parts.proofs.component_to_end.Lts as lts
-use Rattle.json_index.proofs.index_to_end.Reads as index-to-end-reads
-use Rattle.to_card_parts.proofs.component_of.Reads as component-of-reads
 
 slice-aggregate-index-to-end : tie.Need-slice-aggregate-index-to-end
 slice-aggregate-index-to-end c = search needs
@@ -82,17 +78,5 @@ returns-4 c =
 pub component-to-end-spec : {M : Type 1} → statement M
 component-to-end-spec =
     tie.close
-    (tie.spec
-    slice-aggregate-index-to-end
-    slice-aggregate-index-to-end-2
-    index-to-end-requires
-    returns
-    array-read-a
-    array-read-b
-    array-read-other
-    returns-2
-    component-of-requires
-    enum-known-k
-    enum-told
-    returns-3
-    returns-4)
+    (tie.spec slice-aggregate-index-to-end slice-aggregate-index-to-end-2 index-to-end-requires returns array-read-a array-read-b array-read-other
+    returns-2 component-of-requires enum-known-k enum-told returns-3 returns-4)

@@ -7,9 +7,6 @@ use Rattle.to_card_parts.proofs.Passes.{marks-none, marks-one}
 use borrow.Author.Needs.{needs}
 use Rattle.to_card_parts.proofs.mark_kind.Statement.{statement}
 use Rattle.to_card_parts.proofs.mark_kind.Tie as tie
-use Rattle.to_card_parts.proofs.mark_kind.Reads as reads
-use Rattle.to_card_parts.proofs.mark_kind.Lts as lts
-use Rattle.to_card_head.proofs.is_filled.Reads as is-filled-reads
 
 is-filled-requires : tie.Need-is-filled-requires
 is-filled-requires c κs = tt

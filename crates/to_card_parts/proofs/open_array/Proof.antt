@@ -1,13 +1,8 @@
-use native.Mathlib.Omega.{arith}
 use denote.Ref.{now}
 use Rattle.to_card_parts.proofs.Components.{opens-not, opens-empty, opens-at}
 use borrow.Author.Needs.{needs}
 use Rattle.to_card_parts.proofs.open_array.Statement.{statement}
 use Rattle.to_card_parts.proofs.open_array.Tie as tie
-use Rattle.to_card_parts.proofs.open_array.Reads as reads
-use Rattle.to_card_parts.proofs.open_array.Lts as lts
-use Rattle.json_marks.proofs.skip_space.Reads as skip-space-reads
-use Rattle.text.proofs.look.Reads as look-reads
 
 skip-space-requires : tie.Need-skip-space-requires
 skip-space-requires c κs = search needs
@@ -50,12 +45,4 @@ returns-3 c =
 pub open-array-spec : {M : Type 1} → statement M
 open-array-spec =
     tie.close
-    (tie.spec
-    skip-space-requires
-    look-requires
-    returns
-    add-skip-space
-    skip-space-requires-2
-    look-requires-2
-    returns-2
-    returns-3)
+    (tie.spec skip-space-requires look-requires returns add-skip-space skip-space-requires-2 look-requires-2 returns-2 returns-3)

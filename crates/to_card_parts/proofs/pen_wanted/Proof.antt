@@ -6,11 +6,6 @@ use Rattle.to_card_parts.proofs.Values.{one-empty, one-first, one-later
 use borrow.Author.Needs.{needs}
 use Rattle.to_card_parts.proofs.pen_wanted.Statement.{statement}
 use Rattle.to_card_parts.proofs.pen_wanted.Tie as tie
-use Rattle.to_card_parts.proofs.pen_wanted.Reads as reads
-use Rattle.to_card_parts.proofs.pen_wanted.Lts as lts
-use Rattle.card_pen.proofs.pen_string.Reads as pen-string-reads
-use Rattle.line_pen.proofs.pen_byte.Reads as pen-byte-reads
-use Rattle.to_card_head.proofs.is_filled.Reads as is-filled-reads
 
 is-filled-requires : tie.Need-is-filled-requires
 is-filled-requires c κs = search needs
@@ -72,17 +67,5 @@ returns-3 c =
 pub pen-wanted-spec : {M : Type 1} → statement M
 pen-wanted-spec =
     tie.close
-    (tie.spec
-    is-filled-requires
-    returns
-    pen-string-requires
-    same-length
-    returns-2
-    pen-byte-requires
-    sub-pen-string
-    part-pen-string-start
-    part-pen-string-end
-    pen-string-requires-2
-    add-m
-    same-length-2
-    returns-3)
+    (tie.spec is-filled-requires returns pen-string-requires same-length returns-2 pen-byte-requires sub-pen-string part-pen-string-start
+    part-pen-string-end pen-string-requires-2 add-m same-length-2 returns-3)

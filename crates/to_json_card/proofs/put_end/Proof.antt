@@ -1,18 +1,12 @@
 use borrow.Author.Needs.{needs}
-use mathlib.Core.Path.{_≡_, refl, sym, ap, _∙_}
 use mathlib.Core.List.{List, [], _∷_}
-use Prim.Native.Nat.{ℕ, _+_, _-_, _≤_, _<_}
-use native.Mathlib.Nat.{le-refl, lt-of-le-of-lt}
-use native.Mathlib.Omega.{arith}
+use native.Mathlib.Nat.{le-refl}
 use denote.Ref.{now}
-use lib.ListN.{length, take, drop, getD}
 use Rattle.output.proofs.Rows.{Here, first!, next!, none, stop!, all, in!, fit!, same!, length-puts}
 use Rattle.convert.specs.Classify.{Classed}
 use Rattle.card_lines.specs.Classified.{Classified}
 use Rattle.to_json_card.proofs.put_end.Statement.{statement}
 use Rattle.to_json_card.proofs.put_end.Tie as tie
-use Rattle.to_json_card.proofs.put_end.Reads as reads
-use Rattle.to_json_card.proofs.put_end.Lts as lts
 
 -- the card's classified lines, as they came
 abbrev Lines : tie.After-known-told → List Classed → Type 0
@@ -102,23 +96,5 @@ returns-3 c = λ cs h. all (s₂ c cs h .left)
 pub put-end-spec : {M : Type 1} → statement M
 put-end-spec =
     tie.close
-    (tie.spec
-    put-props-requires
-    enum-known-a1
-    enum-told
-    same-length
-    same-length-2
-    returns
-    sub-put-byte
-    part-put-byte-start
-    part-put-byte-end
-    put-byte-requires
-    enum-known-a2
-    enum-told-2
-    same-length-3
-    same-length-4
-    returns-2
-    add-b2
-    same-length-5
-    same-length-6
-    returns-3)
+    (tie.spec put-props-requires enum-known-a1 enum-told same-length same-length-2 returns sub-put-byte part-put-byte-start part-put-byte-end
+    put-byte-requires enum-known-a2 enum-told-2 same-length-3 same-length-4 returns-2 add-b2 same-length-5 same-length-6 returns-3)

@@ -1,12 +1,7 @@
 use borrow.Author.Needs.{needs}
-use mathlib.Core.Path.{_≡_, refl, sym, ap, _∙_}
-use mathlib.Core.List.{List, [], _∷_}
-use Prim.Native.Nat.{ℕ, _+_, _-_, _≤_, _<_}
+use mathlib.Core.Path.{sym, ap, _∙_}
 use native.Mathlib.Nat.{le-refl, lt-of-le-of-lt}
-use native.Mathlib.Omega.{arith}
-use denote.Ref.{now}
 use borrow.Author.Tests.{not-true, not-false}
-use lib.ListN.{length, take, drop, getD}
 use Rattle.to_json_maps.proofs.Marking.{filled-holds, filled-none}
 use Rattle.output.proofs.Laws.{first, first-full, next, stop, more, done, within, puts-as}
 use Rattle.output.proofs.Rows.{length-puts}
@@ -16,8 +11,6 @@ use Rattle.convert_put.specs.Pieces.{memberBytes}
 use Rattle.to_json_card.proofs.Members.{held-member}
 use Rattle.to_json_card.proofs.put_member_turn.Statement.{statement}
 use Rattle.to_json_card.proofs.put_member_turn.Tie as tie
-use Rattle.to_json_card.proofs.put_member_turn.Reads as reads
-use Rattle.to_json_card.proofs.put_member_turn.Lts as lts
 
 fill-requires : tie.Need-fill-requires
 fill-requires c κs = c .before .before .before .before .before .pre .0
@@ -190,35 +183,8 @@ returns-4 c =
 pub put-member-turn-spec : {M : Type 1} → statement M
 put-member-turn-spec =
     tie.close
-    (tie.spec
-    fill-requires
-    same-length
-    returns
-    slice-aggregate-scan-rows
-    slice-aggregate-scan-rows-2
-    slice-aggregate-scan-rows-3
-    scan-rows-requires
-    put-byte-requires
-    enum-known-a
-    enum-told
-    same-length-2
-    same-length-3
-    returns-2
-    sub-put-member-line
-    part-put-member-line-start
-    part-put-member-line-end
-    slice-aggregate-put-member-line
-    slice-aggregate-put-member-line-2
-    slice-aggregate-put-member-line-3
-    put-member-line-requires
-    enum-known-b
-    enum-told-2
-    same-length-4
-    same-length-5
-    same-length-6
-    returns-3
-    add-ab
-    same-length-7
-    same-length-8
-    same-length-9
-    returns-4)
+    (tie.spec fill-requires same-length returns slice-aggregate-scan-rows slice-aggregate-scan-rows-2 slice-aggregate-scan-rows-3 scan-rows-requires
+    put-byte-requires enum-known-a enum-told same-length-2 same-length-3 returns-2 sub-put-member-line part-put-member-line-start
+    part-put-member-line-end slice-aggregate-put-member-line slice-aggregate-put-member-line-2 slice-aggregate-put-member-line-3
+    put-member-line-requires enum-known-b enum-told-2 same-length-4 same-length-5 same-length-6 returns-3 add-ab same-length-7 same-length-8
+    same-length-9 returns-4)

@@ -1,11 +1,7 @@
 use borrow.Author.Needs.{needs}
-use mathlib.Core.Path.{_≡_, refl, sym, ap, _∙_}
 use mathlib.Core.List.{List, [], _∷_}
-use Prim.Native.Nat.{ℕ, _+_, _-_, _≤_, _<_}
-use native.Mathlib.Nat.{le-refl, lt-of-le-of-lt}
-use native.Mathlib.Omega.{arith}
+use native.Mathlib.Nat.{le-refl}
 use denote.Ref.{now}
-use lib.ListN.{length, take, drop, getD}
 use Rattle.output.proofs.Rows.{Here, first!, next!, none, stop!, all, in!, fit!, same!, length-puts}
 use Rattle.convert.specs.Classify.{Classed}
 use Rattle.card_lines.specs.Classified.{Classified}
@@ -13,8 +9,6 @@ use Rattle.text.specs.Bytes.{flat}
 use Rattle.to_json_card.specs.Card.{endPieces}
 use Rattle.to_json_card.proofs.put_rest.Statement.{statement}
 use Rattle.to_json_card.proofs.put_rest.Tie as tie
-use Rattle.to_json_card.proofs.put_rest.Reads as reads
-use Rattle.to_json_card.proofs.put_rest.Lts as lts
 
 -- the card's classified lines, as they came
 abbrev Lines : tie.After-known-told → List Classed → Type 0
@@ -117,26 +111,6 @@ returns-3 c = λ cs h. all (s₂ c cs h .left)
 pub put-rest-spec : {M : Type 1} → statement M
 put-rest-spec =
     tie.close
-    (tie.spec
-    put-middle-requires
-    enum-known-a1
-    enum-told
-    same-length
-    same-length-2
-    same-length-3
-    returns
-    sub-put-end
-    part-put-end-start
-    part-put-end-end
-    put-end-requires
-    enum-known-a2
-    enum-told-2
-    same-length-4
-    same-length-5
-    same-length-6
-    returns-2
-    add-b2
-    same-length-7
-    same-length-8
-    same-length-9
-    returns-3)
+    (tie.spec put-middle-requires enum-known-a1 enum-told same-length same-length-2 same-length-3 returns sub-put-end part-put-end-start
+    part-put-end-end put-end-requires enum-known-a2 enum-told-2 same-length-4 same-length-5 same-length-6 returns-2 add-b2 same-length-7 same-length-8
+    same-length-9 returns-3)

@@ -1,19 +1,13 @@
 use borrow.Author.Needs.{needs}
-use mathlib.Core.Path.{_≡_, refl, sym, ap, _∙_}
 use mathlib.Core.List.{List, [], _∷_}
-use Prim.Native.Nat.{ℕ, _+_, _-_, _≤_, _<_}
-use native.Mathlib.Nat.{le-refl, lt-of-le-of-lt}
-use native.Mathlib.Omega.{arith}
+use native.Mathlib.Nat.{le-refl}
 use denote.Ref.{now}
-use lib.ListN.{length, take, drop, getD}
 use Rattle.output.proofs.Rows.{Here, first!, next!, none, stop!, all, in!, fit!, same!, length-puts}
 use Rattle.convert.specs.Classify.{Classed}
 use Rattle.card_lines.specs.Classified.{Classified}
 use Rattle.to_json_sections.specs.Sections.{kindMember, kindIn, nameIn}
 use Rattle.to_json_card.proofs.put_top.Statement.{statement}
 use Rattle.to_json_card.proofs.put_top.Tie as tie
-use Rattle.to_json_card.proofs.put_top.Reads as reads
-use Rattle.to_json_card.proofs.put_top.Lts as lts
 
 -- the card's classified lines, as they came
 abbrev Lines : tie.After-known-told → List Classed → Type 0
@@ -156,33 +150,7 @@ returns-4 c = λ cs h. all (s₃ c cs h .left)
 pub put-top-spec : {M : Type 1} → statement M
 put-top-spec =
     tie.close
-    (tie.spec
-    put-start-of-requires
-    enum-known-a1
-    enum-told
-    same-length
-    same-length-2
-    returns
-    sub-put-kind-of
-    part-put-kind-of-start
-    part-put-kind-of-end
-    put-kind-of-requires
-    enum-known-a2
-    enum-told-2
-    same-length-3
-    same-length-4
-    returns-2
-    add-b2
-    sub-put-name-of
-    part-put-name-of-start
-    part-put-name-of-end
-    put-name-of-requires
-    enum-known-a3
-    enum-told-3
-    same-length-5
-    same-length-6
-    returns-3
-    add-b3
-    same-length-7
-    same-length-8
-    returns-4)
+    (tie.spec put-start-of-requires enum-known-a1 enum-told same-length same-length-2 returns sub-put-kind-of part-put-kind-of-start
+    part-put-kind-of-end put-kind-of-requires enum-known-a2 enum-told-2 same-length-3 same-length-4 returns-2 add-b2 sub-put-name-of
+    part-put-name-of-start part-put-name-of-end put-name-of-requires enum-known-a3 enum-told-3 same-length-5 same-length-6 returns-3 add-b3
+    same-length-7 same-length-8 returns-4)

@@ -1,5 +1,4 @@
 use borrow.Author.Needs.{needs}
-use denote.Ref.{now}
 use Rattle.output.proofs.Laws.{puts-as, start, done}
 use Rattle.to_json_items.proofs.Pieces.{head-begun, head-named, head-first, head-none}
 use Rattle.to_json_items.proofs.put_item_head.Statement.{statement}

@@ -72,19 +72,5 @@ returns-4 c = answered (c .before .n .given .1) (c .before .before .before .befo
 pub put-items-spec : {M : Type 1} → statement M
 put-items-spec =
     tie.close
-    (tie.spec
-    put-noted-requires
-    same-length
-    returns
-    put-noted-requires-2
-    same-length-2
-    returns-2
-    slice-aggregate-put-own
-    slice-aggregate-put-own-2
-    put-own-requires
-    enum-known-n
-    enum-told
-    same-length-3
-    returns-3
-    same-length-4
-    returns-4)
+    (tie.spec put-noted-requires same-length returns put-noted-requires-2 same-length-2 returns-2 slice-aggregate-put-own slice-aggregate-put-own-2
+    put-own-requires enum-known-n enum-told same-length-3 returns-3 same-length-4 returns-4)

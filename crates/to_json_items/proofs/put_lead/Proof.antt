@@ -1,5 +1,4 @@
 use borrow.Author.Needs.{needs}
-use denote.Ref.{now}
 use mathlib.Core.Path.{sym, ap}
 use Rattle.json.specs.Compact.{spelled, spelledAll, quoted}
 use Rattle.text.specs.Bytes.{flat}

@@ -49,16 +49,5 @@ returns c = search needs
 pub put-noted-spec : {M : Type 1} → statement M
 put-noted-spec =
     tie.close
-    (tie.spec
-    slice-aggregate-note-values
-    slice-aggregate-note-values-2
-    note-values-requires
-    sub-put-own
-    part-put-own-start
-    part-put-own-end
-    sub-put-own-2
-    part-put-own-start-2
-    part-put-own-end-2
-    put-own-requires
-    same-length
-    returns)
+    (tie.spec slice-aggregate-note-values slice-aggregate-note-values-2 note-values-requires sub-put-own part-put-own-start part-put-own-end
+    sub-put-own-2 part-put-own-start-2 part-put-own-end-2 put-own-requires same-length returns)

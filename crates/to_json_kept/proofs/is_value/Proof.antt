@@ -1,5 +1,4 @@
 use borrow.Author.Needs.{needs}
-use denote.Ref.{now}
 use native.Mathlib.Omega.{arith}
 use Rattle.to_json_kept.proofs.is_value.Statement.{statement}
 use Rattle.to_json_kept.proofs.is_value.Tie as tie

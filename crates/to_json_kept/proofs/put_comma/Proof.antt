@@ -1,5 +1,4 @@
 use borrow.Author.Needs.{needs}
-use denote.Ref.{now}
 use mathlib.Core.List.{[], _∷_}
 use Rattle.output.proofs.Laws.{puts-as, start, done}
 use Rattle.to_json_kept.proofs.Whole.{piece-on, piece-off}

@@ -7,11 +7,6 @@ use Rattle.to_json_maps.proofs.Marking.{filled-holds, filled-none, unre
 use borrow.Author.Needs.{needs}
 use Rattle.to_json_maps.proofs.mark_line.Statement.{statement}
 use Rattle.to_json_maps.proofs.mark_line.Tie as tie
-use Rattle.to_json_maps.proofs.mark_line.Reads as reads
-use Rattle.to_json_maps.proofs.mark_line.Lts as lts
-use Rattle.line_table.proofs.fill.Reads as fill-reads
-use Rattle.table_params.proofs.scan_rows.Reads as scan-rows-reads
-use Rattle.to_json_keys.proofs.mark_key.Reads as mark-key-reads
 
 has-dash-requires : tie.Need-has-dash-requires
 has-dash-requires c κs = search needs
@@ -102,25 +97,6 @@ returns-4 c =
 pub mark-line-spec : {M : Type 1} → statement M
 mark-line-spec =
     tie.close
-    (tie.spec
-    has-dash-requires
-    returns
-    fill-requires
-    same-length
-    returns-2
-    slice-aggregate-scan-rows
-    slice-aggregate-scan-rows-2
-    slice-aggregate-scan-rows-3
-    scan-rows-requires
-    array-read-k
-    same-length-2
-    returns-3
-    array-read-a
-    array-read-b
-    sub-mark-key
-    part-mark-key-start
-    part-mark-key-end
-    mark-key-requires
-    same-length-3
-    same-length-4
-    returns-4)
+    (tie.spec has-dash-requires returns fill-requires same-length returns-2 slice-aggregate-scan-rows slice-aggregate-scan-rows-2
+    slice-aggregate-scan-rows-3 scan-rows-requires array-read-k same-length-2 returns-3 array-read-a array-read-b sub-mark-key part-mark-key-start
+    part-mark-key-end mark-key-requires same-length-3 same-length-4 returns-4)

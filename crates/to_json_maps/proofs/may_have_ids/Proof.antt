@@ -75,19 +75,5 @@ returns-2 c = λ e cs h. marking-end h [] (c .before .before .before .before .be
 pub may-have-ids-spec : {M : Type 1} → statement M
 may-have-ids-spec =
     tie.close
-    (tie.spec
-    Inv-loop
-    μ-loop
-    loop-holds
-    shared-slice-read-is-of
-    is-of-requires
-    add-k
-    loop-less
-    loop-again
-    line-at-requires
-    has-dash-requires
-    returns
-    add-k-2
-    loop-less-2
-    loop-again-2
-    returns-2)
+    (tie.spec Inv-loop μ-loop loop-holds shared-slice-read-is-of is-of-requires add-k loop-less loop-again line-at-requires has-dash-requires returns
+    add-k-2 loop-less-2 loop-again-2 returns-2)

@@ -1,18 +1,10 @@
 use borrow.Author.Needs.{needs}
-use mathlib.Core.Path.{_≡_, refl, sym, ap, _∙_}
-use mathlib.Core.List.{List, [], _∷_}
-use Prim.Native.Nat.{_+_, _-_, _≤_, _<_}
-use native.Mathlib.Nat.{le-refl}
 use native.Mathlib.Omega.{arith}
-use denote.Ref.{now}
-use borrow.Author.Tests.{not-true, not-false}
-use lib.ListN.{length, take, drop, getD}
+use borrow.Author.Tests.{not-true}
 use Rattle.to_json_maps.proofs.Heads.{prefix-fits, unmarked}
 use Rattle.to_json_maps.proofs.Turns.{put-front, fits-front, never-full}
 use Rattle.to_json_maps.proofs.put_map.Statement.{statement}
 use Rattle.to_json_maps.proofs.put_map.Tie as tie
-use Rattle.to_json_maps.proofs.put_map.Reads as reads
-use Rattle.to_json_maps.proofs.put_map.Lts as lts
 
 slice-aggregate-put-prefix : tie.Need-slice-aggregate-put-prefix
 slice-aggregate-put-prefix c = search needs
@@ -120,31 +112,7 @@ returns-3 c = c .before .before .before .before .put-entries2 .ensures
 pub put-map-spec : {M : Type 1} → statement M
 put-map-spec =
     tie.close
-    (tie.spec
-    slice-aggregate-put-prefix
-    put-prefix-requires
-    enum-known-p
-    enum-told
-    returns
-    may-have-ids-requires
-    sub-put-entries
-    part-put-entries-start
-    part-put-entries-end
-    slice-aggregate-put-entries
-    put-entries-requires
-    same-length
-    same-length-2
-    returns-2
-    slice-aggregate-mark-ids
-    sub-mark-ids
-    part-mark-ids-start
-    part-mark-ids-end
-    mark-ids-requires
-    sub-put-entries-2
-    part-put-entries-start-2
-    part-put-entries-end-2
-    slice-aggregate-put-entries-2
-    put-entries-requires-2
-    same-length-3
-    same-length-4
-    returns-3)
+    (tie.spec slice-aggregate-put-prefix put-prefix-requires enum-known-p enum-told returns may-have-ids-requires sub-put-entries
+    part-put-entries-start part-put-entries-end slice-aggregate-put-entries put-entries-requires same-length same-length-2 returns-2
+    slice-aggregate-mark-ids sub-mark-ids part-mark-ids-start part-mark-ids-end mark-ids-requires sub-put-entries-2 part-put-entries-start-2
+    part-put-entries-end-2 slice-aggregate-put-entries-2 put-entries-requires-2 same-length-3 same-length-4 returns-3)

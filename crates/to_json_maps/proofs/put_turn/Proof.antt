@@ -1,12 +1,8 @@
 use borrow.Author.Needs.{needs}
-use mathlib.Core.Path.{_≡_, refl, sym, ap, _∙_}
-use mathlib.Core.List.{List, [], _∷_}
-use Prim.Native.Nat.{_+_, _-_, _≤_, _<_}
-use native.Mathlib.Nat.{le-refl}
+use mathlib.Core.Path.{sym, _∙_}
 use native.Mathlib.Omega.{arith}
 use denote.Ref.{now}
 use borrow.Author.Tests.{not-true, not-false}
-use lib.ListN.{length, take, drop, getD}
 use Rattle.text.proofs.Choices.{none-some}
 use Rattle.convert_entry.proofs.Entry.{clear-eight}
 use Rattle.convert_entry.proofs.Tests.{first-id}
@@ -18,8 +14,6 @@ use Rattle.to_json_maps.proofs.Marking.{filled-holds, filled-none}
 use Rattle.to_json_maps.proofs.Turns.{said-as, key-made, goes-made, key-own, goes-own, piece-as}
 use Rattle.to_json_maps.proofs.put_turn.Statement.{statement}
 use Rattle.to_json_maps.proofs.put_turn.Tie as tie
-use Rattle.to_json_maps.proofs.put_turn.Reads as reads
-use Rattle.to_json_maps.proofs.put_turn.Lts as lts
 
 fill-requires : tie.Need-fill-requires
 fill-requires c κs = c .before .before .before .before .before .before .pre .0
@@ -223,43 +217,8 @@ returns-5 c =
 pub put-turn-spec : {M : Type 1} → statement M
 put-turn-spec =
     tie.close
-    (tie.spec
-    fill-requires
-    same-length
-    returns
-    slice-aggregate-scan-rows
-    slice-aggregate-scan-rows-2
-    slice-aggregate-scan-rows-3
-    scan-rows-requires
-    array-read-ids
-    next-number-requires
-    add-next
-    slice-aggregate-put-made
-    slice-aggregate-put-made-2
-    slice-aggregate-put-made-3
-    put-made-requires
-    enum-known-bytes
-    enum-told
-    same-length-2
-    same-length-3
-    returns-2
-    same-length-4
-    same-length-5
-    returns-3
-    array-read-a
-    array-read-b
-    slice-aggregate-put-keyed
-    slice-aggregate-put-keyed-2
-    slice-aggregate-put-keyed-3
-    sub-put-keyed
-    part-put-keyed-start
-    part-put-keyed-end
-    put-keyed-requires
-    enum-known-bytes-2
-    enum-told-2
-    same-length-6
-    same-length-7
-    returns-4
-    same-length-8
-    same-length-9
-    returns-5)
+    (tie.spec fill-requires same-length returns slice-aggregate-scan-rows slice-aggregate-scan-rows-2 slice-aggregate-scan-rows-3 scan-rows-requires
+    array-read-ids next-number-requires add-next slice-aggregate-put-made slice-aggregate-put-made-2 slice-aggregate-put-made-3 put-made-requires
+    enum-known-bytes enum-told same-length-2 same-length-3 returns-2 same-length-4 same-length-5 returns-3 array-read-a array-read-b
+    slice-aggregate-put-keyed slice-aggregate-put-keyed-2 slice-aggregate-put-keyed-3 sub-put-keyed part-put-keyed-start part-put-keyed-end
+    put-keyed-requires enum-known-bytes-2 enum-told-2 same-length-6 same-length-7 returns-4 same-length-8 same-length-9 returns-5)

@@ -113,25 +113,6 @@ returns-2 c =
 pub put-part-spec : {M : Type 1} → statement M
 put-part-spec =
     tie.close
-    (tie.spec
-    other-part-requires
-    sub-put-items
-    part-put-items-start
-    part-put-items-end
-    sub-put-items-2
-    part-put-items-start-2
-    part-put-items-end-2
-    put-items-requires
-    same-length
-    returns
-    part-from-requires
-    part-end-requires
-    sub-put-items-3
-    part-put-items-start-3
-    part-put-items-end-3
-    sub-put-items-4
-    part-put-items-start-4
-    part-put-items-end-4
-    put-items-requires-2
-    same-length-2
-    returns-2)
+    (tie.spec other-part-requires sub-put-items part-put-items-start part-put-items-end sub-put-items-2 part-put-items-start-2 part-put-items-end-2
+    put-items-requires same-length returns part-from-requires part-end-requires sub-put-items-3 part-put-items-start-3 part-put-items-end-3
+    sub-put-items-4 part-put-items-start-4 part-put-items-end-4 put-items-requires-2 same-length-2 returns-2)

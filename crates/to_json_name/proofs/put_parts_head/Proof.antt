@@ -1,5 +1,4 @@
 use borrow.Author.Needs.{needs}
-use denote.Ref.{now}
 use Rattle.output.proofs.Laws.{puts-as}
 use Rattle.to_json_name.proofs.Names.{head-after, head-first}
 use Rattle.to_json_name.proofs.put_parts_head.Statement.{statement}

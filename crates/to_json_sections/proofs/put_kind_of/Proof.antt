@@ -1,17 +1,11 @@
 use borrow.Author.Needs.{needs}
-use mathlib.Core.Path.{_≡_, refl, sym, ap, _∙_}
-use Prim.Native.Nat.{_≤_, _<_}
 use native.Mathlib.Omega.{arith}
-use denote.Ref.{now}
 use borrow.Author.Tests.{not-true, not-false}
-use lib.ListN.{length}
 use Rattle.to_json_maps.proofs.Marking.{filled-holds, filled-none}
 use Rattle.output.proofs.Laws.{puts-as, done, start}
 use Rattle.to_json_sections.proofs.Firsts.{kind-none, kind-given, found-unread}
 use Rattle.to_json_sections.proofs.put_kind_of.Statement.{statement}
 use Rattle.to_json_sections.proofs.put_kind_of.Tie as tie
-use Rattle.to_json_sections.proofs.put_kind_of.Reads as reads
-use Rattle.to_json_sections.proofs.put_kind_of.Lts as lts
 
 first-of-requires : tie.Need-first-of-requires
 first-of-requires c κs = (c .before .before .before .before .before .pre .1 .1) .wide
@@ -75,19 +69,5 @@ returns-3 c =
 pub put-kind-of-spec : {M : Type 1} → statement M
 put-kind-of-spec =
     tie.close
-    (tie.spec
-    first-of-requires
-    returns
-    line-at-requires
-    fill-requires
-    same-length
-    returns-2
-    slice-read-a
-    slice-read-b
-    sub-put-kind
-    part-put-kind-start
-    part-put-kind-end
-    put-kind-requires
-    same-length-2
-    same-length-3
-    returns-3)
+    (tie.spec first-of-requires returns line-at-requires fill-requires same-length returns-2 slice-read-a slice-read-b sub-put-kind
+    part-put-kind-start part-put-kind-end put-kind-requires same-length-2 same-length-3 returns-3)

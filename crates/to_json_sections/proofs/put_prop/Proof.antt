@@ -1,12 +1,8 @@
 use borrow.Author.Needs.{needs}
-use mathlib.Core.Path.{_≡_, refl, sym, ap, _∙_}
-use mathlib.Core.List.{List, [], _∷_}
-use Prim.Native.Nat.{ℕ, _+_, _-_, _≤_, _<_}
+use mathlib.Core.Path.{sym, _∙_}
+use mathlib.Core.List.{[]}
 use native.Mathlib.Nat.{le-refl, lt-of-le-of-lt}
-use native.Mathlib.Omega.{arith}
-use denote.Ref.{now}
 use borrow.Author.Tests.{not-true, not-false}
-use lib.ListN.{length, take, drop, getD}
 use Rattle.json.specs.Compact.{written}
 use Rattle.convert.specs.ToJson.{keptJson}
 use Rattle.output.proofs.Laws.{first, first-full, next, stop, more, done, within, puts-as}
@@ -17,8 +13,6 @@ use Rattle.to_json_sections.proofs.Props.{piece-is}
 use Rattle.to_json_sections.proofs.Lines.{held-kept}
 use Rattle.to_json_sections.proofs.put_prop.Statement.{statement}
 use Rattle.to_json_sections.proofs.put_prop.Tie as tie
-use Rattle.to_json_sections.proofs.put_prop.Reads as reads
-use Rattle.to_json_sections.proofs.put_prop.Lts as lts
 
 fill-requires : tie.Need-fill-requires
 fill-requires c κs = c .before .before .before .before .pre .0
@@ -146,26 +140,6 @@ returns-4 c =
 pub put-prop-spec : {M : Type 1} → statement M
 put-prop-spec =
     tie.close
-    (tie.spec
-    fill-requires
-    same-length
-    returns
-    put-prop-head-requires
-    enum-known-a
-    enum-told
-    same-length-2
-    same-length-3
-    returns-2
-    sub-put-kept
-    part-put-kept-start
-    part-put-kept-end
-    put-kept-requires
-    enum-known-b
-    enum-told-2
-    same-length-4
-    same-length-5
-    returns-3
-    add-ab
-    same-length-6
-    same-length-7
-    returns-4)
+    (tie.spec fill-requires same-length returns put-prop-head-requires enum-known-a enum-told same-length-2 same-length-3 returns-2 sub-put-kept
+    part-put-kept-start part-put-kept-end put-kept-requires enum-known-b enum-told-2 same-length-4 same-length-5 returns-3 add-ab same-length-6
+    same-length-7 returns-4)

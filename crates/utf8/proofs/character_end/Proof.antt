@@ -1,6 +1,5 @@
-use Prim.Native.Nat.{_+_, _-_, _≤_}
 use native.Mathlib.Omega.{arith}
-use mathlib.Core.Path.{_≡_, refl, sym, ap, _∙_}
+use mathlib.Core.Path.{sym, ap, _∙_}
 use borrow.Author.Needs.{needs}
 use denote.Ref.{now}
 use borrow.Author.Tests.{not-true, not-false}
@@ -66,18 +65,5 @@ returns-4 c = first-bad (now (c .before .before .before .before .before .args .s
 pub character-end-spec : {M : Type 1} → statement M
 character-end-spec =
     tie.close
-    (tie.spec
-    shared-slice-read-due-after
-    due-after-requires
-    enum-told
-    add-t10
-    returns
-    enum-known-low
-    add-second
-    is-next-requires
-    returns-2
-    add-tails-end
-    tails-end-requires
-    returns-3
-    enum-told-2
-    returns-4)
+    (tie.spec shared-slice-read-due-after due-after-requires enum-told add-t10 returns enum-known-low add-second is-next-requires returns-2
+    add-tails-end tails-end-requires returns-3 enum-told-2 returns-4)

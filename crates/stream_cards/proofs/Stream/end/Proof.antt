@@ -65,15 +65,5 @@ returns-3 c =
 pub end-spec : {M : Type 1} → statement M
 end-spec =
     tie.close
-    (tie.spec
-    is-unfit-requires
-    refused-requires
-    returns
-    is-stem-requires
-    refused-requires-2
-    returns-2
-    close-requires
-    finish-requires
-    same-length
-    same-length-2
-    returns-3)
+    (tie.spec is-unfit-requires refused-requires returns is-stem-requires refused-requires-2 returns-2 close-requires finish-requires same-length
+    same-length-2 returns-3)

@@ -65,15 +65,5 @@ returns-3 c =
 pub step-spec : {M : Type 1} → statement M
 step-spec =
     tie.close
-    (tie.spec
-    is-unfit-requires
-    refused-requires
-    returns
-    is-stem-requires
-    refused-requires-2
-    returns-2
-    feed-requires
-    finish-requires
-    same-length
-    same-length-2
-    returns-3)
+    (tie.spec is-unfit-requires refused-requires returns is-stem-requires refused-requires-2 returns-2 feed-requires finish-requires same-length
+    same-length-2 returns-3)
