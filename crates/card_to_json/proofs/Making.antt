@@ -24,7 +24,7 @@ use Rattle.card_refusals.specs.declared.Refusal.{Refusal}
 use Rattle.card_refusals.specs.declared.Refusal.the-variants.{None, At}
 use Rattle.card_refusals.specs.Judged.{laterTests, answered}
 use Rattle.card_refusals.proofs.Judging.{tests-are}
-use Rattle.card_classes.specs.Pass.{Passed, Lent}
+use Rattle.from_card_classes.specs.Pass.{Passed, Lent}
 use Rattle.to_json_maps.proofs.Turns.{put-front, fits-front}
 use Rattle.card_to_json.specs.Inner.{inner}
 use Rattle.card_to_json.specs.Making.{Tested, Makes, MakesJson, MakesCard, linesAnswer}

@@ -1,9 +1,9 @@
 use mathlib.Core.Path.{_∙_}
 use Prim.Native.Nat.{_+_}
-use Rattle.card_classes.proofs.Passing.{judged-same}
+use Rattle.from_card_classes.proofs.Passing.{judged-same}
 use borrow.Author.Needs.{needs}
-use Rattle.card_classes.proofs.judge_line.Statement.{statement}
-use Rattle.card_classes.proofs.judge_line.Tie as tie
+use Rattle.from_card_classes.proofs.judge_line.Statement.{statement}
+use Rattle.from_card_classes.proofs.judge_line.Tie as tie
 
 is-misused-requires : tie.Need-is-misused-requires
 is-misused-requires c κs = search needs

@@ -1,6 +1,6 @@
 use borrow.Author.Needs.{needs}
-use Rattle.card_classes.proofs.begun.Statement.{statement}
-use Rattle.card_classes.proofs.begun.Tie as tie
+use Rattle.from_card_classes.proofs.begun.Statement.{statement}
+use Rattle.from_card_classes.proofs.begun.Tie as tie
 
 unjudged-requires : tie.Need-unjudged-requires
 unjudged-requires c κs = search needs

@@ -2,8 +2,8 @@ use mathlib.Core.Path.{refl}
 use native.Mathlib.Omega.{arith}
 use lib.ListN.{length-set}
 use borrow.Author.Needs.{needs}
-use Rattle.card_classes.proofs.pass_line.Statement.{statement}
-use Rattle.card_classes.proofs.pass_line.Tie as tie
+use Rattle.from_card_classes.proofs.pass_line.Statement.{statement}
+use Rattle.from_card_classes.proofs.pass_line.Tie as tie
 
 settle-requires : tie.Need-settle-requires
 settle-requires c κs = search needs

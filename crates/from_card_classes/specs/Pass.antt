@@ -24,7 +24,7 @@ use Rattle.card_refusals.specs.declared.Judged.{Judged}
 use Rattle.card_seen.specs.declared.Settled.{Settled}
 use Rattle.card_seen.specs.Ids.{IdTable, Remembers}
 use Rattle.card_seen.specs.Settled.{Settles}
-use Rattle.card_classes.specs.declared.Pass.{Pass}
+use Rattle.from_card_classes.specs.declared.Pass.{Pass}
 
 abbrev pub linesIn : List Classed → List Line
 linesIn cs = map (λ (c : Classed). c .line) cs

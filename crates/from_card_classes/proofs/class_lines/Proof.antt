@@ -2,7 +2,7 @@ use Rattle.class_member.specs.Member.{Room}
 use mathlib.Core.Path.{_∙_}
 use Rattle.text.proofs.Cases.{not-true, not-false}
 use Rattle.line_unfold.proofs.Lookup.{table-long}
-use Rattle.card_classes.proofs.Passing.{filled, unfilled, line-here, line-cut, line-room, ready-none, through-none, through-bad, through-next, through-end}
+use Rattle.from_card_classes.proofs.Passing.{filled, unfilled, line-here, line-cut, line-room, ready-none, through-none, through-bad, through-next, through-end}
 use borrow.Author.Needs.{needs}
 use denote.Ref.{now}
 use native.Mathlib.Omega.{arith}
@@ -10,9 +10,9 @@ use mathlib.Core.Path.{_≡_, refl}
 use Prim.Native.Nat.{_-_, _≤_}
 use lib.ListN.{length}
 use Rattle.card_garbled.specs.Garbled.{OfLines}
-use Rattle.card_classes.specs.Pass.{Ready, Through}
-use Rattle.card_classes.proofs.class_lines.Statement.{statement}
-use Rattle.card_classes.proofs.class_lines.Tie as tie
+use Rattle.from_card_classes.specs.Pass.{Ready, Through}
+use Rattle.from_card_classes.proofs.class_lines.Statement.{statement}
+use Rattle.from_card_classes.proofs.class_lines.Tie as tie
 
 abbrev Inv-loop : tie.InvT-loop
 Inv-loop codes₀ ids₀ prints₀ table₀ text₀ bytes starts n p₀ k₀ codes ids prints table text p k =

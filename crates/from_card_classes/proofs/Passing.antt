@@ -33,8 +33,8 @@ use Rattle.card_refusals.proofs.Judging.{judged-snoc, refusal-told}
 use Rattle.card_refusals.proofs.Spread.{misused-spread, version-spread, emptied-spread, coded-spread}
 use Rattle.card_seen.specs.Ids.{idsAt, Remembers, Cut}
 use Rattle.card_seen.specs.Settled.{Follows}
-use Rattle.card_classes.specs.declared.Pass.{Pass}
-use Rattle.card_classes.specs.Pass.{linesIn, numbersIn, Ready, Sofar, Noted, NextLine, Through, Passed, Lent, fresh}
+use Rattle.from_card_classes.specs.declared.Pass.{Pass}
+use Rattle.from_card_classes.specs.Pass.{linesIn, numbersIn, Ready, Sofar, Noted, NextLine, Through, Passed, Lent, fresh}
 
 -- ---- lists of classed lines
 

@@ -10,7 +10,7 @@ ghost use Rattle.class_member.specs.Member.{Room};
 ghost use Rattle.card_refusals.specs.Line.{Coded};
 ghost use Rattle.card_refusals.specs.Judged.{judgedWith};
 ghost use Rattle.card_seen.specs.Ids.{Cut};
-ghost use Rattle.card_classes.specs.Pass.{Ready, Noted, NextLine, HasLines, Lent, Passes, fresh};
+ghost use Rattle.from_card_classes.specs.Pass.{Ready, Noted, NextLine, HasLines, Lent, Passes, fresh};
 use card_refusals::Judged;
 use card_refusals::Refusal;
 use card_refusals::is_emptied;

@@ -2,11 +2,11 @@ use mathlib.Core.Path.{refl}
 use denote.Ref.{now}
 use Rattle.convert_entry.proofs.Entry.{clear-eight}
 use Rattle.class_line.proofs.Lines.{numbered}
-use Rattle.card_classes.proofs.Names.{coded}
-use Rattle.card_classes.proofs.Passing.{next-line}
+use Rattle.from_card_classes.proofs.Names.{coded}
+use Rattle.from_card_classes.proofs.Passing.{next-line}
 use borrow.Author.Needs.{needs}
-use Rattle.card_classes.proofs.next_line.Statement.{statement}
-use Rattle.card_classes.proofs.next_line.Tie as tie
+use Rattle.from_card_classes.proofs.next_line.Statement.{statement}
+use Rattle.from_card_classes.proofs.next_line.Tie as tie
 
 slice-aggregate-scan-rows : tie.Need-slice-aggregate-scan-rows
 slice-aggregate-scan-rows c = search needs
