@@ -8,7 +8,7 @@ use Rattle.text.specs.Choice.{pick}
 use Rattle.text.specs.Bytes.{ascii, any}
 use Rattle.line.specs.Grammar.{Line}
 use Rattle.convert.specs.Answers.{Answer, no, Test, given, givenAt, atLine, firstFrom, isNamed, misused, secondFrom, emptied, versionFirst}
-use Rattle.card_garbled.specs.Garbled.{placeOf}
+use Rattle.from_card_garbled.specs.Garbled.{placeOf}
 use Rattle.card_refusals.specs.declared.Judged.{Judged}
 use Rattle.card_refusals.specs.declared.Refusal.{Refusal}
 use Rattle.card_refusals.specs.declared.Refusal.the-variants.{None, At}

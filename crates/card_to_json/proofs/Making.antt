@@ -19,7 +19,7 @@ use Rattle.convert.specs.Classify.{classed}
 use Rattle.convert.specs.Answers.{Answer, no, yes, Test, seek, given, givenAt, atLine, firstFrom, garbled, ungrammatical, lineTests, lineRoom, linesOf, rawLines}
 use Rattle.convert.specs.FromCard.{cardOfLines}
 use Rattle.convert.specs.ToJson.{printJson}
-use Rattle.card_garbled.specs.Garbled.{placeOf}
+use Rattle.from_card_garbled.specs.Garbled.{placeOf}
 use Rattle.card_refusals.specs.declared.Refusal.{Refusal}
 use Rattle.card_refusals.specs.declared.Refusal.the-variants.{None, At}
 use Rattle.card_refusals.specs.Judged.{laterTests, answered}

@@ -10,7 +10,7 @@ use Rattle.convert.specs.Answers.{Answer, no, yes, seek, lineTests, linesOf}
 use Rattle.convert.specs.FromCard.{cardOfLines, cardOfClassed}
 use Rattle.convert.specs.ToJson.{printJson}
 use Rattle.card_lines.specs.Classified.{Classified}
-use Rattle.card_garbled.specs.Garbled.{OfLines}
+use Rattle.from_card_garbled.specs.Garbled.{OfLines}
 use Rattle.card_refusals.specs.declared.Refusal.{Refusal}
 use Rattle.card_refusals.specs.declared.Refusal.the-variants.{None}
 use Rattle.card_refusals.specs.Judged.{answered}

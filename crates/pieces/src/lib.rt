@@ -4,11 +4,11 @@
 ghost use Prim.Native.Nat.{_≤_};
 ghost use lib.ListN.{length};
 ghost use Rattle.line_table.specs.Table.{Sound};
-ghost use Rattle.card_garbled.specs.Garbled.{FirstGarbled};
+ghost use Rattle.from_card_garbled.specs.Garbled.{FirstGarbled};
 ghost use Rattle.card_table.specs.Numbers.{typeCount};
-use card_garbled::first_garbled;
 use card_table::params;
 use card_table::types;
+use from_card_garbled::first_garbled;
 use json_access::head_at;
 use json_access::place;
 use json_compact::put_compact;

@@ -9,7 +9,7 @@ use native.Mathlib.Omega.{arith}
 use mathlib.Core.Path.{_≡_, refl}
 use Prim.Native.Nat.{_-_, _≤_}
 use lib.ListN.{length}
-use Rattle.card_garbled.specs.Garbled.{OfLines}
+use Rattle.from_card_garbled.specs.Garbled.{OfLines}
 use Rattle.from_card_classes.specs.Pass.{Ready, Through}
 use Rattle.from_card_classes.proofs.class_lines.Statement.{statement}
 use Rattle.from_card_classes.proofs.class_lines.Tie as tie

@@ -17,8 +17,8 @@ use Rattle.line_unfold.proofs.Lookup.{line-is, lines-end}
 use Rattle.line_class.specs.Odd.{isOdd}
 use Rattle.line_class.proofs.Odd.{plain}
 use Rattle.convert.specs.Answers.{garbled, firstFrom}
-use Rattle.card_garbled.specs.Garbled.{placeOf, OfLines, FirstGarbled}
-use Rattle.card_garbled.proofs.First.{first-on, first-here, first-end, first-none}
+use Rattle.from_card_garbled.specs.Garbled.{placeOf, OfLines, FirstGarbled}
+use Rattle.from_card_garbled.proofs.First.{first-on, first-here, first-end, first-none}
 
 garbled-is : (l : Bytes) → garbled l ≡ (not (utf8 l) || any isControl l)
 unfolding garbled

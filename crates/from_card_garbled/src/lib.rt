@@ -4,7 +4,7 @@ ghost use mathlib.Core.Bool.{_||_, _&&_, not};
 ghost use Rattle.text.specs.Bytes.{any, flat};
 ghost use Rattle.text.specs.Utf8.{utf8};
 ghost use Rattle.line.specs.Class.{isControl};
-ghost use Rattle.card_garbled.specs.Garbled.{OfLines, FirstGarbled};
+ghost use Rattle.from_card_garbled.specs.Garbled.{OfLines, FirstGarbled};
 use line_class::has_control;
 use line_class::has_odd;
 use line_class::is_garbled;

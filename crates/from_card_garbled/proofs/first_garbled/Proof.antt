@@ -7,9 +7,9 @@ use mathlib.Core.Bool.{not}
 use Prim.Native.Nat.{_-_, _≤_}
 use Rattle.text.specs.Bytes.{any}
 use Rattle.line.specs.Class.{isControl}
-use Rattle.card_garbled.proofs.Lines.{garbledIn, none-at-all, Sought, sought-on, sought-here, sought-end}
-use Rattle.card_garbled.proofs.first_garbled.Statement.{statement}
-use Rattle.card_garbled.proofs.first_garbled.Tie as tie
+use Rattle.from_card_garbled.proofs.Lines.{garbledIn, none-at-all, Sought, sought-on, sought-here, sought-end}
+use Rattle.from_card_garbled.proofs.first_garbled.Statement.{statement}
+use Rattle.from_card_garbled.proofs.first_garbled.Tie as tie
 
 abbrev Inv-loop : tie.InvT-loop
 Inv-loop scratch starts n clean k₀ k = (k ≤ n) × Sought scratch starts n k

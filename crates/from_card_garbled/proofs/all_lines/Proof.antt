@@ -1,8 +1,8 @@
 use borrow.Author.Needs.{needs}
 use native.Mathlib.Omega.{arith}
-use Rattle.card_garbled.proofs.Lines.{lines-whole, starts-long, scratch-long}
-use Rattle.card_garbled.proofs.all_lines.Statement.{statement}
-use Rattle.card_garbled.proofs.all_lines.Tie as tie
+use Rattle.from_card_garbled.proofs.Lines.{lines-whole, starts-long, scratch-long}
+use Rattle.from_card_garbled.proofs.all_lines.Statement.{statement}
+use Rattle.from_card_garbled.proofs.all_lines.Tie as tie
 
 sub-result : tie.Need-sub-result
 sub-result c = search needs

@@ -1,8 +1,8 @@
 use borrow.Author.Needs.{needs}
 use mathlib.Core.Path.{sym}
 use Rattle.line_class.proofs.Odd.{or-none}
-use Rattle.card_garbled.proofs.is_garbled_in.Statement.{statement}
-use Rattle.card_garbled.proofs.is_garbled_in.Tie as tie
+use Rattle.from_card_garbled.proofs.is_garbled_in.Statement.{statement}
+use Rattle.from_card_garbled.proofs.is_garbled_in.Tie as tie
 
 is-utf8-requires : tie.Need-is-utf8-requires
 is-utf8-requires c κs = search needs
