@@ -9,7 +9,7 @@ use Rattle.convert.specs.Classify.{Classed, classed}
 use Rattle.convert.specs.Answers.{Answer, no, yes, seek, lineTests, linesOf}
 use Rattle.convert.specs.FromCard.{cardOfLines, cardOfClassed}
 use Rattle.convert.specs.ToJson.{printJson}
-use Rattle.card_lines.specs.Classified.{Classified}
+use Rattle.from_card_lines.specs.Classified.{Classified}
 use Rattle.from_card_garbled.specs.Garbled.{OfLines}
 use Rattle.card_refusals.specs.declared.Refusal.{Refusal}
 use Rattle.card_refusals.specs.declared.Refusal.the-variants.{None}

@@ -22,7 +22,7 @@ use Rattle.convert_entry.specs.Rows.{codeOf}
 use Rattle.table_entry.proofs.Spread.{classify-spread}
 use Rattle.class_member.specs.Member.{Room}
 use Rattle.class_line.specs.Class.{Classes, seenWith}
-use Rattle.card_lines.specs.Classified.{Turned, Classified}
+use Rattle.from_card_lines.specs.Classified.{Turned, Classified}
 use Rattle.from_card_garbled.proofs.First.{first-on, first-here, first-end}
 use Rattle.card_refusals.specs.declared.Judged.{Judged}
 use Rattle.card_refusals.specs.declared.Refusal.{Refusal}

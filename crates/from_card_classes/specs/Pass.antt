@@ -15,7 +15,7 @@ use Rattle.convert.specs.Answers.{Answer, seek, atLine, firstFrom, ungrammatica
 use Rattle.convert_entry.specs.Rows.{codeOf}
 use Rattle.class_member.specs.Member.{Room}
 use Rattle.class_line.specs.declared.Class.{Class as Answered}
-use Rattle.card_lines.specs.Classified.{Turned, Classified}
+use Rattle.from_card_lines.specs.Classified.{Turned, Classified}
 use Rattle.from_card_garbled.specs.Garbled.{OfLines}
 use Rattle.card_refusals.specs.declared.Refusal.{Refusal}
 use Rattle.card_refusals.specs.declared.Refusal.the-variants.{None}

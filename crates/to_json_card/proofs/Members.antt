@@ -30,8 +30,8 @@ use Rattle.convert.specs.FromCard.{Gives, gives, gathered}
 use Rattle.convert_entry.specs.Rows.{codeOf}
 use Rattle.convert_put.specs.Pieces.{memberBytes, after}
 use Rattle.table_entry.proofs.Spread.{class-held}
-use Rattle.card_lines.specs.Classified.{Classified}
-use Rattle.card_lines.proofs.Lines.{LineOf, line-of, no-more}
+use Rattle.from_card_lines.specs.Classified.{Classified}
+use Rattle.from_card_lines.proofs.Lines.{LineOf, line-of, no-more}
 use Rattle.home.proofs.Classes.{Fact}
 use Rattle.to_json_sections.specs.Sections.{membersIn}
 use Rattle.to_json_sections.proofs.Lines.{entry-low, gathered-cons, gathered-none, fact-of}

@@ -24,7 +24,7 @@ use Rattle.convert.proofs.CardParts.{has-no-parts}
 use Rattle.convert_entry.specs.Rows.{codeOf}
 use Rattle.convert_put.specs.Pieces.{after}
 use Rattle.table_entry.proofs.Entry.{value-is}
-use Rattle.card_lines.specs.Classified.{Classified}
+use Rattle.from_card_lines.specs.Classified.{Classified}
 use Rattle.home.proofs.Classes.{Fact}
 use Rattle.home.proofs.NormalCardParts.{name-read}
 use Rattle.text.proofs.Choices.{none-some, some-same}

@@ -15,7 +15,7 @@ use Rattle.convert.specs.Table.{maps}
 use Rattle.convert.specs.FromCard.{Gives, gathered, mapsFrom, cardOfClassed}
 use Rattle.convert.specs.ToJson.{mapsJson, printJson}
 use Rattle.convert_put.specs.Pieces.{memberBytes, after}
-use Rattle.card_lines.specs.Classified.{Classified}
+use Rattle.from_card_lines.specs.Classified.{Classified}
 use Rattle.to_json_maps.specs.Maps.{HasLines}
 use Rattle.to_json_head.specs.Head.{startBytes}
 use Rattle.to_json_sections.specs.Sections.{uidIn, kindIn, kindMember, nameIn, membersIn, keptOf, propsBytes}

@@ -22,8 +22,8 @@ use Rattle.convert.specs.Classify.{as-entry, Classed}
 use Rattle.convert.specs.Keys.{numbered}
 use Rattle.convert_params.specs.Row.{Row}
 use Rattle.convert_entry.specs.Rows.{codeOf}
-use Rattle.card_lines.specs.Classified.{Classified}
-use Rattle.card_lines.proofs.Lines.{LineOf, line-of, count-is}
+use Rattle.from_card_lines.specs.Classified.{Classified}
+use Rattle.from_card_lines.proofs.Lines.{LineOf, line-of, count-is}
 use Rattle.to_json_keys.specs.Taken.{Taken, Marks, Blocked}
 use Rattle.to_json_maps.specs.Maps.{entriesOf, idsOf, Enters, Entering, MarksLine, Unmarked}
 use Rattle.to_json_maps.proofs.Whole.{entry-line, other-line, entry-code}

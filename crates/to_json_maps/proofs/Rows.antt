@@ -25,7 +25,7 @@ use Rattle.class_names.specs.Names.{typesOf, formOf}
 use Rattle.line_table.specs.Table.{lineIn, Holds}
 use Rattle.line_unfold.specs.Table.{lineAt}
 use Rattle.table_entry.proofs.Spread.{entry-held}
-use Rattle.card_lines.proofs.Lines.{LineOf}
+use Rattle.from_card_lines.proofs.Lines.{LineOf}
 use Rattle.home.proofs.Classes.{Fact, class-fact}
 use Rattle.home.proofs.Slots.{at, slot-row}
 use Rattle.to_json_maps.specs.Maps.{noMap, mapAt, Enters, Converts}

@@ -26,8 +26,8 @@ use Rattle.line_table.specs.Table.{lineIn}
 use Rattle.line_unfold.specs.Table.{lineAt}
 use Rattle.class_names.specs.Names.{typesOf, formOf}
 use Rattle.to_json_entry.specs.Entry.{keyed, RowPieces, PutsEntry, KindOfLine}
-use Rattle.card_lines.specs.Classified.{Classified}
-use Rattle.card_lines.proofs.Lines.{count-is, few-lines, no-more}
+use Rattle.from_card_lines.specs.Classified.{Classified}
+use Rattle.from_card_lines.proofs.Lines.{count-is, few-lines, no-more}
 use Rattle.to_json_keys.specs.Taken.{Blocked, Next, Going}
 use Rattle.to_json_keys.proofs.Going.{going-first, going-own, made-key, going-made}
 use Rattle.to_json_maps.specs.declared.Turn.{Turn}

@@ -22,7 +22,7 @@ use Rattle.convert.specs.FromCard.{Gives, gathered, inMap, keyedEntries, mapsFr
 use Rattle.convert.specs.ToJson.{where′, entryJson, mapsJson}
 use Rattle.to_json_entry.specs.Entry.{keyed}
 use Rattle.line_table.specs.Table.{lineIn}
-use Rattle.card_lines.specs.Classified.{Classified}
+use Rattle.from_card_lines.specs.Classified.{Classified}
 use Rattle.to_json_keys.specs.Taken.{Taken, Blocked, Going}
 use Rattle.convert_put.specs.Pieces.{memberBytes, after, closing}
 use Rattle.table_entry.specs.Key.{Rowed}

@@ -16,8 +16,8 @@ use Rattle.convert.specs.Classify.{Seen, Class, as-version, as-uid, as-kind, as
 use Rattle.convert.specs.FromCard.{Gives, gives, gathered, firstOf, orElse, madeUid}
 use Rattle.convert_entry.specs.Rows.{codeOf}
 use Rattle.table_entry.proofs.Entry.{value-is}
-use Rattle.card_lines.specs.Classified.{Classified}
-use Rattle.card_lines.proofs.Lines.{LineOf, line-of, no-more}
+use Rattle.from_card_lines.specs.Classified.{Classified}
+use Rattle.from_card_lines.proofs.Lines.{LineOf, line-of, no-more}
 use Rattle.home.proofs.Classes.{Fact}
 use Rattle.convert_put.specs.Pieces.{after}
 use Rattle.to_json_head.specs.Head.{uidOf, kindBytes}

@@ -26,8 +26,8 @@ use Rattle.convert.specs.Classify.{Seen, Class, as-version, as-uid, as-kind, as
 use Rattle.convert.specs.FromCard.{Gives, gives, gathered, keptLine}
 use Rattle.convert.specs.ToJson.{keptJson}
 use Rattle.convert_entry.specs.Rows.{codeOf}
-use Rattle.card_lines.specs.Classified.{Classified}
-use Rattle.card_lines.proofs.Lines.{LineOf, line-of, no-more}
+use Rattle.from_card_lines.specs.Classified.{Classified}
+use Rattle.from_card_lines.proofs.Lines.{LineOf, line-of, no-more}
 use Rattle.home.proofs.Classes.{Fact, class-fact}
 use Rattle.table_entry.proofs.Spread.{kept-held}
 use Rattle.to_json_maps.proofs.Rows.{slot-low}

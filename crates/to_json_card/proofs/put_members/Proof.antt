@@ -12,7 +12,7 @@ use Rattle.output.proofs.Rests.{rest-done, rest-in, rest-fit, rest-same}
 use Rattle.output.proofs.Rows.{length-puts}
 use Rattle.convert.specs.Classify.{Classed}
 use Rattle.convert_put.specs.Pieces.{after}
-use Rattle.card_lines.specs.Classified.{Classified}
+use Rattle.from_card_lines.specs.Classified.{Classified}
 use Rattle.to_json_sections.specs.Sections.{membersIn}
 use Rattle.to_json_card.proofs.Members.{membersOf, members-start, members-end, members-skip, has-member, members-stop, members-next, line-short}
 use Rattle.to_json_card.proofs.put_members.Statement.{statement}

@@ -4,7 +4,7 @@ use native.Mathlib.Nat.{le-refl}
 use denote.Ref.{now}
 use Rattle.output.proofs.Rows.{Here, first!, next!, none, stop!, all, in!, fit!, same!, length-puts}
 use Rattle.convert.specs.Classify.{Classed}
-use Rattle.card_lines.specs.Classified.{Classified}
+use Rattle.from_card_lines.specs.Classified.{Classified}
 use Rattle.text.specs.Bytes.{flat}
 use Rattle.to_json_card.specs.Card.{endPieces}
 use Rattle.to_json_card.proofs.put_rest.Statement.{statement}

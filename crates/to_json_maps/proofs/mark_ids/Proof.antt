@@ -7,7 +7,7 @@ use denote.Ref.{now}
 use borrow.Author.Tests.{not-true, not-false}
 use lib.ListN.{length}
 use Rattle.convert.specs.Classify.{Classed}
-use Rattle.card_lines.specs.Classified.{Classified}
+use Rattle.from_card_lines.specs.Classified.{Classified}
 use Rattle.to_json_maps.proofs.Marking.{Marking, marking-start, marking-other, line-entering, marking-line, marking-end}
 use Rattle.to_json_maps.proofs.mark_ids.Statement.{statement}
 use Rattle.to_json_maps.proofs.mark_ids.Tie as tie

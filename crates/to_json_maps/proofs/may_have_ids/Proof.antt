@@ -9,7 +9,7 @@ use denote.Ref.{now}
 use borrow.Author.Tests.{not-true, not-false}
 use Rattle.text.proofs.Cases.{not-both}
 use Rattle.convert.specs.Classify.{Classed}
-use Rattle.card_lines.specs.Classified.{Classified}
+use Rattle.from_card_lines.specs.Classified.{Classified}
 use Rattle.to_json_maps.proofs.Heads.{unmarked}
 use Rattle.to_json_maps.proofs.Marking.{Marking, marking-start, marking-other, marking-line, marking-end, line-dashless}
 use Rattle.to_json_maps.proofs.may_have_ids.Statement.{statement}

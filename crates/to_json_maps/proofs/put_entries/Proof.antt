@@ -11,7 +11,7 @@ use Rattle.output.proofs.Rests.{rest-as, rest-next, rest-stop, rest-done, rest-
 use Rattle.output.proofs.Rows.{length-puts}
 use Rattle.convert.specs.Classify.{Classed}
 use Rattle.convert_put.proofs.Writing.{closed, opened}
-use Rattle.card_lines.specs.Classified.{Classified}
+use Rattle.from_card_lines.specs.Classified.{Classified}
 use Rattle.to_json_maps.proofs.Heads.{prefixes, prefix-short}
 use Rattle.to_json_maps.proofs.Turns.{Mapping, mapping-start, mapping-end, mapping-other, has-turn, mapping-stop, mapping-next}
 use Rattle.to_json_maps.proofs.put_entries.Statement.{statement}

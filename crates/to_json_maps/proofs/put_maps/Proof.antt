@@ -11,7 +11,7 @@ use Rattle.output.proofs.Rests.{rest-all, rest-as, rest-next, rest-stop, rest-d
 use Rattle.output.proofs.Rows.{length-puts}
 use Rattle.convert.specs.Table.{maps}
 use Rattle.convert.specs.Classify.{Classed}
-use Rattle.card_lines.specs.Classified.{Classified}
+use Rattle.from_card_lines.specs.Classified.{Classified}
 use Rattle.to_json_maps.proofs.Whole.{allMaps, mapsAfter, maps-bytes, maps-step, maps-end}
 use Rattle.to_json_maps.proofs.put_maps.Statement.{statement}
 use Rattle.to_json_maps.proofs.put_maps.Tie as tie

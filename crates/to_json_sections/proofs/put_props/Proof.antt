@@ -11,7 +11,7 @@ use Rattle.output.specs.Put.{Rest}
 use Rattle.output.proofs.Rests.{rest-as, rest-next, rest-stop, rest-done, rest-in, rest-fit, rest-same}
 use Rattle.output.proofs.Rows.{length-puts}
 use Rattle.convert.specs.Classify.{Classed}
-use Rattle.card_lines.specs.Classified.{Classified}
+use Rattle.from_card_lines.specs.Classified.{Classified}
 use Rattle.to_json_sections.specs.Sections.{keptOf, propsFrom, propsBytes}
 use Rattle.to_json_sections.proofs.Props.{end-none, end-some, from-nil}
 use Rattle.to_json_sections.proofs.Lines.{props-start, props-end, props-skip, has-kept, props-stop, props-next}

@@ -15,7 +15,7 @@ use Rattle.line_unfold.specs.Table.{lineAt}
 use Rattle.line_unfold.proofs.Lookup.{line-is}
 use Rattle.convert.specs.Classify.{Seen, Classed, classify}
 use Rattle.convert_entry.specs.Rows.{codeOf}
-use Rattle.card_lines.specs.Classified.{Turned, Classified}
+use Rattle.from_card_lines.specs.Classified.{Turned, Classified}
 
 -- the line k, what it was read as, and the number of its class
 pub record LineOf (scratch starts codes : List ℕ) (k : ℕ) (c : Classed) : Type 0 where
