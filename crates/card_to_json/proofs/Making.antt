@@ -20,10 +20,10 @@ use Rattle.convert.specs.Answers.{Answer, no, yes, Test, seek, given, givenAt, 
 use Rattle.convert.specs.FromCard.{cardOfLines}
 use Rattle.convert.specs.ToJson.{printJson}
 use Rattle.from_card_garbled.specs.Garbled.{placeOf}
-use Rattle.card_refusals.specs.declared.Refusal.{Refusal}
-use Rattle.card_refusals.specs.declared.Refusal.the-variants.{None, At}
-use Rattle.card_refusals.specs.Judged.{laterTests, answered}
-use Rattle.card_refusals.proofs.Judging.{tests-are}
+use Rattle.from_card_refusals.specs.declared.Refusal.{Refusal}
+use Rattle.from_card_refusals.specs.declared.Refusal.the-variants.{None, At}
+use Rattle.from_card_refusals.specs.Judged.{laterTests, answered}
+use Rattle.from_card_refusals.proofs.Judging.{tests-are}
 use Rattle.from_card_classes.specs.Pass.{Passed, Lent}
 use Rattle.to_json_maps.proofs.Turns.{put-front, fits-front}
 use Rattle.card_to_json.specs.Inner.{inner}

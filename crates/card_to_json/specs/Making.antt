@@ -11,9 +11,9 @@ use Rattle.convert.specs.FromCard.{cardOfLines, cardOfClassed}
 use Rattle.convert.specs.ToJson.{printJson}
 use Rattle.from_card_lines.specs.Classified.{Classified}
 use Rattle.from_card_garbled.specs.Garbled.{OfLines}
-use Rattle.card_refusals.specs.declared.Refusal.{Refusal}
-use Rattle.card_refusals.specs.declared.Refusal.the-variants.{None}
-use Rattle.card_refusals.specs.Judged.{answered}
+use Rattle.from_card_refusals.specs.declared.Refusal.{Refusal}
+use Rattle.from_card_refusals.specs.declared.Refusal.the-variants.{None}
+use Rattle.from_card_refusals.specs.Judged.{answered}
 use Rattle.card_to_json.specs.Inner.{inner}
 use Rattle.card_to_json.specs.Laying.{Many}
 use Rattle.card_to_json.specs.declared.Made.{Made}

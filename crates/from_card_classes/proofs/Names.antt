@@ -9,7 +9,7 @@ use Rattle.text.specs.Bytes.{Bytes, ascii, same, lowered}
 use Rattle.line_table.specs.Table.{part, lineIn}
 use Rattle.class_names.specs.Names.{names, nameNumber}
 use Rattle.class_names.proofs.Numbers.{wordsOf, is-word, number-version, number-uid, number-kind, number-fn}
-use Rattle.card_refusals.specs.Line.{Coded}
+use Rattle.from_card_refusals.specs.Line.{Coded}
 
 word-version : wordsOf 1 names ≡ ascii "version" ∷ []
 unfolding wordsOf

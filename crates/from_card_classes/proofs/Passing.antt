@@ -24,13 +24,13 @@ use Rattle.class_member.specs.Member.{Room}
 use Rattle.class_line.specs.Class.{Classes, seenWith}
 use Rattle.from_card_lines.specs.Classified.{Turned, Classified}
 use Rattle.from_card_garbled.proofs.First.{first-on, first-here, first-end}
-use Rattle.card_refusals.specs.declared.Judged.{Judged}
-use Rattle.card_refusals.specs.declared.Refusal.{Refusal}
-use Rattle.card_refusals.specs.declared.Refusal.the-variants.{None, At}
-use Rattle.card_refusals.specs.Line.{Coded}
-use Rattle.card_refusals.specs.Judged.{judged, judgedWith, refusalOf}
-use Rattle.card_refusals.proofs.Judging.{judged-snoc, refusal-told}
-use Rattle.card_refusals.proofs.Spread.{misused-spread, version-spread, emptied-spread, coded-spread}
+use Rattle.from_card_refusals.specs.declared.Judged.{Judged}
+use Rattle.from_card_refusals.specs.declared.Refusal.{Refusal}
+use Rattle.from_card_refusals.specs.declared.Refusal.the-variants.{None, At}
+use Rattle.from_card_refusals.specs.Line.{Coded}
+use Rattle.from_card_refusals.specs.Judged.{judged, judgedWith, refusalOf}
+use Rattle.from_card_refusals.proofs.Judging.{judged-snoc, refusal-told}
+use Rattle.from_card_refusals.proofs.Spread.{misused-spread, version-spread, emptied-spread, coded-spread}
 use Rattle.card_seen.specs.Ids.{idsAt, Remembers, Cut}
 use Rattle.card_seen.specs.Settled.{Follows}
 use Rattle.from_card_classes.specs.declared.Pass.{Pass}

@@ -17,10 +17,10 @@ use Rattle.class_member.specs.Member.{Room}
 use Rattle.class_line.specs.declared.Class.{Class as Answered}
 use Rattle.from_card_lines.specs.Classified.{Turned, Classified}
 use Rattle.from_card_garbled.specs.Garbled.{OfLines}
-use Rattle.card_refusals.specs.declared.Refusal.{Refusal}
-use Rattle.card_refusals.specs.declared.Refusal.the-variants.{None}
-use Rattle.card_refusals.specs.Judged.{judged, laterTests, answered}
-use Rattle.card_refusals.specs.declared.Judged.{Judged}
+use Rattle.from_card_refusals.specs.declared.Refusal.{Refusal}
+use Rattle.from_card_refusals.specs.declared.Refusal.the-variants.{None}
+use Rattle.from_card_refusals.specs.Judged.{judged, laterTests, answered}
+use Rattle.from_card_refusals.specs.declared.Judged.{Judged}
 use Rattle.card_seen.specs.declared.Settled.{Settled}
 use Rattle.card_seen.specs.Ids.{IdTable, Remembers}
 use Rattle.card_seen.specs.Settled.{Settles}

@@ -5,10 +5,10 @@ use borrow.Author.Tests.{eq-eqb, ne-eqb}
 use Rattle.text.specs.Bytes.{same, ascii}
 use Rattle.line_table.specs.Table.{lineIn}
 use Rattle.table_entry.proofs.Entry.{value-is}
-use Rattle.card_refusals.proofs.Lines.{other-name, version-grouped, version-params, version-value, params-empty}
+use Rattle.from_card_refusals.proofs.Lines.{other-name, version-grouped, version-params, version-value, params-empty}
 use borrow.Author.Needs.{needs}
-use Rattle.card_refusals.proofs.is_version_line.Statement.{statement}
-use Rattle.card_refusals.proofs.is_version_line.Tie as tie
+use Rattle.from_card_refusals.proofs.is_version_line.Statement.{statement}
+use Rattle.from_card_refusals.proofs.is_version_line.Tie as tie
 
 returns : tie.Need-returns
 returns c =

@@ -10,7 +10,7 @@ use Rattle.convert.specs.Answers.{onlyUri, misused, emptied, isVersionLine}
 use Rattle.line_table.specs.Spread.{ones, spread, spreadLine, valued}
 use Rattle.line_table.proofs.Same.{spread-nil, spread-cons, spread-values, spread-besides, spread-type, valued-besides}
 use Rattle.table_entry.proofs.Spread.{none-has, rest-valued, spread-empty}
-use Rattle.card_refusals.specs.Line.{Coded}
+use Rattle.from_card_refusals.specs.Line.{Coded}
 
 or-same : (a b : Bool) → a || (a || b) ≡ a || b
 or-same true b = refl

@@ -1,6 +1,6 @@
 use borrow.Author.Tests.{eq-eqb, ne-eqb}
-use Rattle.card_refusals.proofs.first_of.Statement.{statement}
-use Rattle.card_refusals.proofs.first_of.Tie as tie
+use Rattle.from_card_refusals.proofs.first_of.Statement.{statement}
+use Rattle.from_card_refusals.proofs.first_of.Tie as tie
 
 returns : tie.Need-returns
 returns c = rw (ne-eqb _ 0 (c .if1 .taken))

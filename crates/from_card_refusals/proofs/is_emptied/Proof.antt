@@ -3,11 +3,11 @@ use mathlib.Core.Path.{sym, ap, _∙_}
 use mathlib.Core.Bool.{not}
 use Rattle.line_table.specs.Table.{lineIn}
 use Rattle.table_entry.proofs.Entry.{value-is}
-use Rattle.card_refusals.specs.Line.{isWord}
-use Rattle.card_refusals.proofs.Lines.{uid-emptied, kind-emptied, other-emptied, value-empty}
+use Rattle.from_card_refusals.specs.Line.{isWord}
+use Rattle.from_card_refusals.proofs.Lines.{uid-emptied, kind-emptied, other-emptied, value-empty}
 use borrow.Author.Needs.{needs}
-use Rattle.card_refusals.proofs.is_emptied.Statement.{statement}
-use Rattle.card_refusals.proofs.is_emptied.Tie as tie
+use Rattle.from_card_refusals.proofs.is_emptied.Statement.{statement}
+use Rattle.from_card_refusals.proofs.is_emptied.Tie as tie
 
 shared-slice-read-a : tie.Need-shared-slice-read-a
 shared-slice-read-a c = search needs

@@ -9,9 +9,9 @@ use Rattle.text.specs.Bytes.{ascii, any}
 use Rattle.line.specs.Grammar.{Line}
 use Rattle.convert.specs.Answers.{Answer, no, Test, given, givenAt, atLine, firstFrom, isNamed, misused, secondFrom, emptied, versionFirst}
 use Rattle.from_card_garbled.specs.Garbled.{placeOf}
-use Rattle.card_refusals.specs.declared.Judged.{Judged}
-use Rattle.card_refusals.specs.declared.Refusal.{Refusal}
-use Rattle.card_refusals.specs.declared.Refusal.the-variants.{None, At}
+use Rattle.from_card_refusals.specs.declared.Judged.{Judged}
+use Rattle.from_card_refusals.specs.declared.Refusal.{Refusal}
+use Rattle.from_card_refusals.specs.declared.Refusal.the-variants.{None, At}
 
 -- of these lines: the first of 7, 8 and 9 (0: none), which names have come, and whether the first is VERSION:4.0
 unfoldable pub judged : List Line → Judged

@@ -4,10 +4,10 @@ use mathlib.Core.Bool.{not}
 use Rattle.text.proofs.Cases.{not-true, not-false}
 use borrow.Author.Tests.{eq-eqb, ne-eqb}
 use Rattle.line_table.specs.Table.{lineIn}
-use Rattle.card_refusals.proofs.Lines.{group-told, misused-group, misused-value, uid-grouped, uid-params, kind-grouped, kind-params, other-used, params-empty}
+use Rattle.from_card_refusals.proofs.Lines.{group-told, misused-group, misused-value, uid-grouped, uid-params, kind-grouped, kind-params, other-used, params-empty}
 use borrow.Author.Needs.{needs}
-use Rattle.card_refusals.proofs.is_misused.Statement.{statement}
-use Rattle.card_refusals.proofs.is_misused.Tie as tie
+use Rattle.from_card_refusals.proofs.is_misused.Statement.{statement}
+use Rattle.from_card_refusals.proofs.is_misused.Tie as tie
 
 shared-slice-read-if1 : tie.Need-shared-slice-read-if1
 shared-slice-read-if1 c = search needs

@@ -1,9 +1,9 @@
 use denote.Ref.{now}
 use mathlib.Core.Path.{sym}
-use Rattle.card_refusals.proofs.Lines.{only-none, only-others, only-value}
+use Rattle.from_card_refusals.proofs.Lines.{only-none, only-others, only-value}
 use borrow.Author.Needs.{needs}
-use Rattle.card_refusals.proofs.only_uri.Statement.{statement}
-use Rattle.card_refusals.proofs.only_uri.Tie as tie
+use Rattle.from_card_refusals.proofs.only_uri.Statement.{statement}
+use Rattle.from_card_refusals.proofs.only_uri.Tie as tie
 
 shared-slice-read-n : tie.Need-shared-slice-read-n
 shared-slice-read-n c = search needs

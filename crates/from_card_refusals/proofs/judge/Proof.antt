@@ -1,7 +1,7 @@
-use Rattle.card_refusals.specs.Judged.{judgedWith}
+use Rattle.from_card_refusals.specs.Judged.{judgedWith}
 use borrow.Author.Needs.{needs}
-use Rattle.card_refusals.proofs.judge.Statement.{statement}
-use Rattle.card_refusals.proofs.judge.Tie as tie
+use Rattle.from_card_refusals.proofs.judge.Statement.{statement}
+use Rattle.from_card_refusals.proofs.judge.Tie as tie
 
 first-of-requires : tie.Need-first-of-requires
 first-of-requires c κs = search needs

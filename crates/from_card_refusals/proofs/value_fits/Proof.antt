@@ -1,10 +1,10 @@
 use mathlib.Core.Path.{sym, _∙_}
 use native.Mathlib.Omega.{arith}
 use Rattle.convert_entry.proofs.Tests.{first-kind}
-use Rattle.card_refusals.proofs.Lines.{value-none, value-many, value-one}
+use Rattle.from_card_refusals.proofs.Lines.{value-none, value-many, value-one}
 use borrow.Author.Needs.{needs}
-use Rattle.card_refusals.proofs.value_fits.Statement.{statement}
-use Rattle.card_refusals.proofs.value_fits.Tie as tie
+use Rattle.from_card_refusals.proofs.value_fits.Statement.{statement}
+use Rattle.from_card_refusals.proofs.value_fits.Tie as tie
 
 shared-slice-read-k : tie.Need-shared-slice-read-k
 shared-slice-read-k c = search needs

@@ -1,9 +1,9 @@
 use denote.Ref.{now}
 use mathlib.Core.Path.{sym, _∙_}
-use Rattle.card_refusals.proofs.Lines.{no-word, word-all}
+use Rattle.from_card_refusals.proofs.Lines.{no-word, word-all}
 use borrow.Author.Needs.{needs}
-use Rattle.card_refusals.proofs.is_word.Statement.{statement}
-use Rattle.card_refusals.proofs.is_word.Tie as tie
+use Rattle.from_card_refusals.proofs.is_word.Statement.{statement}
+use Rattle.from_card_refusals.proofs.is_word.Tie as tie
 
 returns : tie.Need-returns
 returns c = sym (no-word (now (c .before .before .args .v)) (c .if1 .taken))

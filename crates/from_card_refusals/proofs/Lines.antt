@@ -22,7 +22,7 @@ use Rattle.convert_entry.specs.Rows.{typeNumber}
 use Rattle.convert_entry.proofs.Named.{kind-same, values}
 use Rattle.convert_entry.proofs.Tests.{number-uri}
 use Rattle.table_entry.proofs.Entry.{value-is}
-use Rattle.card_refusals.specs.Line.{Coded, isWord}
+use Rattle.from_card_refusals.specs.Line.{Coded, isWord}
 
 -- ---- words
 

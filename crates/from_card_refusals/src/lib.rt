@@ -7,8 +7,8 @@ ghost use Rattle.convert.specs.Answers.{onlyUri, valueFits, misused, emptied, i
 ghost use Rattle.line_table.specs.Table.{Sound, lineIn};
 ghost use Rattle.convert_entry.specs.Rows.{HasRow, OfRow};
 ghost use Rattle.table_entry.specs.Key.{Rowed};
-ghost use Rattle.card_refusals.specs.Line.{Coded, isWord};
-ghost use Rattle.card_refusals.specs.Judged.{judged, judgedWith, firstOf, refusalOf};
+ghost use Rattle.from_card_refusals.specs.Line.{Coded, isWord};
+ghost use Rattle.from_card_refusals.specs.Judged.{judged, judgedWith, firstOf, refusalOf};
 use card_table::lines;
 use card_table::names;
 use card_table::params;

@@ -17,10 +17,10 @@ use Rattle.text.proofs.Same.{same-true, same-swap}
 use Rattle.line.specs.Grammar.{Line}
 use Rattle.convert.specs.Answers.{Answer, Test, seek, given, givenAt, firstFrom, isNamed, misused, secondFrom, emptied, isVersionLine, versionFirst, lineTests, lineRoom, atLine, garbled, ungrammatical}
 use Rattle.from_card_garbled.specs.Garbled.{placeOf}
-use Rattle.card_refusals.specs.declared.Refusal.{Refusal}
-use Rattle.card_refusals.specs.declared.Refusal.the-variants.{None, At}
-use Rattle.card_refusals.specs.Line.{Coded}
-use Rattle.card_refusals.specs.Judged.{judged, judgedWith, firstOf, laterTests, refusalOf, answered}
+use Rattle.from_card_refusals.specs.declared.Refusal.{Refusal}
+use Rattle.from_card_refusals.specs.declared.Refusal.the-variants.{None, At}
+use Rattle.from_card_refusals.specs.Line.{Coded}
+use Rattle.from_card_refusals.specs.Judged.{judged, judgedWith, firstOf, laterTests, refusalOf, answered}
 
 -- ---- one more at the end
 

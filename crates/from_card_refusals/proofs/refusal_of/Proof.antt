@@ -1,7 +1,7 @@
 use borrow.Author.Tests.{eq-eqb, ne-eqb}
-use Rattle.card_refusals.specs.Judged.{refusalOf}
-use Rattle.card_refusals.proofs.refusal_of.Statement.{statement}
-use Rattle.card_refusals.proofs.refusal_of.Tie as tie
+use Rattle.from_card_refusals.specs.Judged.{refusalOf}
+use Rattle.from_card_refusals.proofs.refusal_of.Statement.{statement}
+use Rattle.from_card_refusals.proofs.refusal_of.Tie as tie
 
 returns : tie.Need-returns
 unfolding refusalOf
