@@ -31,8 +31,8 @@ use Rattle.from_card_refusals.specs.Line.{Coded}
 use Rattle.from_card_refusals.specs.Judged.{judged, judgedWith, refusalOf}
 use Rattle.from_card_refusals.proofs.Judging.{judged-snoc, refusal-told}
 use Rattle.from_card_refusals.proofs.Spread.{misused-spread, version-spread, emptied-spread, coded-spread}
-use Rattle.card_seen.specs.Ids.{idsAt, Remembers, Cut}
-use Rattle.card_seen.specs.Settled.{Follows}
+use Rattle.from_card_seen.specs.Ids.{idsAt, Remembers, Cut}
+use Rattle.from_card_seen.specs.Settled.{Follows}
 use Rattle.from_card_classes.specs.declared.Pass.{Pass}
 use Rattle.from_card_classes.specs.Pass.{linesIn, numbersIn, Ready, Sofar, Noted, NextLine, Through, Passed, Lent, fresh}
 

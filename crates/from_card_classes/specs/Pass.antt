@@ -21,9 +21,9 @@ use Rattle.from_card_refusals.specs.declared.Refusal.{Refusal}
 use Rattle.from_card_refusals.specs.declared.Refusal.the-variants.{None}
 use Rattle.from_card_refusals.specs.Judged.{judged, laterTests, answered}
 use Rattle.from_card_refusals.specs.declared.Judged.{Judged}
-use Rattle.card_seen.specs.declared.Settled.{Settled}
-use Rattle.card_seen.specs.Ids.{IdTable, Remembers}
-use Rattle.card_seen.specs.Settled.{Settles}
+use Rattle.from_card_seen.specs.declared.Settled.{Settled}
+use Rattle.from_card_seen.specs.Ids.{IdTable, Remembers}
+use Rattle.from_card_seen.specs.Settled.{Settles}
 use Rattle.from_card_classes.specs.declared.Pass.{Pass}
 
 abbrev pub linesIn : List Classed → List Line

@@ -2,10 +2,10 @@ use mathlib.Core.Path.{sym}
 use denote.Ref.{now}
 use Rattle.text.proofs.Cases.{not-true}
 use Rattle.json_prints.proofs.Prints.{absent-as}
-use Rattle.card_seen.proofs.Prints.{unprinted}
+use Rattle.from_card_seen.proofs.Prints.{unprinted}
 use borrow.Author.Needs.{needs}
-use Rattle.card_seen.proofs.is_used.Statement.{statement}
-use Rattle.card_seen.proofs.is_used.Tie as tie
+use Rattle.from_card_seen.proofs.is_used.Statement.{statement}
+use Rattle.from_card_seen.proofs.is_used.Tie as tie
 
 any-print-requires : tie.Need-any-print-requires
 any-print-requires c κs = search needs

@@ -1,9 +1,9 @@
 use native.Mathlib.Omega.{arith}
-use Rattle.card_seen.proofs.Keys.{cut-span}
-use Rattle.card_seen.proofs.Settling.{notes-not, notes-one}
+use Rattle.from_card_seen.proofs.Keys.{cut-span}
+use Rattle.from_card_seen.proofs.Settling.{notes-not, notes-one}
 use borrow.Author.Needs.{needs}
-use Rattle.card_seen.proofs.note_key.Statement.{statement}
-use Rattle.card_seen.proofs.note_key.Tie as tie
+use Rattle.from_card_seen.proofs.note_key.Statement.{statement}
+use Rattle.from_card_seen.proofs.note_key.Tie as tie
 
 sub-print-of : tie.Need-sub-print-of
 sub-print-of c = search needs

@@ -5,10 +5,10 @@ use native.Mathlib.Omega.{arith}
 use denote.Ref.{now}
 use Rattle.text.specs.Bytes.{any}
 use Rattle.convert.specs.Classify.{isId}
-use Rattle.card_seen.specs.Ids.{idsAt}
-use Rattle.card_seen.proofs.Keys.{used-none, used-here, used-later}
-use Rattle.card_seen.proofs.is_listed.Statement.{statement}
-use Rattle.card_seen.proofs.is_listed.Tie as tie
+use Rattle.from_card_seen.specs.Ids.{idsAt}
+use Rattle.from_card_seen.proofs.Keys.{used-none, used-here, used-later}
+use Rattle.from_card_seen.proofs.is_listed.Statement.{statement}
+use Rattle.from_card_seen.proofs.is_listed.Tie as tie
 
 abbrev Inv-loop : tie.InvT-loop
 Inv-loop bytes ids n i key k₀ k = (k ≤ n) × (any (isId i key) (idsAt bytes ids k) ≡ any (isId i key) (idsAt bytes ids n))

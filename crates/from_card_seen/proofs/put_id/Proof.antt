@@ -1,10 +1,10 @@
 use mathlib.Core.Path.{refl}
 use native.Mathlib.Omega.{arith}
 use lib.ListN.{length-set}
-use Rattle.card_seen.specs.Ids.{withId}
+use Rattle.from_card_seen.specs.Ids.{withId}
 use borrow.Author.Needs.{needs}
-use Rattle.card_seen.proofs.put_id.Statement.{statement}
-use Rattle.card_seen.proofs.put_id.Tie as tie
+use Rattle.from_card_seen.proofs.put_id.Statement.{statement}
+use Rattle.from_card_seen.proofs.put_id.Tie as tie
 
 mul-at : tie.Need-mul-at
 mul-at c = search needs

@@ -8,8 +8,8 @@ use Rattle.convert.specs.Classify.{id, isId, Seen}
 use Rattle.line_table.specs.Table.{part}
 use Rattle.class_line.specs.declared.Class.{Class as Answer}
 use Rattle.class_line.specs.Class.{numberOf, seenWith}
-use Rattle.card_seen.specs.Ids.{idsAt, IdTable, Remembers}
-use Rattle.card_seen.specs.declared.Settled.{Settled}
+use Rattle.from_card_seen.specs.Ids.{idsAt, IdTable, Remembers}
+use Rattle.from_card_seen.specs.declared.Settled.{Settled}
 
 -- the key from a to b is used in the map i, and nothing changes; or it is not, and is the last of one more
 pub record Notes (bytes s ids : List ℕ) (n i a b : ℕ) (ids′ prints′ : List ℕ) (r : ℕ) : Type 0 where

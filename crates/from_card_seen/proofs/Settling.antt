@@ -18,9 +18,9 @@ use Rattle.convert_tests.proofs.Used.{other-map, same-map}
 use Rattle.line_table.specs.Table.{part, Span}
 use Rattle.class_line.specs.declared.Class.the-variants.{Full, Parts, Keyed, Member}
 use Rattle.class_line.specs.Class.{idUsed, memberUsed, withMember, seenWith, numberOf, Points}
-use Rattle.card_seen.specs.Ids.{pointers, idsAt, IdTable, Unfilled, withId, Remembers, Cut}
-use Rattle.card_seen.specs.Settled.{Notes, Settles}
-use Rattle.card_seen.proofs.Keys.{ids-more, table-more, cut-part, cut-span}
+use Rattle.from_card_seen.specs.Ids.{pointers, idsAt, IdTable, Unfilled, withId, Remembers, Cut}
+use Rattle.from_card_seen.specs.Settled.{Notes, Settles}
+use Rattle.from_card_seen.proofs.Keys.{ids-more, table-more, cut-part, cut-span}
 
 -- ---- noted or not
 

@@ -12,7 +12,7 @@ use Rattle.text.proofs.Cases.{split}
 use Rattle.json_prints.specs.Prints.{printed}
 use Rattle.convert.specs.Classify.{id, isId}
 use Rattle.line_table.specs.Table.{part, Span}
-use Rattle.card_seen.specs.Ids.{keyAt, idsAt, Listed, IdTable, withId, Cut}
+use Rattle.from_card_seen.specs.Ids.{keyAt, idsAt, Listed, IdTable, withId, Cut}
 
 -- ---- sought
 

@@ -12,7 +12,7 @@ use Rattle.text.proofs.Cases.{byBool, and-left, and-right}
 use Rattle.text.proofs.Same.{same-true}
 use Rattle.json_prints.specs.Prints.{printed, Absent}
 use Rattle.convert.specs.Classify.{id, isId}
-use Rattle.card_seen.specs.Ids.{keyAt, idsAt, IdTable}
+use Rattle.from_card_seen.specs.Ids.{keyAt, idsAt, IdTable}
 
 module _ {bytes ids prints : List ℕ} {n : ℕ} (t : IdTable bytes ids prints n) (i p : ℕ) (key : Bytes) (is : p ≡ printed i key) (absent : Absent prints p 0 n false) where
   differs : (k : ℕ) → k < n → isId i key (id (getD ids (3 * k) 0) (keyAt bytes ids k)) ≡ false

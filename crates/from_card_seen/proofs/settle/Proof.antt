@@ -3,10 +3,10 @@ use mathlib.Core.Path.{refl, subst}
 use native.Mathlib.Omega.{arith}
 use Rattle.class_line.specs.declared.Class.the-variants.{Kept, Dropped, Version, Uid, Kind, Entry}
 use Rattle.class_line.specs.Class.{ClassIn}
-use Rattle.card_seen.proofs.Settling.{settles-same, settles-full, settles-parts, key-used, key-new, member-used, member-new}
+use Rattle.from_card_seen.proofs.Settling.{settles-same, settles-full, settles-parts, key-used, key-new, member-used, member-new}
 use borrow.Author.Needs.{needs}
-use Rattle.card_seen.proofs.settle.Statement.{statement}
-use Rattle.card_seen.proofs.settle.Tie as tie
+use Rattle.from_card_seen.proofs.settle.Statement.{statement}
+use Rattle.from_card_seen.proofs.settle.Tie as tie
 
 enum-told : tie.Need-enum-told
 enum-told c = search needs
