@@ -1,7 +1,7 @@
 use mathlib.Core.Path.{refl}
 use Rattle.convert.specs.Answers.{isCardNumber}
-use Rattle.card_stem.proofs.is_card_number.Statement.{statement}
-use Rattle.card_stem.proofs.is_card_number.Tie as tie
+use Rattle.from_card_stem.proofs.is_card_number.Statement.{statement}
+use Rattle.from_card_stem.proofs.is_card_number.Tie as tie
 
 returns : tie.Need-returns
 unfolding isCardNumber

@@ -1,9 +1,9 @@
-use Rattle.card_stem.proofs.Stems.{no-stem, long-stem, stem-all}
+use Rattle.from_card_stem.proofs.Stems.{no-stem, long-stem, stem-all}
 use denote.Ref.{now}
 use mathlib.Core.Path.{sym, _∙_}
 use borrow.Author.Needs.{needs}
-use Rattle.card_stem.proofs.is_stem.Statement.{statement}
-use Rattle.card_stem.proofs.is_stem.Tie as tie
+use Rattle.from_card_stem.proofs.is_stem.Statement.{statement}
+use Rattle.from_card_stem.proofs.is_stem.Tie as tie
 
 returns : tie.Need-returns
 returns c = sym (no-stem (now (c .before .before .args .stem)) (c .if1 .taken))
