@@ -24,8 +24,8 @@ use Rattle.convert.specs.Model.{Entry}
 use Rattle.convert.specs.FromJson.{mapFrom}
 use Rattle.convert.specs.Carry.{carriedMaps}
 use Rattle.convert.specs.ToCard.{entryLine, mapsLines}
-use Rattle.card_entry.specs.Rows.{rowNames, Row, lineBytes}
-use Rattle.card_entry.proofs.Rows.{organizations}
+use Rattle.to_card_entry.specs.Rows.{rowNames, Row, lineBytes}
+use Rattle.to_card_entry.proofs.Rows.{organizations}
 use Rattle.to_card_lines.specs.declared.Lines.{Lines}
 use Rattle.to_card_lines.specs.declared.Lines.the-variants.{All, Wrong}
 use Rattle.card_map.specs.Maps.{linesOf, carriedAll, LinesAs}
@@ -212,4 +212,4 @@ module _ (s : Bytes) (slots : List ℕ) (room : Bytes) (k n lines : ℕ) (ok : B
 
 pub in-part : (n : ℕ) (room out last : Bytes) {m : ℕ} → n ≤ length out → length out ≡ length room → m ≤ length (midOf n (length out - n) out) → length last ≡ length (midOf n (length out - n) out)
     → (n + m ≤ length (putMid n (length out - n) out last)) × (length (putMid n (length out - n) out last) ≡ length room)
-in-part n room out last {m} h e i l = Rattle.card_entry.proofs.Putting.bounds n m room out last e (omega arith) i l
+in-part n room out last {m} h e i l = Rattle.to_card_entry.proofs.Putting.bounds n m room out last e (omega arith) i l

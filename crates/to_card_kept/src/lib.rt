@@ -25,7 +25,7 @@ ghost use Prim.Native.Nat.{_+_, _≤_};
 ghost use lib.ListN.{length};
 ghost use Rattle.line_table.specs.Table.{Sound};
 ghost use Rattle.class_member.specs.Member.{Room};
-ghost use Rattle.card_entry.specs.Rows.{EnteredIn};
+ghost use Rattle.to_card_entry.specs.Rows.{EnteredIn};
 ghost use Rattle.to_card_lines.specs.Lines.{LinesIn};
 ghost use Rattle.name_index.specs.Groups.{Indexes};
 ghost use Rattle.card_table.specs.Numbers.{cardSlots};

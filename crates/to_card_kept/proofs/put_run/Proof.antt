@@ -7,7 +7,7 @@ use native.Mathlib.Nat.{le-refl}
 use lib.ListN.{length}
 use Rattle.text.proofs.Places.{turn-as}
 use Rattle.to_card_lines.proofs.Laws.{part-length, part-in}
-use Rattle.card_entry.proofs.Putting.{entered-in}
+use Rattle.to_card_entry.proofs.Putting.{entered-in}
 use Rattle.to_card_kept.specs.Kept.{LentText}
 use Rattle.to_card_kept.specs.Puts.{asEntered, asLines}
 use Rattle.to_card_kept.proofs.Entry.{lent-as}

@@ -1,10 +1,10 @@
-use Rattle.card_entry.proofs.Putting.{put-in, bounds, all-in, line-none, line-all}
+use Rattle.to_card_entry.proofs.Putting.{put-in, bounds, all-in, line-none, line-all}
 use Rattle.line_pen.proofs.Laws.{pens-in, pens-length}
 use denote.Ref.{now}
 use native.Mathlib.Omega.{arith}
 use borrow.Author.Needs.{needs}
-use Rattle.card_entry.proofs.put_line.Statement.{statement}
-use Rattle.card_entry.proofs.put_line.Tie as tie
+use Rattle.to_card_entry.proofs.put_line.Statement.{statement}
+use Rattle.to_card_entry.proofs.put_line.Tie as tie
 
 pen-head-requires : tie.Need-pen-head-requires
 pen-head-requires c κs = search needs

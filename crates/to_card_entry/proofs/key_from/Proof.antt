@@ -8,10 +8,10 @@ use lib.ListN.{length}
 use Rattle.json_strings.specs.Decoded.{decodedAt, left, weight}
 use Rattle.json_strings.proofs.Laws.{left-none}
 use Rattle.json_strings.proofs.NextByte.{byte-in, is-alone, is-end, is-one}
-use Rattle.card_entry.specs.Rows.{keyOf, keyFrom}
-use Rattle.card_entry.proofs.Keys.{key-first, key-end, key-bad, key-long, key-on}
-use Rattle.card_entry.proofs.key_from.Statement.{statement}
-use Rattle.card_entry.proofs.key_from.Tie as tie
+use Rattle.to_card_entry.specs.Rows.{keyOf, keyFrom}
+use Rattle.to_card_entry.proofs.Keys.{key-first, key-end, key-bad, key-long, key-on}
+use Rattle.to_card_entry.proofs.key_from.Statement.{statement}
+use Rattle.to_card_entry.proofs.key_from.Tie as tie
 
 abbrev Inv-loop : tie.InvT-loop
 Inv-loop s at i₀ h₀ k₀ i h k = (i ≤ length s) × (k ≤ 255) × (keyOf (decodedAt s at) ≡ keyFrom k (left s i h))

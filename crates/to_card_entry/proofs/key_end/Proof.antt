@@ -9,10 +9,10 @@ use Rattle.text.proofs.Cases.{not-true, not-false}
 use Rattle.line.specs.Class.{isKey}
 use Rattle.json_index.proofs.Together.{byte-same}
 use Rattle.json_strings.specs.Decoded.{decodedAt}
-use Rattle.card_entry.specs.Rows.{keyOf, keyFrom}
-use Rattle.card_entry.proofs.Keys.{key-here, key-byte, no-key-end}
-use Rattle.card_entry.proofs.key_end.Statement.{statement}
-use Rattle.card_entry.proofs.key_end.Tie as tie
+use Rattle.to_card_entry.specs.Rows.{keyOf, keyFrom}
+use Rattle.to_card_entry.proofs.Keys.{key-here, key-byte, no-key-end}
+use Rattle.to_card_entry.proofs.key_end.Statement.{statement}
+use Rattle.to_card_entry.proofs.key_end.Tie as tie
 
 abbrev Inv-loop : tie.InvT-loop
 Inv-loop s at i₀ i = (at ≤ i) × (i ≤ length s) × (keyOf (decodedAt s at) ≡ keyFrom (i - at) (decodedAt s i))

@@ -1,11 +1,11 @@
-use Rattle.card_entry.proofs.Lines.{line-pieces}
+use Rattle.to_card_entry.proofs.Lines.{line-pieces}
 use Rattle.line_pen.proofs.Laws.{Here, first!, next!, in!, fit!, same!, pens-as}
 use Rattle.card_params.specs.Params.{spanOf}
 use denote.Ref.{now}
 use native.Mathlib.Nat.{le-refl}
 use borrow.Author.Needs.{needs}
-use Rattle.card_entry.proofs.pen_head.Statement.{statement}
-use Rattle.card_entry.proofs.pen_head.Tie as tie
+use Rattle.to_card_entry.proofs.pen_head.Statement.{statement}
+use Rattle.to_card_entry.proofs.pen_head.Tie as tie
 
 abbrev s1 : tie.After-slice-known2 → Here
 s1 c = first! (c .before .before .pen-bytes .ensures)
