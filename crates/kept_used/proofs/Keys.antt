@@ -28,8 +28,8 @@ use Rattle.convert.proofs.Proper.{keysOf}
 use Rattle.home.proofs.Alls.{each-called}
 use Rattle.card_params.proofs.Walk.{slot-none, slot-some}
 use Rattle.to_card_entry.proofs.Rows.{organizations}
-use Rattle.card_maps.specs.Seven.{valueAs}
-use Rattle.card_maps.proofs.Laws.{slot-map}
+use Rattle.to_card_maps.specs.Seven.{valueAs}
+use Rattle.to_card_maps.proofs.Laws.{slot-map}
 use Rattle.kept_used.specs.Used.{IdUsed}
 
 -- ---- what was seen of a map

@@ -1,5 +1,4 @@
 // The whole card from JSON that was read as sound: its sections one after the other, each lent the rest of the room.
-use card_maps::put_maps;
 use card_table::lines;
 use card_table::members;
 use line_limits::LINES;
@@ -7,6 +6,7 @@ use line_pen::fill;
 use to_card_head::put_head;
 use to_card_kept::put_kept;
 use to_card_lines::Lines;
+use to_card_maps::put_maps;
 use to_card_members::put_members;
 use to_card_name::Named;
 use to_card_name::put_name;

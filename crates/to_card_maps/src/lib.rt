@@ -17,7 +17,7 @@ ghost use lib.ListN.{length};
 ghost use Rattle.card_map.specs.Maps.{LinesIn};
 ghost use Rattle.json.specs.Lookup.{room};
 ghost use Rattle.card_table.specs.Numbers.{mapSlots};
-ghost use Rattle.card_maps.specs.Seven.{PutsNth, PutsMaps};
+ghost use Rattle.to_card_maps.specs.Seven.{PutsNth, PutsMaps};
 
 // The map of a row of the table, in a slot.
 fn put_nth(out: &mut [u8], s: &[u8], k: usize, slot: usize) -> Lines

@@ -1,9 +1,9 @@
-use Rattle.card_maps.proofs.Laws.{row-six, nth-is, nth-last}
+use Rattle.to_card_maps.proofs.Laws.{row-six, nth-is, nth-last}
 use Rattle.to_card_entry.proofs.Rows.{nicknames, nicknames-row, emails, emails-row, phones, phones-row, links, links-row, notes, notes-row, titles, titles-row, organizations, organizations-row}
 use denote.Ref.{now}
 use borrow.Author.Needs.{needs}
-use Rattle.card_maps.proofs.put_nth.Statement.{statement}
-use Rattle.card_maps.proofs.put_nth.Tie as tie
+use Rattle.to_card_maps.proofs.put_nth.Statement.{statement}
+use Rattle.to_card_maps.proofs.put_nth.Tie as tie
 
 slice-aggregate-put-map : tie.Need-slice-aggregate-put-map
 slice-aggregate-put-map c = search needs

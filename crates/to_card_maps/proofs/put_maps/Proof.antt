@@ -1,5 +1,5 @@
 use borrow.Rule.Slice.PartMut.{midOf}
-use Rattle.card_maps.proofs.Laws.{Going, going-first, maps-wrong, maps-on, maps-all, in-part}
+use Rattle.to_card_maps.proofs.Laws.{Going, going-first, maps-wrong, maps-on, maps-all, in-part}
 use Rattle.card_map.proofs.Laws.{lines-in}
 use lib.ListN.{length}
 use Prim.Native.Nat.{_≤_, _*_, _-_}
@@ -8,8 +8,8 @@ use denote.Ref.{now}
 use native.Mathlib.Nat.{le-refl}
 use native.Mathlib.Omega.{arith}
 use borrow.Author.Needs.{needs}
-use Rattle.card_maps.proofs.put_maps.Statement.{statement}
-use Rattle.card_maps.proofs.put_maps.Tie as tie
+use Rattle.to_card_maps.proofs.put_maps.Statement.{statement}
+use Rattle.to_card_maps.proofs.put_maps.Tie as tie
 
 abbrev Inv-loop : tie.InvT-loop
 Inv-loop out₀ s slots k₀ n₀ lines₀ ok₀ out k n lines ok = (k ≤ 7) × (n ≤ length out) × (length out ≡ length out₀) × (lines ≤ 65537 * k) × Going s slots out₀ k n lines ok out
