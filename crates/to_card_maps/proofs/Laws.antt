@@ -28,7 +28,7 @@ use Rattle.to_card_entry.specs.Rows.{rowNames, Row, lineBytes}
 use Rattle.to_card_entry.proofs.Rows.{organizations}
 use Rattle.to_card_lines.specs.declared.Lines.{Lines}
 use Rattle.to_card_lines.specs.declared.Lines.the-variants.{All, Wrong}
-use Rattle.card_map.specs.Maps.{linesOf, carriedAll, LinesAs}
+use Rattle.to_card_map.specs.Maps.{linesOf, carriedAll, LinesAs}
 use Rattle.to_card_lines.specs.Lines.{lineBytes as lineBytesOf, linesBytes}
 use Rattle.to_card_lines.proofs.Laws.{lines-none, lines-append, fills-none, fills-as}
 use Rattle.to_card_maps.specs.Seven.{valueAs, PutsNth, MapsAs, PutsMaps}

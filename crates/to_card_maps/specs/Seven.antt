@@ -20,7 +20,7 @@ use Rattle.convert.specs.ToCard.{mapsLines}
 use Rattle.to_card_lines.specs.Lines.{linesBytes}
 use Rattle.to_card_lines.specs.declared.Lines.{Lines}
 use Rattle.to_card_lines.specs.declared.Lines.the-variants.{All, Wrong}
-use Rattle.card_map.specs.Maps.{LinesAs}
+use Rattle.to_card_map.specs.Maps.{LinesAs}
 use Rattle.card_table.specs.Numbers.{mapCount}
 
 -- the value in a slot as a map

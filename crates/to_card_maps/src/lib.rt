@@ -1,5 +1,4 @@
 // The seven maps of a JSON card as lines, one after the other in the table's order. A row of the table is data (`card_table`): an eighth map is one more branch here.
-use card_map::put_map;
 use card_table::emails;
 use card_table::kinds;
 use card_table::links;
@@ -11,10 +10,11 @@ use card_table::organizations;
 use card_table::phones;
 use card_table::titles;
 use to_card_lines::Lines;
+use to_card_map::put_map;
 ghost use mathlib.Core.Path.{_≡_};
 ghost use Prim.Native.Nat.{_≤_};
 ghost use lib.ListN.{length};
-ghost use Rattle.card_map.specs.Maps.{LinesIn};
+ghost use Rattle.to_card_map.specs.Maps.{LinesIn};
 ghost use Rattle.json.specs.Lookup.{room};
 ghost use Rattle.card_table.specs.Numbers.{mapSlots};
 ghost use Rattle.to_card_maps.specs.Seven.{PutsNth, PutsMaps};

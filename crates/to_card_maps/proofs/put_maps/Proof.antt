@@ -1,6 +1,6 @@
 use borrow.Rule.Slice.PartMut.{midOf}
 use Rattle.to_card_maps.proofs.Laws.{Going, going-first, maps-wrong, maps-on, maps-all, in-part}
-use Rattle.card_map.proofs.Laws.{lines-in}
+use Rattle.to_card_map.proofs.Laws.{lines-in}
 use lib.ListN.{length}
 use Prim.Native.Nat.{_≤_, _*_, _-_}
 use mathlib.Core.Path.{_≡_, refl}
