@@ -33,8 +33,8 @@ use Rattle.json_access.proofs.First.{is-object, is-string, is-true, is-false, i
 use Rattle.json_index.specs.Index.{jsonAt}
 use Rattle.json_index.proofs.Laws.{stands-at}
 use Rattle.json_index.proofs.Objects.{at-inv}
-use Rattle.card_params.specs.Params.{codeOf}
-use Rattle.card_params.proofs.Walk.{kind-told, prepend, prepend-nil, prepend-one}
+use Rattle.to_card_params.specs.Params.{codeOf}
+use Rattle.to_card_params.proofs.Walk.{kind-told, prepend, prepend-nil, prepend-one}
 
 -- ---- whether a value is an array
 

@@ -24,7 +24,7 @@ use Rattle.json_scan.proofs.First.{as-flat, as-scalar, as-array, as-object}
 use Rattle.json_strings.proofs.Laws.{decoded-is}
 use Rattle.text.proofs.Places.{on-yes}
 use Rattle.json_index.proofs.Objects.{at-inv}
-use Rattle.card_params.proofs.Walk.{slot-none, slot-some, none-past}
+use Rattle.to_card_params.proofs.Walk.{slot-none, slot-some, none-past}
 use Rattle.card_value.specs.Values.{StringIs, TellsString, TellsText}
 
 -- ---- values that are no strings

@@ -27,7 +27,7 @@ use Rattle.line_pen.specs.Pen.{Pens}
 use Rattle.line_pen.proofs.Laws.{pens-as, pens-none, pens-then}
 use Rattle.convert.specs.Value.{filled}
 use Rattle.convert.specs.FromJson.{onlyMembers, unitFrom}
-use Rattle.card_params.proofs.Walk.{slot-none, slot-some, none-past}
+use Rattle.to_card_params.proofs.Walk.{slot-none, slot-some, none-past}
 use Rattle.card_value.specs.declared.Inked.{Inked}
 use Rattle.card_value.specs.declared.Ink.{Ink}
 use Rattle.card_value.specs.declared.Ink.the-variants.{Done, Wrong}

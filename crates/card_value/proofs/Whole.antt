@@ -24,7 +24,7 @@ use Rattle.card_pen.specs.Styles.{writtenIn, allStandIn}
 use Rattle.card_pen.proofs.Styles.{written-raw, written-text, written-parts, stands-raw, stands-text}
 use Rattle.convert.specs.Value.{filled, isTelUri}
 use Rattle.convert.specs.Carry.{carriedRaw, carriedText}
-use Rattle.card_params.proofs.Walk.{slot-none, slot-some}
+use Rattle.to_card_params.proofs.Walk.{slot-none, slot-some}
 use Rattle.card_value.specs.declared.Ink.{Ink}
 use Rattle.card_value.specs.declared.Ink.the-variants.{Done, Wrong}
 use Rattle.card_value.specs.declared.Put.{Put}

@@ -26,7 +26,7 @@ use Rattle.convert.specs.Classify.{id, isId}
 use Rattle.convert.specs.FromJson.{onlyMembers, optional, flagsFrom, contentFrom, entryMembers, entryFrom, mapFrom, idsFrom}
 use Rattle.convert.proofs.Proper.{keysOf}
 use Rattle.home.proofs.Alls.{each-called}
-use Rattle.card_params.proofs.Walk.{slot-none, slot-some}
+use Rattle.to_card_params.proofs.Walk.{slot-none, slot-some}
 use Rattle.to_card_entry.proofs.Rows.{organizations}
 use Rattle.to_card_maps.specs.Seven.{valueAs}
 use Rattle.to_card_maps.proofs.Laws.{slot-map}

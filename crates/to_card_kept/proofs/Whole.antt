@@ -26,7 +26,7 @@ use Rattle.kept_fill.proofs.Distinct.{elements-distinct, members-distinct, fiel
 use Rattle.convert.specs.Table.{reserved}
 use Rattle.convert.specs.Model.{Entry}
 use Rattle.convert.specs.Classify.{Seen}
-use Rattle.card_params.proofs.Walk.{slot-none, slot-some, none-past}
+use Rattle.to_card_params.proofs.Walk.{slot-none, slot-some, none-past}
 use Rattle.to_card_lines.specs.declared.Lines.{Lines}
 use Rattle.to_card_lines.specs.declared.Lines.the-variants.{All, Wrong}
 use Rattle.to_card_lines.specs.Lines.{PartAs, noLines, partsOf}

@@ -1,6 +1,6 @@
 use Rattle.to_card_entry.proofs.Lines.{line-pieces}
 use Rattle.line_pen.proofs.Laws.{Here, first!, next!, in!, fit!, same!, pens-as}
-use Rattle.card_params.specs.Params.{spanOf}
+use Rattle.to_card_params.specs.Params.{spanOf}
 use denote.Ref.{now}
 use native.Mathlib.Nat.{le-refl}
 use borrow.Author.Needs.{needs}

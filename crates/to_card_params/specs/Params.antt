@@ -16,8 +16,8 @@ use Rattle.json_index.specs.Index.{Slot}
 use Rattle.convert.specs.Table.{TypeName, jsonType}
 use Rattle.convert.specs.Value.{isPref}
 use Rattle.convert.specs.FromJson.{flagOf, flagsFrom}
-use Rattle.card_params.specs.declared.Pref.{Pref}
-use Rattle.card_params.specs.declared.Pref.the-variants.{At, Wrong}
+use Rattle.to_card_params.specs.declared.Pref.{Pref}
+use Rattle.to_card_params.specs.declared.Pref.the-variants.{At, Wrong}
 
 abbrev pub codeOf : Kind → ℕ
 codeOf Null = 0

@@ -1,8 +1,8 @@
-use Rattle.card_params.proofs.Types.{lead-on, lead-off}
+use Rattle.to_card_params.proofs.Types.{lead-on, lead-off}
 use Rattle.line_pen.proofs.Laws.{pens-as}
 use borrow.Author.Needs.{needs}
-use Rattle.card_params.proofs.pen_lead.Statement.{statement}
-use Rattle.card_params.proofs.pen_lead.Tie as tie
+use Rattle.to_card_params.proofs.pen_lead.Statement.{statement}
+use Rattle.to_card_params.proofs.pen_lead.Tie as tie
 
 slice-aggregate-pen-bytes : tie.Need-slice-aggregate-pen-bytes
 slice-aggregate-pen-bytes c = search needs

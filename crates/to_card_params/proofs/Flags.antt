@@ -24,8 +24,8 @@ use Rattle.json_walk.specs.Walk.{FirstOf, NextOf}
 use Rattle.json_walk.proofs.Each.{Far, far-first, now-of, far-end, far-none}
 use Rattle.convert.specs.Table.{TypeName, jsonType, position}
 use Rattle.convert.specs.FromJson.{isTrue, flagOf, flagsFrom}
-use Rattle.card_params.specs.Params.{codeOf, markAll, flagsIn, FlagsAs, TellsFlags}
-use Rattle.card_params.proofs.Walk.{slot-none, slot-some, kind-told}
+use Rattle.to_card_params.specs.Params.{codeOf, markAll, flagsIn, FlagsAs, TellsFlags}
+use Rattle.to_card_params.proofs.Walk.{slot-none, slot-some, kind-told}
 
 -- ---- a name's place
 

@@ -1,12 +1,12 @@
-use Rattle.card_params.proofs.Types.{Far, far-first, far-on, far-end}
+use Rattle.to_card_params.proofs.Types.{Far, far-first, far-on, far-end}
 use Rattle.line_pen.proofs.Laws.{pens-in, pens-length, pens-then}
 use Rattle.text.specs.Bytes.{parts}
 use Prim.Native.Nat.{_≤_, _-_}
 use native.Mathlib.Nat.{le-refl}
 use native.Mathlib.Omega.{arith}
 use denote.Ref.{now}
-use Rattle.card_params.proofs.pen_types.Statement.{statement}
-use Rattle.card_params.proofs.pen_types.Tie as tie
+use Rattle.to_card_params.proofs.pen_types.Statement.{statement}
+use Rattle.to_card_params.proofs.pen_types.Tie as tie
 
 abbrev Inv-loop : tie.InvT-loop
 Inv-loop out₀ column names row at₀ k₀ begun₀ c₀ out at k begun c = (c ≤ 9) × Far (parts 44 names) row out₀ column at k begun c out

@@ -1,11 +1,11 @@
-use Rattle.card_params.proofs.Types.{part-off, part-on}
+use Rattle.to_card_params.proofs.Types.{part-off, part-on}
 use Rattle.line_pen.proofs.Laws.{pens-as, pens-then}
 use Rattle.text.proofs.Cases.{not-true, not-false}
 use Rattle.text.specs.Bytes.{parts}
 use denote.Ref.{now}
 use borrow.Author.Needs.{needs}
-use Rattle.card_params.proofs.pen_type.Statement.{statement}
-use Rattle.card_params.proofs.pen_type.Tie as tie
+use Rattle.to_card_params.proofs.pen_type.Statement.{statement}
+use Rattle.to_card_params.proofs.pen_type.Tie as tie
 
 returns : tie.Need-returns
 returns c = part-off (parts 44 (now (c .before .before .before .args .names))) (c .before .before .before .args .c) (c .before .before .before .args .on) (c .before .before .before .args .begun) (not-true _ (c .if1 .taken))

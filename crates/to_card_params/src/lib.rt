@@ -22,7 +22,7 @@ ghost use lib.ListN.{length};
 ghost use Rattle.text.specs.Bytes.{code, parts};
 ghost use Rattle.line_pen.specs.Pen.{Pens};
 ghost use Rattle.card_table.specs.Numbers.{typeCount};
-ghost use Rattle.card_params.specs.Params.{codeOf, TellsFlags, TellsPref, spanOf, prefPiece, typeLead, typePart, typesFrom};
+ghost use Rattle.to_card_params.specs.Params.{codeOf, TellsFlags, TellsPref, spanOf, prefPiece, typeLead, typePart, typesFrom};
 
 // The number's part of the text, empty where there is none; or 12.
 pub enum Pref {

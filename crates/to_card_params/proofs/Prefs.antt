@@ -22,10 +22,10 @@ use Rattle.json_index.proofs.Objects.{at-inv}
 use Rattle.line_pen.specs.Pen.{Pens}
 use Rattle.line_pen.proofs.Laws.{pens-as, pens-none}
 use Rattle.convert.specs.Value.{isPref}
-use Rattle.card_params.specs.declared.Pref.{Pref}
-use Rattle.card_params.specs.declared.Pref.the-variants.{At, Wrong}
-use Rattle.card_params.specs.Params.{codeOf, prefIn, spanOf, PrefAs, TellsPref, prefPiece}
-use Rattle.card_params.proofs.Walk.{slot-none, slot-some, kind-told}
+use Rattle.to_card_params.specs.declared.Pref.{Pref}
+use Rattle.to_card_params.specs.declared.Pref.the-variants.{At, Wrong}
+use Rattle.to_card_params.specs.Params.{codeOf, prefIn, spanOf, PrefAs, TellsPref, prefPiece}
+use Rattle.to_card_params.proofs.Walk.{slot-none, slot-some, kind-told}
 
 pub span-past : (s : Bytes) (a e : ℕ) → length s < e → [] ≡ spanOf s a e
 unfolding spanOf

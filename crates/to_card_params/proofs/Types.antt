@@ -16,7 +16,7 @@ use Rattle.line_pen.specs.declared.Pen.{Pen}
 use Rattle.line_pen.specs.Pen.{Pens}
 use Rattle.line_pen.proofs.Laws.{pens-as, pens-none, pens-then}
 use Rattle.convert.specs.Table.{typeNames, vcardType, feature-type, contextCodes, featureCodes, inOrder}
-use Rattle.card_params.specs.Params.{markAll, typeLead, typePart, typesFrom}
+use Rattle.to_card_params.specs.Params.{markAll, typeLead, typePart, typesFrom}
 
 -- ---- one value
 

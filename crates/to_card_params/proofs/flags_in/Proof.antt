@@ -5,9 +5,9 @@ use mathlib.Core.Path.{_≡_, refl, _∙_}
 use Prim.Native.Nat.{_+_}
 use lib.ListN.{length, length-set}
 use Rattle.json_walk.proofs.Laws.{ahead, InText, less-ahead}
-use Rattle.card_params.proofs.Flags.{placed-in, Todo, todo-first, flags-absent, flags-not, flags-other, flags-on, flags-all, flags-none}
-use Rattle.card_params.proofs.flags_in.Statement.{statement}
-use Rattle.card_params.proofs.flags_in.Tie as tie
+use Rattle.to_card_params.proofs.Flags.{placed-in, Todo, todo-first, flags-absent, flags-not, flags-other, flags-on, flags-all, flags-none}
+use Rattle.to_card_params.proofs.flags_in.Statement.{statement}
+use Rattle.to_card_params.proofs.flags_in.Tie as tie
 
 abbrev Inv-loop : tie.InvT-loop
 Inv-loop row₀ s slot base names count m₀ row m = InText (length s) m × (length row ≡ length row₀) × Todo s slot base names row₀ m row

@@ -1,10 +1,10 @@
-use Rattle.card_params.proofs.Prefs.{pref-absent, pref-other, pref-bad, pref-good}
+use Rattle.to_card_params.proofs.Prefs.{pref-absent, pref-other, pref-bad, pref-good}
 use Rattle.text.proofs.Cases.{not-true, not-false}
 use mathlib.Core.Path.{sym, _∙_}
 use denote.Ref.{now}
 use borrow.Author.Needs.{needs}
-use Rattle.card_params.proofs.pref_in.Statement.{statement}
-use Rattle.card_params.proofs.pref_in.Tie as tie
+use Rattle.to_card_params.proofs.pref_in.Statement.{statement}
+use Rattle.to_card_params.proofs.pref_in.Tie as tie
 
 returns : tie.Need-returns
 returns c = pref-absent (now (c .before .before .args .s)) (c .before .before .args .slot) (c .if1 .taken)

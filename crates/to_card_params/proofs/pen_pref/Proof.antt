@@ -1,9 +1,9 @@
-use Rattle.card_params.proofs.Prefs.{pens-no-pref, span-past, span-none, pref-piece}
+use Rattle.to_card_params.proofs.Prefs.{pens-no-pref, span-past, span-none, pref-piece}
 use Rattle.line_pen.proofs.Laws.{pens-as, pens-then}
 use denote.Ref.{now}
 use borrow.Author.Needs.{needs}
-use Rattle.card_params.proofs.pen_pref.Statement.{statement}
-use Rattle.card_params.proofs.pen_pref.Tie as tie
+use Rattle.to_card_params.proofs.pen_pref.Statement.{statement}
+use Rattle.to_card_params.proofs.pen_pref.Tie as tie
 
 returns : tie.Need-returns
 returns c = pens-no-pref _ (span-past (now (c .before .before .before .args .s)) (c .before .before .before .args .a) (c .before .before .before .args .e) (c .if1 .taken))
