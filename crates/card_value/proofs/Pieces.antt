@@ -13,9 +13,9 @@ use Rattle.json.specs.Strings.{before}
 use Rattle.json_strings.specs.Decoded.{decodedAt}
 use Rattle.line.specs.Class.{isControl}
 use Rattle.line_pen.proofs.Laws.{pens-none}
-use Rattle.card_pen.specs.declared.Told.{Told}
-use Rattle.card_pen.specs.Styles.{writtenIn, standsIn, allStandIn}
-use Rattle.card_pen.proofs.Styles.{written-parts, stands-text}
+use Rattle.to_card_pen.specs.declared.Told.{Told}
+use Rattle.to_card_pen.specs.Styles.{writtenIn, standsIn, allStandIn}
+use Rattle.to_card_pen.proofs.Styles.{written-parts, stands-text}
 use Rattle.convert.specs.Value.{filled, isTelUri}
 use Rattle.convert.specs.Carry.{carriedText}
 use Rattle.card_value.specs.Values.{blankOf, telByte, onTel, telFrom, telOf, Inks, unitPiece, unitCarried, UnitInks}

@@ -19,9 +19,9 @@ use Rattle.line.specs.Text.{writeText}
 use Rattle.line_pen.specs.declared.Pen.{Pen}
 use Rattle.line_pen.specs.Pen.{Pens}
 use Rattle.line_pen.proofs.Laws.{pens-as, pens-then, filled as fills-of}
-use Rattle.card_pen.specs.declared.Told.{Told}
-use Rattle.card_pen.specs.Styles.{writtenIn, allStandIn}
-use Rattle.card_pen.proofs.Styles.{written-raw, written-text, written-parts, stands-raw, stands-text}
+use Rattle.to_card_pen.specs.declared.Told.{Told}
+use Rattle.to_card_pen.specs.Styles.{writtenIn, allStandIn}
+use Rattle.to_card_pen.proofs.Styles.{written-raw, written-text, written-parts, stands-raw, stands-text}
 use Rattle.convert.specs.Value.{filled, isTelUri}
 use Rattle.convert.specs.Carry.{carriedRaw, carriedText}
 use Rattle.to_card_params.proofs.Walk.{slot-none, slot-some}

@@ -20,8 +20,8 @@ use Rattle.line.specs.Text.{writeText}
 use Rattle.line.specs.Write.{foldFrom}
 use Rattle.line_pen.specs.declared.Pen.{Pen}
 use Rattle.line_pen.specs.Pen.{Fills, Pens}
-use Rattle.card_pen.specs.declared.Told.{Told}
-use Rattle.card_pen.specs.Styles.{writtenIn, allStandIn}
+use Rattle.to_card_pen.specs.declared.Told.{Told}
+use Rattle.to_card_pen.specs.Styles.{writtenIn, allStandIn}
 use Rattle.convert.specs.Table.{Form, text, single, uri, phone, organization}
 use Rattle.convert.specs.Value.{filled, headOr, isTelUri}
 use Rattle.convert.specs.FromJson.{unitFrom}

@@ -1,10 +1,5 @@
 // The strings of an entry as a line's value, in one pass: judged (12), written by the map's form, and told whether a line can carry them (13).
 // Forms are numbers (`card_table::forms`), here as bytes.
-use card_pen::Told;
-use card_pen::byte_at;
-use card_pen::is_control;
-use card_pen::pen_string;
-use card_pen::style;
 use card_table::entry;
 use card_table::links;
 use card_table::organizations;
@@ -22,6 +17,11 @@ use text::QUOTE;
 use text::RIGHT_BRACKET;
 use text::Turn;
 use text::look;
+use to_card_pen::Told;
+use to_card_pen::byte_at;
+use to_card_pen::is_control;
+use to_card_pen::pen_string;
+use to_card_pen::style;
 ghost use mathlib.Core.Path.{_≡_};
 ghost use mathlib.Core.Bool.{_&&_};
 ghost use Prim.Native.Nat.{_≤_};

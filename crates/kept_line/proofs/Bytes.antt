@@ -12,10 +12,10 @@ use Rattle.line.specs.Write.{writeValue}
 use Rattle.line_pen.specs.declared.Pen.{Pen}
 use Rattle.line_pen.specs.Pen.{Pens}
 use Rattle.line_pen.proofs.Laws.{pens-none, pens-as, pens-then, one-more}
-use Rattle.card_pen.specs.declared.Told.{Told}
-use Rattle.card_pen.specs.Styles.{standsIn, allStandIn}
+use Rattle.to_card_pen.specs.declared.Told.{Told}
+use Rattle.to_card_pen.specs.Styles.{standsIn, allStandIn}
 use Rattle.convert.specs.Carry.{carriedParam}
-use Rattle.card_pen.proofs.Strings.{stand-more}
+use Rattle.to_card_pen.proofs.Strings.{stand-more}
 use Rattle.kept_line.specs.Line.{leadText, rowText, Tells}
 
 -- ---- capitals

@@ -21,7 +21,7 @@ use Rattle.line_table.specs.Table.{part, lineIn}
 use Rattle.convert.specs.Model.{Kept}
 use Rattle.convert.specs.FromJson.{isLowerWord, keptAsLine}
 use Rattle.convert.specs.Carry.{carriedRaw, carriedParam, carriedKept}
-use Rattle.card_pen.specs.Styles.{standsIn, allStandIn}
+use Rattle.to_card_pen.specs.Styles.{standsIn, allStandIn}
 use Rattle.kept_strings.specs.Strings.{runsIn}
 use Rattle.kept_entry.specs.Entry.{HoldsKept}
 use Rattle.to_card_lines.specs.Lines.{lineBytes}

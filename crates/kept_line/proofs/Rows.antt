@@ -15,7 +15,7 @@ use Rattle.line.specs.Grammar.{Param, param}
 use Rattle.line_pen.specs.Pen.{Pens}
 use Rattle.line_pen.proofs.Laws.{pens-none, pens-as, pens-then}
 use Rattle.line_table.specs.Table.{base, nameAt, valueAt}
-use Rattle.card_pen.specs.declared.Told.{Told}
+use Rattle.to_card_pen.specs.declared.Told.{Told}
 use Rattle.convert.specs.Carry.{carriedParam}
 use Rattle.kept_strings.specs.Strings.{followsBy, addTo, runsIn}
 use Rattle.kept_line.specs.Line.{isPointer, rowText, paramsText, carriedParams, Tells}

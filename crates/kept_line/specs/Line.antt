@@ -13,7 +13,7 @@ use Rattle.convert.specs.Model.{Kept}
 use Rattle.convert.specs.FromJson.{isLowerWord, keptAsLine}
 use Rattle.convert.specs.Carry.{carriedParam, carriedKept}
 use Rattle.kept_entry.specs.Entry.{HoldsKept}
-use Rattle.card_pen.specs.declared.Told.{Told}
+use Rattle.to_card_pen.specs.declared.Told.{Told}
 use Rattle.to_card_lines.specs.declared.Penned.{Penned}
 use Rattle.to_card_lines.specs.Lines.{lineBytes}
 

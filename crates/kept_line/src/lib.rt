@@ -1,7 +1,4 @@
 // A kept line written from its table of places: group, name, parameters and value, folded as they go, as much of it as the room holds.
-use card_pen::Told;
-use card_pen::can_stand;
-use card_pen::style;
 use card_table::params;
 use line_class::Class;
 use line_class::all_of;
@@ -13,6 +10,9 @@ use line_pen::pen_byte;
 use line_pen::pen_bytes;
 use line_table::table;
 use to_card_lines::Penned;
+use to_card_pen::Told;
+use to_card_pen::can_stand;
+use to_card_pen::style;
 ghost use mathlib.Core.Path.{_≡_};
 ghost use mathlib.Core.List.{[], _∷_, _++_};
 ghost use Prim.Native.Nat.{_≤_, _<_};
@@ -22,7 +22,7 @@ ghost use Rattle.text.specs.Bytes.{ascii, code, flat, uppered};
 ghost use Rattle.line.specs.Write.{writeValue, writeGroup, foldFrom};
 ghost use Rattle.line_pen.specs.Pen.{Fills, Pens};
 ghost use Rattle.line_table.specs.Table.{base, nameAt, valueAt, Sound, tableLength};
-ghost use Rattle.card_pen.specs.Styles.{allStandIn};
+ghost use Rattle.to_card_pen.specs.Styles.{allStandIn};
 ghost use Rattle.convert.specs.Carry.{carriedRaw, carriedParam};
 ghost use Rattle.kept_strings.specs.Strings.{followsBy, runsIn};
 ghost use Rattle.kept_line.specs.Line.{isPointer, leadText, rowText, paramsText, carriedParams, Tells, PutsKept};

@@ -19,8 +19,8 @@ use Rattle.json_strings.specs.Decoded.{decodedAt}
 use Rattle.json_index.specs.Index.{Slot}
 use Rattle.line_pen.specs.Pen.{Fills}
 use Rattle.line_pen.proofs.Filling.{then}
-use Rattle.card_pen.specs.Styles.{writtenIn}
-use Rattle.card_pen.proofs.Styles.{written-raw, stands-raw}
+use Rattle.to_card_pen.specs.Styles.{writtenIn}
+use Rattle.to_card_pen.proofs.Styles.{written-raw, stands-raw}
 use Rattle.convert.specs.Value.{filled}
 use Rattle.convert.specs.FromJson.{isLowerWord}
 use Rattle.convert.specs.Carry.{carriedRaw}

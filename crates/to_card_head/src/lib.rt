@@ -1,6 +1,4 @@
 // The first lines of a card from the members of the JSON: BEGIN, VERSION, UID and KIND. A slot is the place of a member's value, 0 where it is absent.
-use card_pen::byte_at;
-use card_pen::style;
 use card_table::lines;
 use card_table::members;
 use card_value::string_in;
@@ -10,6 +8,8 @@ use line_pen::fill;
 use to_card_lines::Lines;
 use to_card_lines::Penned;
 use to_card_lines::put_string_line;
+use to_card_pen::byte_at;
+use to_card_pen::style;
 ghost use mathlib.Core.Path.{_≡_};
 ghost use lib.ListN.{length};
 ghost use Rattle.json_strings.specs.Decoded.{decodedAt};

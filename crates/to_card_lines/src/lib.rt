@@ -1,7 +1,7 @@
 // What every part of a card answers, and a line whose value is one string of the JSON text.
-use card_pen::pen_string;
 use line_pen::fill;
 use line_pen::pen_bytes;
+use to_card_pen::pen_string;
 ghost use Rattle.to_card_lines.specs.Lines.{StringLine};
 
 // How many bytes were written, how many lines, and whether lines can carry what they say (13 otherwise); or 12.

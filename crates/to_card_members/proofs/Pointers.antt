@@ -22,8 +22,8 @@ use Rattle.line.specs.Text.{escape, writeText}
 use Rattle.line_pen.specs.declared.Pen.{Pen}
 use Rattle.line_pen.specs.Pen.{Pens}
 use Rattle.line_pen.proofs.Laws.{pens-none, pens-as, pens-then, one-more}
-use Rattle.card_pen.specs.Styles.{standsIn, allStandIn}
-use Rattle.card_pen.proofs.Strings.{stand-more}
+use Rattle.to_card_pen.specs.Styles.{standsIn, allStandIn}
+use Rattle.to_card_pen.proofs.Strings.{stand-more}
 use Rattle.convert.specs.Carry.{carriedRaw, carriedParam}
 use Rattle.convert.specs.Pointer.{pointer}
 use Rattle.to_card_members.specs.Members.{Points}

@@ -1,8 +1,4 @@
 // Top-level members that no other line of a card says, each as a JSPROP line: a pointer to the member, and its value as compact JSON in TEXT.
-use card_pen::Told;
-use card_pen::can_stand;
-use card_pen::pen_escape;
-use card_pen::style;
 use card_table::lines;
 use card_table::members;
 use json_access::member_at;
@@ -24,6 +20,10 @@ use text::look;
 use to_card_head::is_filled;
 use to_card_lines::Lines;
 use to_card_lines::Penned;
+use to_card_pen::Told;
+use to_card_pen::can_stand;
+use to_card_pen::pen_escape;
+use to_card_pen::style;
 ghost use mathlib.Core.Path.{_≡_};
 ghost use mathlib.Core.List.{[], _∷_};
 ghost use Prim.Native.Nat.{_-_, _≤_};

@@ -1,5 +1,4 @@
 // FN and N from the member `name` of the JSON: judged (12), written, and told whether lines can carry them (13).
-use card_pen::style;
 use card_table::lines;
 use card_table::name;
 use card_table::parts;
@@ -18,6 +17,7 @@ use to_card_parts::Array;
 use to_card_parts::ROWS;
 use to_card_parts::list_rows;
 use to_card_parts::open_array;
+use to_card_pen::style;
 ghost use mathlib.Core.Path.{_≡_};
 ghost use Prim.Native.Nat.{_≤_, _<_};
 ghost use lib.ListN.{length};

@@ -14,7 +14,7 @@ use Rattle.text.specs.Bytes.{Bytes, all, empty}
 use Rattle.line_pen.specs.declared.Pen.{Pen}
 use Rattle.line_pen.specs.Pen.{Pens}
 use Rattle.line_pen.proofs.Laws.{pens-none, pens-then}
-use Rattle.card_pen.specs.Styles.{writtenIn, allStandIn}
+use Rattle.to_card_pen.specs.Styles.{writtenIn, allStandIn}
 use Rattle.convert.specs.Model.{part}
 use Rattle.convert.specs.FromJson.{Component, byKind}
 use Rattle.to_card_parts.specs.declared.Inked.{Inked}

@@ -1,5 +1,4 @@
 // The values of a name's components in an order of kinds that is given as data, and whether two kinds have no value in common.
-use card_pen::Told;
 use card_table::parts;
 use json_marks::separator;
 use json_prints::is_noted_wide;
@@ -14,6 +13,7 @@ use to_card_parts::Inked;
 use to_card_parts::ROWS;
 use to_card_parts::component_to_end;
 use to_card_parts::pen_listed;
+use to_card_pen::Told;
 ghost use mathlib.Core.Path.{_≡_};
 ghost use mathlib.Core.Bool.{_&&_};
 ghost use Prim.Native.Nat.{_≤_};

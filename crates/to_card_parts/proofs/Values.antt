@@ -13,8 +13,8 @@ use Rattle.json_strings.specs.Decoded.{decodedAt}
 use Rattle.line_pen.specs.declared.Pen.{Pen}
 use Rattle.line_pen.specs.Pen.{Pens}
 use Rattle.line_pen.proofs.Laws.{pens-none, pens-then}
-use Rattle.card_pen.specs.declared.Told.{Told}
-use Rattle.card_pen.specs.Styles.{writtenIn, allStandIn, Writes}
+use Rattle.to_card_pen.specs.declared.Told.{Told}
+use Rattle.to_card_pen.specs.Styles.{writtenIn, allStandIn, Writes}
 use Rattle.convert.specs.Value.{filled}
 use Rattle.convert.specs.FromJson.{Component, ofKind}
 use Rattle.to_card_head.specs.Head.{TellsFilled}

@@ -15,7 +15,7 @@ use Rattle.json.specs.Strings.{decodedElems}
 use Rattle.json_strings.specs.Decoded.{decodedAt}
 use Rattle.json_index.specs.Index.{jsonAt, Slot, ValueEnds}
 use Rattle.line_pen.specs.Pen.{Pens}
-use Rattle.card_pen.specs.Styles.{writtenIn, allStandIn}
+use Rattle.to_card_pen.specs.Styles.{writtenIn, allStandIn}
 use Rattle.convert.specs.Table.{position, componentKinds}
 use Rattle.convert.specs.Value.{filled}
 use Rattle.convert.specs.FromJson.{Component, component, componentOf, ofKind}

@@ -1,5 +1,4 @@
 // The components of a name: judged in one pass, and written kind by kind, in an order that is given as data.
-use card_pen::pen_string;
 use card_table::component;
 use card_table::parts;
 use card_value::string_in;
@@ -13,6 +12,7 @@ use text::RIGHT_BRACKET;
 use text::Turn;
 use text::look;
 use to_card_head::is_filled;
+use to_card_pen::pen_string;
 ghost use mathlib.Core.Path.{_≡_};
 ghost use mathlib.Core.Bool.{true};
 ghost use Prim.Native.Nat.{_≤_, _<_};

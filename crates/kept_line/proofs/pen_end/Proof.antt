@@ -2,7 +2,7 @@ use mathlib.Core.Path.{_∙_}
 use denote.Ref.{now}
 use Rattle.line_pen.proofs.Filling.{then}
 use Rattle.line_pen.proofs.Laws.{filled, first!, next! }
-use Rattle.card_pen.proofs.Styles.{stands-raw}
+use Rattle.to_card_pen.proofs.Styles.{stands-raw}
 use borrow.Author.Needs.{needs}
 use Rattle.kept_line.proofs.pen_end.Statement.{statement}
 use Rattle.kept_line.proofs.pen_end.Tie as tie

@@ -29,9 +29,9 @@ use Rattle.line.specs.Text.{escape}
 use Rattle.line_pen.specs.declared.Pen.{Pen}
 use Rattle.line_pen.specs.Pen.{Pens}
 use Rattle.line_pen.proofs.Laws.{pens-as, pens-then}
-use Rattle.card_pen.specs.Styles.{byteIn, writtenIn, standsIn, allStandIn, PlainByte, PlainRun}
-use Rattle.card_pen.proofs.Styles.{control-low, escape-none}
-use Rattle.card_pen.proofs.Strings.{Far, written-both, stand-both}
+use Rattle.to_card_pen.specs.Styles.{byteIn, writtenIn, standsIn, allStandIn, PlainByte, PlainRun}
+use Rattle.to_card_pen.proofs.Styles.{control-low, escape-none}
+use Rattle.to_card_pen.proofs.Strings.{Far, written-both, stand-both}
 
 -- ---- all of the bytes, as a part that is made of them
 

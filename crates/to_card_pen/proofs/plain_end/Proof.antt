@@ -7,10 +7,10 @@ use mathlib.Core.Bool.{true}
 use denote.Ref.{now}
 use Prim.Native.Nat.{_-_, _≤_, _<_}
 use lib.ListN.{length}
-use Rattle.card_pen.specs.Styles.{PlainByte, PlainRun}
-use Rattle.card_pen.proofs.Plain.{run-none, run-more}
-use Rattle.card_pen.proofs.plain_end.Statement.{statement}
-use Rattle.card_pen.proofs.plain_end.Tie as tie
+use Rattle.to_card_pen.specs.Styles.{PlainByte, PlainRun}
+use Rattle.to_card_pen.proofs.Plain.{run-none, run-more}
+use Rattle.to_card_pen.proofs.plain_end.Statement.{statement}
+use Rattle.to_card_pen.proofs.plain_end.Tie as tie
 
 abbrev Inv-loop : tie.InvT-loop
 Inv-loop s at hold i₀ i = (at ≤ i) × (i ≤ length s) × PlainRun s hold at i

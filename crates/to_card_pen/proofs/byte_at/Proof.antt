@@ -3,10 +3,10 @@ use lib.ListN.{length}
 use native.Mathlib.Omega.{arith}
 use denote.Ref.{now}
 use Rattle.json_strings.proofs.Laws.{weight-falls}
-use Rattle.card_pen.proofs.Plain.{quote-next, bare-next, in-whole, byte-whole}
+use Rattle.to_card_pen.proofs.Plain.{quote-next, bare-next, in-whole, byte-whole}
 use borrow.Author.Needs.{needs}
-use Rattle.card_pen.proofs.byte_at.Statement.{statement}
-use Rattle.card_pen.proofs.byte_at.Tie as tie
+use Rattle.to_card_pen.proofs.byte_at.Statement.{statement}
+use Rattle.to_card_pen.proofs.byte_at.Tie as tie
 
 look-requires : tie.Need-look-requires
 look-requires c κs = search needs

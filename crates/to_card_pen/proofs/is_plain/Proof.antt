@@ -1,8 +1,8 @@
 use borrow.Author.Needs.{needs}
 use mathlib.Core.Path.{refl}
-use Rattle.card_pen.proofs.Plain.{plain-high, plain-low}
-use Rattle.card_pen.proofs.is_plain.Statement.{statement}
-use Rattle.card_pen.proofs.is_plain.Tie as tie
+use Rattle.to_card_pen.proofs.Plain.{plain-high, plain-low}
+use Rattle.to_card_pen.proofs.is_plain.Statement.{statement}
+use Rattle.to_card_pen.proofs.is_plain.Tie as tie
 
 cast-if1 : tie.Need-cast-if1
 cast-if1 c = search needs
