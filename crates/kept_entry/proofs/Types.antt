@@ -13,7 +13,7 @@ use Rattle.text.specs.Bytes.{Bytes, ascii, flat}
 use Rattle.json.specs.Tree.{Json, asString}
 use Rattle.json_strings.specs.Decoded.{decodedAt, spells}
 use Rattle.json_index.specs.Index.{jsonAt}
-use Rattle.card_value.specs.Values.{StringIs, TellsString}
+use Rattle.to_card_value.specs.Values.{StringIs, TellsString}
 use Rattle.line.specs.Grammar.{Param, param}
 use Rattle.convert.specs.FromJson.{isLowerWord}
 use Rattle.kept_strings.specs.declared.Rows.{Rows}

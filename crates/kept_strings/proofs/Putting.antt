@@ -19,7 +19,7 @@ use Rattle.convert.specs.FromJson.{isLowerWord}
 use Rattle.text.proofs.Choices.{none-some, some-same}
 use Rattle.json_strings.specs.Decoded.{decodedAt, textAt}
 use Rattle.json_strings.proofs.NextByte.{text-some}
-use Rattle.card_value.specs.Values.{StringIs, TellsString}
+use Rattle.to_card_value.specs.Values.{StringIs, TellsString}
 use Rattle.kept_strings.specs.declared.To.{To}
 use Rattle.kept_strings.specs.declared.To.the-variants.{End, Bad}
 use Rattle.kept_strings.specs.Strings.{size, Grew, Puts as PutsTo, Within, PutAs, PutsAt}

@@ -22,7 +22,7 @@ use Rattle.json_access.specs.declared.Part.{Part}
 use Rattle.json_access.specs.declared.Kind.the-variants.{Array}
 use Rattle.json_access.specs.Access.{TellsElement, kindOf}
 use Rattle.json_index.specs.Index.{jsonAt}
-use Rattle.card_value.specs.Values.{StringIs, TellsString}
+use Rattle.to_card_value.specs.Values.{StringIs, TellsString}
 use Rattle.convert.specs.FromJson.{strings, isLowerWord}
 use Rattle.kept_strings.specs.declared.To.{To}
 use Rattle.kept_strings.specs.declared.To.the-variants.{End, Bad}

@@ -1,6 +1,5 @@
 // Strings of a JSON text one after the other in a lent buffer, and the values of a parameter of vCardProps as rows of a line's table.
 use card_table::kept;
-use card_value::string_in;
 use json_access::element_at;
 use json_index::is_raw;
 use json_marks::separator;
@@ -16,6 +15,7 @@ use text::LEFT_BRACKET;
 use text::RIGHT_BRACKET;
 use text::Turn;
 use text::look;
+use to_card_value::string_in;
 ghost use mathlib.Core.Path.{_≡_};
 ghost use Prim.Native.Nat.{_≤_, _<_};
 ghost use lib.ListN.{length};

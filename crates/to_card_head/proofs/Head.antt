@@ -25,7 +25,7 @@ use Rattle.convert.specs.Value.{filled}
 use Rattle.convert.specs.FromJson.{isLowerWord}
 use Rattle.convert.specs.Carry.{carriedRaw}
 use Rattle.convert.specs.Property.{property}
-use Rattle.card_value.specs.Values.{StringIs}
+use Rattle.to_card_value.specs.Values.{StringIs}
 use Rattle.to_card_lines.specs.declared.Lines.{Lines}
 use Rattle.to_card_lines.specs.declared.Lines.the-variants.{All, Wrong}
 use Rattle.to_card_lines.specs.declared.Penned.{Penned}

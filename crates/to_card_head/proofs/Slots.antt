@@ -12,7 +12,7 @@ use Rattle.json.specs.Tree.{Json, asString}
 use Rattle.json_strings.specs.Decoded.{decodedAt, spells}
 use Rattle.json_index.specs.Index.{jsonAt, Slot}
 use Rattle.convert.specs.FromJson.{isText}
-use Rattle.card_value.specs.Values.{StringIs, TellsString}
+use Rattle.to_card_value.specs.Values.{StringIs, TellsString}
 use Rattle.to_card_head.specs.Head.{TellsSame, FilledIn, filledString}
 
 -- ---- slots of any depth

@@ -1,7 +1,6 @@
 // The first lines of a card from the members of the JSON: BEGIN, VERSION, UID and KIND. A slot is the place of a member's value, 0 where it is absent.
 use card_table::lines;
 use card_table::members;
-use card_value::string_in;
 use json_strings::Byte;
 use json_strings::equals;
 use line_pen::fill;
@@ -10,6 +9,7 @@ use to_card_lines::Penned;
 use to_card_lines::put_string_line;
 use to_card_pen::byte_at;
 use to_card_pen::style;
+use to_card_value::string_in;
 ghost use mathlib.Core.Path.{_≡_};
 ghost use lib.ListN.{length};
 ghost use Rattle.json_strings.specs.Decoded.{decodedAt};

@@ -25,7 +25,7 @@ use Rattle.convert.specs.FromJson.{Component, byKind}
 use Rattle.convert.specs.Carry.{carriedText, apart, apartParts}
 use Rattle.convert.specs.Property.{property}
 use Rattle.convert.specs.ToCard.{lineWhere, derivedLine}
-use Rattle.card_value.specs.Values.{StringIs}
+use Rattle.to_card_value.specs.Values.{StringIs}
 use Rattle.to_card_lines.specs.declared.Lines.the-variants.{All}
 use Rattle.to_card_lines.specs.declared.Penned.{Penned}
 use Rattle.to_card_lines.specs.Lines.{lineBytes, linesBytes, PartAs, StringLine}

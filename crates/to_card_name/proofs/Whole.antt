@@ -18,7 +18,7 @@ use Rattle.json_index.specs.Index.{firstAt, Slot, Clear, Indexed, IndexOf, Inde
 use Rattle.json_index.proofs.Fields.{first-field, first-other}
 use Rattle.json_index.proofs.Objects.{at-inv}
 use Rattle.convert.specs.FromJson.{onlyMembers, Component, Name, nameFrom}
-use Rattle.card_value.specs.Values.{StringIs}
+use Rattle.to_card_value.specs.Values.{StringIs}
 use Rattle.to_card_lines.specs.declared.Lines.{Lines}
 use Rattle.to_card_lines.specs.Lines.{Part, PartAs}
 use Rattle.to_card_lines.proofs.Parts.{none-wrong}

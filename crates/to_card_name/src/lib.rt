@@ -2,7 +2,6 @@
 use card_table::lines;
 use card_table::name;
 use card_table::parts;
-use card_value::string_in;
 use json_access::Kind;
 use json_access::kind_at;
 use json_index::index_object;
@@ -18,6 +17,7 @@ use to_card_parts::ROWS;
 use to_card_parts::list_rows;
 use to_card_parts::open_array;
 use to_card_pen::style;
+use to_card_value::string_in;
 ghost use mathlib.Core.Path.{_≡_};
 ghost use Prim.Native.Nat.{_≤_, _<_};
 ghost use lib.ListN.{length};

@@ -20,7 +20,7 @@ use Rattle.json_index.specs.Index.{placed, firstAt, Slot, Clear, Indexed, Index
 use Rattle.json_index.proofs.Fields.{first-field, first-other}
 use Rattle.convert.specs.Table.{position, componentKinds}
 use Rattle.convert.specs.FromJson.{onlyMembers, Component, component, componentIn}
-use Rattle.card_value.specs.Values.{StringIs, TellsString}
+use Rattle.to_card_value.specs.Values.{StringIs, TellsString}
 use Rattle.to_card_head.proofs.Slots.{slot-none, slot-some}
 use Rattle.to_card_parts.specs.declared.Found.{Found}
 use Rattle.to_card_parts.specs.declared.Found.the-variants.{Of, Wrong}

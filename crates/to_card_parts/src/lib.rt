@@ -1,7 +1,6 @@
 // The components of a name: judged in one pass, and written kind by kind, in an order that is given as data.
 use card_table::component;
 use card_table::parts;
-use card_value::string_in;
 use json_index::index_to_end;
 use json_index::which_name;
 use json_marks::separator;
@@ -13,6 +12,7 @@ use text::Turn;
 use text::look;
 use to_card_head::is_filled;
 use to_card_pen::pen_string;
+use to_card_value::string_in;
 ghost use mathlib.Core.Path.{_≡_};
 ghost use mathlib.Core.Bool.{true};
 ghost use Prim.Native.Nat.{_≤_, _<_};
