@@ -7,8 +7,8 @@ use lib.Dec.{eqb}
 use lib.ListN.{getD}
 use Rattle.text.specs.Bytes.{Bytes, ascii, same, lowered}
 use Rattle.line_table.specs.Table.{part, lineIn}
-use Rattle.class_names.specs.Names.{names, nameNumber}
-use Rattle.class_names.proofs.Numbers.{wordsOf, is-word, number-version, number-uid, number-kind, number-fn}
+use Rattle.class_properties.specs.Names.{names, nameNumber}
+use Rattle.class_properties.proofs.Numbers.{wordsOf, is-word, number-version, number-uid, number-kind, number-fn}
 use Rattle.from_card_refusals.specs.Line.{Coded}
 
 word-version : wordsOf 1 names ≡ ascii "version" ∷ []

@@ -14,7 +14,7 @@ ghost use Rattle.from_card_classes.specs.Pass.{Ready, Noted, NextLine, H
 use card_table::params;
 use class_line::Class;
 use class_line::class_numbered;
-use class_names::name_code;
+use class_properties::name_code;
 use from_card_refusals::Judged;
 use from_card_refusals::Refusal;
 use from_card_refusals::is_emptied;

@@ -21,7 +21,7 @@ use Rattle.convert_params.specs.Row.{valuesKind, Row}
 use Rattle.convert_entry.specs.Rows.{namesIn, formNumber, Is}
 use Rattle.convert_entry.proofs.Named.{prop-ids}
 use Rattle.convert_entry.proofs.Tests.{first-id}
-use Rattle.class_names.specs.Names.{typesOf, formOf}
+use Rattle.class_properties.specs.Names.{typesOf, formOf}
 use Rattle.line_table.specs.Table.{lineIn, Holds}
 use Rattle.line_unfold.specs.Table.{lineAt}
 use Rattle.table_entry.proofs.Spread.{entry-held}

@@ -24,7 +24,7 @@ use Rattle.convert_entry.specs.Rows.{namesIn, Is}
 use Rattle.convert_put.specs.Pieces.{memberBytes, closing}
 use Rattle.line_table.specs.Table.{lineIn}
 use Rattle.line_unfold.specs.Table.{lineAt}
-use Rattle.class_names.specs.Names.{typesOf, formOf}
+use Rattle.class_properties.specs.Names.{typesOf, formOf}
 use Rattle.to_json_entry.specs.Entry.{keyed, RowPieces, PutsEntry, KindOfLine}
 use Rattle.from_card_lines.specs.Classified.{Classified}
 use Rattle.from_card_lines.proofs.Lines.{count-is, few-lines, no-more}

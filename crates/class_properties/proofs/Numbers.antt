@@ -14,7 +14,7 @@ use Rattle.text.proofs.Lists.{all-head, all-tail}
 use Rattle.text.proofs.Same.{same-true, same-eq, differ-same}
 use Rattle.convert.specs.Table.{maps}
 use Rattle.convert_entry.specs.Rows.{formNumber}
-use Rattle.class_names.specs.Names.{Named, named, names, numberIn, nameNumber, typesOf, formOf}
+use Rattle.class_properties.specs.Names.{Named, named, names, numberIn, nameNumber, typesOf, formOf}
 
 abbrev wordOf : Named → Bytes
 wordOf (named w k) = w

@@ -1,9 +1,9 @@
 use mathlib.Core.Path.{sym, _∙_}
 use native.Mathlib.Omega.{arith}
 use borrow.Author.Tests.{eq-eqb, ne-eqb, le-ltb, lt-ltb}
-use Rattle.class_names.proofs.Numbers.{types-is}
-use Rattle.class_names.proofs.types_of.Statement.{statement}
-use Rattle.class_names.proofs.types_of.Tie as tie
+use Rattle.class_properties.proofs.Numbers.{types-is}
+use Rattle.class_properties.proofs.types_of.Statement.{statement}
+use Rattle.class_properties.proofs.types_of.Tie as tie
 
 returns : tie.Need-returns
 returns c = sym (types-is (c .before .args .i) ∙ rw (eq-eqb (c .before .args .i) 2 (c .if1 .taken)))

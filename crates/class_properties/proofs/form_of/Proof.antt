@@ -1,9 +1,9 @@
 use mathlib.Core.Path.{sym, _∙_}
 use native.Mathlib.Omega.{arith}
 use borrow.Author.Tests.{eq-eqb, ne-eqb}
-use Rattle.class_names.proofs.Numbers.{form-is}
-use Rattle.class_names.proofs.form_of.Statement.{statement}
-use Rattle.class_names.proofs.form_of.Tie as tie
+use Rattle.class_properties.proofs.Numbers.{form-is}
+use Rattle.class_properties.proofs.form_of.Statement.{statement}
+use Rattle.class_properties.proofs.form_of.Tie as tie
 
 returns : tie.Need-returns
 returns c = (sym (form-is (c .before .args .i) ∙ rw (eq-eqb (c .before .args .i) 0 (c .if1 .taken))), omega arith)

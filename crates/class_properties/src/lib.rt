@@ -3,7 +3,7 @@ ghost use mathlib.Core.Path.{_≡_};
 ghost use Prim.Native.Nat.{_<_};
 ghost use lib.ListN.{length, getD};
 ghost use Rattle.text.specs.Bytes.{lowered};
-ghost use Rattle.class_names.specs.Names.{nameNumber, typesOf, formOf};
+ghost use Rattle.class_properties.specs.Names.{nameNumber, typesOf, formOf};
 use card_table::emails;
 use card_table::forms;
 use card_table::links;

@@ -1,10 +1,10 @@
 use mathlib.Core.Path.{sym, _∙_}
 use Rattle.text.specs.Bytes.{ascii}
 use Rattle.line_name.proofs.Names.{lowered-length}
-use Rattle.class_names.proofs.Numbers.{number-is, no-four, number-note, number-role, number-kind}
+use Rattle.class_properties.proofs.Numbers.{number-is, no-four, number-note, number-role, number-kind}
 use borrow.Author.Needs.{needs}
-use Rattle.class_names.proofs.name_of_four.Statement.{statement}
-use Rattle.class_names.proofs.name_of_four.Tie as tie
+use Rattle.class_properties.proofs.name_of_four.Statement.{statement}
+use Rattle.class_properties.proofs.name_of_four.Tie as tie
 
 slice-aggregate-is-named : tie.Need-slice-aggregate-is-named
 slice-aggregate-is-named c = search needs

@@ -15,8 +15,8 @@ use Rattle.line.specs.Grammar.{Line}
 use Rattle.convert.specs.Table.{Map, maps, text, Slot, slotOf, slotFrom, position}
 use Rattle.convert.specs.Classify.{Seen, as-version, as-uid, as-kind, as-kept, fullClass, partsClass, memberClass, entryClass, classify}
 use Rattle.convert_entry.proofs.Classes.{of-slot}
-use Rattle.class_names.specs.Names.{nameNumber, typesOf, formOf, Slotted}
-use Rattle.class_names.proofs.Numbers.{wordsOf, words-of, sole-word, number-differs, number-bound, number-version, number-uid, number-kind, number-fn, number-n, number-jsprop, number-nickname, number-email, number-tel, number-url, number-note, number-title, number-role, number-org}
+use Rattle.class_properties.specs.Names.{nameNumber, typesOf, formOf, Slotted}
+use Rattle.class_properties.proofs.Numbers.{wordsOf, words-of, sole-word, number-differs, number-bound, number-version, number-uid, number-kind, number-fn, number-n, number-jsprop, number-nickname, number-email, number-tel, number-url, number-note, number-title, number-role, number-org}
 
 -- ---- maps
 

@@ -1,10 +1,10 @@
 use mathlib.Core.Path.{sym, _∙_}
 use Rattle.text.specs.Bytes.{ascii}
 use Rattle.line_name.proofs.Names.{lowered-length}
-use Rattle.class_names.proofs.Numbers.{number-is, no-name, number-n, number-fn, number-version, number-nickname, number-jsprop}
+use Rattle.class_properties.proofs.Numbers.{number-is, no-name, number-n, number-fn, number-version, number-nickname, number-jsprop}
 use borrow.Author.Needs.{needs}
-use Rattle.class_names.proofs.name_code.Statement.{statement}
-use Rattle.class_names.proofs.name_code.Tie as tie
+use Rattle.class_properties.proofs.name_code.Statement.{statement}
+use Rattle.class_properties.proofs.name_code.Tie as tie
 
 name-of-three-requires : tie.Need-name-of-three-requires
 name-of-three-requires c κs = search needs
