@@ -25,7 +25,7 @@ use Rattle.table_entry.specs.declared.Key.the-variants.{Bad, Free, At as At-key
 use Rattle.class_properties.specs.Names.{typesOf, formOf, Slotted}
 use Rattle.class_properties.proofs.Numbers.{number-bound}
 use Rattle.class_properties.proofs.Classes.{slotted, version-class, uid-class, kind-class, full-class, parts-class, member-class, map-class, other-class}
-use Rattle.class_name.specs.Name.{FullClass, PartsClass}
+use Rattle.class_name_lines.specs.Name.{FullClass, PartsClass}
 use Rattle.class_member.specs.Member.{MemberAt}
 use Rattle.class_line.specs.Class.{idUsed, seenWith, withMember, AnyFlags, FullFlags, PartsFlags, Numbered}
 use Rattle.class_line.specs.declared.Class.the-variants.{Kept, Dropped, Version, Uid, Kind, Full, Parts, Entry as Entry-of, Keyed, Member}

@@ -20,7 +20,7 @@ use card_table::organizations;
 use card_table::params;
 use card_table::phones;
 use card_table::titles;
-use class_name::is_bare;
+use class_name_lines::is_bare;
 use convert_tests::same_bytes;
 use json_read::Verdict;
 use json_read::read;

@@ -19,7 +19,7 @@ use Rattle.convert_params.proofs.Which.{kind-5}
 use Rattle.convert_entry.specs.Rows.{zeros}
 use Rattle.convert_entry.proofs.Named.{only-kinds, values-kind, values-besides}
 use Rattle.convert_entry.proofs.Tests.{held-one}
-use Rattle.class_name.specs.Name.{allKinds, besidesDerived}
+use Rattle.class_name_lines.specs.Name.{allKinds, besidesDerived}
 
 -- ---- no parameter
 

@@ -1,9 +1,9 @@
 use mathlib.Core.Path.{sym, _∙_}
 use Rattle.text.proofs.Cases.{not-true, not-false}
-use Rattle.class_name.proofs.Names.{too-many-parts, all-empty, escapes-alone}
+use Rattle.class_name_lines.proofs.Names.{too-many-parts, all-empty, escapes-alone}
 use borrow.Author.Needs.{needs}
-use Rattle.class_name.proofs.is_name.Statement.{statement}
-use Rattle.class_name.proofs.is_name.Tie as tie
+use Rattle.class_name_lines.proofs.is_name.Statement.{statement}
+use Rattle.class_name_lines.proofs.is_name.Tie as tie
 
 few-parts-requires : tie.Need-few-parts-requires
 few-parts-requires c κs = search needs

@@ -3,10 +3,10 @@ use native.Mathlib.Omega.{arith}
 use denote.Ref.{now}
 use Rattle.text.proofs.Cases.{not-true, not-false}
 use Rattle.convert_entry.proofs.Tests.{held-first}
-use Rattle.class_name.proofs.Derived.{derived-many, derived-others, derived-true}
+use Rattle.class_name_lines.proofs.Derived.{derived-many, derived-others, derived-true}
 use borrow.Author.Needs.{needs}
-use Rattle.class_name.proofs.is_derived.Statement.{statement}
-use Rattle.class_name.proofs.is_derived.Tie as tie
+use Rattle.class_name_lines.proofs.is_derived.Statement.{statement}
+use Rattle.class_name_lines.proofs.is_derived.Tie as tie
 
 shared-slice-read-if1 : tie.Need-shared-slice-read-if1
 shared-slice-read-if1 c = search needs

@@ -6,11 +6,11 @@ use Rattle.text.proofs.Cases.{not-true, not-false}
 use Rattle.line.specs.Text.{readText}
 use Rattle.line_table.specs.Table.{lineIn}
 use Rattle.table_entry.proofs.Entry.{value-is}
-use Rattle.class_name.proofs.Derived.{none-besides}
-use Rattle.class_name.proofs.Full.{full-unbare, full-dropped, full-again, full-params, full-read}
+use Rattle.class_name_lines.proofs.Derived.{none-besides}
+use Rattle.class_name_lines.proofs.Full.{full-unbare, full-dropped, full-again, full-params, full-read}
 use borrow.Author.Needs.{needs}
-use Rattle.class_name.proofs.full_class.Statement.{statement}
-use Rattle.class_name.proofs.full_class.Tie as tie
+use Rattle.class_name_lines.proofs.full_class.Statement.{statement}
+use Rattle.class_name_lines.proofs.full_class.Tie as tie
 
 is-bare-requires : tie.Need-is-bare-requires
 is-bare-requires c κs = search needs

@@ -6,11 +6,11 @@ use Rattle.text.proofs.Cases.{not-true, not-false}
 use Rattle.convert.specs.Value.{readName}
 use Rattle.line_table.specs.Table.{lineIn}
 use Rattle.table_entry.proofs.Entry.{value-is}
-use Rattle.class_name.proofs.Derived.{none-besides}
-use Rattle.class_name.proofs.Full.{parts-again, parts-unbare, parts-params, parts-read}
+use Rattle.class_name_lines.proofs.Derived.{none-besides}
+use Rattle.class_name_lines.proofs.Full.{parts-again, parts-unbare, parts-params, parts-read}
 use borrow.Author.Needs.{needs}
-use Rattle.class_name.proofs.parts_class.Statement.{statement}
-use Rattle.class_name.proofs.parts_class.Tie as tie
+use Rattle.class_name_lines.proofs.parts_class.Statement.{statement}
+use Rattle.class_name_lines.proofs.parts_class.Tie as tie
 
 returns : tie.Need-returns
 returns c =

@@ -2,10 +2,10 @@ use mathlib.Core.Path.{ap, _∙_}
 use mathlib.Core.Bool.{not}
 use denote.Ref.{now}
 use Rattle.line_table.specs.Table.{lineIn}
-use Rattle.class_name.proofs.Full.{grouped, bare-kind}
+use Rattle.class_name_lines.proofs.Full.{grouped, bare-kind}
 use borrow.Author.Needs.{needs}
-use Rattle.class_name.proofs.is_bare.Statement.{statement}
-use Rattle.class_name.proofs.is_bare.Tie as tie
+use Rattle.class_name_lines.proofs.is_bare.Statement.{statement}
+use Rattle.class_name_lines.proofs.is_bare.Tie as tie
 
 has-group-requires : tie.Need-has-group-requires
 has-group-requires c κs = search needs

@@ -11,7 +11,7 @@ ghost use Rattle.line_table.specs.Table.{lineIn};
 ghost use Rattle.convert_entry.specs.Rows.{zeros};
 ghost use Rattle.table_entry.specs.Key.{Rowed};
 ghost use Rattle.card_table.specs.Numbers.{paramKinds};
-ghost use Rattle.class_name.specs.Name.{allKinds, besidesDerived, FullClass, PartsClass};
+ghost use Rattle.class_name_lines.specs.Name.{allKinds, besidesDerived, FullClass, PartsClass};
 use card_table::classes;
 use card_table::params;
 use card_table::parts;
