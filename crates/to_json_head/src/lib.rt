@@ -12,7 +12,7 @@ use json_write::put_string;
 use output::Wrote;
 use output::put_byte;
 use output::put_text;
-use table_kept::put_lower;
+use to_json_kept_values::put_lower;
 
 // A made uid: the stem, a hyphen, the card's number.
 fn put_made_uid(out: &mut [u8], stem: &[u8], number: usize) -> Wrote

@@ -21,8 +21,8 @@ use Rattle.output.proofs.Laws.{start, done, more, puts-as, sofar-as}
 use Rattle.line_table.specs.Table.{nameAt, rowsIn, lineIn}
 use Rattle.line_table.specs.Spread.{namesOf}
 use Rattle.line_table.proofs.Rows.{rows-none, line-rows}
-use Rattle.table_kept.specs.Kept.{hasMember}
-use Rattle.table_kept.proofs.Names.{kept-names-more, kept-params, values-besides}
+use Rattle.to_json_kept_values.specs.Kept.{hasMember}
+use Rattle.to_json_kept_values.proofs.Names.{kept-names-more, kept-params, values-besides}
 use Rattle.to_json_kept.specs.Entry.{paramPiece}
 
 -- ---- the names so far

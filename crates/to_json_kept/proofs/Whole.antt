@@ -24,7 +24,7 @@ use Rattle.output.specs.declared.Wrote.{Wrote}
 use Rattle.output.proofs.Laws.{puts-as}
 use Rattle.line_table.specs.Table.{part, Span, nameAt, valueAt, rowsIn, lineIn, Holds}
 use Rattle.line_table.proofs.Rows.{rows-none, rows-split, line-rows}
-use Rattle.table_kept.proofs.Lists.{values-more}
+use Rattle.to_json_kept_values.proofs.Lists.{values-more}
 use Rattle.table_entry.proofs.Entry.{part-empty, part-some}
 use Rattle.table_entry.proofs.Spread.{kept-held}
 use Rattle.to_json_kept.specs.Entry.{groupPiece, headPiece, tailPiece, ValueRow}

@@ -11,7 +11,7 @@ ghost use Rattle.convert.specs.FromCard.{keptLine};
 ghost use Rattle.convert.specs.ToJson.{keptJson, paramJson};
 ghost use Rattle.output.specs.Put.{Puts};
 ghost use Rattle.line_table.specs.Table.{part, Span, Sound, nameAt, lineIn};
-ghost use Rattle.table_kept.specs.Kept.{hasMember};
+ghost use Rattle.to_json_kept_values.specs.Kept.{hasMember};
 ghost use Rattle.convert_put.specs.Pieces.{inside};
 ghost use Rattle.to_json_kept.specs.Entry.{paramPiece, groupPiece, headPiece, tailPiece, ValueRow};
 use card_table::kept;
@@ -22,9 +22,9 @@ use line_table::table;
 use output::Wrote;
 use output::put_byte;
 use output::put_text;
-use table_kept::is_first;
-use table_kept::put_lower;
-use table_kept::put_values;
+use to_json_kept_values::is_first;
+use to_json_kept_values::put_lower;
+use to_json_kept_values::put_values;
 
 fn put_comma(out: &mut [u8], begun: bool) -> Wrote
     ensures { λ r. ⌜ Puts (now (out .entry)) (pick begun (ascii ",") []) r (now (out .exit)) ⌝ }

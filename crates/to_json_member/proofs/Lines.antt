@@ -31,7 +31,7 @@ use Rattle.convert.specs.Classify.{Seen, as-member, as-kept, bare, sole, treeOf
 use Rattle.line_table.specs.Table.{part, lineIn}
 use Rattle.convert_params.specs.Row.{kindOf, isKind, valuesKind, First, Row}
 use Rattle.convert_entry.proofs.Named.{kind-same}
-use Rattle.table_kept.proofs.Names.{values-besides}
+use Rattle.to_json_kept_values.proofs.Names.{values-besides}
 use Rattle.convert_put.specs.Pieces.{memberBytes}
 use Rattle.convert_pointer.specs.Name.{nameIn, Pointing}
 use Rattle.convert_pointer.proofs.Pointers.{is-pointing, is-name}
