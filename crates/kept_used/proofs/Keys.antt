@@ -17,8 +17,8 @@ use Rattle.text.proofs.Same.{among-none}
 use Rattle.json.specs.Tree.{Json, Member, member, nameOf, asString, asNumber, asObject}
 use Rattle.json_index.specs.Index.{firstAt}
 use Rattle.json_has.specs.Has.{named, hasName}
-use Rattle.name_index.specs.Groups.{namesOf, HasName}
-use Rattle.name_index.proofs.Groups.{has-among, group-empty, group-slot}
+use Rattle.to_card_kept_names.specs.Groups.{namesOf, HasName}
+use Rattle.to_card_kept_names.proofs.Groups.{has-among, group-empty, group-slot}
 use Rattle.convert.specs.Table.{Map, maps, typeNames, position, reserved}
 use Rattle.convert.specs.Model.{Entry}
 use Rattle.convert.specs.Value.{isKeyText, isPref}

@@ -15,8 +15,8 @@ use Rattle.output.specs.declared.Wrote.the-variants.{Bytes as Wrote-Bytes, Full
 use Rattle.output.specs.Put.{Puts}
 use Rattle.output.proofs.Laws.{said-full}
 use Rattle.json_has.specs.Has.{named}
-use Rattle.name_index.specs.Groups.{namesOf, HasName}
-use Rattle.name_index.proofs.Groups.{group-last}
+use Rattle.to_card_kept_names.specs.Groups.{namesOf, HasName}
+use Rattle.to_card_kept_names.proofs.Groups.{group-last}
 use Rattle.convert.specs.Table.{reserved}
 use Rattle.convert.specs.FromJson.{otherMembers}
 use Rattle.convert_pointer.specs.Name.{nameIn}

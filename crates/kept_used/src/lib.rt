@@ -5,14 +5,14 @@ ghost use Prim.Native.Nat.{_≤_, _<_};
 ghost use lib.ListN.{length};
 ghost use Rattle.class_line.specs.Class.{ClassIn};
 ghost use Rattle.convert_pointer.specs.Name.{Pointing};
-ghost use Rattle.name_index.specs.Groups.{Indexes};
+ghost use Rattle.to_card_kept_names.specs.Groups.{Indexes};
 ghost use Rattle.card_table.specs.Numbers.{mapCount, mapSlots};
 ghost use Rattle.kept_used.specs.Used.{IdUsed, PointerUsed, KeptIn};
 use card_table::maps;
 use class_line::Class;
 use convert_pointer::read_pointer;
-use name_index::has_name;
 use output::Wrote;
+use to_card_kept_names::has_name;
 
 // Whether an entry of the map i has the key. The slots are those of the top-level members, by the list of reserved names: the first map's is the sixth.
 // What is noted of the names is in `places`, `prints` and `ends`.

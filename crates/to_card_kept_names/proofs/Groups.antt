@@ -20,9 +20,9 @@ use Rattle.json_prints.specs.Prints.{Names, SoughtKey}
 use Rattle.json_prints.proofs.Prints.{no-names}
 use Rattle.json_walk.specs.Walk.{jsonAt}
 use Rattle.json_has.specs.Has.{named, hasName, HasMember}
-use Rattle.name_index.specs.declared.Noted.{Noted}
-use Rattle.name_index.specs.declared.Noted.the-variants.{Rows}
-use Rattle.name_index.specs.Groups.{namesOf, slotNames, groupNames, HasName, NotedIn, NotesAll, NotesNames, NotesGroup, rows, Group, NameIndex, Indexes}
+use Rattle.to_card_kept_names.specs.declared.Noted.{Noted}
+use Rattle.to_card_kept_names.specs.declared.Noted.the-variants.{Rows}
+use Rattle.to_card_kept_names.specs.Groups.{namesOf, slotNames, groupNames, HasName, NotedIn, NotesAll, NotesNames, NotesGroup, rows, Group, NameIndex, Indexes}
 
 -- ---- what a group is
 

@@ -17,8 +17,8 @@ use Rattle.json_walk.specs.declared.Member.{Member}
 use Rattle.json_walk.specs.declared.Member.the-variants.{At, End, NoObject}
 use Rattle.json_walk.specs.Walk.{jsonAt, TellsMembers, FirstOf, NextOf}
 use Rattle.json_walk.proofs.Laws.{told-member, told-end, told-none, Over}
-use Rattle.name_index.specs.declared.Noted.the-variants.{Rows}
-use Rattle.name_index.specs.Groups.{namesOf, NotesName, NotesNames}
+use Rattle.to_card_kept_names.specs.declared.Noted.the-variants.{Rows}
+use Rattle.to_card_kept_names.specs.Groups.{namesOf, NotesName, NotesNames}
 
 -- ---- one name
 

@@ -1,9 +1,9 @@
 use denote.Ref.{now}
 use native.Mathlib.Omega.{arith}
-use Rattle.name_index.proofs.Noting.{name-noted}
+use Rattle.to_card_kept_names.proofs.Noting.{name-noted}
 use borrow.Author.Needs.{needs}
-use Rattle.name_index.proofs.note_name.Statement.{statement}
-use Rattle.name_index.proofs.note_name.Tie as tie
+use Rattle.to_card_kept_names.proofs.note_name.Statement.{statement}
+use Rattle.to_card_kept_names.proofs.note_name.Tie as tie
 
 returns : tie.Need-returns
 returns c = search needs

@@ -6,9 +6,9 @@ use native.Mathlib.Nat.{le-refl}
 use native.Mathlib.Omega.{arith}
 use lib.ListN.{length, length-set}
 use borrow.Rule.Slice.PartMut.{same-len-mid}
-use Rattle.name_index.proofs.Groups.{mids-even, mid-long, Filled, filled-none, filled-on, indexed, rows-in, rows-noted}
-use Rattle.name_index.proofs.note_groups.Statement.{statement}
-use Rattle.name_index.proofs.note_groups.Tie as tie
+use Rattle.to_card_kept_names.proofs.Groups.{mids-even, mid-long, Filled, filled-none, filled-on, indexed, rows-in, rows-noted}
+use Rattle.to_card_kept_names.proofs.note_groups.Statement.{statement}
+use Rattle.to_card_kept_names.proofs.note_groups.Tie as tie
 
 abbrev Inv-loop : tie.InvT-loop
 Inv-loop places₀ prints₀ ends₀ s slots n₀ i₀ places prints ends n i =

@@ -1,9 +1,9 @@
 use denote.Ref.{now}
 use native.Mathlib.Omega.{arith}
-use Rattle.name_index.proofs.Groups.{index-there, has-noted}
+use Rattle.to_card_kept_names.proofs.Groups.{index-there, has-noted}
 use borrow.Author.Needs.{needs}
-use Rattle.name_index.proofs.has_name.Statement.{statement}
-use Rattle.name_index.proofs.has_name.Tie as tie
+use Rattle.to_card_kept_names.proofs.has_name.Statement.{statement}
+use Rattle.to_card_kept_names.proofs.has_name.Tie as tie
 
 has-walked-requires : tie.Need-has-walked-requires
 has-walked-requires c κs = search needs

@@ -12,7 +12,7 @@ ghost use mathlib.Core.Path.{_≡_};
 ghost use Prim.Native.Nat.{_≤_, _<_};
 ghost use lib.ListN.{length, take};
 ghost use Rattle.card_table.specs.Numbers.{groupCount, mapSlots};
-ghost use Rattle.name_index.specs.Groups.{NotesName, NotedIn, NotesNames, NotesGroup, Indexes, HasName};
+ghost use Rattle.to_card_kept_names.specs.Groups.{NotesName, NotedIn, NotesNames, NotesGroup, Indexes, HasName};
 
 // How many rows the names took, or that one did not fit: there was no row for it, or its place or its print has more than sixteen bits.
 pub enum Noted {

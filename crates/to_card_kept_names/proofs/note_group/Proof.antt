@@ -1,10 +1,10 @@
 use denote.Ref.{now}
 use native.Mathlib.Omega.{arith}
-use Rattle.name_index.specs.declared.Noted.the-variants.{Rows}
-use Rattle.name_index.proofs.Groups.{notes-last, notes-empty, notes-slot}
+use Rattle.to_card_kept_names.specs.declared.Noted.the-variants.{Rows}
+use Rattle.to_card_kept_names.proofs.Groups.{notes-last, notes-empty, notes-slot}
 use borrow.Author.Needs.{needs}
-use Rattle.name_index.proofs.note_group.Statement.{statement}
-use Rattle.name_index.proofs.note_group.Tie as tie
+use Rattle.to_card_kept_names.proofs.note_group.Statement.{statement}
+use Rattle.to_card_kept_names.proofs.note_group.Tie as tie
 
 note-names-requires : tie.Need-note-names-requires
 note-names-requires c κs = search needs

@@ -1,9 +1,9 @@
 use denote.Ref.{now}
 use mathlib.Core.Bool.{false}
-use Rattle.name_index.proofs.Groups.{has-last, has-empty, has-slot}
+use Rattle.to_card_kept_names.proofs.Groups.{has-last, has-empty, has-slot}
 use borrow.Author.Needs.{needs}
-use Rattle.name_index.proofs.has_walked.Statement.{statement}
-use Rattle.name_index.proofs.has_walked.Tie as tie
+use Rattle.to_card_kept_names.proofs.has_walked.Statement.{statement}
+use Rattle.to_card_kept_names.proofs.has_walked.Tie as tie
 
 has-member-requires : tie.Need-has-member-requires
 has-member-requires c κs = search needs

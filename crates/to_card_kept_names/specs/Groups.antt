@@ -13,8 +13,8 @@ use Rattle.json_strings.specs.Decoded.{decodedAt}
 use Rattle.json_prints.specs.Prints.{Names}
 use Rattle.json_walk.specs.Walk.{jsonAt}
 use Rattle.card_table.specs.Numbers.{groupCount, mapCount}
-use Rattle.name_index.specs.declared.Noted.{Noted}
-use Rattle.name_index.specs.declared.Noted.the-variants.{Rows, Unfit}
+use Rattle.to_card_kept_names.specs.declared.Noted.{Noted}
+use Rattle.to_card_kept_names.specs.declared.Noted.the-variants.{Rows, Unfit}
 
 -- ---- names
 

@@ -6,9 +6,9 @@ use native.Mathlib.Omega.{arith}
 use lib.ListN.{length}
 use Rattle.text.proofs.Cases.{not-false}
 use Rattle.json_walk.proofs.Laws.{ahead, InText, in-text, less-ahead, is-over}
-use Rattle.name_index.proofs.Noting.{noted-as, Noting, noting-first, noting-on, noting-last}
-use Rattle.name_index.proofs.note_names.Statement.{statement}
-use Rattle.name_index.proofs.note_names.Tie as tie
+use Rattle.to_card_kept_names.proofs.Noting.{noted-as, Noting, noting-first, noting-on, noting-last}
+use Rattle.to_card_kept_names.proofs.note_names.Statement.{statement}
+use Rattle.to_card_kept_names.proofs.note_names.Tie as tie
 
 abbrev Inv-loop : tie.InvT-loop
 Inv-loop places₀ prints₀ s at depth k₀ m₀ places prints k m =
