@@ -7,7 +7,7 @@ ghost use Rattle.class_line.specs.Class.{ClassIn};
 ghost use Rattle.convert_pointer.specs.Name.{Pointing};
 ghost use Rattle.to_card_kept_names.specs.Groups.{Indexes};
 ghost use Rattle.card_table.specs.Numbers.{mapCount, mapSlots};
-ghost use Rattle.kept_used.specs.Used.{IdUsed, PointerUsed, KeptIn};
+ghost use Rattle.to_card_kept_used.specs.Used.{IdUsed, PointerUsed, KeptIn};
 use card_table::maps;
 use class_line::Class;
 use convert_pointer::read_pointer;

@@ -1,8 +1,8 @@
 use denote.Ref.{now}
-use Rattle.kept_used.proofs.Keys.{id-names}
+use Rattle.to_card_kept_used.proofs.Keys.{id-names}
 use native.Mathlib.Omega.{arith}
-use Rattle.kept_used.proofs.id_used.Statement.{statement}
-use Rattle.kept_used.proofs.id_used.Tie as tie
+use Rattle.to_card_kept_used.proofs.id_used.Statement.{statement}
+use Rattle.to_card_kept_used.proofs.id_used.Tie as tie
 
 has-name-requires : tie.Need-has-name-requires
 has-name-requires c κs =

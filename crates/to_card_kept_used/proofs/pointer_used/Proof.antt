@@ -1,10 +1,10 @@
 use denote.Ref.{now}
 use Rattle.class_member.proofs.Values.{written}
-use Rattle.kept_used.proofs.Names.{pointer-full, pointer-read}
+use Rattle.to_card_kept_used.proofs.Names.{pointer-full, pointer-read}
 use native.Mathlib.Omega.{arith}
 use borrow.Author.Needs.{needs}
-use Rattle.kept_used.proofs.pointer_used.Statement.{statement}
-use Rattle.kept_used.proofs.pointer_used.Tie as tie
+use Rattle.to_card_kept_used.proofs.pointer_used.Statement.{statement}
+use Rattle.to_card_kept_used.proofs.pointer_used.Tie as tie
 
 read-pointer-requires : tie.Need-read-pointer-requires
 read-pointer-requires c κs = search needs

@@ -30,7 +30,7 @@ use Rattle.to_card_params.proofs.Walk.{slot-none, slot-some}
 use Rattle.to_card_entry.proofs.Rows.{organizations}
 use Rattle.to_card_maps.specs.Seven.{valueAs}
 use Rattle.to_card_maps.proofs.Laws.{slot-map}
-use Rattle.kept_used.specs.Used.{IdUsed}
+use Rattle.to_card_kept_used.specs.Used.{IdUsed}
 
 -- ---- what was seen of a map
 

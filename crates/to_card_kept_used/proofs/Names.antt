@@ -22,7 +22,7 @@ use Rattle.convert.specs.FromJson.{otherMembers}
 use Rattle.convert_pointer.specs.Name.{nameIn}
 use Rattle.convert_pointer.proofs.Pointers.{is-name, no-longer}
 use Rattle.class_member.proofs.Values.{written}
-use Rattle.kept_used.specs.Used.{PointerUsed}
+use Rattle.to_card_kept_used.specs.Used.{PointerUsed}
 
 -- a name that no member of the table has is one of the others
 others-have : (n : Bytes) → among n reserved ≡ false → (ms : List Member) → named n ms ≡ among n (map nameOf (otherMembers ms))

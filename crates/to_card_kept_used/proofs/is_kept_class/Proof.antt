@@ -2,10 +2,10 @@ use denote.Ref.{now}
 use mathlib.Core.Path.{refl, subst}
 use Rattle.class_line.specs.Class.{ClassIn}
 use Rattle.convert_pointer.proofs.Pointers.{is-pointing}
-use Rattle.kept_used.proofs.Standing.{part-fits, kept-as, kept-entry, kept-keyed, kept-member}
+use Rattle.to_card_kept_used.proofs.Standing.{part-fits, kept-as, kept-entry, kept-keyed, kept-member}
 use borrow.Author.Needs.{needs}
-use Rattle.kept_used.proofs.is_kept_class.Statement.{statement}
-use Rattle.kept_used.proofs.is_kept_class.Tie as tie
+use Rattle.to_card_kept_used.proofs.is_kept_class.Statement.{statement}
+use Rattle.to_card_kept_used.proofs.is_kept_class.Tie as tie
 
 enum-told : tie.Need-enum-told
 enum-told c = search needs
