@@ -20,7 +20,7 @@ pub struct Penned {
     pub carried: bool,
 }
 
-// A line that begins with `head` and whose value is the string at a place, in a style of `card_pen`.
+// A line that begins with `head` and whose value is the string at a place, in a style of `to_card_pen`.
 pub fn put_string_line(out: &mut [u8], head: &[u8], style: u8, s: &[u8], at: usize) -> Penned
     ensures { λ r. ⌜ StringLine (now (s .entry)) at style (now (head .entry)) (now (out .entry)) r (now (out .exit)) ⌝ }
 {

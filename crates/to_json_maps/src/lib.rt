@@ -1,4 +1,4 @@
-// The maps of a card's JSON, from its classified lines. A map's row is its member's name, its keys' prefix, and the rows of `class_names`.
+// The maps of a card's JSON, from its classified lines. A map's row is its member's name, its keys' prefix, and the rows of `class_properties`.
 ghost use mathlib.Core.Path.{_≡_};
 ghost use mathlib.Core.Bool.{false};
 ghost use mathlib.Core.List.{_∷_, []};
