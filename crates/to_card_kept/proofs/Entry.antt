@@ -22,9 +22,9 @@ use Rattle.class_line.specs.declared.Class.{Class}
 use Rattle.class_line.specs.Class.{Classes}
 use Rattle.to_card_kept_used.specs.Used.{CardIn, KeptIn}
 use Rattle.to_card_kept_used.proofs.Standing.{stands-kept}
-use Rattle.kept_table.specs.Kept.{keptForm, formed}
-use Rattle.kept_entry.specs.Entry.{HoldsKept, HoldsAs, FillsKept}
-use Rattle.kept_fill.proofs.Composed.{fills-formed, stands-formed}
+use Rattle.to_card_kept_entry.specs.table.Kept.{keptForm, formed}
+use Rattle.to_card_kept_entry.specs.entry.Entry.{HoldsKept, HoldsAs, FillsKept}
+use Rattle.to_card_kept_entry.proofs.fill.Composed.{fills-formed, stands-formed}
 use Rattle.to_card_lines.specs.declared.Lines.{Lines}
 use Rattle.to_card_lines.specs.declared.Lines.the-variants.{All, Wrong}
 use Rattle.to_card_lines.specs.declared.Penned.{Penned}

@@ -19,10 +19,10 @@ use Rattle.json_access.specs.declared.Kind.the-variants.{Array}
 use Rattle.json_access.specs.Access.{kindOf}
 use Rattle.json_index.specs.Index.{jsonAt, firstAt, Slot}
 use Rattle.json_index.proofs.Fields.{first-field}
-use Rattle.kept_strings.specs.Strings.{size, sizeElems, sizeMembers}
-use Rattle.kept_strings.proofs.Elements.{elems-nil, empty-array, array-elems, not-array}
-use Rattle.kept_room.proofs.Room.{room}
-use Rattle.kept_fill.proofs.Distinct.{elements-distinct, members-distinct, field-distinct}
+use Rattle.to_card_kept_entry.specs.strings.Strings.{size, sizeElems, sizeMembers}
+use Rattle.to_card_kept_entry.proofs.strings.Elements.{elems-nil, empty-array, array-elems, not-array}
+use Rattle.to_card_kept_entry.proofs.room.Room.{room}
+use Rattle.to_card_kept_entry.proofs.fill.Distinct.{elements-distinct, members-distinct, field-distinct}
 use Rattle.convert.specs.Table.{reserved}
 use Rattle.convert.specs.Model.{Entry}
 use Rattle.convert.specs.Classify.{Seen}

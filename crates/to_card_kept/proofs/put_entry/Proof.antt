@@ -2,8 +2,8 @@ use denote.Ref.{now}
 use mathlib.Core.Path.{refl, ap}
 use native.Mathlib.Omega.{arith}
 use Rattle.text.proofs.Cases.{not-true, not-false}
-use Rattle.kept_fill.specs.Held.{isEntry}
-use Rattle.kept_fill.proofs.Fill.{held-in}
+use Rattle.to_card_kept_entry.specs.fill.Held.{isEntry}
+use Rattle.to_card_kept_entry.proofs.fill.Fill.{held-in}
 use Rattle.to_card_kept.proofs.Entry.{sound-is, sound-not, lent-room, entry-unfilled, entry-unsound, entry-converts, entry-put}
 use borrow.Author.Needs.{needs}
 use Rattle.to_card_kept.proofs.put_entry.Statement.{statement}

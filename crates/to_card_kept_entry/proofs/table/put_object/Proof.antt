@@ -1,0 +1,73 @@
+use denote.Ref.{now}
+use native.Mathlib.Omega.{arith}
+use mathlib.Core.Path.{refl}
+use Rattle.to_card_kept_entry.proofs.table.Members.{object-none, object-empty, object-all}
+use borrow.Author.Needs.{needs}
+use Rattle.to_card_kept_entry.proofs.table.put_object.Statement.{statement}
+use Rattle.to_card_kept_entry.proofs.table.put_object.Tie as tie
+
+skip-space-requires : tie.Need-skip-space-requires
+skip-space-requires c κs = search needs
+
+look-requires : tie.Need-look-requires
+look-requires c κs = search needs
+
+returns : tie.Need-returns
+returns c =
+    let args = c .before .before .before .before .before .before .args in
+    let skip-space = c .before .before .skip-space in
+    let look = c .before .look in (
+      record { long = refl; wide = refl },
+      (tt, object-none (now (args .b)) (args .n) (now (args .t)) (now (args .s)) (args .at) (skip-space .result) (look .result) (skip-space .ensures) (look .ensures .0) (c .if1 .taken)),
+    )
+
+add-skip-space : tie.Need-add-skip-space
+add-skip-space c = search needs
+
+skip-space-requires-2 : tie.Need-skip-space-requires-2
+skip-space-requires-2 c κs = search needs
+
+look-requires-2 : tie.Need-look-requires-2
+look-requires-2 c κs = search needs
+
+returns-2 : tie.Need-returns-2
+returns-2 c =
+    let pre = c .before .before .before .before .before .before .before .before .before .pre in
+    let args = c .before .before .before .before .before .before .before .before .before .args in
+    let skip-space = c .before .before .before .before .before .skip-space in
+    let look = c .before .before .before .before .look in
+    let if1 = c .before .before .before .if1 in
+    let skip-space2 = c .before .before .skip-space2 in
+    let look2 = c .before .look2 in (
+      record { long = refl; wide = refl },
+      ((omega arith, pre .0, omega arith, omega arith), object-empty (now (args .b)) (args .n) (now (args .t)) (now (args .s)) (args .at) (skip-space .result) (look .result) (skip-space .ensures) (look .ensures .0) (if1 .left) (skip-space2 .result) (look2 .result) (skip-space2 .ensures) (look2 .ensures .0) (pre .0) (c .if2 .taken)),
+    )
+
+put-from-requires : tie.Need-put-from-requires
+put-from-requires c κs = search needs
+
+same-length : tie.Need-same-length
+same-length c = search needs
+
+same-length-2 : tie.Need-same-length-2
+same-length-2 c = search needs
+
+returns-3 : tie.Need-returns-3
+returns-3 c =
+    let args = c .before .before .before .before .before .before .before .before .before .before .before .before .before .before .before .before .args in
+    let skip-space = c .before .before .before .before .before .before .before .before .before .before .before .before .skip-space in
+    let look = c .before .before .before .before .before .before .before .before .before .before .before .look in
+    let if1 = c .before .before .before .before .before .before .before .before .before .before .if1 in
+    let skip-space2 = c .before .before .before .before .before .before .before .before .before .skip-space2 in
+    let look2 = c .before .before .before .before .before .before .before .before .look2 in
+    let if2 = c .before .before .before .before .before .before .before .if2 in
+    let put-from = c .before .before .before .before .put-from in (
+      put-from .ensures .0,
+      (put-from .ensures .1 .0, object-all (now (args .b)) (args .n) (now (args .t)) (now (args .s)) (args .at) (skip-space .result) (look .result) (skip-space .ensures) (look .ensures .0) (if1 .left) (skip-space2 .result) (look2 .result) (skip-space2 .ensures) (look2 .ensures .0) (if2 .left) (put-from .result) _ _ (put-from .ensures .1 .1)),
+    )
+
+pub put-object-spec : {M : Type 1} → statement M
+put-object-spec =
+    tie.close
+    (tie.spec skip-space-requires look-requires returns add-skip-space skip-space-requires-2 look-requires-2 returns-2 put-from-requires same-length
+    same-length-2 returns-3)
