@@ -44,9 +44,6 @@ jsprop-class-requires c κs = (
   c .before .before .before .before .before .before .before .before .before .before .before .before .pre .2 ∙ (c .before .if5 .taken),
 )
 
-same-length : tie.Need-same-length
-same-length c = search needs
-
 returns-5 : tie.Need-returns-5
 returns-5 c =
     c .before .before .jsprop-class .ensures
@@ -82,5 +79,5 @@ returns-8 c =
 pub class-numbered-spec : {M : Type 1} → statement M
 class-numbered-spec =
     tie.close
-    (tie.spec map-class-requires returns returns-2 fn-class-requires returns-3 n-class-requires returns-4 jsprop-class-requires same-length returns-5
-    returns-6 returns-7 returns-8)
+    (tie.spec map-class-requires returns returns-2 fn-class-requires returns-3 n-class-requires returns-4 jsprop-class-requires (λ c. search needs)
+    returns-5 returns-6 returns-7 returns-8)

@@ -12,17 +12,11 @@ use borrow.Author.Needs.{needs}
 use Rattle.class_name_lines.proofs.full_class.Statement.{statement}
 use Rattle.class_name_lines.proofs.full_class.Tie as tie
 
-is-bare-requires : tie.Need-is-bare-requires
-is-bare-requires c κs = search needs
-
 returns : tie.Need-returns
 returns c =
     λ seen e. full-unbare
     (lineIn (now (c .before .before .before .before .before .before .before .args .s)) (now (c .before .before .before .before .before .before .before .args .t))) seen
     (c .before .is-bare .ensures ∙ not-true _ (c .if1 .taken))
-
-is-derived-requires : tie.Need-is-derived-requires
-is-derived-requires c κs = search needs
 
 returns-2 : tie.Need-returns-2
 returns-2 c =
@@ -36,9 +30,6 @@ returns-3 c =
     (now (c .before .before .before .before .before .before .before .before .before .before .args .t))) seen (c .before .before .before .before .is-bare .ensures ∙ not-false
     _ (c .before .before .before .if1 .left)) (c .before .before .is-derived .ensures ∙ (c .before .if2 .left)) (e ∙ (c .if3 .taken))
 
-no-params-requires : tie.Need-no-params-requires
-no-params-requires c κs = search needs
-
 returns-4 : tie.Need-returns-4
 returns-4 c =
     λ seen e. full-params (lineIn (now (c .before .before .before .before .before .before .before .before .before .before .before .before .args .s))
@@ -47,24 +38,6 @@ returns-4 c =
     (c .before .before .before .before .is-derived .ensures ∙ (c .before .before .before .if2 .left)) (none-besides
     (c .before .before .before .before .before .before .before .before .before .before .before .before .pre .row) ∙ sym (c .before .no-params .ensures) ∙ not-true _
     (c .if4 .taken))
-
-shared-slice-read-a : tie.Need-shared-slice-read-a
-shared-slice-read-a c = search needs
-
-shared-slice-read-b : tie.Need-shared-slice-read-b
-shared-slice-read-b c = search needs
-
-sub-is-text : tie.Need-sub-is-text
-sub-is-text c = search needs
-
-part-is-text-start : tie.Need-part-is-text-start
-part-is-text-start c = search needs
-
-part-is-text-end : tie.Need-part-is-text-end
-part-is-text-end c = search needs
-
-is-text-requires : tie.Need-is-text-requires
-is-text-requires c κs = search needs
 
 returns-5 : tie.Need-returns-5
 returns-5 c =
@@ -101,5 +74,5 @@ returns-6 c =
 pub full-class-spec : {M : Type 1} → statement M
 full-class-spec =
     tie.close
-    (tie.spec is-bare-requires returns is-derived-requires returns-2 returns-3 no-params-requires returns-4 shared-slice-read-a shared-slice-read-b
-    sub-is-text part-is-text-start part-is-text-end is-text-requires returns-5 returns-6)
+    (tie.spec (λ c κs. search needs) returns (λ c κs. search needs) returns-2 returns-3 (λ c κs. search needs) returns-4 (λ c. search needs)
+    (λ c. search needs) (λ c. search needs) (λ c. search needs) (λ c. search needs) (λ c κs. search needs) returns-5 returns-6)

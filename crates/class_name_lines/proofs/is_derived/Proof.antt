@@ -8,28 +8,16 @@ use borrow.Author.Needs.{needs}
 use Rattle.class_name_lines.proofs.is_derived.Statement.{statement}
 use Rattle.class_name_lines.proofs.is_derived.Tie as tie
 
-shared-slice-read-if1 : tie.Need-shared-slice-read-if1
-shared-slice-read-if1 c = search needs
-
 returns : tie.Need-returns
 returns c =
     derived-many (now (c .before .before .before .before .before .before .before .args .s)) (now (c .before .before .before .before .before .before .before .args .t))
     (c .before .before .before .before .before .before .before .pre .row) (c .if1 .taken)
-
-none-but-derived-requires : tie.Need-none-but-derived-requires
-none-but-derived-requires c κs = search needs
 
 returns-2 : tie.Need-returns-2
 returns-2 c =
     derived-others (now (c .before .before .before .before .before .before .before .before .before .args .s))
     (now (c .before .before .before .before .before .before .before .before .before .args .t))
     (c .before .before .before .before .before .before .before .before .before .pre .row) (sym (c .before .none-but-derived .ensures) ∙ not-true _ (c .if2 .taken))
-
-shared-slice-read-a : tie.Need-shared-slice-read-a
-shared-slice-read-a c = search needs
-
-shared-slice-read-b : tie.Need-shared-slice-read-b
-shared-slice-read-b c = search needs
 
 sub-is-named : tie.Need-sub-is-named
 sub-is-named c =
@@ -46,12 +34,6 @@ part-is-named-end c =
     let v = held-first (c .before .before .before .before .before .before .before .before .before .before .before .pre .row .held 5 (omega arith)) (λ e. omega arith) in omega
     (arith, v .ordered, v .within)
 
-slice-aggregate-is-named : tie.Need-slice-aggregate-is-named
-slice-aggregate-is-named c = search needs
-
-is-named-requires : tie.Need-is-named-requires
-is-named-requires c κs = search needs
-
 returns-3 : tie.Need-returns-3
 returns-3 c =
     derived-true (now (c .before .before .before .before .before .before .before .before .before .before .before .before .before .before .args .s))
@@ -64,5 +46,5 @@ returns-3 c =
 pub is-derived-spec : {M : Type 1} → statement M
 is-derived-spec =
     tie.close
-    (tie.spec shared-slice-read-if1 returns none-but-derived-requires returns-2 shared-slice-read-a shared-slice-read-b sub-is-named
-    part-is-named-start part-is-named-end slice-aggregate-is-named is-named-requires returns-3)
+    (tie.spec (λ c. search needs) returns (λ c κs. search needs) returns-2 (λ c. search needs) (λ c. search needs) sub-is-named part-is-named-start
+    part-is-named-end (λ c. search needs) (λ c κs. search needs) returns-3)

@@ -5,23 +5,14 @@ use borrow.Author.Needs.{needs}
 use Rattle.class_name_lines.proofs.is_name.Statement.{statement}
 use Rattle.class_name_lines.proofs.is_name.Tie as tie
 
-few-parts-requires : tie.Need-few-parts-requires
-few-parts-requires c κs = search needs
-
 returns : tie.Need-returns
 returns c = sym (too-many-parts _ (sym (c .before .few-parts .ensures) ∙ not-true _ (c .if1 .taken)))
-
-has-other-requires : tie.Need-has-other-requires
-has-other-requires c κs = search needs
 
 returns-2 : tie.Need-returns-2
 returns-2 c =
     sym
     (all-empty _ (sym (c .before .before .before .few-parts .ensures) ∙ not-false _ (c .before .before .if1 .left))
     (sym (c .before .has-other .ensures) ∙ not-true _ (c .if2 .taken)))
-
-is-text-requires : tie.Need-is-text-requires
-is-text-requires c κs = search needs
 
 returns-3 : tie.Need-returns-3
 returns-3 c =
@@ -32,4 +23,4 @@ returns-3 c =
 pub is-name-spec : {M : Type 1} → statement M
 is-name-spec =
     tie.close
-    (tie.spec few-parts-requires returns has-other-requires returns-2 is-text-requires returns-3)
+    (tie.spec (λ c κs. search needs) returns (λ c κs. search needs) returns-2 (λ c κs. search needs) returns-3)

@@ -17,17 +17,11 @@ returns c =
     λ seen e. parts-again (lineIn (now (c .before .before .before .before .before .before .args .s)) (now (c .before .before .before .before .before .before .args .t))) seen
     (e ∙ (c .if1 .taken))
 
-is-bare-requires : tie.Need-is-bare-requires
-is-bare-requires c κs = search needs
-
 returns-2 : tie.Need-returns-2
 returns-2 c =
     λ seen e. parts-unbare
     (lineIn (now (c .before .before .before .before .before .before .before .before .args .s)) (now (c .before .before .before .before .before .before .before .before .args .t)))
     seen (c .before .is-bare .ensures ∙ not-true _ (c .if2 .taken))
-
-no-params-requires : tie.Need-no-params-requires
-no-params-requires c κs = search needs
 
 returns-3 : tie.Need-returns-3
 returns-3 c =
@@ -35,24 +29,6 @@ returns-3 c =
     (now (c .before .before .before .before .before .before .before .before .before .before .args .t))) seen (c .before .before .before .is-bare .ensures ∙ not-false _
     (c .before .before .if2 .left)) (none-besides (c .before .before .before .before .before .before .before .before .before .before .pre .row) ∙ sym
     (c .before .no-params .ensures) ∙ not-true _ (c .if3 .taken))
-
-shared-slice-read-a : tie.Need-shared-slice-read-a
-shared-slice-read-a c = search needs
-
-shared-slice-read-b : tie.Need-shared-slice-read-b
-shared-slice-read-b c = search needs
-
-sub-is-name : tie.Need-sub-is-name
-sub-is-name c = search needs
-
-part-is-name-start : tie.Need-part-is-name-start
-part-is-name-start c = search needs
-
-part-is-name-end : tie.Need-part-is-name-end
-part-is-name-end c = search needs
-
-is-name-requires : tie.Need-is-name-requires
-is-name-requires c κs = search needs
 
 returns-4 : tie.Need-returns-4
 returns-4 c =
@@ -81,5 +57,5 @@ returns-5 c =
 pub parts-class-spec : {M : Type 1} → statement M
 parts-class-spec =
     tie.close
-    (tie.spec returns is-bare-requires returns-2 no-params-requires returns-3 shared-slice-read-a shared-slice-read-b sub-is-name part-is-name-start
-    part-is-name-end is-name-requires returns-4 returns-5)
+    (tie.spec returns (λ c κs. search needs) returns-2 (λ c κs. search needs) returns-3 (λ c. search needs) (λ c. search needs) (λ c. search needs)
+    (λ c. search needs) (λ c. search needs) (λ c κs. search needs) returns-4 returns-5)

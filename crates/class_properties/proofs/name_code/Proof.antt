@@ -6,65 +6,17 @@ use borrow.Author.Needs.{needs}
 use Rattle.class_properties.proofs.name_code.Statement.{statement}
 use Rattle.class_properties.proofs.name_code.Tie as tie
 
-name-of-three-requires : tie.Need-name-of-three-requires
-name-of-three-requires c κs = search needs
-
-returns : tie.Need-returns
-returns c = search needs
-
-name-of-five-requires : tie.Need-name-of-five-requires
-name-of-five-requires c κs = search needs
-
-returns-2 : tie.Need-returns-2
-returns-2 c = search needs
-
-name-of-four-requires : tie.Need-name-of-four-requires
-name-of-four-requires c κs = search needs
-
-returns-3 : tie.Need-returns-3
-returns-3 c = search needs
-
-slice-aggregate-is-named : tie.Need-slice-aggregate-is-named
-slice-aggregate-is-named c = search needs
-
-is-named-requires : tie.Need-is-named-requires
-is-named-requires c κs = search needs
-
 returns-4 : tie.Need-returns-4
 returns-4 c = number-is _ (ascii "n") _ number-n (sym (c .before .is-named .ensures) ∙ (c .if4 .taken))
-
-slice-aggregate-is-named-2 : tie.Need-slice-aggregate-is-named-2
-slice-aggregate-is-named-2 c = search needs
-
-is-named-requires-2 : tie.Need-is-named-requires-2
-is-named-requires-2 c κs = search needs
 
 returns-5 : tie.Need-returns-5
 returns-5 c = number-is _ (ascii "fn") _ number-fn (sym (c .before .is-named2 .ensures) ∙ (c .if5 .taken))
 
-slice-aggregate-is-named-3 : tie.Need-slice-aggregate-is-named-3
-slice-aggregate-is-named-3 c = search needs
-
-is-named-requires-3 : tie.Need-is-named-requires-3
-is-named-requires-3 c κs = search needs
-
 returns-6 : tie.Need-returns-6
 returns-6 c = number-is _ (ascii "version") _ number-version (sym (c .before .is-named3 .ensures) ∙ (c .if6 .taken))
 
-slice-aggregate-is-named-4 : tie.Need-slice-aggregate-is-named-4
-slice-aggregate-is-named-4 c = search needs
-
-is-named-requires-4 : tie.Need-is-named-requires-4
-is-named-requires-4 c κs = search needs
-
 returns-7 : tie.Need-returns-7
 returns-7 c = number-is _ (ascii "nickname") _ number-nickname (sym (c .before .is-named4 .ensures) ∙ (c .if7 .taken))
-
-slice-aggregate-is-named-5 : tie.Need-slice-aggregate-is-named-5
-slice-aggregate-is-named-5 c = search needs
-
-is-named-requires-5 : tie.Need-is-named-requires-5
-is-named-requires-5 c κs = search needs
 
 returns-8 : tie.Need-returns-8
 returns-8 c = number-is _ (ascii "jsprop") _ number-jsprop (sym (c .before .is-named5 .ensures) ∙ (c .if8 .taken))
@@ -85,6 +37,7 @@ returns-9 c =
 pub name-code-spec : {M : Type 1} → statement M
 name-code-spec =
     tie.close
-    (tie.spec name-of-three-requires returns name-of-five-requires returns-2 name-of-four-requires returns-3 slice-aggregate-is-named
-    is-named-requires returns-4 slice-aggregate-is-named-2 is-named-requires-2 returns-5 slice-aggregate-is-named-3 is-named-requires-3 returns-6
-    slice-aggregate-is-named-4 is-named-requires-4 returns-7 slice-aggregate-is-named-5 is-named-requires-5 returns-8 returns-9)
+    (tie.spec (λ c κs. search needs) (λ c. search needs) (λ c κs. search needs) (λ c. search needs) (λ c κs. search needs) (λ c. search needs)
+    (λ c. search needs) (λ c κs. search needs) returns-4 (λ c. search needs) (λ c κs. search needs) returns-5 (λ c. search needs)
+    (λ c κs. search needs) returns-6 (λ c. search needs) (λ c κs. search needs) returns-7 (λ c. search needs) (λ c κs. search needs) returns-8
+    returns-9)

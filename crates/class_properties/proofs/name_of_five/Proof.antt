@@ -6,20 +6,8 @@ use borrow.Author.Needs.{needs}
 use Rattle.class_properties.proofs.name_of_five.Statement.{statement}
 use Rattle.class_properties.proofs.name_of_five.Tie as tie
 
-slice-aggregate-is-named : tie.Need-slice-aggregate-is-named
-slice-aggregate-is-named c = search needs
-
-is-named-requires : tie.Need-is-named-requires
-is-named-requires c κs = search needs
-
 returns : tie.Need-returns
 returns c = number-is _ (ascii "email") _ number-email (sym (c .before .is-named .ensures) ∙ (c .if1 .taken))
-
-slice-aggregate-is-named-2 : tie.Need-slice-aggregate-is-named-2
-slice-aggregate-is-named-2 c = search needs
-
-is-named-requires-2 : tie.Need-is-named-requires-2
-is-named-requires-2 c κs = search needs
 
 returns-2 : tie.Need-returns-2
 returns-2 c = number-is _ (ascii "title") _ number-title (sym (c .before .is-named2 .ensures) ∙ (c .if2 .taken))
@@ -32,4 +20,4 @@ returns-3 c =
 pub name-of-five-spec : {M : Type 1} → statement M
 name-of-five-spec =
     tie.close
-    (tie.spec slice-aggregate-is-named is-named-requires returns slice-aggregate-is-named-2 is-named-requires-2 returns-2 returns-3)
+    (tie.spec (λ c. search needs) (λ c κs. search needs) returns (λ c. search needs) (λ c κs. search needs) returns-2 returns-3)

@@ -5,21 +5,6 @@ use borrow.Author.Needs.{needs}
 use Rattle.from_card_classes.proofs.pass_line.Statement.{statement}
 use Rattle.from_card_classes.proofs.pass_line.Tie as tie
 
-settle-requires : tie.Need-settle-requires
-settle-requires c κs = search needs
-
-slice-write-codes : tie.Need-slice-write-codes
-slice-write-codes c = search needs
-
-same-length : tie.Need-same-length
-same-length c = search needs
-
-same-length-2 : tie.Need-same-length-2
-same-length-2 c = search needs
-
-same-length-3 : tie.Need-same-length-3
-same-length-3 c = search needs
-
 returns : tie.Need-returns
 returns c =
     let at-settle = c .before .before .before .before in
@@ -44,4 +29,4 @@ returns c =
 pub pass-line-spec : {M : Type 1} → statement M
 pass-line-spec =
     tie.close
-    (tie.spec settle-requires slice-write-codes same-length same-length-2 same-length-3 returns)
+    (tie.spec (λ c κs. search needs) (λ c. search needs) (λ c. search needs) (λ c. search needs) (λ c. search needs) returns)

@@ -9,28 +9,10 @@ use borrow.Author.Needs.{needs}
 use Rattle.from_card_refusals.proofs.is_emptied.Statement.{statement}
 use Rattle.from_card_refusals.proofs.is_emptied.Tie as tie
 
-shared-slice-read-a : tie.Need-shared-slice-read-a
-shared-slice-read-a c = search needs
-
-shared-slice-read-b : tie.Need-shared-slice-read-b
-shared-slice-read-b c = search needs
-
 returns : tie.Need-returns
 returns c =
     let start = c .before .before .before .before .before in
     sym (uid-emptied (lineIn (now (start .args .s)) (now (start .args .t))) (start .args .code) (start .pre .1) (c .if1 .taken) ∙ value-empty (now (start .args .s)) (now (start .args .t)) (start .pre .0 .value))
-
-sub-is-word : tie.Need-sub-is-word
-sub-is-word c = search needs
-
-part-is-word-start : tie.Need-part-is-word-start
-part-is-word-start c = search needs
-
-part-is-word-end : tie.Need-part-is-word-end
-part-is-word-end c = search needs
-
-is-word-requires : tie.Need-is-word-requires
-is-word-requires c κs = search needs
 
 returns-2 : tie.Need-returns-2
 returns-2 c =
@@ -46,4 +28,5 @@ returns-3 c =
 pub is-emptied-spec : {M : Type 1} → statement M
 is-emptied-spec =
     tie.close
-    (tie.spec shared-slice-read-a shared-slice-read-b returns sub-is-word part-is-word-start part-is-word-end is-word-requires returns-2 returns-3)
+    (tie.spec (λ c. search needs) (λ c. search needs) returns (λ c. search needs) (λ c. search needs) (λ c. search needs) (λ c κs. search needs)
+    returns-2 returns-3)

@@ -9,24 +9,15 @@ use borrow.Author.Needs.{needs}
 use Rattle.from_card_refusals.proofs.is_misused.Statement.{statement}
 use Rattle.from_card_refusals.proofs.is_misused.Tie as tie
 
-shared-slice-read-if1 : tie.Need-shared-slice-read-if1
-shared-slice-read-if1 c = search needs
-
 returns : tie.Need-returns
 returns c =
     let start = c .before .before .before .before .before .before .before in
     sym (misused-group (lineIn (now (start .args .s)) (now (start .args .t))) (group-told (start .pre .0 .row) ∙ ap not (ne-eqb _ 0 (c .if1 .taken))))
 
-value-fits-requires : tie.Need-value-fits-requires
-value-fits-requires c κs = search needs
-
 returns-2 : tie.Need-returns-2
 returns-2 c =
     let start = c .before .before .before .before .before .before .before .before .before in
     sym (misused-value (lineIn (now (start .args .s)) (now (start .args .t))) (sym (c .before .value-fits .ensures _ (start .pre .0 .row)) ∙ not-true (c .before .value-fits .result) (c .if2 .taken)))
-
-has-group-requires : tie.Need-has-group-requires
-has-group-requires c κs = search needs
 
 returns-3 : tie.Need-returns-3
 returns-3 c =
@@ -38,9 +29,6 @@ returns-3 c =
     sym (uid-grouped (lineIn (now (start .args .s)) (now (start .args .t))) (start .args .code) (start .pre .1)
     (group-told (start .pre .0 .row) ∙ ap not (eq-eqb _ 0 (at-if1 .if1 .left))) (sym (at-value-fits .value-fits .ensures _ (start .pre .0 .row)) ∙ not-false (at-value-fits .value-fits .result) (at-if2 .if2 .left))
     (at-if3 .if3 .taken) (c .before .has-group .ensures ∙ ap not (c .if4 .taken)))
-
-only-uri-requires : tie.Need-only-uri-requires
-only-uri-requires c κs = search needs
 
 returns-4 : tie.Need-returns-4
 returns-4 c =
@@ -54,9 +42,6 @@ returns-4 c =
     (group-told (start .pre .0 .row) ∙ ap not (eq-eqb _ 0 (at-if1 .if1 .left))) (sym (at-value-fits .value-fits .ensures _ (start .pre .0 .row)) ∙ not-false (at-value-fits .value-fits .result) (at-if2 .if2 .left))
     (at-if3 .if3 .taken) (at-has-group .has-group .ensures ∙ ap not (c .before .if4 .left)))
 
-has-group-requires-2 : tie.Need-has-group-requires-2
-has-group-requires-2 c κs = search needs
-
 returns-5 : tie.Need-returns-5
 returns-5 c =
     let at-if5 = c .before .before in
@@ -66,9 +51,6 @@ returns-5 c =
     let start = at-if1 .before .before .before .before .before .before .before in
     sym (kind-grouped (lineIn (now (start .args .s)) (now (start .args .t))) (start .args .code) (start .pre .1)
     (group-told (start .pre .0 .row) ∙ ap not (eq-eqb _ 0 (at-if1 .if1 .left))) (sym (at-value-fits .value-fits .ensures _ (start .pre .0 .row)) ∙ not-false (at-value-fits .value-fits .result) (at-if2 .if2 .left)) (at-if5 .if5 .taken) (c .before .has-group2 .ensures ∙ ap not (c .if6 .taken)))
-
-shared-slice-read-result : tie.Need-shared-slice-read-result
-shared-slice-read-result c = search needs
 
 returns-6 : tie.Need-returns-6
 returns-6 c =
@@ -92,5 +74,5 @@ returns-7 c =
 pub is-misused-spec : {M : Type 1} → statement M
 is-misused-spec =
     tie.close
-    (tie.spec shared-slice-read-if1 returns value-fits-requires returns-2 has-group-requires returns-3 only-uri-requires returns-4
-    has-group-requires-2 returns-5 shared-slice-read-result returns-6 returns-7)
+    (tie.spec (λ c. search needs) returns (λ c κs. search needs) returns-2 (λ c κs. search needs) returns-3 (λ c κs. search needs) returns-4
+    (λ c κs. search needs) returns-5 (λ c. search needs) returns-6 returns-7)

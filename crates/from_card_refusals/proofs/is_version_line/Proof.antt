@@ -15,16 +15,10 @@ returns c =
     let start = c .before .before .before in
     sym (other-name (lineIn (now (start .args .s)) (now (start .args .t))) (start .args .code) (start .pre .1) (c .if1 .taken))
 
-has-group-requires : tie.Need-has-group-requires
-has-group-requires c κs = search needs
-
 returns-2 : tie.Need-returns-2
 returns-2 c =
     let start = c .before .before .before .before .before in
     sym (version-grouped (lineIn (now (start .args .s)) (now (start .args .t))) (start .args .code) (start .pre .1) (c .before .has-group .ensures ∙ ap not (c .if2 .taken)))
-
-shared-slice-read-if3 : tie.Need-shared-slice-read-if3
-shared-slice-read-if3 c = search needs
 
 returns-3 : tie.Need-returns-3
 returns-3 c =
@@ -33,27 +27,6 @@ returns-3 c =
     let at-if1 = at-has-group .before in
     let start = at-if1 .before .before .before in
     sym (version-params (lineIn (now (start .args .s)) (now (start .args .t))) (start .args .code) (start .pre .1) (at-if1 .if1 .left) (at-has-group .has-group .ensures ∙ ap not (at-if2 .if2 .left)) (params-empty (now (start .args .s)) (now (start .args .t)) ∙ ne-eqb _ 0 (c .if3 .taken)))
-
-shared-slice-read-a : tie.Need-shared-slice-read-a
-shared-slice-read-a c = search needs
-
-shared-slice-read-b : tie.Need-shared-slice-read-b
-shared-slice-read-b c = search needs
-
-sub-same-bytes : tie.Need-sub-same-bytes
-sub-same-bytes c = search needs
-
-part-same-bytes-start : tie.Need-part-same-bytes-start
-part-same-bytes-start c = search needs
-
-part-same-bytes-end : tie.Need-part-same-bytes-end
-part-same-bytes-end c = search needs
-
-slice-aggregate-same-bytes : tie.Need-slice-aggregate-same-bytes
-slice-aggregate-same-bytes c = search needs
-
-same-bytes-requires : tie.Need-same-bytes-requires
-same-bytes-requires c κs = search needs
 
 returns-4 : tie.Need-returns-4
 returns-4 c =
@@ -69,5 +42,5 @@ returns-4 c =
 pub is-version-line-spec : {M : Type 1} → statement M
 is-version-line-spec =
     tie.close
-    (tie.spec returns has-group-requires returns-2 shared-slice-read-if3 returns-3 shared-slice-read-a shared-slice-read-b sub-same-bytes
-    part-same-bytes-start part-same-bytes-end slice-aggregate-same-bytes same-bytes-requires returns-4)
+    (tie.spec returns (λ c κs. search needs) returns-2 (λ c. search needs) returns-3 (λ c. search needs) (λ c. search needs) (λ c. search needs)
+    (λ c. search needs) (λ c. search needs) (λ c. search needs) (λ c κs. search needs) returns-4)

@@ -5,23 +5,14 @@ use borrow.Author.Needs.{needs}
 use Rattle.from_card_refusals.proofs.only_uri.Statement.{statement}
 use Rattle.from_card_refusals.proofs.only_uri.Tie as tie
 
-shared-slice-read-n : tie.Need-shared-slice-read-n
-shared-slice-read-n c = search needs
-
 returns : tie.Need-returns
 returns c = sym (only-none (now (c .before .before .before .before .before .before .before .args .s)) (now (c .before .before .before .before .before .before .before .args .t)) (c .if1 .taken))
-
-shared-slice-read-if2 : tie.Need-shared-slice-read-if2
-shared-slice-read-if2 c = search needs
 
 returns-2 : tie.Need-returns-2
 returns-2 c =
     let at-if1 = c .before .before in
     let start = at-if1 .before .before .before .before .before .before .before in
     sym (only-others (now (start .args .s)) (now (start .args .t)) (start .pre .row) (at-if1 .if1 .left) (c .if2 .taken))
-
-value-kind-requires : tie.Need-value-kind-requires
-value-kind-requires c κs = search needs
 
 returns-3 : tie.Need-returns-3
 returns-3 c =
@@ -32,4 +23,4 @@ returns-3 c =
 pub only-uri-spec : {M : Type 1} → statement M
 only-uri-spec =
     tie.close
-    (tie.spec shared-slice-read-n returns shared-slice-read-if2 returns-2 value-kind-requires returns-3)
+    (tie.spec (λ c. search needs) returns (λ c. search needs) returns-2 (λ c κs. search needs) returns-3)

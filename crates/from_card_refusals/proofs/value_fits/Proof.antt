@@ -6,20 +6,11 @@ use borrow.Author.Needs.{needs}
 use Rattle.from_card_refusals.proofs.value_fits.Statement.{statement}
 use Rattle.from_card_refusals.proofs.value_fits.Tie as tie
 
-shared-slice-read-k : tie.Need-shared-slice-read-k
-shared-slice-read-k c = search needs
-
 returns : tie.Need-returns
 returns c = λ ps r. sym (value-none r (c .if1 .taken))
 
 returns-2 : tie.Need-returns-2
 returns-2 c = λ ps r. sym (value-many r (c .before .if1 .left) (c .if2 .taken))
-
-shared-slice-read-a : tie.Need-shared-slice-read-a
-shared-slice-read-a c = search needs
-
-shared-slice-read-b : tie.Need-shared-slice-read-b
-shared-slice-read-b c = search needs
 
 sub-is-word : tie.Need-sub-is-word
 sub-is-word c = let f = first-kind (c .before .before .before .before .before .before .before .before .before .pre .1 .1) (c .before .before .before .if1 .left) in f .ordered
@@ -36,14 +27,11 @@ part-is-word-end c =
     let start = at-if1 .before .before .before .before .before .before in
     let f = first-kind (start .pre .1 .1) (at-if1 .if1 .left) in omega (arith, f .ordered, f .within)
 
-is-word-requires : tie.Need-is-word-requires
-is-word-requires c κs = search needs
-
 returns-3 : tie.Need-returns-3
 returns-3 c = λ ps r. c .is-word .ensures ∙ sym (value-one r (c .before .before .before .before .if2 .left))
 
 pub value-fits-spec : {M : Type 1} → statement M
 value-fits-spec =
     tie.close
-    (tie.spec shared-slice-read-k returns returns-2 shared-slice-read-a shared-slice-read-b sub-is-word part-is-word-start part-is-word-end
-    is-word-requires returns-3)
+    (tie.spec (λ c. search needs) returns returns-2 (λ c. search needs) (λ c. search needs) sub-is-word part-is-word-start part-is-word-end
+    (λ c κs. search needs) returns-3)

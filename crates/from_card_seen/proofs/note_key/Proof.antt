@@ -5,36 +5,6 @@ use borrow.Author.Needs.{needs}
 use Rattle.from_card_seen.proofs.note_key.Statement.{statement}
 use Rattle.from_card_seen.proofs.note_key.Tie as tie
 
-sub-print-of : tie.Need-sub-print-of
-sub-print-of c = search needs
-
-part-print-of-start : tie.Need-part-print-of-start
-part-print-of-start c = search needs
-
-part-print-of-end : tie.Need-part-print-of-end
-part-print-of-end c = search needs
-
-print-of-requires : tie.Need-print-of-requires
-print-of-requires c κs = search needs
-
-sub-is-used : tie.Need-sub-is-used
-sub-is-used c = search needs
-
-part-is-used-start : tie.Need-part-is-used-start
-part-is-used-start c = search needs
-
-part-is-used-end : tie.Need-part-is-used-end
-part-is-used-end c = search needs
-
-is-used-requires : tie.Need-is-used-requires
-is-used-requires c κs = search needs
-
-same-length : tie.Need-same-length
-same-length c = search needs
-
-same-length-2 : tie.Need-same-length-2
-same-length-2 c = search needs
-
 returns : tie.Need-returns
 returns c = notes-not (c .before .before .before .before .before .before .before .before .before .before .before .pre .0) (c .before .is-used .result) (c .before .is-used .ensures) (c .if1 .taken)
 
@@ -48,15 +18,6 @@ add-put-id-2 c =
     let start = c .before .before .before .before .before .before .before .before .before .before .before .before .before in
     let w = cut-span (start .pre .4) (start .pre .3) in omega (arith, w .ordered, w .within)
 
-put-id-requires : tie.Need-put-id-requires
-put-id-requires c κs = search needs
-
-same-length-3 : tie.Need-same-length-3
-same-length-3 c = search needs
-
-same-length-4 : tie.Need-same-length-4
-same-length-4 c = search needs
-
 returns-2 : tie.Need-returns-2
 returns-2 c =
     let at-put-id = c .before .before .before .before in
@@ -69,5 +30,6 @@ returns-2 c =
 pub note-key-spec : {M : Type 1} → statement M
 note-key-spec =
     tie.close
-    (tie.spec sub-print-of part-print-of-start part-print-of-end print-of-requires sub-is-used part-is-used-start part-is-used-end is-used-requires
-    same-length same-length-2 returns add-put-id add-put-id-2 put-id-requires same-length-3 same-length-4 returns-2)
+    (tie.spec (λ c. search needs) (λ c. search needs) (λ c. search needs) (λ c κs. search needs) (λ c. search needs) (λ c. search needs)
+    (λ c. search needs) (λ c κs. search needs) (λ c. search needs) (λ c. search needs) returns add-put-id add-put-id-2 (λ c κs. search needs)
+    (λ c. search needs) (λ c. search needs) returns-2)

@@ -8,49 +8,16 @@ use borrow.Author.Needs.{needs}
 use Rattle.from_card_seen.proofs.settle.Statement.{statement}
 use Rattle.from_card_seen.proofs.settle.Tie as tie
 
-enum-told : tie.Need-enum-told
-enum-told c = search needs
-
-enum-told-2 : tie.Need-enum-told-2
-enum-told-2 c = search needs
-
-enum-told-3 : tie.Need-enum-told-3
-enum-told-3 c = search needs
-
-enum-told-4 : tie.Need-enum-told-4
-enum-told-4 c = search needs
-
-enum-told-5 : tie.Need-enum-told-5
-enum-told-5 c = search needs
-
-enum-told-6 : tie.Need-enum-told-6
-enum-told-6 c = search needs
-
-enum-told-7 : tie.Need-enum-told-7
-enum-told-7 c = search needs
-
-enum-known-class : tie.Need-enum-known-class
-enum-known-class c = search needs
-
 cast-t19 : tie.Need-cast-t19
 cast-t19 c =
     let start = c .before .before .before .before .before .before .before in
     let w = subst (ClassIn (now (start .args .s))) (c .before .class .given .1) (start .pre .2) in omega (arith, w)
-
-enum-known-class-2 : tie.Need-enum-known-class-2
-enum-known-class-2 c = search needs
 
 note-key-requires : tie.Need-note-key-requires
 note-key-requires c κs =
     let at-class2 = c .before .before .before in
     let start = at-class2 .before .before .before .before .before .before in
     let w = subst (ClassIn (now (start .args .s))) (at-class2 .class2 .given .1) (start .pre .2) in (start .pre .0, start .pre .1, omega (arith, w .0), w .1, start .pre .3)
-
-same-length : tie.Need-same-length
-same-length c = search needs
-
-same-length-2 : tie.Need-same-length-2
-same-length-2 c = search needs
 
 returns : tie.Need-returns
 returns c =
@@ -65,20 +32,11 @@ cast-t25 c =
     let start = at-class2 .before .before .before .before .before .before in
     let w = subst (ClassIn (now (start .args .s))) (at-class2 .class2 .given .1) (start .pre .2) in omega (arith, w .0)
 
-enum-known-class-3 : tie.Need-enum-known-class-3
-enum-known-class-3 c = search needs
-
 note-key-requires-2 : tie.Need-note-key-requires-2
 note-key-requires-2 c κs =
     let at-class3 = c .before .before .before in
     let start = at-class3 .before .before .before .before .before .before in
     let w = subst (ClassIn (now (start .args .s))) (at-class3 .class3 .given .1) (start .pre .2) in (start .pre .0, start .pre .1, omega arith, w .span, start .pre .3)
-
-same-length-3 : tie.Need-same-length-3
-same-length-3 c = search needs
-
-same-length-4 : tie.Need-same-length-4
-same-length-4 c = search needs
 
 returns-2 : tie.Need-returns-2
 returns-2 c =
@@ -113,24 +71,12 @@ returns-10 c =
     let start = c .before .before .before .before .before .before .before in
     settles-same (start .pre .0) (Entry (c .before .class .given .0 .0)) (c .before .class .given .0 .0) (c .before .class .given .1) (λ seen. (refl, refl))
 
-same-length-5 : tie.Need-same-length-5
-same-length-5 c = search needs
-
-same-length-6 : tie.Need-same-length-6
-same-length-6 c = search needs
-
 returns-11 : tie.Need-returns-11
 returns-11 c =
     let at-note-key = c .before .before .before .before .before in
     let at-class2 = at-note-key .before .before .before .before in
     let start = at-class2 .before .before .before .before .before .before in
     key-new (at-note-key .note-key .ensures) (at-class2 .class2 .given .1) (subst (ClassIn (now (start .args .s))) (at-class2 .class2 .given .1) (start .pre .2) .0) (c .if1 .left)
-
-same-length-7 : tie.Need-same-length-7
-same-length-7 c = search needs
-
-same-length-8 : tie.Need-same-length-8
-same-length-8 c = search needs
 
 returns-12 : tie.Need-returns-12
 returns-12 c =
@@ -142,7 +88,7 @@ returns-12 c =
 pub settle-spec : {M : Type 1} → statement M
 settle-spec =
     tie.close
-    (tie.spec enum-told enum-told-2 enum-told-3 enum-told-4 enum-told-5 enum-told-6 enum-told-7 enum-known-class cast-t19 enum-known-class-2
-    note-key-requires same-length same-length-2 returns cast-t25 enum-known-class-3 note-key-requires-2 same-length-3 same-length-4 returns-2
-    returns-3 returns-4 returns-5 returns-6 returns-7 returns-8 returns-9 returns-10 same-length-5 same-length-6 returns-11 same-length-7
-    same-length-8 returns-12)
+    (tie.spec (λ c. search needs) (λ c. search needs) (λ c. search needs) (λ c. search needs) (λ c. search needs) (λ c. search needs)
+    (λ c. search needs) (λ c. search needs) cast-t19 (λ c. search needs) note-key-requires (λ c. search needs) (λ c. search needs) returns cast-t25
+    (λ c. search needs) note-key-requires-2 (λ c. search needs) (λ c. search needs) returns-2 returns-3 returns-4 returns-5 returns-6 returns-7
+    returns-8 returns-9 returns-10 (λ c. search needs) (λ c. search needs) returns-11 (λ c. search needs) (λ c. search needs) returns-12)

@@ -13,21 +13,6 @@ use Rattle.to_card_card.proofs.Steps.{last-first, last-second, last-all
 use Rattle.to_card_card.proofs.put_last.Statement.{statement}
 use Rattle.to_card_card.proofs.put_last.Tie as tie
 
-put-others-requires : tie.Need-put-others-requires
-put-others-requires c κs = search needs
-
-enum-known-n : tie.Need-enum-known-n
-enum-known-n c = search needs
-
-enum-told : tie.Need-enum-told
-enum-told c = search needs
-
-same-length : tie.Need-same-length
-same-length c = search needs
-
-same-length-2 : tie.Need-same-length-2
-same-length-2 c = search needs
-
 returns : tie.Need-returns
 returns c =
     let args = c .before .before .before .before .before .before .before .before .before .before .before .before .before .before .before .before .args in
@@ -45,33 +30,6 @@ part-put-kept-start : tie.Need-part-put-kept-start
 part-put-kept-start c =
     let put-others = c .before .before .before .before .before .before .before .put-others in
     omega (arith, lines-in (put-others .ensures .0) (c .before .n .given .1), put-others .ensures .1 .0)
-
-part-put-kept-end : tie.Need-part-put-kept-end
-part-put-kept-end c = search needs
-
-put-kept-requires : tie.Need-put-kept-requires
-put-kept-requires c κs = search needs
-
-enum-known-m : tie.Need-enum-known-m
-enum-known-m c = search needs
-
-enum-told-2 : tie.Need-enum-told-2
-enum-told-2 c = search needs
-
-same-length-3 : tie.Need-same-length-3
-same-length-3 c = search needs
-
-same-length-4 : tie.Need-same-length-4
-same-length-4 c = search needs
-
-same-length-5 : tie.Need-same-length-5
-same-length-5 c = search needs
-
-same-length-6 : tie.Need-same-length-6
-same-length-6 c = search needs
-
-same-length-7 : tie.Need-same-length-7
-same-length-7 c = search needs
 
 returns-2 : tie.Need-returns-2
 returns-2 c =
@@ -109,33 +67,6 @@ add-bytes c =
       );
     }
 
-up-to-requires : tie.Need-up-to-requires
-up-to-requires c κs = search needs
-
-up-to-requires-2 : tie.Need-up-to-requires-2
-up-to-requires-2 c κs = search needs
-
-add-up-to : tie.Need-add-up-to
-add-up-to c = search needs
-
-up-to-requires-3 : tie.Need-up-to-requires-3
-up-to-requires-3 c κs = search needs
-
-same-length-8 : tie.Need-same-length-8
-same-length-8 c = search needs
-
-same-length-9 : tie.Need-same-length-9
-same-length-9 c = search needs
-
-same-length-10 : tie.Need-same-length-10
-same-length-10 c = search needs
-
-same-length-11 : tie.Need-same-length-11
-same-length-11 c = search needs
-
-same-length-12 : tie.Need-same-length-12
-same-length-12 c = search needs
-
 returns-3 : tie.Need-returns-3
 returns-3 c =
     let args = c .before .before .before .before .before .before .before .before .before .before .before .before .before .before .before .before .before .before .before .before .before .before .before .before .before .before .before .before .before .before .before .before .before .before .before .before .args in
@@ -167,6 +98,7 @@ returns-3 c =
 pub put-last-spec : {M : Type 1} → statement M
 put-last-spec =
     tie.close
-    (tie.spec put-others-requires enum-known-n enum-told same-length same-length-2 returns sub-put-kept part-put-kept-start part-put-kept-end
-    put-kept-requires enum-known-m enum-told-2 same-length-3 same-length-4 same-length-5 same-length-6 same-length-7 returns-2 add-bytes
-    up-to-requires up-to-requires-2 add-up-to up-to-requires-3 same-length-8 same-length-9 same-length-10 same-length-11 same-length-12 returns-3)
+    (tie.spec (λ c κs. search needs) (λ c. search needs) (λ c. search needs) (λ c. search needs) (λ c. search needs) returns sub-put-kept
+    part-put-kept-start (λ c. search needs) (λ c κs. search needs) (λ c. search needs) (λ c. search needs) (λ c. search needs) (λ c. search needs)
+    (λ c. search needs) (λ c. search needs) (λ c. search needs) returns-2 add-bytes (λ c κs. search needs) (λ c κs. search needs) (λ c. search needs)
+    (λ c κs. search needs) (λ c. search needs) (λ c. search needs) (λ c. search needs) (λ c. search needs) (λ c. search needs) returns-3)

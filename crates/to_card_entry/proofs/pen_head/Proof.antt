@@ -28,9 +28,6 @@ nth-name-requires c κs = tt
 sub-pen-bytes : tie.Need-sub-pen-bytes
 sub-pen-bytes c = c .before .nth-name .ensures .ordered
 
-part-pen-bytes-start : tie.Need-part-pen-bytes-start
-part-pen-bytes-start c = search needs
-
 part-pen-bytes-end : tie.Need-part-pen-bytes-end
 part-pen-bytes-end c = c .before .nth-name .ensures .inside
 
@@ -45,9 +42,6 @@ part-pen-bytes-start-2 c = in! (s1 c)
 
 part-pen-bytes-end-2 : tie.Need-part-pen-bytes-end-2
 part-pen-bytes-end-2 c = le-refl _
-
-slice-aggregate-pen-bytes : tie.Need-slice-aggregate-pen-bytes
-slice-aggregate-pen-bytes c = search needs
 
 pen-bytes-requires-2 : tie.Need-pen-bytes-requires-2
 pen-bytes-requires-2 c κs = tt
@@ -94,9 +88,6 @@ part-pen-types-start c = in! (s4 c)
 part-pen-types-end : tie.Need-part-pen-types-end
 part-pen-types-end c = le-refl _
 
-slice-aggregate-pen-types : tie.Need-slice-aggregate-pen-types
-slice-aggregate-pen-types c = search needs
-
 pen-types-requires : tie.Need-pen-types-requires
 pen-types-requires c κs = c .before .before .before .before .before .before .before .before .before .before .before .before .before .before .before .before .before .before .before .before .before .before .before .before .before .before .before .before .pre
 
@@ -122,7 +113,7 @@ returns c =
 pub pen-head-spec : {M : Type 1} → statement M
 pen-head-spec =
     tie.close
-    (tie.spec nth-name-requires sub-pen-bytes part-pen-bytes-start part-pen-bytes-end pen-bytes-requires sub-pen-bytes-2 part-pen-bytes-start-2
-    part-pen-bytes-end-2 slice-aggregate-pen-bytes pen-bytes-requires-2 add-n2 sub-pen-string part-pen-string-start part-pen-string-end
-    pen-string-requires add-n3 sub-pen-pref part-pen-pref-start part-pen-pref-end pen-pref-requires add-n4 sub-pen-types part-pen-types-start
-    part-pen-types-end slice-aggregate-pen-types pen-types-requires add-n5 same-length returns)
+    (tie.spec nth-name-requires sub-pen-bytes (λ c. search needs) part-pen-bytes-end pen-bytes-requires sub-pen-bytes-2 part-pen-bytes-start-2
+    part-pen-bytes-end-2 (λ c. search needs) pen-bytes-requires-2 add-n2 sub-pen-string part-pen-string-start part-pen-string-end pen-string-requires
+    add-n3 sub-pen-pref part-pen-pref-start part-pen-pref-end pen-pref-requires add-n4 sub-pen-types part-pen-types-start part-pen-types-end
+    (λ c. search needs) pen-types-requires add-n5 same-length returns)

@@ -6,30 +6,6 @@ use borrow.Author.Needs.{needs}
 use Rattle.to_card_entry.proofs.put_line.Statement.{statement}
 use Rattle.to_card_entry.proofs.put_line.Tie as tie
 
-pen-head-requires : tie.Need-pen-head-requires
-pen-head-requires c κs = search needs
-
-sub-put-value : tie.Need-sub-put-value
-sub-put-value c = search needs
-
-part-put-value-start : tie.Need-part-put-value-start
-part-put-value-start c = search needs
-
-part-put-value-end : tie.Need-part-put-value-end
-part-put-value-end c = search needs
-
-put-value-requires : tie.Need-put-value-requires
-put-value-requires c κs = search needs
-
-enum-known-m : tie.Need-enum-known-m
-enum-known-m c = search needs
-
-enum-told : tie.Need-enum-told
-enum-told c = search needs
-
-same-length : tie.Need-same-length
-same-length c = search needs
-
 returns : tie.Need-returns
 returns c =
     let args = c .before .before .before .before .before .before .before .before .before .before .before .before .before .before .args in
@@ -76,15 +52,6 @@ part-fill-start c =
     (pens-length (pen-head .ensures .pens)) (pens-in (pen-head .ensures .pens)) (put-in (put-value .ensures .0) (m .given .1))
     (put-value .ensures .1 .0) .0
 
-part-fill-end : tie.Need-part-fill-end
-part-fill-end c = search needs
-
-slice-aggregate-fill : tie.Need-slice-aggregate-fill
-slice-aggregate-fill c = search needs
-
-fill-requires : tie.Need-fill-requires
-fill-requires c κs = search needs
-
 add-t : tie.Need-add-t
 add-t c =
     let good = c .before .before .before .before .before .before .before .before .before .before .before .before .before .before .before .before .before .before .before .before .good in
@@ -127,5 +94,6 @@ returns-2 c =
 pub put-line-spec : {M : Type 1} → statement M
 put-line-spec =
     tie.close
-    (tie.spec pen-head-requires sub-put-value part-put-value-start part-put-value-end put-value-requires enum-known-m enum-told same-length returns
-    add-nm sub-fill part-fill-start part-fill-end slice-aggregate-fill fill-requires add-t same-length-2 returns-2)
+    (tie.spec (λ c κs. search needs) (λ c. search needs) (λ c. search needs) (λ c. search needs) (λ c κs. search needs) (λ c. search needs)
+    (λ c. search needs) (λ c. search needs) returns add-nm sub-fill part-fill-start (λ c. search needs) (λ c. search needs) (λ c κs. search needs)
+    add-t same-length-2 returns-2)

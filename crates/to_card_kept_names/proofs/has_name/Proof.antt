@@ -5,15 +5,6 @@ use borrow.Author.Needs.{needs}
 use Rattle.to_card_kept_names.proofs.has_name.Statement.{statement}
 use Rattle.to_card_kept_names.proofs.has_name.Tie as tie
 
-has-walked-requires : tie.Need-has-walked-requires
-has-walked-requires c κs = search needs
-
-returns : tie.Need-returns
-returns c = search needs
-
-mul-a : tie.Need-mul-a
-mul-a c = search needs
-
 shared-slice-read-a : tie.Need-shared-slice-read-a
 shared-slice-read-a c =
     let args = c .before .before .before .before .before .before .before .before .args in
@@ -21,12 +12,6 @@ shared-slice-read-a c =
     let x = index-there (now (args .s)) (now (args .slots)) (now (args .places)) (now (args .prints)) (now (args .ends)) (pre .1) (c .before .if1 .left) in
     let g = x .groups (args .i) (pre .0 .0) in
     omega (arith, x .wide, pre .0 .0)
-
-add-e : tie.Need-add-e
-add-e c = search needs
-
-mul-e : tie.Need-mul-e
-mul-e c = search needs
 
 shared-slice-read-e : tie.Need-shared-slice-read-e
 shared-slice-read-e c =
@@ -109,9 +94,6 @@ part-is-key-noted-end-2 c =
     let g = x .groups (args .i) (pre .0 .0) in
     omega (arith, g .within, x .even)
 
-is-key-noted-requires : tie.Need-is-key-noted-requires
-is-key-noted-requires c κs = search needs
-
 returns-2 : tie.Need-returns-2
 returns-2 c =
     let args = c .before .before .before .before .before .before .before .before .before .before .before .before .args in
@@ -124,6 +106,6 @@ returns-2 c =
 pub has-name-spec : {M : Type 1} → statement M
 has-name-spec =
     tie.close
-    (tie.spec has-walked-requires returns mul-a shared-slice-read-a add-e mul-e shared-slice-read-e mul-is-key-noted sub-is-key-noted
-    part-is-key-noted-start part-is-key-noted-end mul-is-key-noted-2 sub-is-key-noted-2 part-is-key-noted-start-2 part-is-key-noted-end-2
-    is-key-noted-requires returns-2)
+    (tie.spec (λ c κs. search needs) (λ c. search needs) (λ c. search needs) shared-slice-read-a (λ c. search needs) (λ c. search needs)
+    shared-slice-read-e mul-is-key-noted sub-is-key-noted part-is-key-noted-start part-is-key-noted-end mul-is-key-noted-2 sub-is-key-noted-2
+    part-is-key-noted-start-2 part-is-key-noted-end-2 (λ c κs. search needs) returns-2)

@@ -5,31 +5,16 @@ use borrow.Author.Needs.{needs}
 use Rattle.to_card_kept_names.proofs.has_walked.Statement.{statement}
 use Rattle.to_card_kept_names.proofs.has_walked.Tie as tie
 
-has-member-requires : tie.Need-has-member-requires
-has-member-requires c κs = search needs
-
 returns : tie.Need-returns
 returns c =
     let args = c .before .before .before .before .before .args in
     has-last (now (args .s)) (now (args .slots)) (args .i) (now (args .key)) (c .has-member .result) (c .before .if1 .taken) (c .has-member .ensures)
-
-add-k : tie.Need-add-k
-add-k c = search needs
-
-mul-at : tie.Need-mul-at
-mul-at c = search needs
-
-shared-slice-read-at : tie.Need-shared-slice-read-at
-shared-slice-read-at c = search needs
 
 returns-2 : tie.Need-returns-2
 returns-2 c =
     let args = c .before .before .before .before .before .before .args in
     let if1 = c .before .before .if1 in
     has-empty (now (args .s)) (now (args .slots)) (args .i) (now (args .key)) false (if1 .left) (c .if2 .taken)
-
-has-member-requires-2 : tie.Need-has-member-requires-2
-has-member-requires-2 c κs = search needs
 
 returns-3 : tie.Need-returns-3
 returns-3 c =
@@ -40,4 +25,4 @@ returns-3 c =
 pub has-walked-spec : {M : Type 1} → statement M
 has-walked-spec =
     tie.close
-    (tie.spec has-member-requires returns add-k mul-at shared-slice-read-at returns-2 has-member-requires-2 returns-3)
+    (tie.spec (λ c κs. search needs) returns (λ c. search needs) (λ c. search needs) (λ c. search needs) returns-2 (λ c κs. search needs) returns-3)

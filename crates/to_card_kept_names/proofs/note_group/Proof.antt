@@ -6,15 +6,6 @@ use borrow.Author.Needs.{needs}
 use Rattle.to_card_kept_names.proofs.note_group.Statement.{statement}
 use Rattle.to_card_kept_names.proofs.note_group.Tie as tie
 
-note-names-requires : tie.Need-note-names-requires
-note-names-requires c κs = search needs
-
-same-length : tie.Need-same-length
-same-length c = search needs
-
-same-length-2 : tie.Need-same-length-2
-same-length-2 c = search needs
-
 returns : tie.Need-returns
 returns c =
     let args = c .before .before .before .before .before .before .before .before .before .before .before .before .args in
@@ -22,29 +13,11 @@ returns c =
     let note-names = c .before .before .before .before .note-names in
     (note-names .ensures .0, notes-last (now (args .s)) (now (args .slots)) (args .i) (note-names .result) _ _ (if1 .taken) (note-names .ensures .1))
 
-add-k : tie.Need-add-k
-add-k c = search needs
-
-mul-at : tie.Need-mul-at
-mul-at c = search needs
-
-shared-slice-read-at : tie.Need-shared-slice-read-at
-shared-slice-read-at c = search needs
-
 returns-2 : tie.Need-returns-2
 returns-2 c =
     let args = c .before .before .before .before .before .before .before .args in
     let if1 = c .before .before .if1 in
     (omega arith, notes-empty (now (args .s)) (now (args .slots)) (args .i) (Rows 0) (now (args .places)) (now (args .prints)) (if1 .left) (c .if2 .taken))
-
-note-names-requires-2 : tie.Need-note-names-requires-2
-note-names-requires-2 c κs = search needs
-
-same-length-3 : tie.Need-same-length-3
-same-length-3 c = search needs
-
-same-length-4 : tie.Need-same-length-4
-same-length-4 c = search needs
 
 returns-3 : tie.Need-returns-3
 returns-3 c =
@@ -57,5 +30,5 @@ returns-3 c =
 pub note-group-spec : {M : Type 1} → statement M
 note-group-spec =
     tie.close
-    (tie.spec note-names-requires same-length same-length-2 returns add-k mul-at shared-slice-read-at returns-2 note-names-requires-2 same-length-3
-    same-length-4 returns-3)
+    (tie.spec (λ c κs. search needs) (λ c. search needs) (λ c. search needs) returns (λ c. search needs) (λ c. search needs) (λ c. search needs)
+    returns-2 (λ c κs. search needs) (λ c. search needs) (λ c. search needs) returns-3)

@@ -7,33 +7,6 @@ use borrow.Author.Needs.{needs}
 use Rattle.to_card_kept_used.proofs.is_kept_class.Statement.{statement}
 use Rattle.to_card_kept_used.proofs.is_kept_class.Tie as tie
 
-enum-told : tie.Need-enum-told
-enum-told c = search needs
-
-enum-told-2 : tie.Need-enum-told-2
-enum-told-2 c = search needs
-
-enum-told-3 : tie.Need-enum-told-3
-enum-told-3 c = search needs
-
-enum-told-4 : tie.Need-enum-told-4
-enum-told-4 c = search needs
-
-enum-told-5 : tie.Need-enum-told-5
-enum-told-5 c = search needs
-
-enum-told-6 : tie.Need-enum-told-6
-enum-told-6 c = search needs
-
-enum-told-7 : tie.Need-enum-told-7
-enum-told-7 c = search needs
-
-enum-known-class : tie.Need-enum-known-class
-enum-known-class c = search needs
-
-enum-known-class-2 : tie.Need-enum-known-class-2
-enum-known-class-2 c = search needs
-
 sub-id-used : tie.Need-sub-id-used
 sub-id-used c =
     let a = c .before .before .before .before .before .before .before .before .before .before in
@@ -57,9 +30,6 @@ id-used-requires c κs =
     let a = c .before .before .before .before .before .before .before .before .before .before .before in
     let w = subst (ClassIn (now (a .args .b))) (c .before .before .class2 .given .1) (a .pre .0 .2) in
     ((w .0, a .pre .0 .0), a .pre .1)
-
-enum-known-class-3 : tie.Need-enum-known-class-3
-enum-known-class-3 c = search needs
 
 sub-pointer-used : tie.Need-sub-pointer-used
 sub-pointer-used c =
@@ -120,9 +90,6 @@ returns-9 c =
     let w = subst (ClassIn (now (a .args .b))) (v .1) (a .pre .0 .2) in
     kept-as (now (a .args .s)) (now (a .args .slots)) (now (a .args .b)) _ (v .1) (kept-keyed (now (a .args .s)) (now (a .args .slots)) (now (a .args .b)) (v .0 .0) (v .0 .1 .0) (v .0 .1 .1 .0) _ (w .0) (c .id-used .ensures))
 
-same-length : tie.Need-same-length
-same-length c = search needs
-
 returns-10 : tie.Need-returns-10
 returns-10 c =
     let a = c .before .before .before .before .before .before .before .before .before .before .before .before .before .before .before in
@@ -133,6 +100,7 @@ returns-10 c =
 pub is-kept-class-spec : {M : Type 1} → statement M
 is-kept-class-spec =
     tie.close
-    (tie.spec enum-told enum-told-2 enum-told-3 enum-told-4 enum-told-5 enum-told-6 enum-told-7 enum-known-class enum-known-class-2 sub-id-used
-    part-id-used-start part-id-used-end id-used-requires enum-known-class-3 sub-pointer-used part-pointer-used-start part-pointer-used-end
-    pointer-used-requires returns returns-2 returns-3 returns-4 returns-5 returns-6 returns-7 returns-8 returns-9 same-length returns-10)
+    (tie.spec (λ c. search needs) (λ c. search needs) (λ c. search needs) (λ c. search needs) (λ c. search needs) (λ c. search needs)
+    (λ c. search needs) (λ c. search needs) (λ c. search needs) sub-id-used part-id-used-start part-id-used-end id-used-requires (λ c. search needs)
+    sub-pointer-used part-pointer-used-start part-pointer-used-end pointer-used-requires returns returns-2 returns-3 returns-4 returns-5 returns-6
+    returns-7 returns-8 returns-9 (λ c. search needs) returns-10)

@@ -6,28 +6,10 @@ use borrow.Author.Needs.{needs}
 use Rattle.to_card_kept_used.proofs.pointer_used.Statement.{statement}
 use Rattle.to_card_kept_used.proofs.pointer_used.Tie as tie
 
-read-pointer-requires : tie.Need-read-pointer-requires
-read-pointer-requires c κs = search needs
-
-enum-known-n : tie.Need-enum-known-n
-enum-known-n c = search needs
-
-enum-told : tie.Need-enum-told
-enum-told c = search needs
-
-same-length : tie.Need-same-length
-same-length c = search needs
-
 returns : tie.Need-returns
 returns c =
     let a = c .before .before .before .before .before .before .before .before .before .before .before .before .before in
     pointer-full (now (a .args .s)) (now (a .args .p)) (now (a .args .scratch)) (c .before .before .before .before .read-pointer .ensures) (a .pre .0 .1) (c .enum-told .given .1) _
-
-sub-has-name : tie.Need-sub-has-name
-sub-has-name c = search needs
-
-part-has-name-start : tie.Need-part-has-name-start
-part-has-name-start c = search needs
 
 part-has-name-end : tie.Need-part-has-name-end
 part-has-name-end c = written _ (c .before .before .before .before .before .before .read-pointer .ensures) (c .before .before .n .given .1) .0
@@ -36,9 +18,6 @@ has-name-requires : tie.Need-has-name-requires
 has-name-requires c κs =
     let pre = c .before .before .before .before .before .before .before .before .before .before .before .before .before .before .before .before .pre in
     ((omega arith, pre .0 .2), pre .1)
-
-same-length-2 : tie.Need-same-length-2
-same-length-2 c = search needs
 
 returns-2 : tie.Need-returns-2
 returns-2 c =
@@ -50,5 +29,5 @@ returns-2 c =
 pub pointer-used-spec : {M : Type 1} → statement M
 pointer-used-spec =
     tie.close
-    (tie.spec read-pointer-requires enum-known-n enum-told same-length returns sub-has-name part-has-name-start part-has-name-end has-name-requires
-    same-length-2 returns-2)
+    (tie.spec (λ c κs. search needs) (λ c. search needs) (λ c. search needs) (λ c. search needs) returns (λ c. search needs) (λ c. search needs)
+    part-has-name-end has-name-requires (λ c. search needs) returns-2)

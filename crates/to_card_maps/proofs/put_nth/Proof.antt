@@ -5,20 +5,8 @@ use borrow.Author.Needs.{needs}
 use Rattle.to_card_maps.proofs.put_nth.Statement.{statement}
 use Rattle.to_card_maps.proofs.put_nth.Tie as tie
 
-slice-aggregate-put-map : tie.Need-slice-aggregate-put-map
-slice-aggregate-put-map c = search needs
-
-slice-aggregate-put-map-2 : tie.Need-slice-aggregate-put-map-2
-slice-aggregate-put-map-2 c = search needs
-
-slice-aggregate-put-map-3 : tie.Need-slice-aggregate-put-map-3
-slice-aggregate-put-map-3 c = search needs
-
 put-map-requires : tie.Need-put-map-requires
 put-map-requires c κs = row-six nicknames-row
-
-same-length : tie.Need-same-length
-same-length c = search needs
 
 returns : tie.Need-returns
 returns c =
@@ -29,20 +17,8 @@ returns c =
       (put-map .ensures .1 .0, nth-is (now (args .s)) (args .k) 0 (args .slot) _ _ _ (if1 .taken) (λ d o h. put-map .ensures .1 .1 nicknames nicknames-row o h)),
     )
 
-slice-aggregate-put-map-4 : tie.Need-slice-aggregate-put-map-4
-slice-aggregate-put-map-4 c = search needs
-
-slice-aggregate-put-map-5 : tie.Need-slice-aggregate-put-map-5
-slice-aggregate-put-map-5 c = search needs
-
-slice-aggregate-put-map-6 : tie.Need-slice-aggregate-put-map-6
-slice-aggregate-put-map-6 c = search needs
-
 put-map-requires-2 : tie.Need-put-map-requires-2
 put-map-requires-2 c κs = row-six emails-row
-
-same-length-2 : tie.Need-same-length-2
-same-length-2 c = search needs
 
 returns-2 : tie.Need-returns-2
 returns-2 c =
@@ -53,20 +29,8 @@ returns-2 c =
       (put-map2 .ensures .1 .0, nth-is (now (args .s)) (args .k) 1 (args .slot) _ _ _ (if2 .taken) (λ d o h. put-map2 .ensures .1 .1 emails emails-row o h)),
     )
 
-slice-aggregate-put-map-7 : tie.Need-slice-aggregate-put-map-7
-slice-aggregate-put-map-7 c = search needs
-
-slice-aggregate-put-map-8 : tie.Need-slice-aggregate-put-map-8
-slice-aggregate-put-map-8 c = search needs
-
-slice-aggregate-put-map-9 : tie.Need-slice-aggregate-put-map-9
-slice-aggregate-put-map-9 c = search needs
-
 put-map-requires-3 : tie.Need-put-map-requires-3
 put-map-requires-3 c κs = row-six phones-row
-
-same-length-3 : tie.Need-same-length-3
-same-length-3 c = search needs
 
 returns-3 : tie.Need-returns-3
 returns-3 c =
@@ -77,20 +41,8 @@ returns-3 c =
       (put-map3 .ensures .1 .0, nth-is (now (args .s)) (args .k) 2 (args .slot) _ _ _ (if3 .taken) (λ d o h. put-map3 .ensures .1 .1 phones phones-row o h)),
     )
 
-slice-aggregate-put-map-10 : tie.Need-slice-aggregate-put-map-10
-slice-aggregate-put-map-10 c = search needs
-
-slice-aggregate-put-map-11 : tie.Need-slice-aggregate-put-map-11
-slice-aggregate-put-map-11 c = search needs
-
-slice-aggregate-put-map-12 : tie.Need-slice-aggregate-put-map-12
-slice-aggregate-put-map-12 c = search needs
-
 put-map-requires-4 : tie.Need-put-map-requires-4
 put-map-requires-4 c κs = row-six links-row
-
-same-length-4 : tie.Need-same-length-4
-same-length-4 c = search needs
 
 returns-4 : tie.Need-returns-4
 returns-4 c =
@@ -101,20 +53,8 @@ returns-4 c =
       (put-map4 .ensures .1 .0, nth-is (now (args .s)) (args .k) 3 (args .slot) _ _ _ (if4 .taken) (λ d o h. put-map4 .ensures .1 .1 links links-row o h)),
     )
 
-slice-aggregate-put-map-13 : tie.Need-slice-aggregate-put-map-13
-slice-aggregate-put-map-13 c = search needs
-
-slice-aggregate-put-map-14 : tie.Need-slice-aggregate-put-map-14
-slice-aggregate-put-map-14 c = search needs
-
-slice-aggregate-put-map-15 : tie.Need-slice-aggregate-put-map-15
-slice-aggregate-put-map-15 c = search needs
-
 put-map-requires-5 : tie.Need-put-map-requires-5
 put-map-requires-5 c κs = row-six notes-row
-
-same-length-5 : tie.Need-same-length-5
-same-length-5 c = search needs
 
 returns-5 : tie.Need-returns-5
 returns-5 c =
@@ -125,20 +65,8 @@ returns-5 c =
       (put-map5 .ensures .1 .0, nth-is (now (args .s)) (args .k) 4 (args .slot) _ _ _ (if5 .taken) (λ d o h. put-map5 .ensures .1 .1 notes notes-row o h)),
     )
 
-slice-aggregate-put-map-16 : tie.Need-slice-aggregate-put-map-16
-slice-aggregate-put-map-16 c = search needs
-
-slice-aggregate-put-map-17 : tie.Need-slice-aggregate-put-map-17
-slice-aggregate-put-map-17 c = search needs
-
-slice-aggregate-put-map-18 : tie.Need-slice-aggregate-put-map-18
-slice-aggregate-put-map-18 c = search needs
-
 put-map-requires-6 : tie.Need-put-map-requires-6
 put-map-requires-6 c κs = row-six titles-row
-
-same-length-6 : tie.Need-same-length-6
-same-length-6 c = search needs
 
 returns-6 : tie.Need-returns-6
 returns-6 c =
@@ -149,20 +77,8 @@ returns-6 c =
       (put-map6 .ensures .1 .0, nth-is (now (args .s)) (args .k) 5 (args .slot) _ _ _ (if6 .taken) (λ d o h. put-map6 .ensures .1 .1 titles titles-row o h)),
     )
 
-slice-aggregate-put-map-19 : tie.Need-slice-aggregate-put-map-19
-slice-aggregate-put-map-19 c = search needs
-
-slice-aggregate-put-map-20 : tie.Need-slice-aggregate-put-map-20
-slice-aggregate-put-map-20 c = search needs
-
-slice-aggregate-put-map-21 : tie.Need-slice-aggregate-put-map-21
-slice-aggregate-put-map-21 c = search needs
-
 put-map-requires-7 : tie.Need-put-map-requires-7
 put-map-requires-7 c κs = row-six organizations-row
-
-same-length-7 : tie.Need-same-length-7
-same-length-7 c = search needs
 
 returns-7 : tie.Need-returns-7
 returns-7 c =
@@ -181,10 +97,9 @@ returns-7 c =
 pub put-nth-spec : {M : Type 1} → statement M
 put-nth-spec =
     tie.close
-    (tie.spec slice-aggregate-put-map slice-aggregate-put-map-2 slice-aggregate-put-map-3 put-map-requires same-length returns
-    slice-aggregate-put-map-4 slice-aggregate-put-map-5 slice-aggregate-put-map-6 put-map-requires-2 same-length-2 returns-2 slice-aggregate-put-map-7
-    slice-aggregate-put-map-8 slice-aggregate-put-map-9 put-map-requires-3 same-length-3 returns-3 slice-aggregate-put-map-10
-    slice-aggregate-put-map-11 slice-aggregate-put-map-12 put-map-requires-4 same-length-4 returns-4 slice-aggregate-put-map-13
-    slice-aggregate-put-map-14 slice-aggregate-put-map-15 put-map-requires-5 same-length-5 returns-5 slice-aggregate-put-map-16
-    slice-aggregate-put-map-17 slice-aggregate-put-map-18 put-map-requires-6 same-length-6 returns-6 slice-aggregate-put-map-19
-    slice-aggregate-put-map-20 slice-aggregate-put-map-21 put-map-requires-7 same-length-7 returns-7)
+    (tie.spec (λ c. search needs) (λ c. search needs) (λ c. search needs) put-map-requires (λ c. search needs) returns (λ c. search needs)
+    (λ c. search needs) (λ c. search needs) put-map-requires-2 (λ c. search needs) returns-2 (λ c. search needs) (λ c. search needs)
+    (λ c. search needs) put-map-requires-3 (λ c. search needs) returns-3 (λ c. search needs) (λ c. search needs) (λ c. search needs)
+    put-map-requires-4 (λ c. search needs) returns-4 (λ c. search needs) (λ c. search needs) (λ c. search needs) put-map-requires-5
+    (λ c. search needs) returns-5 (λ c. search needs) (λ c. search needs) (λ c. search needs) put-map-requires-6 (λ c. search needs) returns-6
+    (λ c. search needs) (λ c. search needs) (λ c. search needs) put-map-requires-7 (λ c. search needs) returns-7)

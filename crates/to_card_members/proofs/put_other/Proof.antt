@@ -8,9 +8,6 @@ use borrow.Author.Needs.{needs}
 use Rattle.to_card_members.proofs.put_other.Statement.{statement}
 use Rattle.to_card_members.proofs.put_other.Tie as tie
 
-slice-aggregate-which-name : tie.Need-slice-aggregate-which-name
-slice-aggregate-which-name c = search needs
-
 which-name-requires : tie.Need-which-name-requires
 which-name-requires c κs = tt
 
@@ -60,5 +57,4 @@ returns-3 c =
 pub put-other-spec : {M : Type 1} → statement M
 put-other-spec =
     tie.close
-    (tie.spec slice-aggregate-which-name which-name-requires returns is-filled-requires returns-2 put-member-requires same-length same-length-2
-    returns-3)
+    (tie.spec (λ c. search needs) which-name-requires returns is-filled-requires returns-2 put-member-requires same-length same-length-2 returns-3)

@@ -5,9 +5,6 @@ use borrow.Author.Needs.{needs}
 use Rattle.to_card_name.proofs.put_alone.Statement.{statement}
 use Rattle.to_card_name.proofs.put_alone.Tie as tie
 
-slice-aggregate-fill : tie.Need-slice-aggregate-fill
-slice-aggregate-fill c = search needs
-
 fill-requires : tie.Need-fill-requires
 fill-requires c κs = tt
 
@@ -22,9 +19,6 @@ returns c =
       fills-in (fill .ensures),
       (fills-length (fill .ensures), alone-derived (now (args .s)) (args .full) (now (args .out)) (if1 .taken) _ _ (fill .ensures)),
     )
-
-slice-aggregate-put-string-line : tie.Need-slice-aggregate-put-string-line
-slice-aggregate-put-string-line c = search needs
 
 put-string-line-requires : tie.Need-put-string-line-requires
 put-string-line-requires c κs = tt
@@ -44,4 +38,4 @@ returns-2 c =
 pub put-alone-spec : {M : Type 1} → statement M
 put-alone-spec =
     tie.close
-    (tie.spec slice-aggregate-fill fill-requires same-length returns slice-aggregate-put-string-line put-string-line-requires same-length-2 returns-2)
+    (tie.spec (λ c. search needs) fill-requires same-length returns (λ c. search needs) put-string-line-requires same-length-2 returns-2)

@@ -16,12 +16,6 @@ returns c =
     let has-parts = c .before .has-parts in
     n-none (now (args .s)) (args .at) (now (args .marks)) (now (args .out)) (has-parts .result) (has-parts .ensures) (not-true _ (c .if1 .taken))
 
-slice-aggregate-put-order-line : tie.Need-slice-aggregate-put-order-line
-slice-aggregate-put-order-line c = search needs
-
-slice-aggregate-put-order-line-2 : tie.Need-slice-aggregate-put-order-line-2
-slice-aggregate-put-order-line-2 c = search needs
-
 put-order-line-requires : tie.Need-put-order-line-requires
 put-order-line-requires c κs = c .before .before .before .before .before .before .before .before .before .before .pre
 
@@ -51,5 +45,5 @@ returns-2 c =
 pub put-n-spec : {M : Type 1} → statement M
 put-n-spec =
     tie.close
-    (tie.spec has-parts-requires returns slice-aggregate-put-order-line slice-aggregate-put-order-line-2 put-order-line-requires apart-in-requires
-    apart-in-requires-2 same-length returns-2)
+    (tie.spec has-parts-requires returns (λ c. search needs) (λ c. search needs) put-order-line-requires apart-in-requires apart-in-requires-2
+    same-length returns-2)

@@ -37,9 +37,6 @@ part-fill-start c = in! (next! (first! (c .before .before .before .before .befor
 part-fill-end : tie.Need-part-fill-end
 part-fill-end c = le-refl _
 
-slice-aggregate-fill : tie.Need-slice-aggregate-fill
-slice-aggregate-fill c = search needs
-
 fill-requires : tie.Need-fill-requires
 fill-requires c κs = tt
 
@@ -72,4 +69,4 @@ pub put-order-line-spec : {M : Type 1} → statement M
 put-order-line-spec =
     tie.close
     (tie.spec pen-bytes-requires sub-pen-order part-pen-order-start part-pen-order-end pen-order-requires add-n2 sub-fill part-fill-start
-    part-fill-end slice-aggregate-fill fill-requires add-n3 same-length returns)
+    part-fill-end (λ c. search needs) fill-requires add-n3 same-length returns)

@@ -10,39 +10,6 @@ use Rattle.to_card_params.proofs.pen_type.Tie as tie
 returns : tie.Need-returns
 returns c = part-off (parts 44 (now (c .before .before .before .args .names))) (c .before .before .before .args .c) (c .before .before .before .args .on) (c .before .before .before .args .begun) (not-true _ (c .if1 .taken))
 
-nth-name-requires : tie.Need-nth-name-requires
-nth-name-requires c κs = search needs
-
-pen-lead-requires : tie.Need-pen-lead-requires
-pen-lead-requires c κs = search needs
-
-sub-pen-bytes : tie.Need-sub-pen-bytes
-sub-pen-bytes c = search needs
-
-part-pen-bytes-start : tie.Need-part-pen-bytes-start
-part-pen-bytes-start c = search needs
-
-part-pen-bytes-end : tie.Need-part-pen-bytes-end
-part-pen-bytes-end c = search needs
-
-sub-pen-bytes-2 : tie.Need-sub-pen-bytes-2
-sub-pen-bytes-2 c = search needs
-
-part-pen-bytes-start-2 : tie.Need-part-pen-bytes-start-2
-part-pen-bytes-start-2 c = search needs
-
-part-pen-bytes-end-2 : tie.Need-part-pen-bytes-end-2
-part-pen-bytes-end-2 c = search needs
-
-pen-bytes-requires : tie.Need-pen-bytes-requires
-pen-bytes-requires c κs = search needs
-
-add-t : tie.Need-add-t
-add-t c = search needs
-
-same-length : tie.Need-same-length
-same-length c = search needs
-
 returns-2 : tie.Need-returns-2
 returns-2 c =
     let args = c .before .before .before .before .before .before .before .before .before .before .before .before .before .before .args in
@@ -56,5 +23,5 @@ returns-2 c =
 pub pen-type-spec : {M : Type 1} → statement M
 pen-type-spec =
     tie.close
-    (tie.spec returns nth-name-requires pen-lead-requires sub-pen-bytes part-pen-bytes-start part-pen-bytes-end sub-pen-bytes-2 part-pen-bytes-start-2
-    part-pen-bytes-end-2 pen-bytes-requires add-t same-length returns-2)
+    (tie.spec returns (λ c κs. search needs) (λ c κs. search needs) (λ c. search needs) (λ c. search needs) (λ c. search needs) (λ c. search needs)
+    (λ c. search needs) (λ c. search needs) (λ c κs. search needs) (λ c. search needs) (λ c. search needs) returns-2)

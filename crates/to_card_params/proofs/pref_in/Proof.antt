@@ -9,12 +9,6 @@ use Rattle.to_card_params.proofs.pref_in.Tie as tie
 returns : tie.Need-returns
 returns c = pref-absent (now (c .before .before .args .s)) (c .before .before .args .slot) (c .if1 .taken)
 
-kind-at-requires : tie.Need-kind-at-requires
-kind-at-requires c κs = search needs
-
-kind-code-requires : tie.Need-kind-code-requires
-kind-code-requires c κs = search needs
-
 returns-2 : tie.Need-returns-2
 returns-2 c =
     let args = c .before .before .before .before .before .args in
@@ -22,21 +16,6 @@ returns-2 c =
     let kind-at = c .before .before .kind-at in
     let kind-code = c .before .kind-code in
     pref-other (now (args .s)) (args .slot) (if1 .left) (kind-at .result) (kind-at .ensures) (kind-code .result) (kind-code .ensures) (c .if2 .taken)
-
-element-at-requires : tie.Need-element-at-requires
-element-at-requires c κs = search needs
-
-sub-is-pref : tie.Need-sub-is-pref
-sub-is-pref c = search needs
-
-part-is-pref-start : tie.Need-part-is-pref-start
-part-is-pref-start c = search needs
-
-part-is-pref-end : tie.Need-part-is-pref-end
-part-is-pref-end c = search needs
-
-is-pref-requires : tie.Need-is-pref-requires
-is-pref-requires c κs = search needs
 
 returns-3 : tie.Need-returns-3
 returns-3 c =
@@ -63,5 +42,5 @@ returns-4 c =
 pub pref-in-spec : {M : Type 1} → statement M
 pref-in-spec =
     tie.close
-    (tie.spec returns kind-at-requires kind-code-requires returns-2 element-at-requires sub-is-pref part-is-pref-start part-is-pref-end
-    is-pref-requires returns-3 returns-4)
+    (tie.spec returns (λ c κs. search needs) (λ c κs. search needs) returns-2 (λ c κs. search needs) (λ c. search needs) (λ c. search needs)
+    (λ c. search needs) (λ c κs. search needs) returns-3 returns-4)

@@ -21,9 +21,6 @@ returns-3 c =
     let string-in = c .before .string-in in
     (tt, slots-no-kind (now (args .s)) (args .kind) (args .value) (if1 .left) (string-in .result) (string-in .ensures) (c .if3 .taken))
 
-slice-aggregate-which-name : tie.Need-slice-aggregate-which-name
-slice-aggregate-which-name c = search needs
-
 which-name-requires : tie.Need-which-name-requires
 which-name-requires c κs = tt
 
@@ -71,5 +68,5 @@ returns-6 c =
 pub component-of-spec : {M : Type 1} → statement M
 component-of-spec =
     tie.close
-    (tie.spec returns returns-2 string-in-requires returns-3 slice-aggregate-which-name which-name-requires returns-4 string-in-requires-2 returns-5
+    (tie.spec returns returns-2 string-in-requires returns-3 (λ c. search needs) which-name-requires returns-4 string-in-requires-2 returns-5
     returns-6)

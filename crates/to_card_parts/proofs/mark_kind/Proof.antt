@@ -17,15 +17,6 @@ returns c =
     marks-none (now (args .s)) (args .value) (args .kind) (now (args .marks))
     (subst (λ (b : Bool). TellsFilled (now (args .s)) (args .value) b) (not-true _ (c .if1 .taken)) (c .before .is-filled .ensures))
 
-mul-marks : tie.Need-mul-marks
-mul-marks c = search needs
-
-slice-write-marks : tie.Need-slice-write-marks
-slice-write-marks c = search needs
-
-same-length : tie.Need-same-length
-same-length c = search needs
-
 returns-2 : tie.Need-returns-2
 returns-2 c =
     let args = c .before .before .before .before .args in
@@ -35,4 +26,4 @@ returns-2 c =
 pub mark-kind-spec : {M : Type 1} → statement M
 mark-kind-spec =
     tie.close
-    (tie.spec is-filled-requires returns mul-marks slice-write-marks same-length returns-2)
+    (tie.spec is-filled-requires returns (λ c. search needs) (λ c. search needs) (λ c. search needs) returns-2)

@@ -8,14 +8,8 @@ use borrow.Author.Needs.{needs}
 use Rattle.to_card_pen.proofs.byte_at.Statement.{statement}
 use Rattle.to_card_pen.proofs.byte_at.Tie as tie
 
-look-requires : tie.Need-look-requires
-look-requires c κs = search needs
-
 returns : tie.Need-returns
 returns c = (quote-next (now (c .before .before .before .args .s)) (c .before .before .before .args .at) (c .before .before .before .args .hold) (c .before .look .result) (c .before .look .ensures .0) (c .if1 .taken), tt)
-
-in-range-requires : tie.Need-in-range-requires
-in-range-requires c κs = search needs
 
 cast-t10 : tie.Need-cast-t10
 cast-t10 c =
@@ -24,9 +18,6 @@ cast-t10 c =
     let in-range = c .before .in-range in
     let if1 = c .before .before .if1 in
     let w = bare-next (now (args .s)) (args .at) (args .hold) (look .result) (look .ensures .0) (in-range .result) (in-range .ensures) (if1 .left) (c .if2 .taken) in omega (arith, w .0)
-
-add-t11 : tie.Need-add-t11
-add-t11 c = search needs
 
 returns-2 : tie.Need-returns-2
 returns-2 c =
@@ -37,15 +28,6 @@ returns-2 c =
     let w = bare-next (now (args .s)) (args .at) (args .hold) (look .result) (look .ensures .0) (in-range .result) (in-range .ensures) (if1 .left) (c .if2 .taken) in
     let in-text : (args .at) + 1 ≤ length (now (args .s)) = omega (arith, w .0, look .ensures .1) in
     (w .1, (in-text, weight-falls (now (args .s)) (args .at) _ (args .hold) 0 (omega arith) in-text))
-
-sub-next-byte : tie.Need-sub-next-byte
-sub-next-byte c = search needs
-
-part-next-byte-start : tie.Need-part-next-byte-start
-part-next-byte-start c = search needs
-
-part-next-byte-end : tie.Need-part-next-byte-end
-part-next-byte-end c = search needs
 
 next-byte-requires : tie.Need-next-byte-requires
 next-byte-requires c κs = in-whole (now (c .before .before .before .before .before .before .args .s)) (c .before .before .before .before .before .before .pre)
@@ -58,5 +40,5 @@ returns-3 c =
 pub byte-at-spec : {M : Type 1} → statement M
 byte-at-spec =
     tie.close
-    (tie.spec look-requires returns in-range-requires cast-t10 add-t11 returns-2 sub-next-byte part-next-byte-start part-next-byte-end
-    next-byte-requires returns-3)
+    (tie.spec (λ c κs. search needs) returns (λ c κs. search needs) cast-t10 (λ c. search needs) returns-2 (λ c. search needs) (λ c. search needs)
+    (λ c. search needs) next-byte-requires returns-3)

@@ -11,18 +11,6 @@ use Rattle.to_card_value.proofs.is_blank.Tie as tie
 returns : tie.Need-returns
 returns c = blank-none _ (decoded-past (now (c .before .before .args .s)) (c .before .before .args .at) (c .if1 .taken))
 
-byte-at-requires : tie.Need-byte-at-requires
-byte-at-requires c κs = search needs
-
-enum-told : tie.Need-enum-told
-enum-told c = search needs
-
-enum-told-2 : tie.Need-enum-told-2
-enum-told-2 c = search needs
-
-enum-known-b : tie.Need-enum-known-b
-enum-known-b c = search needs
-
 returns-2 : tie.Need-returns-2
 returns-2 c = blank-none _ (sym (left-none (now (c .before .before .before .before .before .args .s)) (c .before .before .before .before .before .args .at)) ∙ is-alone (now (c .before .before .before .before .before .args .s)) (c .before .before .byte-at .ensures .0) (c .enum-told .given .1))
 
@@ -40,4 +28,4 @@ returns-4 c =
 pub is-blank-spec : {M : Type 1} → statement M
 is-blank-spec =
     tie.close
-    (tie.spec returns byte-at-requires enum-told enum-told-2 enum-known-b returns-2 returns-3 returns-4)
+    (tie.spec returns (λ c κs. search needs) (λ c. search needs) (λ c. search needs) (λ c. search needs) returns-2 returns-3 returns-4)

@@ -4,20 +4,8 @@ use borrow.Author.Needs.{needs}
 use Rattle.to_card_value.proofs.pen_unit.Statement.{statement}
 use Rattle.to_card_value.proofs.pen_unit.Tie as tie
 
-is-blank-requires : tie.Need-is-blank-requires
-is-blank-requires c κs = search needs
-
 returns : tie.Need-returns
 returns c = unit-blank (now (c .before .before .before .before .args .s)) (c .before .before .before .before .args .at) (c .before .is-blank .ensures) (c .if1 .taken)
-
-slice-aggregate-pen-text : tie.Need-slice-aggregate-pen-text
-slice-aggregate-pen-text c = search needs
-
-pen-text-requires : tie.Need-pen-text-requires
-pen-text-requires c κs = search needs
-
-same-length : tie.Need-same-length
-same-length c = search needs
 
 returns-2 : tie.Need-returns-2
 returns-2 c = unit-filled (now (c .before .before .before .before .before .before .before .before .before .args .s)) (c .before .before .before .before .before .before .before .before .before .args .at) (c .before .before .before .before .before .before .is-blank .ensures) (c .before .before .before .before .before .if1 .left) (c .before .before .pen-text .ensures)
@@ -25,4 +13,4 @@ returns-2 c = unit-filled (now (c .before .before .before .before .before .befor
 pub pen-unit-spec : {M : Type 1} → statement M
 pen-unit-spec =
     tie.close
-    (tie.spec is-blank-requires returns slice-aggregate-pen-text pen-text-requires same-length returns-2)
+    (tie.spec (λ c κs. search needs) returns (λ c. search needs) (λ c κs. search needs) (λ c. search needs) returns-2)

@@ -6,15 +6,6 @@ use borrow.Author.Needs.{needs}
 use Rattle.to_card_value.proofs.put_name.Statement.{statement}
 use Rattle.to_card_value.proofs.put_name.Tie as tie
 
-slice-aggregate-pen-bytes : tie.Need-slice-aggregate-pen-bytes
-slice-aggregate-pen-bytes c = search needs
-
-pen-bytes-requires : tie.Need-pen-bytes-requires
-pen-bytes-requires c κs = search needs
-
-same-length : tie.Need-same-length
-same-length c = search needs
-
 returns : tie.Need-returns
 returns c =
     let args = c .before .before .before .before .before .before .before .before .args in
@@ -24,23 +15,8 @@ returns c =
       (pens-length (pen-bytes .ensures), name-absent (now (args .s)) (args .slot) _ _ _ (if1 .taken) (pen-bytes .ensures)),
     )
 
-string-in-requires : tie.Need-string-in-requires
-string-in-requires c κs = search needs
-
 returns-2 : tie.Need-returns-2
 returns-2 c = (tt, (refl, name-wrong (now (c .before .before .before .before .before .args .s)) (c .before .before .before .before .before .args .slot) _ _ _ (c .before .before .if1 .left) (c .before .string-in .result) (c .before .string-in .ensures) (c .if2 .taken)))
-
-slice-aggregate-pen-text : tie.Need-slice-aggregate-pen-text
-slice-aggregate-pen-text c = search needs
-
-pen-text-requires : tie.Need-pen-text-requires
-pen-text-requires c κs = search needs
-
-is-blank-requires : tie.Need-is-blank-requires
-is-blank-requires c κs = search needs
-
-same-length-2 : tie.Need-same-length-2
-same-length-2 c = search needs
 
 returns-3 : tie.Need-returns-3
 returns-3 c =
@@ -56,5 +32,5 @@ returns-3 c =
 pub put-name-spec : {M : Type 1} → statement M
 put-name-spec =
     tie.close
-    (tie.spec slice-aggregate-pen-bytes pen-bytes-requires same-length returns string-in-requires returns-2 slice-aggregate-pen-text pen-text-requires
-    is-blank-requires same-length-2 returns-3)
+    (tie.spec (λ c. search needs) (λ c κs. search needs) (λ c. search needs) returns (λ c κs. search needs) returns-2 (λ c. search needs)
+    (λ c κs. search needs) (λ c κs. search needs) (λ c. search needs) returns-3)

@@ -6,15 +6,6 @@ use borrow.Author.Needs.{needs}
 use Rattle.to_card_value.proofs.put_organization.Statement.{statement}
 use Rattle.to_card_value.proofs.put_organization.Tie as tie
 
-put-name-requires : tie.Need-put-name-requires
-put-name-requires c κs = search needs
-
-enum-known-n : tie.Need-enum-known-n
-enum-known-n c = search needs
-
-enum-told : tie.Need-enum-told
-enum-told c = search needs
-
 same-length : tie.Need-same-length
 same-length c = c .before .before .before .before .put-name .ensures .1 .0
 
@@ -31,18 +22,6 @@ sub-put-units c = omega (arith, ink-in (c .before .before .before .before .befor
 
 part-put-units-start : tie.Need-part-put-units-start
 part-put-units-start c = omega (arith, ink-in (c .before .before .before .before .before .put-name .ensures .0) (c .before .n .given .1), c .before .before .before .before .before .put-name .ensures .1 .0)
-
-part-put-units-end : tie.Need-part-put-units-end
-part-put-units-end c = search needs
-
-put-units-requires : tie.Need-put-units-requires
-put-units-requires c κs = search needs
-
-enum-known-m : tie.Need-enum-known-m
-enum-known-m c = search needs
-
-enum-told-2 : tie.Need-enum-told-2
-enum-told-2 c = search needs
 
 same-length-2 : tie.Need-same-length-2
 same-length-2 c =
@@ -132,5 +111,6 @@ returns-4 c =
 pub put-organization-spec : {M : Type 1} → statement M
 put-organization-spec =
     tie.close
-    (tie.spec put-name-requires enum-known-n enum-told same-length returns sub-put-units part-put-units-start part-put-units-end put-units-requires
-    enum-known-m enum-told-2 same-length-2 returns-2 same-length-3 returns-3 add-t same-length-4 returns-4)
+    (tie.spec (λ c κs. search needs) (λ c. search needs) (λ c. search needs) same-length returns sub-put-units part-put-units-start
+    (λ c. search needs) (λ c κs. search needs) (λ c. search needs) (λ c. search needs) same-length-2 returns-2 same-length-3 returns-3 add-t
+    same-length-4 returns-4)

@@ -12,12 +12,6 @@ returns c = (omega arith, (refl, units-absent (now (c .before .before .before .a
 returns-2 : tie.Need-returns-2
 returns-2 c = (tt, (refl, units-past (now (c .before .before .before .before .args .s)) (c .before .before .before .before .args .slot) _ _ (c .before .if1 .left) _ (c .if2 .taken)))
 
-skip-space-requires : tie.Need-skip-space-requires
-skip-space-requires c κs = search needs
-
-look-requires : tie.Need-look-requires
-look-requires c κs = search needs
-
 returns-3 : tie.Need-returns-3
 returns-3 c =
     let args = c .before .before .before .before .before .before .before .args in
@@ -25,15 +19,6 @@ returns-3 c =
       tt,
       (refl, units-none (now (args .s)) (args .slot) _ _ (if1 .left) _ _ (c .before .before .skip-space .ensures) (c .before .look .ensures .0) _ (c .if3 .taken)),
     )
-
-add-skip-space : tie.Need-add-skip-space
-add-skip-space c = search needs
-
-skip-space-requires-2 : tie.Need-skip-space-requires-2
-skip-space-requires-2 c κs = search needs
-
-look-requires-2 : tie.Need-look-requires-2
-look-requires-2 c κs = search needs
 
 returns-4 : tie.Need-returns-4
 returns-4 c =
@@ -45,12 +30,6 @@ returns-4 c =
       omega arith,
       (refl, units-empty (now (args .s)) (args .slot) _ _ (if1 .left) _ _ (skip-space .ensures) (look .ensures .0) (if3 .left) _ _ (c .before .before .skip-space2 .ensures) (c .before .look2 .ensures .0) (c .if4 .taken)),
     )
-
-put-units-from-requires : tie.Need-put-units-from-requires
-put-units-from-requires c κs = search needs
-
-same-length : tie.Need-same-length
-same-length c = search needs
 
 returns-5 : tie.Need-returns-5
 returns-5 c =
@@ -70,5 +49,5 @@ returns-5 c =
 pub put-units-spec : {M : Type 1} → statement M
 put-units-spec =
     tie.close
-    (tie.spec returns returns-2 skip-space-requires look-requires returns-3 add-skip-space skip-space-requires-2 look-requires-2 returns-4
-    put-units-from-requires same-length returns-5)
+    (tie.spec returns returns-2 (λ c κs. search needs) (λ c κs. search needs) returns-3 (λ c. search needs) (λ c κs. search needs)
+    (λ c κs. search needs) returns-4 (λ c κs. search needs) (λ c. search needs) returns-5)

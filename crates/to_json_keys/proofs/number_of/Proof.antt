@@ -12,41 +12,11 @@ use Rattle.to_json_keys.proofs.number_of.Tie as tie
 returns : tie.Need-returns
 returns c = number-short (now (c .before .before .before .args .prefix)) (now (c .before .before .before .args .key)) (c .if1 .taken)
 
-sub-same-bytes : tie.Need-sub-same-bytes
-sub-same-bytes c = search needs
-
-part-same-bytes-start : tie.Need-part-same-bytes-start
-part-same-bytes-start c = search needs
-
-part-same-bytes-end : tie.Need-part-same-bytes-end
-part-same-bytes-end c = search needs
-
-same-bytes-requires : tie.Need-same-bytes-requires
-same-bytes-requires c κs = search needs
-
 returns-2 : tie.Need-returns-2
 returns-2 c = number-other (now (c .before .before .before .before .before .before .args .prefix)) (now (c .before .before .before .before .before .before .args .key)) (front-same _ _ _ (c .before .same-bytes .ensures) ∙ not-true _ (c .if2 .taken))
 
-shared-slice-read-if3 : tie.Need-shared-slice-read-if3
-shared-slice-read-if3 c = search needs
-
 returns-3 : tie.Need-returns-3
 returns-3 c = number-joined (now (c .before .before .before .before .before .before .before .before .args .prefix)) (now (c .before .before .before .before .before .before .before .before .args .key)) (c .if3 .taken)
-
-add-from : tie.Need-add-from
-add-from c = search needs
-
-sub-spelled-number : tie.Need-sub-spelled-number
-sub-spelled-number c = search needs
-
-part-spelled-number-start : tie.Need-part-spelled-number-start
-part-spelled-number-start c = search needs
-
-part-spelled-number-end : tie.Need-part-spelled-number-end
-part-spelled-number-end c = search needs
-
-spelled-number-requires : tie.Need-spelled-number-requires
-spelled-number-requires c κs = search needs
 
 returns-4 : tie.Need-returns-4
 returns-4 c =
@@ -59,5 +29,5 @@ returns-4 c =
 pub number-of-spec : {M : Type 1} → statement M
 number-of-spec =
     tie.close
-    (tie.spec returns sub-same-bytes part-same-bytes-start part-same-bytes-end same-bytes-requires returns-2 shared-slice-read-if3 returns-3 add-from
-    sub-spelled-number part-spelled-number-start part-spelled-number-end spelled-number-requires returns-4)
+    (tie.spec returns (λ c. search needs) (λ c. search needs) (λ c. search needs) (λ c κs. search needs) returns-2 (λ c. search needs) returns-3
+    (λ c. search needs) (λ c. search needs) (λ c. search needs) (λ c. search needs) (λ c κs. search needs) returns-4)

@@ -17,9 +17,6 @@ use Rattle.to_json_sections.proofs.put_prop.Tie as tie
 fill-requires : tie.Need-fill-requires
 fill-requires c κs = c .before .before .before .before .pre .0
 
-same-length : tie.Need-same-length
-same-length c = search needs
-
 returns : tie.Need-returns
 returns c = λ k x. none-some (sym (filled-none _ _ (c .before .before .before .fill .result) (c .before .before .before .fill .ensures) (not-true _ (c .if1 .taken))) ∙ x .read)
 
@@ -31,12 +28,6 @@ enum-known-a c = c .match .keys1
 
 enum-told : tie.Need-enum-told
 enum-told c = c .match .keys2
-
-same-length-2 : tie.Need-same-length-2
-same-length-2 c = search needs
-
-same-length-3 : tie.Need-same-length-3
-same-length-3 c = search needs
 
 returns-2 : tie.Need-returns-2
 returns-2 c =
@@ -78,9 +69,6 @@ same-length-4 c =
     (held-kept (filled-holds (fill .result) (fill .ensures) (not-false _ (if1 .left))) (pre .1 .1) (put-kept .ensures))
     (c .enum-told2 .given .1))
 
-same-length-5 : tie.Need-same-length-5
-same-length-5 c = search needs
-
 returns-3 : tie.Need-returns-3
 returns-3 c =
     let args = c .before .before .before .before .before .before .before .before .before .before .before .before .before .before .before .before .before .before .before .before .before .before .args in
@@ -121,9 +109,6 @@ same-length-6 c =
     next (first (put-prop-head .ensures) (a .given .1))
     (held-kept (filled-holds (fill .result) (fill .ensures) (not-false _ (if1 .left))) (pre .1 .1) (put-kept .ensures)) (c .before .b .given .1) .same
 
-same-length-7 : tie.Need-same-length-7
-same-length-7 c = search needs
-
 returns-4 : tie.Need-returns-4
 returns-4 c =
     let args = c .before .before .before .before .before .before .before .before .before .before .before .before .before .before .before .before .before .before .before .before .before .before .before .args in
@@ -140,6 +125,6 @@ returns-4 c =
 pub put-prop-spec : {M : Type 1} → statement M
 put-prop-spec =
     tie.close
-    (tie.spec fill-requires same-length returns put-prop-head-requires enum-known-a enum-told same-length-2 same-length-3 returns-2 sub-put-kept
-    part-put-kept-start part-put-kept-end put-kept-requires enum-known-b enum-told-2 same-length-4 same-length-5 returns-3 add-ab same-length-6
-    same-length-7 returns-4)
+    (tie.spec fill-requires (λ c. search needs) returns put-prop-head-requires enum-known-a enum-told (λ c. search needs) (λ c. search needs)
+    returns-2 sub-put-kept part-put-kept-start part-put-kept-end put-kept-requires enum-known-b enum-told-2 same-length-4 (λ c. search needs)
+    returns-3 add-ab same-length-6 (λ c. search needs) returns-4)

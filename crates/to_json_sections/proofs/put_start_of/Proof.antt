@@ -16,9 +16,6 @@ first-of-requires c κs = (c .before .before .before .before .before .before .pr
 put-start-requires : tie.Need-put-start-requires
 put-start-requires c κs = tt
 
-same-length : tie.Need-same-length
-same-length c = search needs
-
 returns : tie.Need-returns
 returns c =
     let args = c .before .before .before .before .before .before .before .before .before .before .before .before .args in
@@ -32,9 +29,6 @@ line-at-requires c κs = tt
 
 fill-requires : tie.Need-fill-requires
 fill-requires c κs = c .before .before .before .before .before .before .before .before .before .before .pre .0
-
-same-length-2 : tie.Need-same-length-2
-same-length-2 c = search needs
 
 returns-2 : tie.Need-returns-2
 returns-2 c =
@@ -63,12 +57,6 @@ part-put-start-end c = let v = (filled-holds (c .before .before .before .before 
 put-start-requires-2 : tie.Need-put-start-requires-2
 put-start-requires-2 c κs = tt
 
-same-length-3 : tie.Need-same-length-3
-same-length-3 c = search needs
-
-same-length-4 : tie.Need-same-length-4
-same-length-4 c = search needs
-
 returns-3 : tie.Need-returns-3
 returns-3 c =
     let args = c .before .before .before .before .before .before .before .before .before .before .before .before .before .before .before .before .before .before .before .before .before .args in
@@ -86,5 +74,6 @@ returns-3 c =
 pub put-start-of-spec : {M : Type 1} → statement M
 put-start-of-spec =
     tie.close
-    (tie.spec first-of-requires put-start-requires same-length returns line-at-requires fill-requires same-length-2 returns-2 slice-read-a
-    slice-read-b sub-put-start part-put-start-start part-put-start-end put-start-requires-2 same-length-3 same-length-4 returns-3)
+    (tie.spec first-of-requires put-start-requires (λ c. search needs) returns line-at-requires fill-requires (λ c. search needs) returns-2
+    slice-read-a slice-read-b sub-put-start part-put-start-start part-put-start-end put-start-requires-2 (λ c. search needs) (λ c. search needs)
+    returns-3)

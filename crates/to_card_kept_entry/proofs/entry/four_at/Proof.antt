@@ -6,24 +6,9 @@ use borrow.Author.Needs.{needs}
 use Rattle.to_card_kept_entry.proofs.entry.four_at.Statement.{statement}
 use Rattle.to_card_kept_entry.proofs.entry.four_at.Tie as tie
 
-skip-space-requires : tie.Need-skip-space-requires
-skip-space-requires c κs = search needs
-
-look-requires : tie.Need-look-requires
-look-requires c κs = search needs
-
 returns : tie.Need-returns
 returns c =
     (tt, four-other (now (c .before .before .before .before .args .s)) (c .before .before .before .before .args .at) _ _ (c .before .before .skip-space .ensures) (c .before .look .ensures .0) (c .if1 .taken))
-
-add-skip-space : tie.Need-add-skip-space
-add-skip-space c = search needs
-
-skip-space-requires-2 : tie.Need-skip-space-requires-2
-skip-space-requires-2 c κs = search needs
-
-look-requires-2 : tie.Need-look-requires-2
-look-requires-2 c κs = search needs
 
 returns-2 : tie.Need-returns-2
 returns-2 c =
@@ -31,18 +16,6 @@ returns-2 c =
     let h = c .before .before .before .before .before .skip-space .ensures in
     let k = c .before .before .skip-space2 .ensures in
     (tt, four-empty (now (a .s)) (a .at) _ _ h (c .before .before .before .before .look .ensures .0) (c .before .before .before .if1 .left) _ _ k (c .before .look2 .ensures .0) (c .if2 .taken))
-
-element-at-requires : tie.Need-element-at-requires
-element-at-requires c κs = search needs
-
-separator-requires : tie.Need-separator-requires
-separator-requires c κs = search needs
-
-enum-known-j2 : tie.Need-enum-known-j2
-enum-known-j2 c = search needs
-
-enum-told : tie.Need-enum-told
-enum-told c = search needs
 
 returns-3 : tie.Need-returns-3
 returns-3 c =
@@ -53,18 +26,6 @@ returns-3 c =
     let o = opens s (a .at) _ _ (d .before .before .before .before .before .skip-space .ensures) (d .before .before .before .before .look .ensures .0) (d .before .before .before .if1 .left) _ _ (d .before .before .skip-space2 .ensures) (d .before .look2 .ensures .0) (d .if2 .left) in
     let e1 = c1 .element-at in
     (tt, by-elems o Bad (four-1 s _ (e1 .result) (e1 .ensures) _ (turn-as (c .before .before .separator .ensures) (c .enum-told .given .1))))
-
-element-at-requires-2 : tie.Need-element-at-requires-2
-element-at-requires-2 c κs = search needs
-
-separator-requires-2 : tie.Need-separator-requires-2
-separator-requires-2 c κs = search needs
-
-enum-known-j3 : tie.Need-enum-known-j3
-enum-known-j3 c = search needs
-
-enum-told-2 : tie.Need-enum-told-2
-enum-told-2 c = search needs
 
 returns-4 : tie.Need-returns-4
 returns-4 c =
@@ -78,18 +39,6 @@ returns-4 c =
     let e2 = c2 .element-at2 in
     let w1 = turn-as (c2 .before .before .before .before .separator .ensures) (c2 .before .before .j2 .given .1) in
     (tt, by-elems o Bad (four-2 s _ (e1 .result) (e1 .ensures) _ w1 (e2 .result) (e2 .ensures) _ (turn-as (c .before .before .separator2 .ensures) (c .enum-told2 .given .1))))
-
-element-at-requires-3 : tie.Need-element-at-requires-3
-element-at-requires-3 c κs = search needs
-
-separator-requires-3 : tie.Need-separator-requires-3
-separator-requires-3 c κs = search needs
-
-enum-known-j4 : tie.Need-enum-known-j4
-enum-known-j4 c = search needs
-
-enum-told-3 : tie.Need-enum-told-3
-enum-told-3 c = search needs
 
 returns-5 : tie.Need-returns-5
 returns-5 c =
@@ -106,18 +55,6 @@ returns-5 c =
     let w1 = turn-as (c2 .before .before .before .before .separator .ensures) (c2 .before .before .j2 .given .1) in
     let w2 = turn-as (c3 .before .before .before .before .separator2 .ensures) (c3 .before .before .j3 .given .1) in
     (tt, by-elems o Bad (four-3 s _ (e1 .result) (e1 .ensures) _ w1 (e2 .result) (e2 .ensures) _ w2 (e3 .result) (e3 .ensures) _ (turn-as (c .before .before .separator3 .ensures) (c .enum-told3 .given .1))))
-
-element-at-requires-4 : tie.Need-element-at-requires-4
-element-at-requires-4 c κs = search needs
-
-separator-requires-4 : tie.Need-separator-requires-4
-separator-requires-4 c κs = search needs
-
-enum-known-r : tie.Need-enum-known-r
-enum-known-r c = search needs
-
-enum-told-4 : tie.Need-enum-told-4
-enum-told-4 c = search needs
 
 returns-6 : tie.Need-returns-6
 returns-6 c =
@@ -137,9 +74,6 @@ returns-6 c =
     let w2 = turn-as (c3 .before .before .before .before .separator2 .ensures) (c3 .before .before .j3 .given .1) in
     let w3 = turn-as (c4 .before .before .before .before .separator3 .ensures) (c4 .before .before .j4 .given .1) in
     (tt, by-elems o Bad (four-more s _ (e1 .result) (e1 .ensures) _ w1 (e2 .result) (e2 .ensures) _ w2 (e3 .result) (e3 .ensures) _ w3 (e4 .result) (e4 .ensures) _ (turn-as (c .before .before .separator4 .ensures) (c .enum-told4 .given .1))))
-
-place-requires : tie.Need-place-requires
-place-requires c κs = search needs
 
 returns-7 : tie.Need-returns-7
 returns-7 c =
@@ -166,7 +100,7 @@ returns-7 c =
 pub four-at-spec : {M : Type 1} → statement M
 four-at-spec =
     tie.close
-    (tie.spec skip-space-requires look-requires returns add-skip-space skip-space-requires-2 look-requires-2 returns-2 element-at-requires
-    separator-requires enum-known-j2 enum-told returns-3 element-at-requires-2 separator-requires-2 enum-known-j3 enum-told-2 returns-4
-    element-at-requires-3 separator-requires-3 enum-known-j4 enum-told-3 returns-5 element-at-requires-4 separator-requires-4 enum-known-r enum-told-4
-    returns-6 place-requires returns-7)
+    (tie.spec (λ c κs. search needs) (λ c κs. search needs) returns (λ c. search needs) (λ c κs. search needs) (λ c κs. search needs) returns-2
+    (λ c κs. search needs) (λ c κs. search needs) (λ c. search needs) (λ c. search needs) returns-3 (λ c κs. search needs) (λ c κs. search needs)
+    (λ c. search needs) (λ c. search needs) returns-4 (λ c κs. search needs) (λ c κs. search needs) (λ c. search needs) (λ c. search needs) returns-5
+    (λ c κs. search needs) (λ c κs. search needs) (λ c. search needs) (λ c. search needs) returns-6 (λ c κs. search needs) returns-7)

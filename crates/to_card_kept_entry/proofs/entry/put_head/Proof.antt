@@ -6,9 +6,6 @@ use borrow.Author.Needs.{needs}
 use Rattle.to_card_kept_entry.proofs.entry.put_head.Statement.{statement}
 use Rattle.to_card_kept_entry.proofs.entry.put_head.Tie as tie
 
-slice-write-t : tie.Need-slice-write-t
-slice-write-t c = search needs
-
 slice-write-t-2 : tie.Need-slice-write-t-2
 slice-write-t-2 c = simp length-set (omega (arith, c .pre))
 
@@ -27,9 +24,6 @@ slice-write-t-6 c = simp length-set (omega (arith, c .pre))
 slice-write-t-7 : tie.Need-slice-write-t-7
 slice-write-t-7 c = simp length-set (omega (arith, c .pre))
 
-same-length : tie.Need-same-length
-same-length c = search needs
-
 returns : tie.Need-returns
 unfolding headedAt
 returns c = refl
@@ -37,4 +31,5 @@ returns c = refl
 pub put-head-spec : {M : Type 1} → statement M
 put-head-spec =
     tie.close
-    (tie.spec slice-write-t slice-write-t-2 slice-write-t-3 slice-write-t-4 slice-write-t-5 slice-write-t-6 slice-write-t-7 same-length returns)
+    (tie.spec (λ c. search needs) slice-write-t-2 slice-write-t-3 slice-write-t-4 slice-write-t-5 slice-write-t-6 slice-write-t-7 (λ c. search needs)
+    returns)

@@ -5,20 +5,11 @@ use borrow.Author.Needs.{needs}
 use Rattle.to_card_kept_entry.proofs.entry.put_name.Statement.{statement}
 use Rattle.to_card_kept_entry.proofs.entry.put_name.Tie as tie
 
-string-in-requires : tie.Need-string-in-requires
-string-in-requires c κs = search needs
-
 returns : tie.Need-returns
 returns c =
     let args = c .before .before .before .before .args in
     let string-in = c .before .string-in in
     (refl, (tt, name-none (now (args .b)) (args .n) (now (args .s)) (args .at) (string-in .result) (string-in .ensures) (c .if1 .taken) _))
-
-slice-aggregate-which-name : tie.Need-slice-aggregate-which-name
-slice-aggregate-which-name c = search needs
-
-which-name-requires : tie.Need-which-name-requires
-which-name-requires c κs = search needs
 
 returns-2 : tie.Need-returns-2
 returns-2 c =
@@ -29,12 +20,6 @@ returns-2 c =
       refl,
       (tt, name-never (now (args .b)) (args .n) (now (args .s)) (args .at) (string-in .result) (string-in .ensures) (if1 .left) (which-name .result) (which-name .ensures) (c .if2 .taken) _),
     )
-
-put-word-requires : tie.Need-put-word-requires
-put-word-requires c κs = search needs
-
-same-length : tie.Need-same-length
-same-length c = search needs
 
 returns-3 : tie.Need-returns-3
 returns-3 c =
@@ -51,4 +36,5 @@ returns-3 c =
 pub put-name-spec : {M : Type 1} → statement M
 put-name-spec =
     tie.close
-    (tie.spec string-in-requires returns slice-aggregate-which-name which-name-requires returns-2 put-word-requires same-length returns-3)
+    (tie.spec (λ c κs. search needs) returns (λ c. search needs) (λ c κs. search needs) returns-2 (λ c κs. search needs) (λ c. search needs)
+    returns-3)

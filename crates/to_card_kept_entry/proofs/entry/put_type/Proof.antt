@@ -6,9 +6,6 @@ use borrow.Author.Needs.{needs}
 use Rattle.to_card_kept_entry.proofs.entry.put_type.Statement.{statement}
 use Rattle.to_card_kept_entry.proofs.entry.put_type.Tie as tie
 
-string-in-requires : tie.Need-string-in-requires
-string-in-requires c κs = search needs
-
 returns : tie.Need-returns
 returns c =
     let args = c .before .before .before .before .before .args in
@@ -17,12 +14,6 @@ returns c =
       record { long = refl; wide = refl },
       (tt, type-none (now (args .b)) (args .n) (now (args .t)) (args .m) (args .count) (now (args .s)) (args .at) (string-in .result) (string-in .ensures) (pre .0) (c .if1 .taken) _ _),
     )
-
-slice-aggregate-equals : tie.Need-slice-aggregate-equals
-slice-aggregate-equals c = search needs
-
-equals-requires : tie.Need-equals-requires
-equals-requires c κs = search needs
 
 returns-2 : tie.Need-returns-2
 returns-2 c =
@@ -54,15 +45,6 @@ returns-4 c =
       (tt, value-many (now (args .b)) (args .n) (now (args .t)) (args .m) (args .count) (now (args .s)) (args .at) (string-in .result) (string-in .ensures) (pre .0) (if1 .left) (sym (c .before .before .equals .ensures) ∙ (c .before .if2 .left)) (c .if4 .taken)),
     )
 
-put-typed-requires : tie.Need-put-typed-requires
-put-typed-requires c κs = search needs
-
-same-length : tie.Need-same-length
-same-length c = search needs
-
-same-length-2 : tie.Need-same-length-2
-same-length-2 c = search needs
-
 returns-5 : tie.Need-returns-5
 returns-5 c =
     let args = c .before .before .before .before .before .before .before .before .before .before .before .before .before .before .before .before .args in
@@ -80,5 +62,5 @@ returns-5 c =
 pub put-type-spec : {M : Type 1} → statement M
 put-type-spec =
     tie.close
-    (tie.spec string-in-requires returns slice-aggregate-equals equals-requires returns-2 returns-3 returns-4 put-typed-requires same-length
-    same-length-2 returns-5)
+    (tie.spec (λ c κs. search needs) returns (λ c. search needs) (λ c κs. search needs) returns-2 returns-3 returns-4 (λ c κs. search needs)
+    (λ c. search needs) (λ c. search needs) returns-5)

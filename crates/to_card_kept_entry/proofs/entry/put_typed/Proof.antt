@@ -10,30 +10,6 @@ use borrow.Author.Needs.{needs}
 use Rattle.to_card_kept_entry.proofs.entry.put_typed.Statement.{statement}
 use Rattle.to_card_kept_entry.proofs.entry.put_typed.Tie as tie
 
-sub-put-text : tie.Need-sub-put-text
-sub-put-text c = search needs
-
-part-put-text-start : tie.Need-part-put-text-start
-part-put-text-start c = search needs
-
-part-put-text-end : tie.Need-part-put-text-end
-part-put-text-end c = search needs
-
-slice-aggregate-put-text : tie.Need-slice-aggregate-put-text
-slice-aggregate-put-text c = search needs
-
-put-text-requires : tie.Need-put-text-requires
-put-text-requires c κs = search needs
-
-enum-known-k : tie.Need-enum-known-k
-enum-known-k c = search needs
-
-enum-told : tie.Need-enum-told
-enum-told c = search needs
-
-same-length : tie.Need-same-length
-same-length c = search needs
-
 returns : tie.Need-returns
 returns c =
     let args = c .before .before .before .before .before .before .before .before .before .before .args in
@@ -64,18 +40,6 @@ put-value-requires c κs =
     let g = grew (now (args .b)) (args .n) (pre .0) (ascii "value") _ (put-text .result) (put-text .ensures) (k .given .1) in
     (omega (arith, g .within, g .long), pre .1)
 
-enum-known-end : tie.Need-enum-known-end
-enum-known-end c = search needs
-
-enum-told-2 : tie.Need-enum-told-2
-enum-told-2 c = search needs
-
-same-length-2 : tie.Need-same-length-2
-same-length-2 c = search needs
-
-same-length-3 : tie.Need-same-length-3
-same-length-3 c = search needs
-
 returns-2 : tie.Need-returns-2
 returns-2 c =
     let args = c .before .before .before .before .before .before .before .before .before .before .before .before .before .before .before .before .before .before .before .before .args in
@@ -101,15 +65,6 @@ part-is-word-start c = let g = rows-in (c .before .before .before .before .befor
 part-is-word-end : tie.Need-part-is-word-end
 part-is-word-end c = let g = rows-in (c .before .before .before .before .before .before .before .before .put-value .ensures .1 .0) (c .before .before .end .given .1) in omega (arith, g .0, g .1, c .before .before .before .before .before .before .before .before .put-value .ensures .0 .long)
 
-is-word-requires : tie.Need-is-word-requires
-is-word-requires c κs = search needs
-
-same-length-4 : tie.Need-same-length-4
-same-length-4 c = search needs
-
-same-length-5 : tie.Need-same-length-5
-same-length-5 c = search needs
-
 returns-3 : tie.Need-returns-3
 returns-3 c =
     let args = c .before .before .before .before .before .before .before .before .before .before .before .before .before .before .before .before .before .before .before .before .before .before .before .before .before .args in
@@ -126,12 +81,6 @@ returns-3 c =
             (put-value .ensures .1 .1) _ _ (end .given .1) (sym (c .before .is-word .ensures) ∙ not-true _ (c .if1 .taken)),
       ),
     )
-
-same-length-6 : tie.Need-same-length-6
-same-length-6 c = search needs
-
-same-length-7 : tie.Need-same-length-7
-same-length-7 c = search needs
 
 returns-4 : tie.Need-returns-4
 returns-4 c =
@@ -154,6 +103,7 @@ returns-4 c =
 pub put-typed-spec : {M : Type 1} → statement M
 put-typed-spec =
     tie.close
-    (tie.spec sub-put-text part-put-text-start part-put-text-end slice-aggregate-put-text put-text-requires enum-known-k enum-told same-length returns
-    add-a put-value-requires enum-known-end enum-told-2 same-length-2 same-length-3 returns-2 sub-is-word part-is-word-start part-is-word-end
-    is-word-requires same-length-4 same-length-5 returns-3 same-length-6 same-length-7 returns-4)
+    (tie.spec (λ c. search needs) (λ c. search needs) (λ c. search needs) (λ c. search needs) (λ c κs. search needs) (λ c. search needs)
+    (λ c. search needs) (λ c. search needs) returns add-a put-value-requires (λ c. search needs) (λ c. search needs) (λ c. search needs)
+    (λ c. search needs) returns-2 sub-is-word part-is-word-start part-is-word-end (λ c κs. search needs) (λ c. search needs) (λ c. search needs)
+    returns-3 (λ c. search needs) (λ c. search needs) returns-4)

@@ -9,18 +9,6 @@ use borrow.Author.Needs.{needs}
 use Rattle.to_card_kept_entry.proofs.entry.put_word.Statement.{statement}
 use Rattle.to_card_kept_entry.proofs.entry.put_word.Tie as tie
 
-put-decoded-requires : tie.Need-put-decoded-requires
-put-decoded-requires c κs = search needs
-
-enum-known-k : tie.Need-enum-known-k
-enum-known-k c = search needs
-
-enum-told : tie.Need-enum-told
-enum-told c = search needs
-
-same-length : tie.Need-same-length
-same-length c = search needs
-
 returns : tie.Need-returns
 returns c =
     let args = c .before .before .before .before .before .before .before .before .args in
@@ -54,12 +42,6 @@ part-is-word-end c =
     let g = word-in (now (args .b)) (args .n) (now (args .s)) (args .q) (pre) (put-decoded .result) _ (put-decoded .ensures) _
     (c .before .before .k .given .1) in omega (arith, g .to, g .within, g .long)
 
-is-word-requires : tie.Need-is-word-requires
-is-word-requires c κs = search needs
-
-same-length-2 : tie.Need-same-length-2
-same-length-2 c = search needs
-
 returns-2 : tie.Need-returns-2
 returns-2 c =
     let args = c .before .before .before .before .before .before .before .before .before .before .before .before .before .args in
@@ -69,9 +51,6 @@ returns-2 c =
       puts-long (now (args .b)) (args .n) (textAt (now (args .s)) (args .q)) (put-decoded .result) _ (put-decoded .ensures),
       (tt, word-other (now (args .b)) (args .n) (now (args .s)) (args .q) (pre) (put-decoded .result) _ (put-decoded .ensures) _ (k .given .1) (sym (c .before .is-word .ensures) ∙ not-true _ (c .if1 .taken))),
     )
-
-same-length-3 : tie.Need-same-length-3
-same-length-3 c = search needs
 
 returns-3 : tie.Need-returns-3
 returns-3 c =
@@ -87,5 +66,5 @@ returns-3 c =
 pub put-word-spec : {M : Type 1} → statement M
 put-word-spec =
     tie.close
-    (tie.spec put-decoded-requires enum-known-k enum-told same-length returns sub-is-word part-is-word-start part-is-word-end is-word-requires
-    same-length-2 returns-2 same-length-3 returns-3)
+    (tie.spec (λ c κs. search needs) (λ c. search needs) (λ c. search needs) (λ c. search needs) returns sub-is-word part-is-word-start
+    part-is-word-end (λ c κs. search needs) (λ c. search needs) returns-2 (λ c. search needs) returns-3)

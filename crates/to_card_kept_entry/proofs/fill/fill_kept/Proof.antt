@@ -9,32 +9,11 @@ use borrow.Author.Needs.{needs}
 use Rattle.to_card_kept_entry.proofs.fill.fill_kept.Statement.{statement}
 use Rattle.to_card_kept_entry.proofs.fill.fill_kept.Tie as tie
 
-four-at-requires : tie.Need-four-at-requires
-four-at-requires c κs = search needs
-
-enum-known-name : tie.Need-enum-known-name
-enum-known-name c = search needs
-
-enum-told : tie.Need-enum-told
-enum-told c = search needs
-
 returns : tie.Need-returns
 returns c =
     let a = c .before .before .before .before .before .before .args in
     let four = c .before .before .four-at in
     (record { long = refl; wide = refl }, (tt, fill-other (now (a .b)) (now (a .s)) (a .at) (four .result) (four .ensures .1) (c .enum-told .given .1) _))
-
-put-name-requires : tie.Need-put-name-requires
-put-name-requires c κs = search needs
-
-enum-known-e : tie.Need-enum-known-e
-enum-known-e c = search needs
-
-enum-told-2 : tie.Need-enum-told-2
-enum-told-2 c = search needs
-
-same-length : tie.Need-same-length
-same-length c = search needs
 
 returns-2 : tie.Need-returns-2
 returns-2 c =
@@ -52,18 +31,6 @@ put-object-requires c κs =
     let g = to-in (n .ensures .1 .0) (c .before .before .before .e .given .1) in
     let f = four-in (now (start .args .s)) (start .args .at) (name .before .before .before .before .before .four-at .ensures .0) (name .before .before .before .name .given .1) in
     (omega (arith, g .1, n .ensures .0), (start .pre .0, f .1))
-
-enum-known-f : tie.Need-enum-known-f
-enum-known-f c = search needs
-
-enum-told-3 : tie.Need-enum-told-3
-enum-told-3 c = search needs
-
-same-length-2 : tie.Need-same-length-2
-same-length-2 c = search needs
-
-same-length-3 : tie.Need-same-length-3
-same-length-3 c = search needs
 
 returns-3 : tie.Need-returns-3
 returns-3 c =
@@ -83,12 +50,6 @@ put-rest-requires c κs =
     let h = step-in (o .ensures .1 .0) (c .before .before .before .f .given .1) in
     (omega (arith, h .1, o .ensures .0 .long), (omega (arith, o .ensures .0 .wide, r), (h .2, h .0)))
 
-same-length-4 : tie.Need-same-length-4
-same-length-4 c = search needs
-
-same-length-5 : tie.Need-same-length-5
-same-length-5 c = search needs
-
 returns-4 : tie.Need-returns-4
 returns-4 c =
     let rest = c .before .before .before .before .before in
@@ -105,12 +66,6 @@ returns-4 c =
     let whole = fill-rest (now (a .s)) (a .at) (four .result) (four .ensures .1) _ _ _ _ _ (at .1) (now (a .b)) (n .result) _ (n .ensures .1 .1) _ (e .1) (o .result) _ _ (o .ensures .1 .1) _ (f .1) (r .result) _ _ (r .ensures .1) in
     let done = fills-as (now (a .b)) (now (a .s)) (a .at) _ _ whole (not-true _ (c .if1 .taken)) in
     (record { long = r .ensures .0 .long ∙ o .ensures .0 .long ∙ n .ensures .0; wide = r .ensures .0 .wide ∙ o .ensures .0 .wide }, (tt, done))
-
-same-length-6 : tie.Need-same-length-6
-same-length-6 c = search needs
-
-same-length-7 : tie.Need-same-length-7
-same-length-7 c = search needs
 
 returns-5 : tie.Need-returns-5
 returns-5 c =
@@ -132,6 +87,6 @@ returns-5 c =
 pub fill-kept-spec : {M : Type 1} → statement M
 fill-kept-spec =
     tie.close
-    (tie.spec four-at-requires enum-known-name enum-told returns put-name-requires enum-known-e enum-told-2 same-length returns-2 put-object-requires
-    enum-known-f enum-told-3 same-length-2 same-length-3 returns-3 put-rest-requires same-length-4 same-length-5 returns-4 same-length-6 same-length-7
-    returns-5)
+    (tie.spec (λ c κs. search needs) (λ c. search needs) (λ c. search needs) returns (λ c κs. search needs) (λ c. search needs) (λ c. search needs)
+    (λ c. search needs) returns-2 put-object-requires (λ c. search needs) (λ c. search needs) (λ c. search needs) (λ c. search needs) returns-3
+    put-rest-requires (λ c. search needs) (λ c. search needs) returns-4 (λ c. search needs) (λ c. search needs) returns-5)

@@ -9,21 +9,6 @@ use borrow.Author.Needs.{needs}
 use Rattle.to_card_kept_entry.proofs.fill.put_rest.Statement.{statement}
 use Rattle.to_card_kept_entry.proofs.fill.put_rest.Tie as tie
 
-put-type-requires : tie.Need-put-type-requires
-put-type-requires c κs = search needs
-
-enum-known-end : tie.Need-enum-known-end
-enum-known-end c = search needs
-
-enum-told : tie.Need-enum-told
-enum-told c = search needs
-
-same-length : tie.Need-same-length
-same-length c = search needs
-
-same-length-2 : tie.Need-same-length-2
-same-length-2 c = search needs
-
 returns : tie.Need-returns
 returns c =
     let a = c .before .before .before .before .before .before .before .before .before .before .before .before .args in
@@ -36,18 +21,6 @@ put-string-requires c κs =
     let g = rows-in (p .ensures .1 .0) (c .before .before .end .given .1) in
     omega (arith, g .1, p .ensures .0 .long)
 
-enum-known-x : tie.Need-enum-known-x
-enum-known-x c = search needs
-
-enum-told-2 : tie.Need-enum-told-2
-enum-told-2 c = search needs
-
-same-length-3 : tie.Need-same-length-3
-same-length-3 c = search needs
-
-same-length-4 : tie.Need-same-length-4
-same-length-4 c = search needs
-
 returns-2 : tie.Need-returns-2
 returns-2 c =
     let a = c .before .before .before .before .before .before .before .before .before .before .before .before .before .before .before .before .before .before .before .args in
@@ -56,15 +29,6 @@ returns-2 c =
       record { long = q .ensures .0 ∙ p .ensures .0 .long; wide = p .ensures .0 .wide },
       rest-valueless (now (a .b)) (now (a .t)) (a .f) (a .e) (now (a .s)) (a .kind) (a .value) (p .result) _ _ (p .ensures .1 .1) _ _ (c .before .before .before .before .before .before .before .end .given .1) (q .result) _ (q .ensures .1 .1) (c .enum-told2 .given .1),
     )
-
-put-head-requires : tie.Need-put-head-requires
-put-head-requires c κs = search needs
-
-same-length-5 : tie.Need-same-length-5
-same-length-5 c = search needs
-
-same-length-6 : tie.Need-same-length-6
-same-length-6 c = search needs
 
 returns-3 : tie.Need-returns-3
 returns-3 c =
@@ -83,5 +47,6 @@ returns-3 c =
 pub put-rest-spec : {M : Type 1} → statement M
 put-rest-spec =
     tie.close
-    (tie.spec put-type-requires enum-known-end enum-told same-length same-length-2 returns put-string-requires enum-known-x enum-told-2 same-length-3
-    same-length-4 returns-2 put-head-requires same-length-5 same-length-6 returns-3)
+    (tie.spec (λ c κs. search needs) (λ c. search needs) (λ c. search needs) (λ c. search needs) (λ c. search needs) returns put-string-requires
+    (λ c. search needs) (λ c. search needs) (λ c. search needs) (λ c. search needs) returns-2 (λ c κs. search needs) (λ c. search needs)
+    (λ c. search needs) returns-3)

@@ -7,47 +7,11 @@ use borrow.Author.Needs.{needs}
 use Rattle.to_card_kept_entry.proofs.strings.put_decoded.Statement.{statement}
 use Rattle.to_card_kept_entry.proofs.strings.put_decoded.Tie as tie
 
-bare-end-requires : tie.Need-bare-end-requires
-bare-end-requires c κs = search needs
-
-put-escaped-requires : tie.Need-put-escaped-requires
-put-escaped-requires c κs = search needs
-
-same-length : tie.Need-same-length
-same-length c = search needs
-
-returns : tie.Need-returns
-returns c = search needs
-
-sub-put-text : tie.Need-sub-put-text
-sub-put-text c = search needs
-
-part-put-text-start : tie.Need-part-put-text-start
-part-put-text-start c = search needs
-
-part-put-text-end : tie.Need-part-put-text-end
-part-put-text-end c = search needs
-
 sub-put-text-2 : tie.Need-sub-put-text-2
 sub-put-text-2 c = let w = c .before .before .bare-end .ensures (c .before .if1 .left) in omega (arith, w .from)
 
 part-put-text-start-2 : tie.Need-part-put-text-start-2
 part-put-text-start-2 c = let w = c .before .before .bare-end .ensures (c .before .if1 .left) in omega (arith, w .from)
-
-part-put-text-end-2 : tie.Need-part-put-text-end-2
-part-put-text-end-2 c = search needs
-
-put-text-requires : tie.Need-put-text-requires
-put-text-requires c κs = search needs
-
-enum-known-k : tie.Need-enum-known-k
-enum-known-k c = search needs
-
-enum-told : tie.Need-enum-told
-enum-told c = search needs
-
-same-length-2 : tie.Need-same-length-2
-same-length-2 c = search needs
 
 returns-2 : tie.Need-returns-2
 returns-2 c =
@@ -71,9 +35,6 @@ add-t7 c =
     let g = grew (now (a .b)) (a .n) (pre) (textAt (now (a .s)) (a .at)) _ (put-text .result) (bare-puts w (put-text .ensures)) (c .before .k .given .1) in
     record { fits = omega (arith, g .within, good .0 .0) }
 
-same-length-3 : tie.Need-same-length-3
-same-length-3 c = search needs
-
 returns-3 : tie.Need-returns-3
 returns-3 c =
     let bare-end = c .before .before .before .before .before .before .before .before .before .bare-end in
@@ -87,5 +48,6 @@ returns-3 c =
 pub put-decoded-spec : {M : Type 1} → statement M
 put-decoded-spec =
     tie.close
-    (tie.spec bare-end-requires put-escaped-requires same-length returns sub-put-text part-put-text-start part-put-text-end sub-put-text-2
-    part-put-text-start-2 part-put-text-end-2 put-text-requires enum-known-k enum-told same-length-2 returns-2 add-t7 same-length-3 returns-3)
+    (tie.spec (λ c κs. search needs) (λ c κs. search needs) (λ c. search needs) (λ c. search needs) (λ c. search needs) (λ c. search needs)
+    (λ c. search needs) sub-put-text-2 part-put-text-start-2 (λ c. search needs) (λ c κs. search needs) (λ c. search needs) (λ c. search needs)
+    (λ c. search needs) returns-2 add-t7 (λ c. search needs) returns-3)

@@ -6,27 +6,6 @@ use borrow.Author.Needs.{needs}
 use Rattle.to_card_kept_entry.proofs.strings.put_escaped.Statement.{statement}
 use Rattle.to_card_kept_entry.proofs.strings.put_escaped.Tie as tie
 
-sub-decode-into : tie.Need-sub-decode-into
-sub-decode-into c = search needs
-
-part-decode-into-start : tie.Need-part-decode-into-start
-part-decode-into-start c = search needs
-
-part-decode-into-end : tie.Need-part-decode-into-end
-part-decode-into-end c = search needs
-
-decode-into-requires : tie.Need-decode-into-requires
-decode-into-requires c κs = search needs
-
-enum-known-k : tie.Need-enum-known-k
-enum-known-k c = search needs
-
-enum-told : tie.Need-enum-told
-enum-told c = search needs
-
-same-length : tie.Need-same-length
-same-length c = search needs
-
 returns : tie.Need-returns
 returns c =
     let pre = c .before .before .before .before .before .before .before .before .pre in
@@ -46,9 +25,6 @@ add-t8 c =
           (c .before .k .given .1) in omega (arith, g .within, good .0 .0);
     }
 
-same-length-2 : tie.Need-same-length-2
-same-length-2 c = search needs
-
 returns-2 : tie.Need-returns-2
 returns-2 c =
     let pre = c .before .before .before .before .before .before .before .before .before .pre in
@@ -59,5 +35,5 @@ returns-2 c =
 pub put-escaped-spec : {M : Type 1} → statement M
 put-escaped-spec =
     tie.close
-    (tie.spec sub-decode-into part-decode-into-start part-decode-into-end decode-into-requires enum-known-k enum-told same-length returns add-t8
-    same-length-2 returns-2)
+    (tie.spec (λ c. search needs) (λ c. search needs) (λ c. search needs) (λ c κs. search needs) (λ c. search needs) (λ c. search needs)
+    (λ c. search needs) returns add-t8 (λ c. search needs) returns-2)

@@ -9,26 +9,11 @@ use borrow.Author.Needs.{needs}
 use Rattle.to_card_kept_entry.proofs.strings.put_group.Statement.{statement}
 use Rattle.to_card_kept_entry.proofs.strings.put_group.Tie as tie
 
-sole-string-requires : tie.Need-sole-string-requires
-sole-string-requires c κs = search needs
-
 returns : tie.Need-returns
 returns c =
     let args = c .before .before .before .before .args in
     let sole-string = c .before .sole-string in
     (refl, (tt, no-group (now (args .b)) (args .n) (now (args .s)) (args .at) (sole-string .result) (sole-string .ensures) (c .if1 .taken) _))
-
-put-decoded-requires : tie.Need-put-decoded-requires
-put-decoded-requires c κs = search needs
-
-enum-known-k : tie.Need-enum-known-k
-enum-known-k c = search needs
-
-enum-told : tie.Need-enum-told
-enum-told c = search needs
-
-same-length : tie.Need-same-length
-same-length c = search needs
 
 returns-2 : tie.Need-returns-2
 returns-2 c =
@@ -67,12 +52,6 @@ part-is-word-end c =
     let g = group-in (now (args .b)) (args .n) (now (args .s)) (args .at) (sole-string .result) (sole-string .ensures) (if1 .left)
     (put-decoded .result) _ (put-decoded .ensures) _ (c .before .before .k .given .1) in omega (arith, g .to, g .within, g .long)
 
-is-word-requires : tie.Need-is-word-requires
-is-word-requires c κs = search needs
-
-same-length-2 : tie.Need-same-length-2
-same-length-2 c = search needs
-
 returns-3 : tie.Need-returns-3
 returns-3 c =
     let args = c .before .before .before .before .before .before .before .before .before .before .before .before .before .before .before .args in
@@ -84,9 +63,6 @@ returns-3 c =
       puts-long (now (args .b)) (args .n) (textAt (now (args .s)) (sole-string .result)) (put-decoded .result) _ (put-decoded .ensures),
       (tt, group-other (now (args .b)) (args .n) (now (args .s)) (args .at) (sole-string .result) (sole-string .ensures) (if1 .left) (put-decoded .result) _ (put-decoded .ensures) _ (k .given .1) (pre .0) (sym (c .before .is-word .ensures) ∙ not-true _ (c .if2 .taken))),
     )
-
-same-length-3 : tie.Need-same-length-3
-same-length-3 c = search needs
 
 returns-4 : tie.Need-returns-4
 returns-4 c =
@@ -105,5 +81,5 @@ returns-4 c =
 pub put-group-spec : {M : Type 1} → statement M
 put-group-spec =
     tie.close
-    (tie.spec sole-string-requires returns put-decoded-requires enum-known-k enum-told same-length returns-2 sub-is-word part-is-word-start
-    part-is-word-end is-word-requires same-length-2 returns-3 same-length-3 returns-4)
+    (tie.spec (λ c κs. search needs) returns (λ c κs. search needs) (λ c. search needs) (λ c. search needs) (λ c. search needs) returns-2 sub-is-word
+    part-is-word-start part-is-word-end (λ c κs. search needs) (λ c. search needs) returns-3 (λ c. search needs) returns-4)

@@ -5,15 +5,6 @@ use borrow.Author.Needs.{needs}
 use Rattle.to_card_kept_entry.proofs.strings.sole_string.Statement.{statement}
 use Rattle.to_card_kept_entry.proofs.strings.sole_string.Tie as tie
 
-skip-space-requires : tie.Need-skip-space-requires
-skip-space-requires c κs = search needs
-
-look-requires : tie.Need-look-requires
-look-requires c κs = search needs
-
-string-in-requires : tie.Need-string-in-requires
-string-in-requires c κs = search needs
-
 returns : tie.Need-returns
 returns c =
     let args = c .before .before .before .before .before .args in
@@ -21,15 +12,6 @@ returns c =
     let look = c .before .before .look in
     sole-one (now (args .s)) (args .at) (skip-space .result) (look .result) (skip-space .ensures) (look .ensures .0) (c .before .if1 .taken)
     (c .string-in .result) (c .string-in .ensures)
-
-add-skip-space : tie.Need-add-skip-space
-add-skip-space c = search needs
-
-skip-space-requires-2 : tie.Need-skip-space-requires-2
-skip-space-requires-2 c κs = search needs
-
-look-requires-2 : tie.Need-look-requires-2
-look-requires-2 c κs = search needs
 
 returns-2 : tie.Need-returns-2
 returns-2 c =
@@ -41,15 +23,6 @@ returns-2 c =
     let look2 = c .before .look2 in
     sole-none (now (args .s)) (args .at) (skip-space .result) (look .result) (skip-space .ensures) (look .ensures .0) (if1 .left)
     (skip-space2 .result) (look2 .result) (skip-space2 .ensures) (look2 .ensures .0) (c .if2 .taken)
-
-element-at-requires : tie.Need-element-at-requires
-element-at-requires c κs = search needs
-
-separator-requires : tie.Need-separator-requires
-separator-requires c κs = search needs
-
-enum-known-k : tie.Need-enum-known-k
-enum-known-k c = search needs
 
 returns-3 : tie.Need-returns-3
 returns-3 c =
@@ -65,12 +38,6 @@ returns-3 c =
     sole-many (now (args .s)) (args .at) (skip-space .result) (look .result) (skip-space .ensures) (look .ensures .0) (if1 .left)
     (skip-space2 .result) (look2 .result) (skip-space2 .ensures) (look2 .ensures .0) (if2 .left) (element-at .result) (element-at .ensures .1) _
     (turn-as (separator .ensures) (c .before .k .given .1))
-
-enum-known-r : tie.Need-enum-known-r
-enum-known-r c = search needs
-
-string-in-requires-2 : tie.Need-string-in-requires-2
-string-in-requires-2 c κs = search needs
 
 returns-4 : tie.Need-returns-4
 returns-4 c =
@@ -90,5 +57,6 @@ returns-4 c =
 pub sole-string-spec : {M : Type 1} → statement M
 sole-string-spec =
     tie.close
-    (tie.spec skip-space-requires look-requires string-in-requires returns add-skip-space skip-space-requires-2 look-requires-2 returns-2
-    element-at-requires separator-requires enum-known-k returns-3 enum-known-r string-in-requires-2 returns-4)
+    (tie.spec (λ c κs. search needs) (λ c κs. search needs) (λ c κs. search needs) returns (λ c. search needs) (λ c κs. search needs)
+    (λ c κs. search needs) returns-2 (λ c κs. search needs) (λ c κs. search needs) (λ c. search needs) returns-3 (λ c. search needs)
+    (λ c κs. search needs) returns-4)

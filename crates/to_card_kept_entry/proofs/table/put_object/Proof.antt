@@ -6,12 +6,6 @@ use borrow.Author.Needs.{needs}
 use Rattle.to_card_kept_entry.proofs.table.put_object.Statement.{statement}
 use Rattle.to_card_kept_entry.proofs.table.put_object.Tie as tie
 
-skip-space-requires : tie.Need-skip-space-requires
-skip-space-requires c κs = search needs
-
-look-requires : tie.Need-look-requires
-look-requires c κs = search needs
-
 returns : tie.Need-returns
 returns c =
     let args = c .before .before .before .before .before .before .args in
@@ -20,15 +14,6 @@ returns c =
       record { long = refl; wide = refl },
       (tt, object-none (now (args .b)) (args .n) (now (args .t)) (now (args .s)) (args .at) (skip-space .result) (look .result) (skip-space .ensures) (look .ensures .0) (c .if1 .taken)),
     )
-
-add-skip-space : tie.Need-add-skip-space
-add-skip-space c = search needs
-
-skip-space-requires-2 : tie.Need-skip-space-requires-2
-skip-space-requires-2 c κs = search needs
-
-look-requires-2 : tie.Need-look-requires-2
-look-requires-2 c κs = search needs
 
 returns-2 : tie.Need-returns-2
 returns-2 c =
@@ -42,15 +27,6 @@ returns-2 c =
       record { long = refl; wide = refl },
       ((omega arith, pre .0, omega arith, omega arith), object-empty (now (args .b)) (args .n) (now (args .t)) (now (args .s)) (args .at) (skip-space .result) (look .result) (skip-space .ensures) (look .ensures .0) (if1 .left) (skip-space2 .result) (look2 .result) (skip-space2 .ensures) (look2 .ensures .0) (pre .0) (c .if2 .taken)),
     )
-
-put-from-requires : tie.Need-put-from-requires
-put-from-requires c κs = search needs
-
-same-length : tie.Need-same-length
-same-length c = search needs
-
-same-length-2 : tie.Need-same-length-2
-same-length-2 c = search needs
 
 returns-3 : tie.Need-returns-3
 returns-3 c =
@@ -69,5 +45,5 @@ returns-3 c =
 pub put-object-spec : {M : Type 1} → statement M
 put-object-spec =
     tie.close
-    (tie.spec skip-space-requires look-requires returns add-skip-space skip-space-requires-2 look-requires-2 returns-2 put-from-requires same-length
-    same-length-2 returns-3)
+    (tie.spec (λ c κs. search needs) (λ c κs. search needs) returns (λ c. search needs) (λ c κs. search needs) (λ c κs. search needs) returns-2
+    (λ c κs. search needs) (λ c. search needs) (λ c. search needs) returns-3)

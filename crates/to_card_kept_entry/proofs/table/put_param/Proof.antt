@@ -10,18 +10,6 @@ use borrow.Author.Needs.{needs}
 use Rattle.to_card_kept_entry.proofs.table.put_param.Statement.{statement}
 use Rattle.to_card_kept_entry.proofs.table.put_param.Tie as tie
 
-put-decoded-requires : tie.Need-put-decoded-requires
-put-decoded-requires c κs = search needs
-
-enum-known-k : tie.Need-enum-known-k
-enum-known-k c = search needs
-
-enum-told : tie.Need-enum-told
-enum-told c = search needs
-
-same-length : tie.Need-same-length
-same-length c = search needs
-
 returns : tie.Need-returns
 returns c =
     let args = c .before .before .before .before .before .before .before .before .before .args in
@@ -55,12 +43,6 @@ part-is-word-end c =
     let g = name-in (now (args .b)) (args .n) (now (args .t)) (args .m) (now (args .s)) (args .q) (args .at) (pre .0) (put-decoded .result) _
     (put-decoded .ensures) _ (c .before .before .k .given .1) in omega (arith, g .to, g .within, g .long)
 
-is-word-requires : tie.Need-is-word-requires
-is-word-requires c κs = search needs
-
-same-length-2 : tie.Need-same-length-2
-same-length-2 c = search needs
-
 returns-2 : tie.Need-returns-2
 returns-2 c =
     let args = c .before .before .before .before .before .before .before .before .before .before .before .before .before .before .args in
@@ -70,15 +52,6 @@ returns-2 c =
       record { long = puts-long (now (args .b)) (args .n) (textAt (now (args .s)) (args .q)) (put-decoded .result) _ (put-decoded .ensures); wide = refl },
       (tt, param-other (now (args .b)) (args .n) (now (args .t)) (args .m) (now (args .s)) (args .q) (args .at) (pre .0) (put-decoded .result) _ (put-decoded .ensures) _ (k .given .1) (sym (c .before .is-word .ensures) ∙ not-true _ (c .if1 .taken))),
     )
-
-slice-aggregate-equals : tie.Need-slice-aggregate-equals
-slice-aggregate-equals c = search needs
-
-equals-requires : tie.Need-equals-requires
-equals-requires c κs = search needs
-
-same-length-3 : tie.Need-same-length-3
-same-length-3 c = search needs
 
 returns-3 : tie.Need-returns-3
 returns-3 c =
@@ -98,12 +71,6 @@ put-values-requires c κs =
     let k = c .before .before .before .before .before .before .before .before .before .before .k in
     let g = name-in (now (args .b)) (args .n) (now (args .t)) (args .m) (now (args .s)) (args .q) (args .at) (pre .0) (put-decoded .result) _
     (put-decoded .ensures) _ (k .given .1) in (omega (arith, g .within, g .long), (pre .1 .0, pre .1 .1))
-
-same-length-4 : tie.Need-same-length-4
-same-length-4 c = search needs
-
-same-length-5 : tie.Need-same-length-5
-same-length-5 c = search needs
 
 returns-4 : tie.Need-returns-4
 returns-4 c =
@@ -130,5 +97,6 @@ returns-4 c =
 pub put-param-spec : {M : Type 1} → statement M
 put-param-spec =
     tie.close
-    (tie.spec put-decoded-requires enum-known-k enum-told same-length returns sub-is-word part-is-word-start part-is-word-end is-word-requires
-    same-length-2 returns-2 slice-aggregate-equals equals-requires same-length-3 returns-3 put-values-requires same-length-4 same-length-5 returns-4)
+    (tie.spec (λ c κs. search needs) (λ c. search needs) (λ c. search needs) (λ c. search needs) returns sub-is-word part-is-word-start
+    part-is-word-end (λ c κs. search needs) (λ c. search needs) returns-2 (λ c. search needs) (λ c κs. search needs) (λ c. search needs) returns-3
+    put-values-requires (λ c. search needs) (λ c. search needs) returns-4)

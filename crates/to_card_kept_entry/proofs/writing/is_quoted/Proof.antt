@@ -10,30 +10,6 @@ use borrow.Author.Needs.{needs}
 use Rattle.to_card_kept_entry.proofs.writing.is_quoted.Statement.{statement}
 use Rattle.to_card_kept_entry.proofs.writing.is_quoted.Tie as tie
 
-returns : tie.Need-returns
-returns c = search needs
-
-mul-k : tie.Need-mul-k
-mul-k c = search needs
-
-add-k : tie.Need-add-k
-add-k c = search needs
-
-mul-a : tie.Need-mul-a
-mul-a c = search needs
-
-shared-slice-read-a : tie.Need-shared-slice-read-a
-shared-slice-read-a c = search needs
-
-add-e : tie.Need-add-e
-add-e c = search needs
-
-mul-e : tie.Need-mul-e
-mul-e c = search needs
-
-shared-slice-read-e : tie.Need-shared-slice-read-e
-shared-slice-read-e c = search needs
-
 sub-is-named : tie.Need-sub-is-named
 sub-is-named c =
     let h = c .before .before .before .before .before .pre in
@@ -49,12 +25,6 @@ part-is-named-end c =
     let h = c .before .before .before .before .before .pre in
     let v = h .0 .rows .name (c .before .before .before .before .before .args .i) (h .1) in omega (arith, v .ordered, v .within)
 
-slice-aggregate-is-named : tie.Need-slice-aggregate-is-named
-slice-aggregate-is-named c = search needs
-
-is-named-requires : tie.Need-is-named-requires
-is-named-requires c κs = search needs
-
 returns-2 : tie.Need-returns-2
 returns-2 c =
     let a = c .before .before .before .before .before .before .before .before .args in
@@ -64,5 +34,5 @@ returns-2 c =
 pub is-quoted-spec : {M : Type 1} → statement M
 is-quoted-spec =
     tie.close
-    (tie.spec returns mul-k add-k mul-a shared-slice-read-a add-e mul-e shared-slice-read-e sub-is-named part-is-named-start part-is-named-end
-    slice-aggregate-is-named is-named-requires returns-2)
+    (tie.spec (λ c. search needs) (λ c. search needs) (λ c. search needs) (λ c. search needs) (λ c. search needs) (λ c. search needs)
+    (λ c. search needs) (λ c. search needs) sub-is-named part-is-named-start part-is-named-end (λ c. search needs) (λ c κs. search needs) returns-2)

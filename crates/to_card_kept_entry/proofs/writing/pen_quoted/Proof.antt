@@ -8,42 +8,6 @@ use borrow.Author.Needs.{needs}
 use Rattle.to_card_kept_entry.proofs.writing.pen_quoted.Statement.{statement}
 use Rattle.to_card_kept_entry.proofs.writing.pen_quoted.Tie as tie
 
-pen-byte-requires : tie.Need-pen-byte-requires
-pen-byte-requires c κs = search needs
-
-sub-pen-told : tie.Need-sub-pen-told
-sub-pen-told c = search needs
-
-part-pen-told-start : tie.Need-part-pen-told-start
-part-pen-told-start c = search needs
-
-part-pen-told-end : tie.Need-part-pen-told-end
-part-pen-told-end c = search needs
-
-pen-told-requires : tie.Need-pen-told-requires
-pen-told-requires c κs = search needs
-
-add-n2 : tie.Need-add-n2
-add-n2 c = search needs
-
-sub-pen-byte : tie.Need-sub-pen-byte
-sub-pen-byte c = search needs
-
-part-pen-byte-start : tie.Need-part-pen-byte-start
-part-pen-byte-start c = search needs
-
-part-pen-byte-end : tie.Need-part-pen-byte-end
-part-pen-byte-end c = search needs
-
-pen-byte-requires-2 : tie.Need-pen-byte-requires-2
-pen-byte-requires-2 c κs = search needs
-
-add-n3 : tie.Need-add-n3
-add-n3 c = search needs
-
-same-length : tie.Need-same-length
-same-length c = search needs
-
 returns : tie.Need-returns
 returns c =
     let pen-byte = c .before .before .before .before .before .before .before .before .before .before .before .before .pen-byte in
@@ -55,5 +19,5 @@ returns c =
 pub pen-quoted-spec : {M : Type 1} → statement M
 pen-quoted-spec =
     tie.close
-    (tie.spec pen-byte-requires sub-pen-told part-pen-told-start part-pen-told-end pen-told-requires add-n2 sub-pen-byte part-pen-byte-start
-    part-pen-byte-end pen-byte-requires-2 add-n3 same-length returns)
+    (tie.spec (λ c κs. search needs) (λ c. search needs) (λ c. search needs) (λ c. search needs) (λ c κs. search needs) (λ c. search needs)
+    (λ c. search needs) (λ c. search needs) (λ c. search needs) (λ c κs. search needs) (λ c. search needs) (λ c. search needs) returns)

@@ -8,23 +8,8 @@ use borrow.Author.Needs.{needs}
 use Rattle.to_card_kept_entry.proofs.writing.pen_value.Statement.{statement}
 use Rattle.to_card_kept_entry.proofs.writing.pen_value.Tie as tie
 
-pen-quoted-requires : tie.Need-pen-quoted-requires
-pen-quoted-requires c κs = search needs
-
-same-length : tie.Need-same-length
-same-length c = search needs
-
 returns : tie.Need-returns
 returns c = tells-as (value-always (now (c .before .before .before .before .before .before .before .args .v)) _ (c .before .before .before .before .if1 .taken)) refl (c .before .before .pen-quoted .ensures)
-
-all-of-requires : tie.Need-all-of-requires
-all-of-requires c κs = search needs
-
-pen-quoted-requires-2 : tie.Need-pen-quoted-requires-2
-pen-quoted-requires-2 c κs = search needs
-
-same-length-2 : tie.Need-same-length-2
-same-length-2 c = search needs
 
 returns-2 : tie.Need-returns-2
 returns-2 c =
@@ -34,12 +19,6 @@ returns-2 c =
     let if2 = c .before .before .before .before .if2 in
     let pen-quoted2 = c .before .before .pen-quoted2 in
     tells-as (value-quoted (now (a .v)) _ (if1 .left) (sym (all-of .ensures) ∙ not-true _ (if2 .taken))) refl (pen-quoted2 .ensures)
-
-pen-told-requires : tie.Need-pen-told-requires
-pen-told-requires c κs = search needs
-
-same-length-3 : tie.Need-same-length-3
-same-length-3 c = search needs
 
 returns-3 : tie.Need-returns-3
 returns-3 c =
@@ -53,5 +32,5 @@ returns-3 c =
 pub pen-value-spec : {M : Type 1} → statement M
 pen-value-spec =
     tie.close
-    (tie.spec pen-quoted-requires same-length returns all-of-requires pen-quoted-requires-2 same-length-2 returns-2 pen-told-requires same-length-3
-    returns-3)
+    (tie.spec (λ c κs. search needs) (λ c. search needs) returns (λ c κs. search needs) (λ c κs. search needs) (λ c. search needs) returns-2
+    (λ c κs. search needs) (λ c. search needs) returns-3)
