@@ -1,3 +1,6 @@
+-- Each time round: i ≤ length s, and what is written followed by `squeezed` of s from i on is `squeezed` of s (`Rest`). A turn copies the run that
+-- stands as it is written (`ran`), then writes the piece after it (`wrote`, by `turn-on`). length s - i falls: a piece takes a byte (`turn-less`).
+-- Where s ends, or no piece can be read, nothing is left to write (`turn-end`, `turn-bad`). `compacts` makes the tree's compact text of all this.
 use Prim.Native.Nat.{_-_, _≤_}
 use native.Mathlib.Nat.{le-refl}
 use native.Mathlib.Omega.{arith}

@@ -1,3 +1,6 @@
+-- Each time round: the first i bytes of s are at the start of out, and nothing else of it is changed (`Fills`). A block takes i to i + 16
+-- (`block-more`); length s - i falls. The last block ends where s does: it writes again bytes that are already there, so it comes to all of s
+-- (`block-last`).
 use Prim.Native.Nat.{_+_, _-_, _≤_}
 use native.Mathlib.Omega.{arith}
 use native.Mathlib.Nat.{le-refl}

@@ -1,3 +1,6 @@
+-- Each time round: the name and the value of each of the first k rows are within b (`Spans`). A row whose two parts are within b adds one
+-- (`spans-on`); n - k falls. False is right wherever it is said: a table with a part outside b, or with too many rows, is not sound (`span-not`).
+-- At the end the three parts of the line and all n rows make the table sound.
 use denote.Ref.{now}
 use mathlib.Core.Path.{refl}
 use Prim.Native.Nat.{_-_, _≤_}

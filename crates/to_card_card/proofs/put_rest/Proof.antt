@@ -1,3 +1,6 @@
+-- No loop: the maps, then put_last on the room that is left. `rest-all` joins the two as `restParts` does: the entries that the maps came to are
+-- also what the kept lines are judged by. 12 comes from a map (`rest-first`) or from what follows (`rest-second`). Each count goes through up_to
+-- before it is added (`few`), so no sum wraps, however many lines there are.
 use denote.Ref.{now}
 use native.Mathlib.Omega.{arith}
 use mathlib.Core.Path.{sym, ap, subst, _∙_}
