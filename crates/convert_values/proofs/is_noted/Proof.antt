@@ -1,6 +1,6 @@
 -- Each time round: no value before row k is what u stands for (`Clear`). The rows that next_print passes over have another print, so they hold
--- another value (`clear-to`); row k has u's print, and where its bytes differ it is clear too (`clear-more`). n - k falls.
--- Where they are the same, u is one of the values (`found-row`); after the last row it is none of those that are filled (`found-none`).
+-- another value (`clear-to`); row k has u's print, and where its bytes differ it is clear too (`clear-more`). n - k falls. Where they are the same,
+-- u is one of the values (`found-row`); after the last row it is none of those that are filled (`found-none`).
 use borrow.Author.Needs.{needs}
 use native.Mathlib.Omega.{arith}
 use denote.Ref.{now}

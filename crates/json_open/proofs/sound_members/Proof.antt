@@ -1,8 +1,8 @@
 -- Each time round: k names are noted, four bytes of s at least for each, so there is a row for the next one; the verdict on the members from i on,
--- after those names, is the verdict on all (`ToMembers`); and each slot has its first value or still waits for it (`Todo`, of json_index).
--- A turn notes a name, its slot, and reads the value into the rows that are left (`members-on`, `member-on`). length s - i falls.
--- A name that is bad or unsound (`name-bad`, `name-rest`), or such a value (`members-bad`, `members-rest`), ends it, and then no index is promised;
--- at the brace both are whole (`members-last`, `member-last`).
+-- after those names, is the verdict on all (`ToMembers`); and each slot has its first value or still waits for it (`Todo`, of json_index). A turn
+-- notes a name, its slot, and reads the value into the rows that are left (`members-on`, `member-on`). length s - i falls. A name that is bad or
+-- unsound (`name-bad`, `name-rest`), or such a value (`members-bad`, `members-rest`), ends it, and then no index is promised; at the brace both are
+-- whole (`members-last`, `member-last`).
 use borrow.Author.Needs.{needs}
 use native.Mathlib.Omega.{arith}
 use denote.Ref.{now}

@@ -1,6 +1,6 @@
 -- Each time round: the first i bytes of s, folded from `column` on, are written as far as there was room, and k is the column after them (`Pens`).
--- A turn copies the bytes that stand before the next fold (`copied`), or pens one byte (`pens-then`, `one-more`). length s - i falls.
--- There is no refusal: what does not fit is not written, and the count says so.
+-- A turn copies the bytes that stand before the next fold (`copied`), or pens one byte (`pens-then`, `one-more`). length s - i falls. There is no
+-- refusal: what does not fit is not written, and the count says so.
 use borrow.Author.Needs.{needs}
 use native.Mathlib.Omega.{arith}
 use native.Mathlib.Nat.{le-refl}

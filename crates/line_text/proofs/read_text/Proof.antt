@@ -1,6 +1,6 @@
--- Each time round: s is good TEXT from i on (`readText`), and what is written followed by `plainText` of that rest is `plainText` of s (`Rest`).
--- A turn copies the bytes before the next backslash (`plain-run`), then stores what the escape stands for (`byte-plain`). length s - i falls.
--- With no backslash s is copied whole (`plain-whole`); with a bad escape nothing is written (`bad-plain`), so the loop meets none (`bad-good`).
+-- Each time round: s is good TEXT from i on (`readText`), and what is written followed by `plainText` of that rest is `plainText` of s (`Rest`). A
+-- turn copies the bytes before the next backslash (`plain-run`), then stores what the escape stands for (`byte-plain`). length s - i falls. With no
+-- backslash s is copied whole (`plain-whole`); with a bad escape nothing is written (`bad-plain`), so the loop meets none (`bad-good`).
 use Prim.Native.Nat.{ℕ, _-_, _≤_}
 use mathlib.Core.Path.{_≡_, sym, _∙_}
 use native.Mathlib.Nat.{le-refl}

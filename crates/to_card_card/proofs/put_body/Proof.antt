@@ -1,6 +1,6 @@
 -- No loop: the name, then put_rest on the room that is left. `body-all` joins the two as `bodyParts` does; bytes add up, and counts of lines as
--- `few` does. That N is among the lines is told by their number, two, and whether there is a full name by `SaysFull`: put_rest is told both.
--- 12 comes from the name (`body-first`) or from the rest (`body-second`).
+-- `few` does. That N is among the lines is told by their number, two, and whether there is a full name by `SaysFull`: put_rest is told both. 12
+-- comes from the name (`body-first`) or from the rest (`body-second`).
 use denote.Ref.{now}
 use native.Mathlib.Omega.{arith}
 use mathlib.Core.Path.{sym, ap, subst, _∙_}

@@ -1,6 +1,6 @@
 -- No loop: the head, then put_body on the room that is left, then END on what is left of that. `whole-all` says that these are the bytes of
--- `printCard`, with the count and the verdict of its lines; 12 comes from the head (`whole-first`) or from the body (`whole-second`).
--- Each of these is about slots that index the object; `card-whole` carries it over to the text, whose tree is that object.
+-- `printCard`, with the count and the verdict of its lines; 12 comes from the head (`whole-first`) or from the body (`whole-second`). Each of these
+-- is about slots that index the object; `card-whole` carries it over to the text, whose tree is that object.
 use denote.Ref.{now}
 use native.Mathlib.Omega.{arith}
 use mathlib.Core.Path.{refl, sym, ap, subst, _∙_}

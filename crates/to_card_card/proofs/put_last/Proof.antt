@@ -1,5 +1,5 @@
--- No loop: the other members, then the kept lines on the room that is left. `last-all` joins the two as `lastParts` does: bytes one after the other,
--- `few` of the sum of the lines, carried where both are. 12 comes from the members (`last-first`) or from the kept lines (`last-second`).
+-- No loop: the other members, then the kept lines on the room that is left. `last-all` joins the two as `lastParts` does: bytes one after the
+-- other, `few` of the sum of the lines, carried where both are. 12 comes from the members (`last-first`) or from the kept lines (`last-second`).
 -- `part-in` and `part-length` say that the second writes within the first one's rest, so that no byte and no count is lost.
 use denote.Ref.{now}
 use native.Mathlib.Omega.{arith}

@@ -1,6 +1,6 @@
 -- No loop: five pieces in a row, the property's name, PROP-ID=, the key, PREF and TYPE. `s1` to `s5` say after each call what is penned so far and
--- the column it ends at, which the next piece goes on from. `line-pieces` says that the five are the line's head as its contract names it.
--- The key is the string at its place, where that stands for bytes; there is no refusal.
+-- the column it ends at, which the next piece goes on from. `line-pieces` says that the five are the line's head as its contract names it. The key
+-- is the string at its place, where that stands for bytes; there is no refusal.
 use Rattle.to_card_entry.proofs.Lines.{line-pieces}
 use Rattle.line_pen.proofs.Laws.{Here, first!, next!, in!, fit!, same!, pens-as}
 use Rattle.to_card_params.specs.Params.{spanOf}

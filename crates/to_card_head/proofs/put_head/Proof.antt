@@ -1,6 +1,6 @@
--- No loop: four tests, each of them a reason for 12 (`no-card`, `no-version`, `no-uid`, `no-kind`), then the lines that `headFrom` names.
--- Without a kind they are BEGIN, VERSION and UID (`head-plain`); with one the KIND line follows on the rest of the room (`kind-row`, `head-kind`).
--- Whether lines can carry it is for the UID alone: a kind is a word.
+-- No loop: four tests, each of them a reason for 12 (`no-card`, `no-version`, `no-uid`, `no-kind`), then the lines that `headFrom` names. Without a
+-- kind they are BEGIN, VERSION and UID (`head-plain`); with one the KIND line follows on the rest of the room (`kind-row`, `head-kind`). Whether
+-- lines can carry it is for the UID alone: a kind is a word.
 use denote.Ref.{now}
 use mathlib.Core.Path.{refl, subst}
 use Prim.Native.Nat.{ℕ}

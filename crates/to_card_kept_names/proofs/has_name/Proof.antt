@@ -1,3 +1,6 @@
+-- No loop. Where no row was noted, the same question is asked of the text itself. Else `index-there` gives the index, and its group i gives two
+-- ends that are in order and within places and prints, which are equally long: so both slices are good (`ordered`, `within`, `even`). `has-noted`:
+-- those rows note the names of group i, so what is_key_noted says of them is said of the group.
 use denote.Ref.{now}
 use native.Mathlib.Omega.{arith}
 use Rattle.to_card_kept_names.proofs.Groups.{index-there, has-noted}

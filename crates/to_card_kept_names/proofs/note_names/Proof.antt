@@ -1,3 +1,6 @@
+-- Each time round: the names noted in the first k rows, and then those of the members that m tells of, are all names of the value at `at`
+-- (`Noting`). A turn notes the name of m's member in row k and passes over its value (`noting-on`); what is ahead of m in the text falls
+-- (`less-ahead`). Where no member is left, or the value is no object, the k rows are all its names (`noting-last`). Unfit promises nothing.
 use borrow.Author.Needs.{needs}
 use denote.Ref.{now}
 use mathlib.Core.Path.{_≡_, refl, sym, _∙_}

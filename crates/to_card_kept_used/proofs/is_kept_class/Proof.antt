@@ -1,3 +1,7 @@
+-- No loop: one answer for each class, which `kept-as` carries from the class that was matched to the one that was given. A line of class Kept is
+-- kept; one that converts whatever was seen before it is not, by computing or by `kept-entry`. A PROP-ID is looked up among the keys of its map
+-- (`kept-keyed`), a pointer among the card's members (`kept-member`): where it is used there, the line is kept. `ClassIn` says that the part of b
+-- is a good one.
 use denote.Ref.{now}
 use mathlib.Core.Path.{refl, subst}
 use Rattle.class_line.specs.Class.{ClassIn}

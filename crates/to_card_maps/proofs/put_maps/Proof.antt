@@ -1,3 +1,6 @@
+-- Each time round: the lines of the first k maps are written, counted and judged, and the maps from k on are still to come (`Going`). A turn writes
+-- the map in slot k + 5 on the rest of the room (`maps-on`); 7 - k falls. Each map has at most 65537 lines, one more than the text has bytes, so
+-- the count does not wrap (`lines-in`). A map that is 12 makes the whole 12 (`maps-wrong`); after the seventh all is said (`maps-all`).
 use borrow.Rule.Slice.PartMut.{midOf}
 use Rattle.to_card_maps.proofs.Laws.{Going, going-first, maps-wrong, maps-on, maps-all, in-part}
 use Rattle.to_card_map.proofs.Laws.{lines-in}

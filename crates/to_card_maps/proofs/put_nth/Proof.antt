@@ -1,3 +1,6 @@
+-- No loop: a branch for each row of the table of maps. In each, put_map's contract is taken for the map of that row (`nicknames-row` and its like
+-- say that the constants of card_table are its names, kinds, properties and form), and `nth-is` turns it to what is asked of row k. The last branch
+-- has no test: k is not 0 to 5, so where it is under seven it is six (`nth-last`). `row-six` counts the names of a row.
 use Rattle.to_card_maps.proofs.Laws.{row-six, nth-is, nth-last}
 use Rattle.to_card_entry.proofs.Rows.{nicknames, nicknames-row, emails, emails-row, phones, phones-row, links, links-row, notes, notes-row, titles, titles-row, organizations, organizations-row}
 use denote.Ref.{now}

@@ -1,3 +1,7 @@
+-- Each time round: the pointer of the bytes seen so far is penned, `ok` says whether a parameter can carry them, and where the string stands for
+-- bytes, the others are what is left from i on with h held (`Far`). A turn pens one byte, escaped (`far-one`); the `weight` of what is left and
+-- held falls. A surrogate alone means that the string stands for no bytes, so nothing more is promised (`far-alone`); at its quote all are penned
+-- (`far-end`).
 use borrow.Author.Needs.{needs}
 use native.Mathlib.Omega.{arith}
 use native.Mathlib.Nat.{le-refl}

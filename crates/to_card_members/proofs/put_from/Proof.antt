@@ -1,3 +1,7 @@
+-- Each time round, if members stand from `at` on: what those before i come to is written, counted and judged, those from i on are still to come
+-- (`Going`). A member has at most one line (`one-in`), so lines ≤ i and the count does not wrap. A turn takes one member and passes its comma
+-- (`going-on`); length s - i falls. An empty name makes the whole 12 (`puts-wrong`); at the brace all are taken (`puts-all`). The buffer keeps its
+-- length, which is at least that of the room.
 use borrow.Author.Needs.{needs}
 use native.Mathlib.Omega.{arith}
 use native.Mathlib.Nat.{le-refl}

@@ -1,3 +1,6 @@
+-- No loop: four pieces in a row, the start of JSPROP, the pointer, its quote and colon, the value as TEXT; then the line's end. `next!` carries
+-- bytes and column from piece to piece, `filled` and `then` add the end, which is not folded. The value goes through the buffer: what that cuts off
+-- would not fit into the room either, which is no longer (`member-line`). There is no refusal.
 use native.Mathlib.Nat.{le-refl}
 use denote.Ref.{now}
 use Rattle.line_pen.proofs.Filling.{then}

@@ -1,3 +1,7 @@
+-- Each time round, if components stand from `at` on: of the other kind's values before i some are gone, and `ok` says whether the one kind is apart
+-- from those; the rest are the n that are noted (`Noting`). A turn notes one value more, or asks about all that are noted and begins anew
+-- (`noting-on`); length s - i falls. At the bracket those that are noted are asked about too (`notes-all`). Where an element is no component,
+-- nothing is promised (`notes-wrong`).
 use native.Mathlib.Omega.{arith}
 use denote.Ref.{now}
 use mathlib.Core.Path.{_≡_, refl, _∙_}

@@ -1,3 +1,7 @@
+-- Each time round, of the object in the slot: the members before m are flags of the table, and the row has a mark for each (`Todo`). A turn takes
+-- one that is true and whose name has a place in the table (`flags-on`); what is ahead of m in the text falls (`less-ahead`). False comes from a
+-- member that is not true (`flags-not`), from another name (`flags-other`), or where the value is no object (`flags-none`); at the end each member
+-- was a flag (`flags-all`). An empty slot has no flags (`flags-absent`).
 use borrow.Author.Needs.{needs}
 use native.Mathlib.Omega.{arith}
 use denote.Ref.{now}

@@ -1,3 +1,7 @@
+-- Each time round, if elements stand from `at` on: those before i are components, each kind with a filled value among them is marked (`Checking`),
+-- and, while they are at most 16, row by row their kinds and the places of their values are noted (`Listing`). A turn adds one component
+-- (`checking-on`, `listing-on`); length s - i falls. An element that is no component makes it 0, which is 12 (`checks-wrong`); at the bracket marks
+-- and rows are whole (`checks-all`, `lists-all`). `kind-in`: a kind is under the number of marks.
 use borrow.Author.Needs.{needs}
 use native.Mathlib.Omega.{arith}
 use denote.Ref.{now}

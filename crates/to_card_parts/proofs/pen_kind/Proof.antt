@@ -1,3 +1,7 @@
+-- Each time round: some text is penned, c is the column after it and b says whether a value stands there already; if components stand from `at` on,
+-- it is the values of the kind of those before i, with marks between them (`Inking`). A turn pens the value of one component, or nothing where it
+-- is of another kind (`inking-on`); length s - i falls. At the bracket it is the values of all (`inks-all`). An element that is no component ends
+-- it: then nothing is promised of the text (`inks-wrong`).
 use borrow.Author.Needs.{needs}
 use native.Mathlib.Omega.{arith}
 use native.Mathlib.Nat.{le-refl}

@@ -1,3 +1,6 @@
+-- Each time round: what is penned is the values of the kind of the first i components, with marks between them (`ByRows`). A turn takes row i,
+-- which is the component i by RowsFrom, and pens its value where the kind is the same (`by-rows-on`); rows - i falls. After the last row it is the
+-- values of all (`by-rows-all`). Over 16 components have no rows: pen_kind goes through the text instead, with the same contract.
 use native.Mathlib.Omega.{arith}
 use native.Mathlib.Nat.{le-refl}
 use denote.Ref.{now}

@@ -1,3 +1,6 @@
+-- No loop: the name, then the units on the room that is left and from the name's column on. `org-line` joins the two as orgIn does. Refused comes
+-- from a name that is no string (`org-no-name`), from units that are none (`org-no-units`), or where neither has a byte: then nothing of the entry
+-- would be left (`org-nothing`). `ink-in`, `part-in` and `part-length` keep the second writer within the first one's rest.
 use Rattle.to_card_value.proofs.Whole.{ink-in, part-length, part-in, org-no-name, org-no-units, org-nothing, org-line}
 use mathlib.Core.Path.{_∙_}
 use denote.Ref.{now}

@@ -1,3 +1,7 @@
+-- Each time round: some text is penned, k is the column after it; if elements stand from `at` on, those before i are units, and it is their pieces,
+-- each after a semicolon, without empty ones; `ok` and `filled` say whether a line can carry them and whether any has a byte (`Going`). A turn pens
+-- one unit (`units-on`); length s - i falls. An element that is no unit makes the whole 12 (`units-wrong`); at the bracket all are penned
+-- (`units-all`).
 use Rattle.to_card_value.proofs.Units.{Going, going-first, units-wrong, units-on, units-all}
 use Rattle.line_pen.proofs.Laws.{pens-in, pens-length, pens-then}
 use Rattle.text.proofs.Places.{turn-as}
