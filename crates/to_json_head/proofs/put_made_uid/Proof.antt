@@ -1,3 +1,6 @@
+-- Five pieces in a row: a quote, the spelled stem, a hyphen, the number, a quote. `s₁` to `s₅` say after each call what is written and which pieces
+-- are still to come. `made-bytes` says that the five are the JSON string of madeUid: a hyphen and digits are spelled as they are, and spelling goes
+-- byte by byte. Full comes from the first call (`none`) or from one of the four others (`stop!`).
 use Rattle.to_json_head.proofs.Uids.{made-bytes}
 use Rattle.output.proofs.Laws.{puts-as}
 use Rattle.json.specs.Compact.{spelledAll}

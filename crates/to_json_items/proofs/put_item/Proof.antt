@@ -1,3 +1,6 @@
+-- Four pieces in a row: what stands before the item, its `lead` with the kind or the name, the string of the TEXT, the brace; `s₁` to `s₄` say
+-- after each call what is written and which pieces are still to come. They are itemPiece by its definition, so nothing is said anew at the end
+-- (`all`). Full comes from the first call (`none`) or from one of the three others (`stop!`).
 use Rattle.json.specs.Compact.{quoted}
 use Rattle.line_text.specs.Read.{plainText}
 use Rattle.to_json_items.specs.Items.{lead}

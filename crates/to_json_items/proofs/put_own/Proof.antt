@@ -1,3 +1,7 @@
+-- Each time round: v has good parts from i on, and what is written followed by the items of those parts that are its own is the whole list
+-- (`Putting`). A turn takes the part up to the next bare separator and writes it if it is filled and none of o's values (`putting-on`); `some` says
+-- that an item stands before. length v + 1 - i falls, since a part may be empty, also at the very end. After the last part nothing is left
+-- (`putting-last`); Full comes from the item (`putting-full`). `part-good`: each part has good escapes, which is_own and put_item_if ask for.
 use borrow.Author.Needs.{needs}
 use denote.Ref.{now}
 use Prim.Native.Nat.{_-_, _+_}

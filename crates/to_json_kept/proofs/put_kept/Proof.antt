@@ -1,3 +1,6 @@
+-- Three pieces in a row: the head, the parameters, the tail with type and value. `s₁`, `s₂` and `s₃` say after each call what is written and which
+-- pieces are still to come. `kept-bytes` says that they are the compact entry of the kept line; that a group stands there is told by its place not
+-- being empty. A table that is sound has its name, group and value within s: so the slices are good. Full comes from `none` or `stop!`.
 use Rattle.to_json_kept.proofs.Whole.{kept-bytes}
 use Rattle.line_table.specs.Table.{part, lineIn}
 use Rattle.output.proofs.Laws.{puts-as}

@@ -1,3 +1,6 @@
+-- Four pieces in a row: a comma where a member came before, the name in lower case, a colon, all values of that name. `s₁` to `s₄` say after each
+-- call what is written and which pieces are still to come; they are paramPiece by its definition (`all`). The name is the part of s from a to b,
+-- which is within s by its Span. Full comes from the comma (`none`) or from one of the three others (`stop!`).
 use Rattle.json.specs.Compact.{written}
 use Rattle.line_table.specs.Table.{part, lineIn}
 use native.Mathlib.Omega.{arith}

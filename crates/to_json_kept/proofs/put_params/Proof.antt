@@ -1,3 +1,7 @@
+-- Each time round: the members of the first k rows are written, those alone whose name is not VALUE and came first there, and `begun` says whether
+-- the group or one of them stands before (`Going`). A turn writes row k's member, or nothing (`going-on`); n - k falls. After the last row they are
+-- the parameters of keptLine (`going-all`). Full comes from the row that lacked room (`going-full`). A sound table has so few rows that no index
+-- wraps.
 use borrow.Author.Needs.{needs}
 use denote.Ref.{now}
 use mathlib.Core.Path.{refl}

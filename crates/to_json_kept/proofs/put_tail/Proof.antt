@@ -1,3 +1,6 @@
+-- Five pieces in a row: a brace and a comma, the type, a comma, the value's string, a bracket. `s₁` to `s₅` say after each call what is written and
+-- which pieces are still to come; they are tailPiece by its definition (`all`). The type is VALUE in lower case, or unknown (put_type, by
+-- `valueType`). Full comes from the first call (`none`) or from one of the four others (`stop!`).
 use Rattle.json.specs.Compact.{quoted}
 use Rattle.line.specs.Params.{valueType}
 use Rattle.line_table.specs.Table.{lineIn}

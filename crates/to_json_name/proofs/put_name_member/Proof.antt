@@ -1,3 +1,6 @@
+-- Four pieces in a row: the member's head, full or nothing, components or nothing, the brace. `s₁` to `s₄` say after each call what is written and
+-- which pieces are still to come (`fullPiece`, `partsPiece`). A name that can be read has good parts (`good-name`): put_parts_if asks for that
+-- where there is an N. Full comes from the head (`none`) or from one of the three others (`stop!`).
 use Rattle.to_json_name.proofs.Names.{good-name}
 use Rattle.to_json_name.specs.Name.{fullPiece, partsPiece}
 use native.Mathlib.Nat.{le-refl}

@@ -1,3 +1,7 @@
+-- Each time round: part k begins at `from` (`Passing`), and what is written followed by the components of the parts from k on is those of all seven
+-- (`Rest`, `componentsFrom`). A turn writes the components of part k (`parts-on`): where any byte was written there is a component, which is what
+-- `begun` must say; then it goes past the semicolon, or stays at the end, where all later parts are empty (`passing-next`). 7 - k falls; after the
+-- seventh nothing is left (`no-parts`). Full comes from the part that lacked room (`parts-full`).
 use borrow.Author.Needs.{needs}
 use denote.Ref.{now}
 use mathlib.Core.Path.{refl}
