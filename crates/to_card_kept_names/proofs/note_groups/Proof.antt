@@ -1,6 +1,6 @@
--- Each time round: the rows before n note the groups before the i-th, each in the rows from its own end to the next one's, and ends[i] is n
--- (`Filled`); no slice has changed its length. A turn lends the rows from n on to note_group and notes where they end (`filled-on`); 8 - i falls. A
--- name that does not fit ends it with no rows at all, of which nothing is promised. After the eighth group all is indexed (`indexed`).
+-- Each time round: the groups before the i-th are noted, group j in the rows from ends[j] to ends[j + 1], and ends[i] is n (`Filled`); no slice has
+-- changed its length. A turn lends the rows from n on to note_group and notes where they end (`filled-on`); 8 - i falls. A name that does not fit
+-- ends it with no rows at all, of which nothing is promised. After the eighth group all is indexed (`indexed`).
 use borrow.Author.Needs.{needs}
 use denote.Ref.{now}
 use mathlib.Core.Path.{_≡_, refl, sym, _∙_}
