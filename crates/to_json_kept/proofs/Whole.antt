@@ -19,14 +19,10 @@ use Rattle.convert.specs.FromCard.{keptLine}
 use Rattle.convert.specs.ToJson.{where′, paramJson, keptJson}
 use Rattle.convert_put.specs.Pieces.{memberBytes, inside}
 use Rattle.convert_put.proofs.Compact.{quoted-append, inside-append, inside-object}
-use Rattle.output.specs.Put.{Puts}
-use Rattle.output.specs.declared.Wrote.{Wrote}
-use Rattle.output.proofs.Laws.{puts-as}
-use Rattle.line_table.specs.Table.{part, Span, nameAt, valueAt, rowsIn, lineIn, Holds}
+use Rattle.line_table.specs.Table.{part, Span, nameAt, valueAt, rowsIn, lineIn}
 use Rattle.line_table.proofs.Rows.{rows-none, rows-split, line-rows}
 use Rattle.to_json_kept_values.proofs.Lists.{values-more}
 use Rattle.table_entry.proofs.Entry.{part-empty, part-some}
-use Rattle.table_entry.proofs.Spread.{kept-held}
 use Rattle.to_json_kept.specs.Entry.{groupPiece, headPiece, tailPiece, ValueRow}
 
 -- ---- the type
@@ -147,12 +143,6 @@ kept-bytes s t h =
     let ms : List Member = map paramJson (keptLine (lineIn s t) .params) in
     ap (λ b. flat (headPiece (lineIn s t .name) (lineIn s t .group) ∷ inside b ms ∷ tailPiece s t (lineIn s t .value) ∷ [])) (span-filled s (getD t 0 0) (getD t 1 0) h)
     ∙ entry-is (lineIn s t .name) (lineIn s t .group) (valueType (lineIn s t .params)) (lineIn s t .value) ms
-
--- ---- the line that was read
-
-pub kept-read : {s t room out : List ℕ} {r : Wrote} (h : Holds s t) → Puts room (written (keptJson (keptLine (lineIn s t))) []) r out
-    → Puts room (written (keptJson (keptLine (h .line))) []) r out
-kept-read h p = puts-as (ap (λ k. written (keptJson k) []) (kept-held h)) p
 
 -- ---- a piece that is there or not
 
