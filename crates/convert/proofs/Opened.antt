@@ -18,5 +18,15 @@ use Rattle.json.proofs.Opened.{json-opened}
 use Rattle.line.proofs.Opened.{line-opened}
 
 unfoldable pub convert-opened : Unit {0}
-unfolding seek firstFrom isStemText isCardNumber garbled ungrammatical isVersionLine onlyUri misused secondFrom emptied rawLines lineTests fitted linesOf convertLines convertCard cardToJson convertModel jsonToCard carriedRaw carriedText carriedParam carriedAs carriedMaps carriedKept apart apartParts carried isDerived fullClass partsClass memberName memberValue memberClass typesFrom entryOf entryClass classify classedAfter classed keptLine gathered inMap withKeys mapsFrom madeUid cardOfClassed cardOfLines onlyMembers componentIn byKind nameFrom flagsFrom unitFrom organizationFrom contentFrom entryMembers entryFrom mapFrom keptFrom keptAsLine keptStands idsFrom seenIn standing cardFromMembers cardFromJson numbered freshFrom fresh keysAfter keys hasParts renewed partTexts nameValues nameText orgText telNumber entryValue typeForm valueForm entryForm keptForm section entryForms mapForms nameStrings derivedForm normalLines normalCard isComponent componentsForm nameForm flagsForm isUnit contentForm entryTree mapTree paramsForm membersForm normalTree normalJson pointedFrom pointed pointer inOrder position slotFrom slotOf derivedLine fullLine entryLine mapsLines memberLine cardLines printCard componentsOf nameJson contentJson flagsJson entryJson mapsJson keptJson membersJson printJson isKeyText isPref organized readAs takesType isTelUri writeAs writtenType partValues without ownParts readParts writtenParts writeParts text-opened json-opened line-opened
+unfolding seek firstFrom isStemText isCardNumber garbled ungrammatical isVersionLine onlyUri misused secondFrom emptied rawLines lineTests fitted
+    linesOf convertLines convertCard cardToJson convertModel jsonToCard carriedRaw carriedText carriedParam carriedAs carriedMaps carriedKept apart
+    apartParts carried isDerived fullClass partsClass memberName memberValue memberClass typesFrom entryOf entryClass classify classedAfter classed
+    keptLine gathered inMap withKeys mapsFrom madeUid cardOfClassed cardOfLines onlyMembers componentIn byKind nameFrom flagsFrom unitFrom
+    organizationFrom contentFrom entryMembers entryFrom mapFrom keptFrom keptAsLine keptStands idsFrom seenIn standing cardFromMembers cardFromJson
+    numbered freshFrom fresh keysAfter keys hasParts renewed partTexts nameValues nameText orgText telNumber entryValue typeForm valueForm entryForm
+    keptForm section entryForms mapForms nameStrings derivedForm normalLines normalCard isComponent componentsForm nameForm flagsForm isUnit
+    contentForm entryTree mapTree paramsForm membersForm normalTree normalJson pointedFrom pointed pointer inOrder position slotFrom slotOf
+    derivedLine fullLine entryLine mapsLines memberLine cardLines printCard componentsOf nameJson contentJson flagsJson entryJson mapsJson keptJson
+    membersJson printJson isKeyText isPref organized readAs takesType isTelUri writeAs writtenType partValues without ownParts readParts writtenParts
+    writeParts text-opened json-opened line-opened
 convert-opened = tt

@@ -1,26 +1,23 @@
 -- One call of the stream, refused at entry or read as the plain reader reads it; then lists of calls.
-use Prim.Native.Nat.{ℕ, _≤_, min}
+use Prim.Native.Nat.{ℕ, _≤_}
 use mathlib.Core.Path.{_≡_, refl, ap, ap₂}
 use mathlib.Core.Bool.{Bool, true, false, not, _||_}
 use mathlib.Core.List.{List, [], _∷_, _++_}
 use mathlib.Core.Logic.{_⊎_, inl, inr}
-use native.Mathlib.Omega.{arith}
 use lib.ListN.{length}
-use lib.Dec.{ltb, leb, eqb, lit≤}
-use borrow.Author.Tests.{le-leb, ltb-false}
+use lib.Dec.{ltb, eqb}
+use borrow.Author.Tests.{ltb-false}
 use Rattle.text.specs.Choice.{pick, is-some}
 use Rattle.text.specs.Bytes.{Bytes, flat, keep, begins, lowered}
 use Rattle.text.proofs.Cases.{byBool, or-left, or-right, not-both}
 use Rattle.convert.specs.Answers.{Answer, no, yes, jsonRoom, isStemText}
 use Rattle.stream.specs.Plain.{Reader, Told, fresh}
 use Rattle.stream.specs.Calls.{Call, piece, end, stemOf, Shown, shows-more, shows, shownOf, loudOf, asked, plainReplies, hindrance, Lent, made, final}
-use Rattle.stream.specs.Buffer.{heldOf}
 use Rattle.stream.specs.Demand.{passed, callsOf, repliesOf, loud, ReadsPlainly}
 use Rattle.stream_reader.specs.declared.State.{State}
-use Rattle.stream_reader.specs.Machine.{cap, far, over, past, freshOf, inRange}
+use Rattle.stream_reader.specs.Machine.{cap, freshOf, inRange}
 use Rattle.stream_machine.specs.Turn.{Given, givenBy, fedBy, called, unfit}
 use Rattle.stream_proved.specs.Stream.{stream}
-use Rattle.stream_proved.proofs.Words.{leb-min}
 use Rattle.stream_proved.proofs.Passing.{passes}
 use Rattle.stream_proved.proofs.Same.{Tied, tied-fresh, state, Same, same-feed, same-end}
 
@@ -45,16 +42,6 @@ pub record Taken (go : Bool) (g : Given) (y : Told) : Type 0 where
   pub used : g .consumed ≡ y .consumed
   pub then : g .state ≡ state (y .then)
   pub tied : cap ≤ length (g .buffer) → Tied (y .then) (g .buffer)
-
-in-range : (r : Reader) → (not (is-some (r .card)) || leb 1 (r .number)) ≡ true → inRange (state r) ≡ true
-unfolding inRange
-in-range r h =
-    rw (
-      le-leb (min (r .number) past) past (omega arith),
-      le-leb (min (length (heldOf (r .card) (r .begun))) over) over (omega arith),
-      le-leb (min (length (r .begun)) far) far (omega arith),
-      leb-min (r .number) past 1 (lit≤ tt),
-    ) h
 
 taken : (t : Bytes) (out : Bytes) (st : isStemText t ≡ true) (big : jsonRoom ≤ length out) (f : _) (y : Told) → Same t (length out) st big f y → Taken true (givenBy t out f) y
 taken t out st big f y s =

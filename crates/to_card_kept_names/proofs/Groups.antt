@@ -187,10 +187,6 @@ indexed s slots places prints ends i n f even wide h l =
 pub index-there : (s : Bytes) (slots places prints ends : List ℕ) → Indexes s slots places prints ends → (length ends ≡ 0 → ⊥) → NameIndex s slots places prints ends
 index-there s slots places prints ends h n = h (omega (arith, n))
 
-pub group-there : (s : Bytes) (slots places prints ends : List ℕ) → Indexes s slots places prints ends → (length ends ≡ 0 → ⊥) → (i : ℕ) → i < 8
-    → Group s slots places prints i (getD ends i 0) (getD ends (i + 1) 0)
-group-there s slots places prints ends h n i l = index-there s slots places prints ends h n .groups i l
-
 pub rows-in : {room k : ℕ} {r : Noted} → NotedIn room r → r ≡ Rows k → k ≤ room
 rows-in {room} h e = subst (NotedIn room) e h
 
