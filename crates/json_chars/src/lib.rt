@@ -7,6 +7,7 @@ use text::Read;
 use text::Turn;
 use text::in_range;
 use text::look;
+use text_words::raw_end;
 use utf8::Due;
 use utf8::due_after;
 ghost use Prim.Native.Nat.{_≤_};
@@ -85,27 +86,7 @@ fn plain_end(s: &[u8], at: usize) -> usize
     ensures { λ r. ⌜ ToEnd (now (s .entry)) at r ⌝ }
     ensures { λ r. ⌜ Unmarked (now (s .entry)) at r ⌝ }
 {
-    let mut i = at;
-    loop {
-        let b = look(s, i);
-        if b > BACKSLASH {
-            if b > 127 {
-                return i;
-            }
-            i += 1;
-            continue;
-        }
-        if b == QUOTE {
-            return i;
-        }
-        if b == BACKSLASH {
-            return i;
-        }
-        if b < 32 {
-            return i;
-        }
-        i += 1;
-    }
+    raw_end(s, at)
 }
 
 // Past characters that stand for themselves, of one byte or of several.

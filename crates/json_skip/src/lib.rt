@@ -7,6 +7,7 @@ use text::LEFT_BRACKET;
 use text::QUOTE;
 use text::Read;
 use text::look;
+use text_words::soft_end;
 ghost use mathlib.Core.Path.{_≡_};
 ghost use mathlib.Core.Bool.{false};
 ghost use Prim.Native.Nat.{_≤_};
@@ -19,26 +20,20 @@ pub fn string_stop(s: &[u8], at: usize) -> usize
     ensures { λ r. ⌜ Leaves (now (s .entry)) at (quoted false (drop at (now (s .entry)))) r ⌝ }
 {
     let mut i = at;
-    while i < s.len() {
-        let b = s[i];
-        // Most bytes are small letters.
-        if b > b'\\' {
-            i += 1;
-            continue;
+    loop {
+        let e = soft_end(s, i);
+        if e >= s.len() {
+            return e;
         }
-        if b == b'"' {
-            return i + 1;
+        if s[e] == b'"' {
+            return e + 1;
         }
-        if b == b'\\' {
-            if s.len() - i < 2 {
-                return s.len();
-            }
-            i += 2;
-            continue;
+        // A backslash, and what it escapes.
+        if s.len() - e < 2 {
+            return s.len();
         }
-        i += 1;
+        i = e + 2;
     }
-    i
 }
 
 fn is_opening(b: u8) -> bool
