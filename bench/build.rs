@@ -1,5 +1,5 @@
-//! With the feature `pieces`: links the pieces of the proved library, which
-//! `rt staticlib pieces` writes to target/staticlib of the repository.
+//! With the feature `pieces`: links the pieces of the proved library, whose archive
+//! `tools/bench --pieces` writes to target/staticlib of the repository.
 
 use std::env;
 use std::path::PathBuf;

@@ -8,6 +8,7 @@
 #include <string.h>
 
 #include "thymebarrel.h"
+#include "thymebarrel_reason.h"
 
 /* One byte more than an input may have, so that a longer one is refused and not cut. */
 static uint8_t in[THYMEBARREL_JSON_BYTES + 1];
@@ -19,10 +20,10 @@ int main(int count, char **words)
     size_t place, written;
     size_t length = fread(in, 1, sizeof in, stdin);
     int home = count > 1 && strcmp(words[1], "home") == 0;
-    uint8_t number = home ? thymebarrel_json_to_card(in, length, out, sizeof out, &place, &written)
+    uint8_t answer = home ? thymebarrel_json_to_card(in, length, out, sizeof out, &place, &written)
                           : thymebarrel_card_to_json(stem, sizeof stem, 1, in, length, out, sizeof out, &place, &written);
-    if (number != THYMEBARREL_CONVERTED) {
-        fprintf(stderr, "refused %u at place %lu\n", (unsigned)number, (unsigned long)place);
+    if (answer != THYMEBARREL_CONVERTED) {
+        fprintf(stderr, "refused %u at place %lu\n%s\n", (unsigned)answer, (unsigned long)place, thymebarrel_reason(answer));
         return 1;
     }
     fwrite(out, 1, written, stdout);

@@ -6,6 +6,7 @@
  *     cat examples/ada.vcf examples/zoe.vcf | ./stream
  */
 #include <stdio.h>
+#include <string.h>
 
 #include "thymebarrel.h"
 
@@ -14,35 +15,35 @@ static uint8_t piece[1000]; /* of any size */
 static uint8_t buffer[THYMEBARREL_CARD_BYTES];
 static uint8_t out[THYMEBARREL_JSON_BYTES];
 static size_t state[THYMEBARREL_STREAM_WORDS]; /* all 0: fresh */
+static const size_t fresh[THYMEBARREL_STREAM_WORDS] = {0};
 
-static void tell(uint8_t number, size_t place, size_t written)
+static void tell(uint8_t answer, size_t place, size_t written)
 {
-    if (number == THYMEBARREL_MORE)
+    if (answer == THYMEBARREL_MORE)
         return;
-    if (number == THYMEBARREL_CONVERTED)
+    if (answer == THYMEBARREL_CONVERTED)
         fwrite(out, 1, written, stdout);
     else
-        printf("refused %u at place %lu", (unsigned)number, (unsigned long)place);
+        printf("refused %u at place %lu", (unsigned)answer, (unsigned long)place);
     putchar('\n');
 }
 
 int main(void)
 {
     size_t length, at, consumed, place, written;
-    int ends;
-    uint8_t number;
+    uint8_t answer;
     while ((length = fread(piece, 1, sizeof piece, stdin)) > 0)
         for (at = 0; at < length; at += consumed) {
-            number = thymebarrel_stream_step(state, THYMEBARREL_STREAM_WORDS, stem, sizeof stem, piece + at, length - at, buffer, sizeof buffer, out,
+            answer = thymebarrel_stream_step(state, THYMEBARREL_STREAM_WORDS, stem, sizeof stem, piece + at, length - at, buffer, sizeof buffer, out,
                                              sizeof out, &consumed, &place, &written);
             /* 15 and 16 would consume nothing; with this stem and these sizes they are not given */
-            tell(number, place, written);
+            tell(answer, place, written);
         }
-    /* two end calls always do; the second says more where the first left no card open */
-    for (ends = 0; ends < 2; ends++) {
-        number = thymebarrel_stream_end(state, THYMEBARREL_STREAM_WORDS, stem, sizeof stem, buffer, sizeof buffer, out, sizeof out, &consumed, &place,
+    /* end calls until the state is fresh: two at the most */
+    do {
+        answer = thymebarrel_stream_end(state, THYMEBARREL_STREAM_WORDS, stem, sizeof stem, buffer, sizeof buffer, out, sizeof out, &consumed, &place,
                                         &written);
-        tell(number, place, written);
-    }
+        tell(answer, place, written);
+    } while (memcmp(state, fresh, sizeof fresh) != 0);
     return 0;
 }

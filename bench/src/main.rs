@@ -1,6 +1,7 @@
 //! The proved library beside the baseline, in one run. Run it by `tools/bench`:
 //! words choose what is done, `times`, `stack`, `growth`, `plot FILE`, `pieces`.
 
+mod deepest;
 mod growth;
 mod measure;
 #[cfg(feature = "pieces")]

@@ -3,6 +3,7 @@
 //! how far down the call went. The threads are POSIX's, since std's do not take
 //! memory for their stacks.
 
+use crate::deepest;
 use crate::growth;
 use crate::times::{grouped, json_of, ours_reads};
 use crate::workloads;
@@ -123,6 +124,12 @@ fn print_cards() {
     }
     let most = [greatest(generate::card, card_to_json), greatest(generate::card, stream)];
     row(&format!("the greatest of {} generated cards", grouped(GENERATED)), most.map(grouped));
+    let (most, card) = deepest::search(deepest::card, card_to_json);
+    row(&searched(&card), [most, stream(&card)].map(grouped));
+}
+
+fn searched(input: &[u8]) -> String {
+    format!("the deepest that a search found: {} B", grouped(input.len()))
 }
 
 fn print_texts() {
@@ -144,6 +151,8 @@ fn print_texts() {
     }
     let most = [greatest(generate::json, json_to_card), greatest(generate::json, look_up)];
     row(&format!("the greatest of {} generated texts", grouped(GENERATED)), most.map(grouped));
+    let (most, text) = deepest::search(deepest::text, json_to_card);
+    row(&searched(&text), [most, look_up(&text)].map(grouped));
 }
 
 fn head(names: [&str; 2]) {
@@ -152,5 +161,5 @@ fn head(names: [&str; 2]) {
 }
 
 fn row(name: &str, [one, other]: [String; 2]) {
-    println!("| {name:<38} | {one:>14} | {other:>14} |");
+    println!("| {name:<42} | {one:>14} | {other:>14} |");
 }

@@ -2,13 +2,12 @@
 //!
 //!     cargo run --release --offline --example convert < ../examples/ada.vcf
 
-use std::io::{Read, Write};
+use std::io::Read;
 
 fn main() -> Result<(), Box<dyn std::error::Error>> {
     let mut card = Vec::new();
     std::io::stdin().read_to_end(&mut card)?;
-    let json = thymebarrel::card_to_json(b"reg", 1, &card)?;
-    std::io::stdout().write_all(&json)?;
-    println!();
+    let json = thymebarrel::card_to_json("reg", 1, &card)?;
+    println!("{json}");
     Ok(())
 }

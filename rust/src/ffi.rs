@@ -95,7 +95,7 @@ pub fn card_to_json(
     let (mut place, mut written) = (0, 0);
     // SAFETY: two slices that are only read; a slice and two numbers, each borrowed
     // mutably, to write to.
-    let number = unsafe {
+    let answer = unsafe {
         thymebarrel_card_to_json(
             stem.as_ptr(),
             stem.len(),
@@ -108,14 +108,14 @@ pub fn card_to_json(
             &mut written,
         )
     };
-    answer(number, place, written)
+    result(answer, place, written)
 }
 
 /// The length of the card at the front of `out`, or the refusal.
 pub fn json_to_card(json: &[u8], out: &mut [u8]) -> Result<usize, Refusal> {
     let (mut place, mut written) = (0, 0);
     // SAFETY: as in `card_to_json`.
-    let number = unsafe {
+    let answer = unsafe {
         thymebarrel_json_to_card(
             json.as_ptr(),
             json.len(),
@@ -125,11 +125,11 @@ pub fn json_to_card(json: &[u8], out: &mut [u8]) -> Result<usize, Refusal> {
             &mut written,
         )
     };
-    answer(number, place, written)
+    result(answer, place, written)
 }
 
-fn answer(number: u8, place: usize, written: usize) -> Result<usize, Refusal> {
-    match number {
+fn result(answer: u8, place: usize, written: usize) -> Result<usize, Refusal> {
+    match answer {
         0 => Ok(written),
         number => Err(Refusal { number, place }),
     }
@@ -140,7 +140,7 @@ pub fn stream_step(state: &mut Words, stem: &[u8], piece: &[u8], lent: &mut Lent
     let (mut consumed, mut place, mut written) = (0, 0, 0);
     // SAFETY: as in `card_to_json`; the state, the card buffer and the output are
     // three slices borrowed mutably.
-    let number = unsafe {
+    let answer = unsafe {
         thymebarrel_stream_step(
             state.as_mut_ptr(),
             state.len(),
@@ -157,14 +157,14 @@ pub fn stream_step(state: &mut Words, stem: &[u8], piece: &[u8], lent: &mut Lent
             &mut written,
         )
     };
-    (said(number, place, written), consumed)
+    (said(answer, place, written), consumed)
 }
 
 /// What an end call says.
 pub fn stream_end(state: &mut Words, stem: &[u8], lent: &mut Lent) -> (Said, usize) {
     let (mut consumed, mut place, mut written) = (0, 0, 0);
     // SAFETY: as in `stream_step`.
-    let number = unsafe {
+    let answer = unsafe {
         thymebarrel_stream_end(
             state.as_mut_ptr(),
             state.len(),
@@ -179,11 +179,11 @@ pub fn stream_end(state: &mut Words, stem: &[u8], lent: &mut Lent) -> (Said, usi
             &mut written,
         )
     };
-    (said(number, place, written), consumed)
+    (said(answer, place, written), consumed)
 }
 
-fn said(number: u8, place: usize, written: usize) -> Said {
-    match number {
+fn said(answer: u8, place: usize, written: usize) -> Said {
+    match answer {
         Stream::MORE => Said::More,
         0 => Said::Json(written),
         number => Said::Refused(Refusal { number, place }),

@@ -1,27 +1,8 @@
-//! The proved library that `rt staticlib thymebarrel` builds from the Rattle
-//! sources, for Rust: card to JSON, JSON to card, a stream of cards, and the
-//! look-up of a top-level member.
-//!
-//! ```
-//! let card = b"BEGIN:VCARD\nVERSION:4.0\nFN:Ada Moss\nEND:VCARD\n";
-//! let json = thymebarrel::card_to_json(b"reg", 1, card).unwrap();
-//! assert_eq!(thymebarrel::member(&json, b"uid"), b"\"reg-1\"");
-//! let home = thymebarrel::json_to_card(&json).unwrap();
-//! assert_eq!(home, b"BEGIN:VCARD\r\nVERSION:4.0\r\nUID:reg-1\r\nFN:Ada Moss\r\nEND:VCARD\r\n");
-//!
-//! let refusal = thymebarrel::card_to_json(b"reg", 1, b"no card").unwrap_err();
-//! assert_eq!((refusal.number, refusal.place), (1, 0));
-//! println!("{refusal}");
-//!
-//! for answer in thymebarrel::Cards::new(b"reg", &card[..]) {
-//!     let answer = answer.expect("a slice can be read");
-//!     println!("{} at byte {}: {}", answer.number, answer.offset, answer.result.is_ok());
-//! }
-//! ```
-
-#![deny(unsafe_code)]
+#![doc = include_str!("../README.md")]
+#![deny(unsafe_code, missing_docs)]
 
 mod cards;
+mod explain;
 #[allow(unsafe_code)]
 mod ffi;
 mod lines;
@@ -30,6 +11,7 @@ mod refusal;
 mod stream;
 
 pub use cards::{Answer, Cards};
+pub use explain::{printable, Explanation};
 pub use reason::{PlaceOf, Reason};
 pub use refusal::Refusal;
 pub use stream::{Lent, Said, Stream};
@@ -40,10 +22,22 @@ pub const JSON_BYTES: usize = 65_536;
 pub const CARD_BYTES: usize = 32_768;
 /// Unfolded lines between BEGIN and END at the most.
 pub const CARD_LINES: usize = 512;
+/// A card's number at the most.
+pub const LAST_NUMBER: usize = 999_999;
+/// Bytes of stack that a thread needs at least to call any function of this crate. It is
+/// not proved: the most that was measured is 438,000 (docs/PERFORMANCE.md), and a short
+/// input may take nearly all of that.
+pub const STACK_BYTES: usize = 524_288;
+/// Bytes of a stem at the most.
+pub const STEM_BYTES: usize = 200;
 
 /// Converts one card into `out`, and answers the length of the JSON there. `stem`
-/// and `number` make the UID of a card without one. A refused card leaves every
-/// byte of `out` as it was; [`JSON_BYTES`] of output are always enough.
+/// and `number` make the UID of a card without one. [`JSON_BYTES`] of output are
+/// always enough.
+///
+/// # Errors
+///
+/// A [`Refusal`] 1, 3 to 10, 14 or 15; every byte of `out` is then as it was.
 pub fn card_to_json_into(
     stem: &[u8],
     number: usize,
@@ -53,32 +47,74 @@ pub fn card_to_json_into(
     ffi::card_to_json(stem, number, card, out)
 }
 
-/// Converts one card.
-pub fn card_to_json(stem: &[u8], number: usize, card: &[u8]) -> Result<Vec<u8>, Refusal> {
+/// Converts one card. `stem` and `number` make the UID of a card without one: no two
+/// cards of a register may get the same two.
+///
+/// # Errors
+///
+/// A [`Refusal`] 1, 3 to 10, or 15.
+///
+/// ```
+/// let card = "BEGIN:VCARD\nVERSION:4.0\nFN:Ada Moss\nEND:VCARD\n";
+/// let json = thymebarrel::card_to_json("reg", 1, card)?;
+/// assert_eq!(json, r#"{"@type":"Card","version":"1.0","uid":"reg-1","name":{"full":"Ada Moss"}}"#);
+/// # Ok::<(), thymebarrel::Refusal>(())
+/// ```
+pub fn card_to_json(
+    stem: impl AsRef<[u8]>,
+    number: usize,
+    card: impl AsRef<[u8]>,
+) -> Result<String, Refusal> {
     let mut out = vec![0; JSON_BYTES];
-    let length = card_to_json_into(stem, number, card, &mut out)?;
-    out.truncate(length);
-    Ok(out)
+    let length = card_to_json_into(stem.as_ref(), number, card.as_ref(), &mut out)?;
+    Ok(utf8(&out[..length]))
 }
 
-/// Converts JSON into `out`, and answers the length of the card there. Refused JSON
-/// leaves every byte of `out` as it was; [`CARD_BYTES`] of output are always enough.
+/// Converts JSON into `out`, and answers the length of the card there. [`CARD_BYTES`]
+/// of output are always enough.
+///
+/// # Errors
+///
+/// A [`Refusal`] 3 or 11 to 14; every byte of `out` is then as it was.
 pub fn json_to_card_into(json: &[u8], out: &mut [u8]) -> Result<usize, Refusal> {
     ffi::json_to_card(json, out)
 }
 
-/// Converts JSON to a card.
-pub fn json_to_card(json: &[u8]) -> Result<Vec<u8>, Refusal> {
+/// Converts JSON to a card, with CR LF at the end of each line.
+///
+/// # Errors
+///
+/// A [`Refusal`] 3 or 11 to 13.
+///
+/// ```
+/// let card = thymebarrel::json_to_card(r#"{"@type":"Card","version":"1.0","uid":"u"}"#)?;
+/// assert_eq!(card, "BEGIN:VCARD\r\nVERSION:4.0\r\nUID:u\r\nFN;DERIVED=TRUE:\r\nEND:VCARD\r\n");
+/// # Ok::<(), thymebarrel::Refusal>(())
+/// ```
+pub fn json_to_card(json: impl AsRef<[u8]>) -> Result<String, Refusal> {
     let mut out = vec![0; CARD_BYTES];
-    let length = json_to_card_into(json, &mut out)?;
-    out.truncate(length);
-    Ok(out)
+    let length = json_to_card_into(json.as_ref(), &mut out)?;
+    Ok(utf8(&out[..length]))
 }
 
-/// The value of the top-level member of that name, as that very part of `json`;
-/// empty where the text is over [`JSON_BYTES`], is no JSON or no object, or has no
-/// such member.
-pub fn member<'a>(json: &'a [u8], name: &[u8]) -> &'a [u8] {
-    let (start, length) = ffi::member(json, name);
-    &json[start..start + length]
+/// The value of the top-level member of that name, as that very part of `json`. None
+/// where the text is over [`JSON_BYTES`], is no JSON or no object, or has no such
+/// member.
+///
+/// ```
+/// use thymebarrel::member;
+/// let json = r#"{"uid":"u","name":{"full":"Ada"}}"#;
+/// assert_eq!(member(json, "uid"), Some("\"u\""));
+/// assert_eq!(member(json, "kind"), None);
+/// ```
+pub fn member<J: AsRef<[u8]> + ?Sized>(json: &J, name: impl AsRef<[u8]>) -> Option<&str> {
+    let json = json.as_ref();
+    let (start, length) = ffi::member(json, name.as_ref());
+    let value = std::str::from_utf8(&json[start..start + length]).ok()?;
+    (!value.is_empty()).then_some(value)
+}
+
+/// What the library wrote, in memory of its own size.
+fn utf8(written: &[u8]) -> String {
+    String::from_utf8(written.to_vec()).expect("the library is proved to write UTF-8")
 }

@@ -11,6 +11,7 @@ pub struct Line {
 /// The unfolded lines after BEGIN, END's the last.
 pub fn unfolded(card: &[u8]) -> Vec<Line> {
     let mut lines: Vec<Line> = Vec::new();
+    let card = card.strip_suffix(b"\n").unwrap_or(card);
     for (k, physical) in card.split(|b| *b == b'\n').enumerate().skip(1) {
         let physical = physical.strip_suffix(b"\r").unwrap_or(physical);
         match (lines.last_mut(), physical.split_first()) {
@@ -22,6 +23,11 @@ pub fn unfolded(card: &[u8]) -> Vec<Line> {
         }
     }
     lines
+}
+
+/// Whether a line is named UID.
+pub fn has_uid(card: &[u8]) -> bool {
+    unfolded(card).iter().any(|line| line.name() == "UID")
 }
 
 impl Line {
@@ -42,36 +48,34 @@ impl Line {
         String::from_utf8_lossy(after_dot).to_ascii_uppercase()
     }
 
-    /// The line's beginning, fit for a terminal.
-    pub fn shown(&self) -> String {
-        const LONGEST: usize = 60;
-        let text = String::from_utf8_lossy(&self.bytes);
-        let mut shown: String = text
-            .chars()
-            .take(LONGEST)
-            .map(|c| if c.is_control() { '\u{fffd}' } else { c })
-            .collect();
-        if text.chars().count() > LONGEST {
-            shown.push_str("...");
-        }
-        shown
+    /// Whether it has one of these names.
+    pub fn is_named(&self, names: &[&str]) -> bool {
+        names.contains(&self.name().as_str())
     }
 
-    /// The first byte of the line (from 1) that is not UTF-8, or is a control.
+    /// What follows the first colon; of a line with parameters perhaps more than its value.
+    pub fn value(&self) -> &[u8] {
+        let colon = self.bytes.iter().position(|b| *b == b':');
+        colon.map_or(&[], |k| &self.bytes[k + 1..])
+    }
+
+    /// The first byte of the line (from 0) that is not UTF-8, or is a control.
     pub fn garbled(&self) -> Option<(usize, Garbled)> {
-        let control = |b: &u8| (*b < 32 && *b != b'\t') || *b == 127;
+        let control = |b: &u8| b.is_ascii_control() && *b != b'\t';
         let valid = match std::str::from_utf8(&self.bytes) {
             Ok(text) => text.len(),
             Err(error) => error.valid_up_to(),
         };
         if let Some(k) = self.bytes[..valid].iter().position(control) {
-            return Some((k + 1, Garbled::Control(self.bytes[k])));
+            return Some((k, Garbled::Control(self.bytes[k])));
         }
-        (valid < self.bytes.len()).then_some((valid + 1, Garbled::NotUtf8))
+        let bad = self.bytes.get(valid)?;
+        Some((valid, Garbled::NotUtf8(*bad)))
     }
 }
 
+/// What 4 refuses, with the byte.
 pub enum Garbled {
-    NotUtf8,
+    NotUtf8(u8),
     Control(u8),
 }

@@ -5,6 +5,12 @@
 mod arguments;
 mod commands;
 mod files;
+mod ndjson;
+mod options;
+mod progress;
+mod report;
+mod skip_bom;
+mod without;
 
 use std::process::ExitCode;
 

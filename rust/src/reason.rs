@@ -3,27 +3,45 @@
 /// Why an input is refused. Numbers 2 and 16 are of a stream of cards, 11 to 13 of
 /// JSON that is to become a card.
 #[derive(Debug, Clone, Copy, PartialEq, Eq, Hash)]
+#[non_exhaustive]
 pub enum Reason {
+    /// BEGIN first, END last, neither elsewhere; in a stream a line outside of a card.
     NotOneCard = 1,
+    /// In a stream, a card without its END.
     LeftOpen = 2,
+    /// The input or what it becomes is over its room.
     OverRoom = 3,
+    /// Not UTF-8, or a control character.
     NotText = 4,
+    /// A line that is not `NAME;PARAMETER=value:value`.
     OffGrammar = 5,
+    /// The first line is not `VERSION:4.0`.
     NotVersion4 = 6,
+    /// A parameter or a group where none may stand.
     BadParameter = 7,
+    /// A second VERSION, UID or KIND.
     Repeated = 8,
+    /// UID or KIND without a good value.
     BadUidOrKind = 9,
+    /// No FN line.
     NoFn = 10,
+    /// Not JSON of depth 16, or equal names in one object.
     NotJson = 11,
+    /// JSON that is no card.
     NotACard = 12,
+    /// A string that no line can carry.
     NotCarried = 13,
+    /// The output that is lent is too short.
     OutputTooShort = 14,
+    /// The stem or the number is out of its range.
     BadStemOrNumber = 15,
+    /// A stream's buffers are too short, or its state is none.
     Unfit = 16,
 }
 
 /// What a refusal's place counts.
 #[derive(Debug, Clone, Copy, PartialEq, Eq, Hash)]
+#[non_exhaustive]
 pub enum PlaceOf {
     /// It is 0: the refusal is of the whole.
     Whole,
@@ -35,7 +53,8 @@ pub enum PlaceOf {
 }
 
 impl Reason {
-    pub const ALL: [Reason; 16] = [
+    /// Every reason, by number.
+    pub const ALL: &'static [Reason] = &[
         Reason::NotOneCard,
         Reason::LeftOpen,
         Reason::OverRoom,
@@ -56,13 +75,15 @@ impl Reason {
 
     /// The reason of that number, if there is one.
     pub fn of(number: u8) -> Option<Reason> {
-        Reason::ALL.into_iter().find(|r| r.number() == number)
+        Reason::ALL.iter().copied().find(|r| r.number() == number)
     }
 
+    /// The number of the rules' table.
     pub fn number(self) -> u8 {
         self as u8
     }
 
+    /// What the place of such a refusal counts.
     pub fn place_of(self) -> PlaceOf {
         match self.number() {
             4 | 5 | 7 | 8 | 9 => PlaceOf::Line,
@@ -144,7 +165,7 @@ impl Reason {
                 "This is a fault of the caller, not of the card: give another stem or number.",
             ),
             Reason::Unfit => (
-                "A stream was called with a card buffer under 32,768 bytes, an output under 65,536, or a state that no call gave.",
+                "A stream was called with a card buffer under 32,768 bytes, an output under 65,536, or a state out of its ranges (docs/STREAM.md).",
                 "This is a fault of the caller: lend the full sizes, and hand in the state that the last call handed back.",
             ),
         }

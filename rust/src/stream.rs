@@ -9,20 +9,39 @@ pub type Words = [usize; Stream::WORDS];
 /// What a call of a stream says: nothing yet, the length of the JSON at the front
 /// of the output, or a refusal.
 #[derive(Debug, Clone, Copy, PartialEq, Eq)]
+#[non_exhaustive]
 pub enum Said {
+    /// No line answered: hand in more.
     More,
+    /// A card's JSON stands at the front of the output, so many bytes of it.
     Json(usize),
+    /// A card, or a line outside of any, is refused.
     Refused(Refusal),
 }
 
 /// What a stream is lent by each call: the card buffer, at least `CARD_BYTES`, which
 /// holds the open card from call to call, and the output, at least `JSON_BYTES`.
+#[derive(Debug)]
 pub struct Lent<'a> {
+    /// The card buffer: keep it from call to call, and change nothing in it.
     pub buffer: &'a mut [u8],
+    /// Where the JSON is written.
     pub out: &'a mut [u8],
 }
 
 /// A stream of cards, each to JSON, in pieces cut anywhere.
+///
+/// ```
+/// use thymebarrel::{Lent, Said, Stream, CARD_BYTES, JSON_BYTES};
+/// let (mut buffer, mut out) = (vec![0; CARD_BYTES], vec![0; JSON_BYTES]);
+/// let mut lent = Lent { buffer: &mut buffer, out: &mut out };
+/// let mut stream = Stream::fresh();
+/// let (said, consumed) = stream.step(b"reg", b"BEGIN:VC", &mut lent);
+/// assert_eq!((said, consumed), (Said::More, 8));
+/// let (said, _) = stream.step(b"reg", b"ARD\nVERSION:4.0\nFN:a\nEND:VCARD\n", &mut lent);
+/// assert!(matches!(said, Said::Json(_)));
+/// assert_eq!(stream.end(b"reg", &mut lent), Said::More);
+/// ```
 #[derive(Debug, Clone, Default, PartialEq, Eq)]
 pub struct Stream(Words);
 

@@ -1,29 +1,7 @@
-//! The command as a person types it.
+//! The command as a person types it, with one input.
 
 mod common;
 use common::*;
-use std::process::Command;
-
-/// Exit status, standard output, standard error.
-fn typed(words: &[&str], input: &[u8]) -> (i32, String, String) {
-    let mut command = Command::new(env!("CARGO_BIN_EXE_thymebarrel"));
-    let output = run(command.args(words).current_dir(path("examples")), input);
-    let status = output.status.code().expect("it was not killed");
-    (status, text(&output.stdout), text(&output.stderr))
-}
-
-fn gives(words: &[&str], input: &[u8], stdout: &str) {
-    let want = (0, stdout.to_string(), String::new());
-    assert_eq!(typed(words, input), want, "{words:?}");
-}
-
-/// Ends with this status, writes nothing to standard output, and says this.
-fn fails(words: &[&str], input: &[u8], status: i32, says: &str) {
-    let (got, stdout, stderr) = typed(words, input);
-    assert_eq!((got, stdout.as_str()), (status, ""), "{words:?}: {stderr}");
-    assert!(stderr.starts_with("thymebarrel: "), "{words:?}: {stderr}");
-    assert!(stderr.contains(says), "{words:?}: {stderr}");
-}
 
 #[test]
 fn json_of_a_file_and_of_standard_input() {
@@ -58,7 +36,13 @@ fn card_of_json() {
         &["card", "refused/11-comma.json"],
         b"",
         1,
-        "\n  byte 43 (line 1, byte 44 of it)\n",
+        "\n  byte 43 (line 1, column 44):\n",
+    );
+    fails(
+        &["card", "refused/12-no-uid.json"],
+        b"",
+        1,
+        "\n  uid is missing: a card has a uid\n",
     );
     fails(
         &["card", "--stem", "a", "ada.json"],
@@ -81,25 +65,7 @@ fn stem_and_number() {
         b"",
         &json,
     );
-    fails(
-        &["json", "--stem", "a b", "ada.vcf"],
-        b"",
-        1,
-        "ada.vcf: refused 15\n",
-    );
-    fails(
-        &["json", "--number", "1000000", "ada.vcf"],
-        b"",
-        1,
-        "refused 15\n",
-    );
-    fails(
-        &["json", "--number", "one", "ada.vcf"],
-        b"",
-        2,
-        "--number one is no number",
-    );
-    fails(&["json", "--number"], b"", 2, "--number needs a value");
+    fails(&["json", "--number"], b"", 2, "--number needs a value: N");
     fails(
         &["json", "--stem=a", "--stem=b"],
         b"",
@@ -108,26 +74,46 @@ fn stem_and_number() {
     );
 }
 
+/// Out of range is bad usage wherever it can be typed, and the option is named.
+#[test]
+fn a_stem_or_number_out_of_range() {
+    let long = "a".repeat(201);
+    for command in ["json", "stream"] {
+        for number in [
+            "0",
+            "1000000",
+            "18446744073709551615",
+            "18446744073709551616",
+            "-1",
+            "one",
+            "",
+        ] {
+            let says = format!("--number {number} is not 1 to 999999\n");
+            fails(
+                &[command, &format!("--number={number}"), "ada.vcf"],
+                b"",
+                2,
+                &says,
+            );
+        }
+        for stem in ["a b", "", "é", "a.b", &long] {
+            let says = format!("--stem {stem} is not 1 to 200 characters");
+            fails(&[command, "--stem", stem, "ada.vcf"], b"", 2, &says);
+        }
+        let (status, stdout, _) = typed(&[command, "--number", "999999", "ada.vcf"], b"");
+        assert_eq!((status, stdout.contains("reg-999999")), (0, true));
+    }
+}
+
 #[test]
 fn refusals_are_explained() {
-    for (name, number, place) in REFUSED {
+    for (name, number, _) in REFUSED {
         fails(
             &["json", name],
             b"",
             1,
             &format!("thymebarrel: {name}: refused {number}\n"),
         );
-        if place > 0 {
-            fails(
-                &["json", name],
-                b"",
-                1,
-                &format!(
-                    "\n  line {place} (line {} counting BEGIN and folds): ",
-                    place + 1
-                ),
-            );
-        }
     }
     let uid = "thymebarrel: standard input: refused 8
   line 4 (line 5 counting BEGIN and folds): UID:v
@@ -135,18 +121,60 @@ fn refusals_are_explained() {
   A card has one of each: take this line out, or send two cards.
 ";
     fails(&["json"], &sample("refused/8-second-uid.vcf"), 1, uid);
+    let two = sample("ada.vcf").repeat(2);
+    fails(
+        &["json"],
+        &two,
+        1,
+        "\n  There are 2 cards here.\n  Use thymebarrel stream",
+    );
+    let (status, stdout, stderr) = typed(&["json", "--quiet"], &two);
+    assert_eq!((status, &*stdout, &*stderr), (1, "", ""));
 }
 
 #[test]
 fn an_endless_input_is_refused() {
-    let over = vec![b'x'; 10_000_000];
+    let over = vec![b'x'; 40_000_000];
+    fails(&["json"], &over, 1, "\n  The card has over 32,768 bytes");
     fails(
-        &["json"],
+        &["member", "a"],
         &over,
         1,
-        "refused 3\n  The card has over 32,768 bytes",
+        "refused 3\n  The JSON has over 65,536 bytes.\n",
     );
-    fails(&["member", "a"], &over, 1, "no member a");
+    fails(&["card"], &over, 1, "refused 3\n");
+}
+
+#[test]
+fn a_byte_order_mark_is_told_and_can_be_skipped() {
+    let marked = |name: &str| [b"\xef\xbb\xbf", &sample(name)[..]].concat();
+    fails(
+        &["json"],
+        &marked("ada.vcf"),
+        1,
+        "\n  A byte order mark stands before BEGIN:VCARD.\n",
+    );
+    fails(&["card"], &marked("ada.json"), 1, "with --skip-bom.\n");
+    gives(
+        &["json", "--skip-bom"],
+        &marked("ada.vcf"),
+        &text(&sample("ada.json")),
+    );
+    gives(
+        &["json", "--skip-bom", "ada.vcf"],
+        b"",
+        &text(&sample("ada.json")),
+    );
+    gives(
+        &["card", "--skip-bom"],
+        &marked("ada.json"),
+        &text(&sample("home/ada.vcf")),
+    );
+    gives(
+        &["member", "--skip-bom", "uid"],
+        &marked("ada.json"),
+        "\"reg-1\"\n",
+    );
 }
 
 #[test]
@@ -158,18 +186,6 @@ fn member() {
         "{\"full\":\"Ada Moss\"}\n",
     );
     gives(&["member", "a/b", "kept.json"], b"", "1\n");
-    fails(
-        &["member", "kind", "ada.json"],
-        b"",
-        1,
-        "ada.json: no member kind",
-    );
-    fails(
-        &["member", "kind"],
-        b"no JSON",
-        1,
-        "standard input: no member kind",
-    );
     fails(&["member"], b"", 2, "member needs a name");
     fails(
         &["member", "--stem", "a", "uid"],
@@ -179,111 +195,50 @@ fn member() {
     );
 }
 
-/// Two good cards around a refused one.
-fn mixed() -> Vec<u8> {
-    [
-        &sample("ada.vcf")[..],
-        &sample("refused/8-second-uid.vcf"),
-        &sample("zoe.vcf"),
-    ]
-    .concat()
-}
-
-fn stream_line(name: &str, number: usize) -> String {
-    let made = format!("reg-{number}");
-    let json = text(&sample(&format!("{name}.json"))).replace("reg-1", &made);
-    format!(
-        "{{\"number\":{number},\"uid\":\"{made}\",\"card\":{}}}\n",
-        json.trim_end()
-    )
-}
-
-const SECOND: &str =
-    r#"{"number":2,"refused":8,"place":4,"file":"standard input","offset":66,"length":51}"#;
-
+/// No such member, no object and no JSON are told apart.
 #[test]
-fn stream_of_files_that_go_on_counting() {
-    let want = [
-        stream_line("ada", 1),
-        stream_line("zoe", 2),
-        stream_line("ada", 3),
-    ]
-    .concat();
-    gives(&["stream", "ada.vcf", "zoe.vcf", "ada.vcf"], b"", &want);
-    gives(
-        &["stream", "ada.vcf", "-", "ada.vcf"],
-        &sample("zoe.vcf"),
-        &want,
-    );
-    gives(&["stream"], &sample("ada.vcf"), &stream_line("ada", 1));
-    gives(
-        &["stream", "--number", "12", "ada.vcf"],
-        b"",
-        &stream_line("ada", 12),
-    );
-    gives(&["stream"], b"", "");
-}
-
-#[test]
-fn stream_ends_at_the_first_refusal() {
-    let (status, stdout, stderr) = typed(&["stream"], &mixed());
-    assert_eq!(
-        (status, stdout),
-        (1, format!("{}{SECOND}\n", stream_line("ada", 1)))
-    );
-    let told = "thymebarrel: standard input: card 2, 51 bytes from byte 66: refused 8
-  line 4 (line 5 counting BEGIN and folds): UID:v
-  A second UID line.
-  A card has one of each: take this line out, or send two cards.
-thymebarrel: 1 converted, 1 refused
-";
-    assert_eq!(stderr, told);
-}
-
-#[test]
-fn stream_keeps_going() {
-    let (status, stdout, stderr) = typed(&["stream", "--keep-going"], &mixed());
-    let want = [
-        stream_line("ada", 1),
-        format!("{SECOND}\n"),
-        stream_line("zoe", 3),
-    ]
-    .concat();
-    assert_eq!((status, stdout), (1, want));
-    assert!(
-        stderr.ends_with("thymebarrel: 2 converted, 1 refused\n"),
-        "{stderr}"
-    );
-    let (_, stdout, stderr) = typed(&["stream", "--keep-going"], b"junk\n");
-    let want = r#"{"after":0,"refused":1,"place":0,"file":"standard input","offset":0,"length":5}"#;
-    assert_eq!(stdout, format!("{want}\n"));
-    assert!(
-        stderr.contains("after card 0, 5 bytes from byte 0: refused 1\n  junk\n"),
-        "{stderr}"
-    );
-}
-
-#[test]
-fn stream_that_cannot_begin() {
+fn why_there_is_no_member() {
     fails(
-        &["stream", "--stem", "a b", "ada.vcf"],
+        &["member", "kind", "ada.json"],
         b"",
         1,
-        "ada.vcf: refused 15\n",
+        "ada.json: no member kind\n",
     );
     fails(
-        &["stream", "--number", "0", "ada.vcf"],
-        b"",
-        2,
-        "--number 0",
+        &["member", "kind"],
+        b" [1]",
+        1,
+        "standard input: this JSON is no object",
     );
-    fails(&["stream", "not-there.vcf"], b"", 2, "not-there.vcf: ");
     fails(
-        &["json", "--keep-going", "ada.vcf"],
-        b"",
-        2,
-        "no option --keep-going here",
+        &["member", "kind"],
+        b"no JSON",
+        1,
+        "standard input: refused 11\n  byte 1 (line 1, column 2):\n    no JSON\n     ^\n",
     );
+    fails(
+        &["member", "a"],
+        b"{\"a\":1,\"a\":2}",
+        1,
+        "refused 11\n  a is there twice\n",
+    );
+}
+
+#[test]
+fn a_made_uid_is_told() {
+    let (_, _, told) = typed(&["json", "ada.vcf"], b"");
+    assert!(
+        told.starts_with("thymebarrel: one card has no UID: its uid was made of the stem reg\n"),
+        "{told}"
+    );
+    for words in [
+        ["json", "--stem=shop", "ada.vcf"],
+        ["json", "--quiet", "ada.vcf"],
+    ] {
+        assert_eq!(typed(&words, b"").2, "", "{words:?}");
+    }
+    let own = b"BEGIN:VCARD\nVERSION:4.0\nFN:a\nUID:reg-1\nEND:VCARD\n";
+    assert_eq!(typed(&["json"], own).2, "");
 }
 
 #[test]
@@ -297,34 +252,14 @@ fn explain() {
     assert!(stdout.contains("\nPlace 3: line 3 after BEGIN"), "{stdout}");
     fails(&["explain", "7", "0"], b"", 2, "refusal 7 has no place 0");
     fails(&["explain", "10", "3"], b"", 2, "refusal 10 has no place 3");
-    fails(&["explain", "17"], b"", 2, "no refusal 17");
+    fails(
+        &["explain", "17"],
+        b"",
+        2,
+        "no refusal 17: they are 1 to 16",
+    );
     fails(&["explain", "x"], b"", 2, "no refusal x");
     fails(&["explain"], b"", 2, "explain needs a refusal number");
-}
-
-#[test]
-fn help_and_version() {
-    let (status, help, _) = typed(&["--help"], b"");
-    assert_eq!(status, 0);
-    for word in [
-        "json",
-        "card",
-        "stream",
-        "member",
-        "explain",
-        "--stem",
-        "--number",
-        "Exit status",
-    ] {
-        assert!(help.contains(word), "{word}");
-    }
-    assert!(help.lines().all(|line| line.chars().count() <= 80));
-    gives(&["json", "--help"], b"", &help);
-    gives(
-        &["--version"],
-        b"",
-        concat!("thymebarrel ", env!("CARGO_PKG_VERSION"), "\n"),
-    );
 }
 
 #[test]
@@ -335,8 +270,23 @@ fn bad_usage() {
         &["json", "ada.vcf", "zoe.vcf"],
         b"",
         2,
-        "one word too many: zoe.vcf",
+        "several files need --output DIR",
+    );
+    fails(
+        &["member", "uid", "ada.json", "zoe.json"],
+        b"",
+        2,
+        "one word too many: zoe.json",
     );
     fails(&["json", "--fast"], b"", 2, "no option --fast here");
+    fails(&["json", "-x", "ada.vcf"], b"", 2, "no option -x here");
+    fails(
+        &["json", "--quiet=yes", "ada.vcf"],
+        b"",
+        2,
+        "--quiet takes no value",
+    );
     fails(&["json", "not-there.vcf"], b"", 2, "not-there.vcf: ");
+    fails(&["json", "home"], b"", 2, "home: is a folder\n");
+    fails(&["json", "--", "-x"], b"", 2, "-x: No such file");
 }

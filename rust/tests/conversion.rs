@@ -8,16 +8,16 @@ use thymebarrel::*;
 #[test]
 fn the_samples_convert() {
     for name in SAMPLES {
-        let json = card_to_json(b"reg", 1, &sample(&format!("{name}.vcf"))).expect(name);
+        let json = card_to_json(b"reg", 1, sample(&format!("{name}.vcf"))).expect(name);
         let want = sample(&format!("{name}.json"));
-        assert_eq!(text(&json) + "\n", text(&want), "{name}");
+        assert_eq!(json + "\n", text(&want), "{name}");
     }
 }
 
 #[test]
 fn the_others_are_refused() {
     for (name, number, place) in REFUSED {
-        let refusal = card_to_json(b"reg", 1, &sample(name)).expect_err(name);
+        let refusal = card_to_json(b"reg", 1, sample(name)).expect_err(name);
         assert_eq!(refusal, Refusal { number, place }, "{name}");
         assert_eq!(refusal.reason().map(Reason::number), Some(number));
     }
@@ -27,13 +27,9 @@ fn the_others_are_refused() {
 #[test]
 fn the_samples_come_home() {
     for name in SAMPLES {
-        let json = card_to_json(b"reg", 1, &sample(&format!("{name}.vcf"))).expect(name);
+        let json = card_to_json(b"reg", 1, sample(&format!("{name}.vcf"))).expect(name);
         let home = json_to_card(&json).expect(name);
-        assert_eq!(
-            text(&home),
-            text(&sample(&format!("home/{name}.vcf"))),
-            "{name}"
-        );
+        assert_eq!(home, text(&sample(&format!("home/{name}.vcf"))), "{name}");
         assert_eq!(card_to_json(b"other", 2, &home), Ok(json), "{name}");
     }
 }
@@ -41,7 +37,7 @@ fn the_samples_come_home() {
 #[test]
 fn other_json_is_refused() {
     for (name, number, place) in REFUSED_JSON {
-        let refusal = json_to_card(&sample(name)).expect_err(name);
+        let refusal = json_to_card(sample(name)).expect_err(name);
         assert_eq!(refusal, Refusal { number, place }, "{name}");
     }
     let json = sample("ada.json");
@@ -63,25 +59,10 @@ fn other_json_is_refused() {
 }
 
 #[test]
-fn a_refusal_of_json_is_told_with_its_line() {
-    let told = |json: &str| {
-        let refusal = json_to_card(json.as_bytes()).expect_err(json);
-        refusal.explain_json(json.as_bytes()).join("|")
-    };
-    let comma = told("{\"a\":1,\n\"b\":2,\n}");
-    assert!(
-        comma.starts_with("byte 15 (line 3, byte 1 of it)|This is not JSON"),
-        "{comma}"
-    );
-    assert!(told("{\"a\":").contains("|The JSON stops short.|"));
-    assert!(told("{}").starts_with("This JSON is no card"));
-}
-
-#[test]
 fn stem_and_number_make_the_uid() {
-    let json = card_to_json(b"shop-7", 999_999, &sample("ada.vcf")).expect("it converts");
-    assert_eq!(text(member(&json, b"uid")), "\"shop-7-999999\"");
-    let bad = |stem: &[u8], number| card_to_json(stem, number, &sample("ada.vcf"));
+    let json = card_to_json(b"shop-7", 999_999, sample("ada.vcf")).expect("it converts");
+    assert_eq!(member(&json, "uid"), Some("\"shop-7-999999\""));
+    let bad = |stem: &[u8], number| card_to_json(stem, number, sample("ada.vcf"));
     let refusal = Refusal {
         number: 15,
         place: 0,
@@ -119,22 +100,22 @@ fn the_room_of_a_card() {
         let fill = "x".repeat(bytes - start.len() - end.len());
         format!("{start}{fill}{end}").into_bytes()
     };
-    assert!(card_to_json(b"reg", 1, &card(CARD_BYTES)).is_ok());
+    assert!(card_to_json(b"reg", 1, card(CARD_BYTES)).is_ok());
     let refusal = Refusal {
         number: 3,
         place: 0,
     };
-    assert_eq!(card_to_json(b"reg", 1, &card(CARD_BYTES + 1)), Err(refusal));
+    assert_eq!(card_to_json(b"reg", 1, card(CARD_BYTES + 1)), Err(refusal));
 }
 
 #[test]
 fn a_member_is_that_part_of_the_json() {
     let json = br#" {"a": [1, 2], "b\u0063": null, "": 0} "#;
-    let part = member(json, b"a");
-    assert_eq!(part, b"[1, 2]");
+    let part = member(json, "a").expect("it is there");
+    assert_eq!(part, "[1, 2]");
     assert_eq!(part.as_ptr(), json[7..].as_ptr());
-    assert_eq!(member(json, b"bc"), b"null");
-    assert_eq!(member(json, b""), b"0");
+    assert_eq!(member(json, "bc"), Some("null"));
+    assert_eq!(member(json, b""), Some("0"));
     for (json, name) in [
         ("{}", "a"),
         ("[1]", "a"),
@@ -142,13 +123,13 @@ fn a_member_is_that_part_of_the_json() {
         ("", ""),
         ("{\"a\":1,\"a\":1}", "a"),
     ] {
-        assert_eq!(member(json.as_bytes(), name.as_bytes()), b"", "{json}");
+        assert_eq!(member(json, name), None, "{json}");
     }
 }
 
 #[test]
 fn every_reason_has_its_words() {
-    for (k, reason) in Reason::ALL.into_iter().enumerate() {
+    for (k, reason) in Reason::ALL.iter().copied().enumerate() {
         assert_eq!(usize::from(reason.number()), k + 1);
         assert_eq!(Reason::of(reason.number()), Some(reason));
         assert!(reason.meaning().ends_with('.') && reason.advice().ends_with('.'));
@@ -156,49 +137,16 @@ fn every_reason_has_its_words() {
     assert_eq!((Reason::of(0), Reason::of(17)), (None, None));
 }
 
+/// A result keeps what it needs, not the room of the greatest.
 #[test]
-fn a_refusal_is_told_with_its_line() {
-    let told = |card: &str| {
-        let refusal = card_to_json(b"reg", 1, card.as_bytes()).expect_err(card);
-        refusal.explain_card(card.as_bytes()).join("|")
-    };
-    let uid = told("begin:vcard\r\nVERSION:4.0\r\nFN:a\r\n b\r\nuid:u\r\nuid:v\r\nEND:VCARD");
-    assert!(
-        uid.starts_with("line 4 (line 6 counting BEGIN and folds): uid:v|A second UID line.|"),
-        "{uid}"
-    );
-    let kind = told("BEGIN:VCARD\nVERSION:4.0\nKIND:a b\nFN:a\nEND:VCARD\n");
-    assert!(
-        kind.starts_with(
-            "line 2 (line 3 counting BEGIN and folds): KIND:a b|KIND is empty, or has other"
-        ),
-        "{kind}"
-    );
-    let group = told("BEGIN:VCARD\nVERSION:4.0\nFN;GROUP=a:a\nEND:VCARD\n");
-    assert!(
-        group.contains("|No line takes a GROUP parameter"),
-        "{group}"
-    );
-    let empty = told("BEGIN:VCARD\nVERSION:4.0\n\nFN:a\nEND:VCARD\n");
-    assert!(empty.contains("|This line is empty.|"), "{empty}");
-}
-
-/// Half a character at a line's end is garbled; a character broken by a fold is not.
-#[test]
-fn what_is_not_utf8_is_told_by_its_byte() {
-    let card = b"BEGIN:VCARD\nVERSION:4.0\nFN:a\xC3\n \xBC\nNOTE:b\xC3\nEND:VCARD\n";
-    let refusal = card_to_json(b"reg", 1, card).expect_err("half a character");
-    assert_eq!(
-        refusal,
-        Refusal {
-            number: 4,
-            place: 3
-        }
-    );
-    let told = refusal.explain_card(card);
-    assert_eq!(
-        told[0],
-        "line 3 (line 5 counting BEGIN and folds): NOTE:b\u{fffd}"
-    );
-    assert_eq!(told[1], "Byte 7 of this line is not UTF-8.");
+fn a_result_takes_its_own_size() {
+    let json = card_to_json("reg", 1, sample("ada.vcf")).expect("it converts");
+    assert!(json.capacity() < 2 * json.len(), "{}", json.capacity());
+    let card = json_to_card(&json).expect("it converts");
+    assert!(card.capacity() < 2 * card.len(), "{}", card.capacity());
+    let card = sample("ada.vcf");
+    let mut cards = Cards::new("reg", &card[..]);
+    let answer = cards.next().expect("an answer").expect("read");
+    let json = answer.result.expect("it converts");
+    assert!(json.capacity() < 2 * json.len(), "{}", json.capacity());
 }

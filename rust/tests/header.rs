@@ -6,7 +6,7 @@ mod common;
 use common::*;
 use std::path::PathBuf;
 use std::process::Command;
-use thymebarrel::{Cards, Reason, Refusal, Stream, CARD_BYTES, JSON_BYTES};
+use thymebarrel::{Cards, Reason, Refusal, Stream, CARD_BYTES, JSON_BYTES, STACK_BYTES};
 
 const DECLARATIONS: &str = include_str!("../src/ffi.rs");
 const HEADER: &str = include_str!("../../include/thymebarrel.h");
@@ -75,6 +75,10 @@ fn in_rust(name: &str) -> usize {
         "CONVERTED" => 0,
         "MORE" => usize::from(Stream::MORE),
         "STREAM_WORDS" => Stream::WORDS,
+        "STACK_BYTES" => STACK_BYTES,
+        "VERSION_MAJOR" => version(0),
+        "VERSION_MINOR" => version(1),
+        "VERSION_PATCH" => version(2),
         "CARD_LEFT_OPEN" => of(Reason::LeftOpen),
         "STREAM_UNFIT" => of(Reason::Unfit),
         "NOT_ONE_CARD" => of(Reason::NotOneCard),
@@ -95,6 +99,22 @@ fn in_rust(name: &str) -> usize {
     }
 }
 
+/// A part of this crate's version.
+fn version(part: usize) -> usize {
+    let part = env!("CARGO_PKG_VERSION").split('.').nth(part);
+    part.and_then(|part| part.parse().ok()).expect("a number")
+}
+
+#[test]
+fn the_header_has_this_crates_version() {
+    let line = concat!(
+        "#define THYMEBARREL_VERSION \"",
+        env!("CARGO_PKG_VERSION"),
+        "\""
+    );
+    assert!(HEADER.lines().any(|other| other == line), "{line}");
+}
+
 /// The header, these declarations after it, and an assertion for each number.
 fn source(declarations: &[String]) -> String {
     let assertion = |(name, _): &(String, usize)| {
@@ -111,13 +131,13 @@ fn source(declarations: &[String]) -> String {
     )
 }
 
-fn scratch(name: &str) -> PathBuf {
+fn file(name: &str) -> PathBuf {
     PathBuf::from(env!("CARGO_TARGET_TMPDIR")).join(name)
 }
 
 /// Whether both compilers take the source; what they say where they do not.
 fn compiles(name: &str, source: &str) -> Result<(), String> {
-    let file = scratch(name);
+    let file = file(name);
     std::fs::write(&file, source).expect("the source is written");
     for (compiler, language, standard) in [("cc", "c", "-std=c99"), ("c++", "c++", "-std=c++11")] {
         let output = Command::new(compiler)
@@ -180,7 +200,7 @@ fn a_wrong_number_is_found() {
 fn built(example: &str, compiler: &str, standard: &str, language: &str) -> PathBuf {
     let folder = std::env::var_os("THYMEBARREL_LIB");
     let library = folder.map_or(path("target/staticlib"), PathBuf::from);
-    let program = scratch(&format!("{example}-{language}"));
+    let program = file(&format!("{example}-{language}"));
     let output = Command::new(compiler)
         .args([standard, "-O1", "-x", language])
         .args(STRICT)
@@ -218,7 +238,8 @@ fn the_converter_in_c_gives_what_this_crate_gives() {
         for ((name, number, place), word) in cards.chain(json) {
             let output = run(Command::new(&program).args(word), &sample(name));
             assert_eq!(output.status.code(), Some(1));
-            let told = format!("refused {number} at place {place}\n");
+            let what = Reason::of(*number).expect("a reason").meaning();
+            let told = format!("refused {number} at place {place}\n{what}\n");
             assert_eq!(text(&output.stderr), told, "{name}");
         }
     }
@@ -233,7 +254,7 @@ fn the_stream_in_c_gives_what_this_crate_gives() {
     let mut want = String::new();
     for answer in Cards::new(b"reg", &stream[..]) {
         want += &match answer.expect("a slice can be read").result {
-            Ok(json) => text(&json),
+            Ok(json) => json,
             Err(Refusal { number, place }) => format!("refused {number} at place {place}"),
         };
         want.push('\n');
@@ -242,5 +263,43 @@ fn the_stream_in_c_gives_what_this_crate_gives() {
         let program = built("stream", compiler, standard, language);
         let output = run(&mut Command::new(&program), &stream);
         assert_eq!(text(&output.stdout), want);
+    }
+}
+
+/// thymebarrel_reason.h stands alone, and says what this crate says.
+#[test]
+fn the_words_in_c_are_those_of_this_crate() {
+    let source = "#include \"thymebarrel_reason.h\"\n#include <stdio.h>\nint main(void) { unsigned k; for (k = 0; k < 300; k++) printf(\"%s|%s\\n\", thymebarrel_reason(k), thymebarrel_advice(k)); return 0; }\n";
+    for (compiler, standard, language) in LANGUAGES {
+        let (file, program) = (
+            file(&format!("reason.{language}")),
+            file(&format!("reason-{language}")),
+        );
+        std::fs::write(&file, source).expect("the source is written");
+        let mut command = Command::new(compiler);
+        let command = command
+            .args([standard, "-x", language])
+            .args(STRICT)
+            .arg("-I")
+            .arg(path("include"));
+        let output = command
+            .arg(&file)
+            .arg("-o")
+            .arg(&program)
+            .output()
+            .expect("the compiler runs");
+        assert!(output.status.success(), "{}", text(&output.stderr));
+        let lines = text(&run(&mut Command::new(&program), b"").stdout);
+        for (k, line) in lines.lines().enumerate() {
+            let reason = u8::try_from(k).ok().and_then(Reason::of);
+            let want = match (k, reason) {
+                (_, Some(reason)) => format!("{}|{}", reason.meaning(), reason.advice()),
+                (0, _) => "Converted.|".to_string(),
+                (255, _) => "No line answered yet: hand in more of the stream.|".to_string(),
+                _ => "|".to_string(),
+            };
+            assert_eq!(line, want, "{k}");
+        }
+        assert_eq!(lines.lines().count(), 300);
     }
 }

@@ -73,7 +73,7 @@ fn a_stream_gives_what_each_card_gives_alone() {
         assert_eq!(answer.number, k + 1);
         assert_eq!(answer.result, card_to_json(b"reg", k + 1, card));
         if let Err(refusal) = answer.result {
-            assert_eq!(answer.explained, refusal.explain_card(card));
+            assert_eq!(answer.explained, Some(refusal.explain_card(card)));
         }
     }
 }
@@ -98,8 +98,15 @@ fn a_card_over_its_room_is_one_answer() {
     );
     let text = format!("{CARD}{long}{CARD}");
     assert_eq!(brief(&text), [(1, 0, CARD), (2, 3, &long), (3, 0, CARD)]);
-    let told = &answers(text.as_bytes())[1].explained;
-    assert_eq!(told[0], "The card has over 32,768 bytes.");
+    let told = answers(text.as_bytes())[1]
+        .explained
+        .clone()
+        .expect("it is refused");
+    assert_eq!(told.what, "The card has over 32,768 bytes.");
+    assert!(
+        told.place[0].starts_with("the longest line, 32744 bytes, is line 2 "),
+        "{told}"
+    );
 }
 
 #[test]
@@ -109,8 +116,8 @@ fn the_first_number_may_be_another() {
     let first = cards.next().expect("an answer").expect("read");
     let json = first.result.expect("it converts");
     assert_eq!(
-        (first.number, member(&json, b"uid")),
-        (999_999, &b"\"shop-999999\""[..])
+        (first.number, member(&json, "uid")),
+        (999_999, Some("\"shop-999999\""))
     );
     let second = cards.next().expect("an answer").expect("read");
     assert_eq!(
@@ -123,7 +130,8 @@ fn the_first_number_may_be_another() {
             })
         )
     );
-    assert_eq!(second.explained[0], "A stream has at most 999,999 cards.");
+    let told = second.explained.expect("it is refused");
+    assert_eq!(told.what, "A stream has at most 999,999 cards.");
     let third = cards.next().expect("an answer").expect("read");
     assert_eq!(
         (third.number, third.result),
@@ -165,4 +173,38 @@ fn an_input_that_fails_ends_the_stream() {
     assert!(cards.next().expect("an answer").is_ok());
     assert!(cards.next().expect("the error").is_err());
     assert!(cards.next().is_none());
+}
+
+/// The count does not turn round, and the reason stays true.
+#[test]
+fn no_number_is_too_large_to_begin_with() {
+    let text = [CARD, CARD].concat();
+    for answer in Cards::after(usize::MAX, "reg", text.as_bytes()) {
+        let answer = answer.expect("read");
+        assert_eq!(answer.number, usize::MAX);
+        let told = answer.explained.expect("it is refused");
+        assert_eq!(told.what, "A stream has at most 999,999 cards.");
+    }
+}
+
+#[test]
+fn a_made_uid_is_told() {
+    let own = "BEGIN:VCARD\nVERSION:4.0\nFN:a\nU\n ID:reg-2\nEND:VCARD\n";
+    let other = "BEGIN:VCARD\nVERSION:4.0\nFN:a\nUID:x\nEND:VCARD\n";
+    let text = [CARD, own, other, NO_FN, CARD].concat();
+    let made: Vec<bool> = answers(text.as_bytes())
+        .iter()
+        .map(|a| a.uid_made)
+        .collect();
+    assert_eq!(made, [true, false, false, false, true]);
+}
+
+#[test]
+fn debug_shows_where_a_stream_is() {
+    let mut cards = Cards::new("reg", CARD.as_bytes());
+    cards.next();
+    assert_eq!(
+        format!("{cards:?}"),
+        "Cards { number: 1, at: 43, over: false, .. }"
+    );
 }

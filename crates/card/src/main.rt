@@ -42,9 +42,9 @@ fn say_refusal(number: u8, place: usize) {
 
 fn serve(stem: &[u8], number: usize) {
     // one byte more than the room, so that a longer card is seen to be longer
-    let mut card = [0u8; 32769];
+    let mut card = [0u8; line_limits::OVER];
     let n = io::read_full(STDIN_FILENO, &mut card);
-    let mut out = [0u8; 65536];
+    let mut out = [0u8; json_limits::ROOM];
     match card_to_json(stem, number, &card[..n], &mut out) {
         Outcome::Written(k) => {
             say_result(&out, k);

@@ -4,7 +4,7 @@ use mathlib.Core.Bool.{Bool}
 use mathlib.Core.List.{List, [], _∷_}
 use mathlib.Core.Logic.{inr}
 use mathlib.Core.Option.{Option, none, some}
-use Prim.Native.Nat.{ℕ, suc, _-_, _≤_, _<_}
+use Prim.Native.Nat.{ℕ, suc, _≤_, _<_}
 use native.Mathlib.Omega.{arith}
 use lib.ListN.{length}
 use borrow.Author.Tests.{le-ltb}
@@ -19,12 +19,12 @@ use Rattle.convert.specs.Classify.{classed}
 use Rattle.convert.specs.Answers.{Answer, no, yes, Test, seek, given, givenAt, atLine, firstFrom, garbled, ungrammatical, lineTests, lineRoom, linesOf, rawLines}
 use Rattle.convert.specs.FromCard.{cardOfLines}
 use Rattle.convert.specs.ToJson.{printJson}
-use Rattle.card_garbled.specs.Garbled.{placeOf}
-use Rattle.card_refusals.specs.declared.Refusal.{Refusal}
-use Rattle.card_refusals.specs.declared.Refusal.the-variants.{None, At}
-use Rattle.card_refusals.specs.Judged.{laterTests, answered}
-use Rattle.card_refusals.proofs.Judging.{tests-are}
-use Rattle.card_classes.specs.Pass.{Passed, Lent}
+use Rattle.from_card_garbled.specs.Garbled.{placeOf}
+use Rattle.from_card_refusals.specs.declared.Refusal.{Refusal}
+use Rattle.from_card_refusals.specs.declared.Refusal.the-variants.{None, At}
+use Rattle.from_card_refusals.specs.Judged.{laterTests, answered}
+use Rattle.from_card_refusals.proofs.Judging.{tests-are}
+use Rattle.from_card_classes.specs.Pass.{Passed, Lent}
 use Rattle.to_json_maps.proofs.Turns.{put-front, fits-front}
 use Rattle.card_to_json.specs.Inner.{inner}
 use Rattle.card_to_json.specs.Making.{Tested, Makes, MakesJson, MakesCard, linesAnswer}

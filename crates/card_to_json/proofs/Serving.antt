@@ -13,8 +13,7 @@ use Rattle.line.specs.Physical.{sizeOf}
 use Rattle.convert.specs.Answers.{Answer, no, yes, cardRoom, jsonRoom, lineRoom, cardToJson, isStemText, isCardNumber}
 use Rattle.convert.specs.Served.{leftBy}
 use Rattle.served.specs.declared.Outcome.{Outcome}
-use Rattle.served.specs.declared.Outcome.the-variants.{Refused as Outcome-Refused}
-use Rattle.served.specs.Served.{outcomeOf}
+use Rattle.served.specs.Served.{outcomeOf, Serves as ServesAnswer}
 use Rattle.card_to_json.specs.Inner.{inner, fit, Serves}
 use Rattle.card_to_json.specs.Laying.{Many}
 use Rattle.card_to_json.specs.Making.{Makes, MakesCard}
@@ -88,10 +87,10 @@ pub size-length : (s : Bytes) → sizeOf s ≤ cardRoom → length s ≤ cardRoo
 unfolding sizeOf
 size-length s h = omega (arith, h)
 
--- ---- both promises
+-- ---- the promise
 
-pub seen-refused : (out : Bytes) (a : Answer) (n p : ℕ) → a ≡ no n p → (Outcome-Refused n p ≡ outcomeOf a) × (out ≡ leftBy out a)
-seen-refused out a n p e = (sym (ap outcomeOf e), sym (ap (leftBy out) e))
+pub seen-refused : (out : Bytes) (a : Answer) (n p : ℕ) → a ≡ no n p → ServesAnswer out a (Outcome-Refused n p) out
+seen-refused out a n p e = record { said = sym (ap outcomeOf e); left = sym (ap (leftBy out) e) }
 
-pub seen : (out : Bytes) (a b : Answer) (r : Outcome) (after : Bytes) → a ≡ fit (length out) b → Serves out b r after → (r ≡ outcomeOf a) × (after ≡ leftBy out a)
-seen out a b r after e s = (s .said ∙ sym (ap outcomeOf e), s .left ∙ sym (ap (leftBy out) e))
+pub seen : (out : Bytes) (a b : Answer) (r : Outcome) (after : Bytes) → a ≡ fit (length out) b → Serves out b r after → ServesAnswer out a r after
+seen out a b r after e s = record { said = s .said ∙ sym (ap outcomeOf e); left = s .left ∙ sym (ap (leftBy out) e) }

@@ -9,11 +9,11 @@ use Rattle.convert.specs.Classify.{Classed, classed}
 use Rattle.convert.specs.Answers.{Answer, no, yes, seek, lineTests, linesOf}
 use Rattle.convert.specs.FromCard.{cardOfLines, cardOfClassed}
 use Rattle.convert.specs.ToJson.{printJson}
-use Rattle.card_lines.specs.Classified.{Classified}
-use Rattle.card_garbled.specs.Garbled.{OfLines}
-use Rattle.card_refusals.specs.declared.Refusal.{Refusal}
-use Rattle.card_refusals.specs.declared.Refusal.the-variants.{None}
-use Rattle.card_refusals.specs.Judged.{answered}
+use Rattle.from_card_lines.specs.Classified.{Classified}
+use Rattle.from_card_garbled.specs.Garbled.{OfLines}
+use Rattle.from_card_refusals.specs.declared.Refusal.{Refusal}
+use Rattle.from_card_refusals.specs.declared.Refusal.the-variants.{None}
+use Rattle.from_card_refusals.specs.Judged.{answered}
 use Rattle.card_to_json.specs.Inner.{inner}
 use Rattle.card_to_json.specs.Laying.{Many}
 use Rattle.card_to_json.specs.declared.Made.{Made}

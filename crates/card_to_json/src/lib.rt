@@ -2,22 +2,26 @@
 ghost use mathlib.Core.Path.{_≡_};
 ghost use Prim.Native.Nat.{_≤_, _<_};
 ghost use lib.ListN.{length};
-ghost use Rattle.convert.specs.Answers.{cardRoom, jsonRoom, lineRoom, yes, cardToJson};
-ghost use Rattle.convert.specs.Served.{leftBy};
-ghost use Rattle.served.specs.Served.{outcomeOf};
-ghost use Rattle.card_classes.specs.Pass.{HasLines, Lent};
+ghost use Rattle.convert.specs.Answers.{cardRoom, jsonRoom, lineRoom, yes};
+ghost use Rattle.services.specs.Contracts.{CardGives};
+ghost use Rattle.from_card_classes.specs.Pass.{HasLines, Lent};
 ghost use Rattle.to_json_card.specs.Card.{Lent as Written};
 ghost use Rattle.card_to_json.specs.Inner.{inner, Serves};
 ghost use Rattle.card_to_json.specs.Laying.{Lays};
 ghost use Rattle.card_to_json.specs.Making.{Tests, MakesJson, MakesLines, MakesCard};
-use card_classes::class_lines;
-use card_garbled::first_garbled;
-use card_refusals::Refusal;
-use card_stem::is_card_number;
-use card_stem::is_stem;
+use from_card_classes::class_lines;
+use from_card_garbled::first_garbled;
+use from_card_refusals::Refusal;
+use from_card_seen::ID;
+use from_card_stem::is_card_number;
+use from_card_stem::is_stem;
+use json_limits::ROOM;
 use line_frame::Frame;
 use line_frame::frame_of;
 use line_frame::size_of;
+use line_limits::CARD;
+use line_limits::LINES;
+use line_table::table;
 use line_unfold::Unfolded;
 use line_unfold::unfold;
 use output::Wrote;
@@ -192,19 +196,32 @@ fn convert(
     }
 }
 
+// The sizes of scratch: bytes and lines of a card, bytes of its JSON.
+const SMALL: usize = 2048;
+
+const SMALL_LINES: usize = 64;
+
+const SMALL_JSON: usize = 4096;
+
+const MEDIUM: usize = 8192;
+
+const MEDIUM_LINES: usize = 256;
+
+const MEDIUM_JSON: usize = 16384;
+
 // Scratch for every card that has room: 32,768 bytes, 512 lines, a result of 65,536 bytes.
 fn large(out: &mut [u8], stem: &[u8], number: usize, card: &[u8]) -> Outcome
     requires { ⌜ length (now card) ≤ cardRoom ⌝ }
     ensures { λ r. ⌜ Serves (now (out .entry)) (inner (now (stem .entry)) number (now (card .entry))) r (now (out .exit)) ⌝ }
 {
-    let mut result = [0u8; 65536];
-    let mut scratch = [0u8; 32768];
-    let mut starts = [0usize; 513];
-    let mut codes = [0u8; 512];
-    let mut ids = [0usize; 1536];
-    let mut prints = [0u16; 512];
-    let mut t = [0usize; 264];
-    let mut text = [0u8; 32768];
+    let mut result = [0u8; ROOM];
+    let mut scratch = [0u8; CARD];
+    let mut starts = [0usize; LINES + 1];
+    let mut codes = [0u8; LINES];
+    let mut ids = [0usize; ID * LINES];
+    let mut prints = [0u16; LINES];
+    let mut t = [0usize; table::LENGTH];
+    let mut text = [0u8; CARD];
     match convert(
         &mut result,
         &mut scratch,
@@ -238,14 +255,14 @@ fn medium(out: &mut [u8], stem: &[u8], number: usize, card: &[u8]) -> Outcome
     requires { ⌜ length (now card) ≤ 8192 ⌝ }
     ensures { λ r. ⌜ Serves (now (out .entry)) (inner (now (stem .entry)) number (now (card .entry))) r (now (out .exit)) ⌝ }
 {
-    let mut result = [0u8; 16384];
-    let mut scratch = [0u8; 8192];
-    let mut starts = [0usize; 257];
-    let mut codes = [0u8; 256];
-    let mut ids = [0usize; 768];
-    let mut prints = [0u16; 256];
-    let mut t = [0usize; 264];
-    let mut text = [0u8; 8192];
+    let mut result = [0u8; MEDIUM_JSON];
+    let mut scratch = [0u8; MEDIUM];
+    let mut starts = [0usize; MEDIUM_LINES + 1];
+    let mut codes = [0u8; MEDIUM_LINES];
+    let mut ids = [0usize; ID * MEDIUM_LINES];
+    let mut prints = [0u16; MEDIUM_LINES];
+    let mut t = [0usize; table::LENGTH];
+    let mut text = [0u8; MEDIUM];
     match convert(
         &mut result,
         &mut scratch,
@@ -276,14 +293,14 @@ fn small(out: &mut [u8], stem: &[u8], number: usize, card: &[u8]) -> Outcome
     requires { ⌜ length (now card) ≤ 2048 ⌝ }
     ensures { λ r. ⌜ Serves (now (out .entry)) (inner (now (stem .entry)) number (now (card .entry))) r (now (out .exit)) ⌝ }
 {
-    let mut result = [0u8; 4096];
-    let mut scratch = [0u8; 2048];
-    let mut starts = [0usize; 65];
-    let mut codes = [0u8; 64];
-    let mut ids = [0usize; 192];
-    let mut prints = [0u16; 64];
-    let mut t = [0usize; 264];
-    let mut text = [0u8; 2048];
+    let mut result = [0u8; SMALL_JSON];
+    let mut scratch = [0u8; SMALL];
+    let mut starts = [0usize; SMALL_LINES + 1];
+    let mut codes = [0u8; SMALL_LINES];
+    let mut ids = [0usize; ID * SMALL_LINES];
+    let mut prints = [0u16; SMALL_LINES];
+    let mut t = [0usize; table::LENGTH];
+    let mut text = [0u8; SMALL];
     match convert(
         &mut result,
         &mut scratch,
@@ -311,8 +328,7 @@ fn small(out: &mut [u8], stem: &[u8], number: usize, card: &[u8]) -> Outcome
 
 // Card to JSON: 15, then 3 for a long card, then what its lines say. A refusal leaves the lent output as it was.
 pub fn card_to_json(stem: &[u8], number: usize, card: &[u8], out: &mut [u8]) -> Outcome
-    ensures { λ r. ⌜ r ≡ outcomeOf (cardToJson (now (stem .entry)) number (length (now (out .entry))) (now (card .entry))) ⌝ }
-    ensures { λ r. ⌜ now (out .exit) ≡ leftBy (now (out .entry)) (cardToJson (now (stem .entry)) number (length (now (out .entry))) (now (card .entry))) ⌝ }
+    ensures { λ r. ⌜ CardGives (now (stem .entry)) number (now (card .entry)) (now (out .entry)) r (now (out .exit)) ⌝ }
 {
     if !is_stem(stem) {
         return Outcome::Refused {
@@ -326,16 +342,16 @@ pub fn card_to_json(stem: &[u8], number: usize, card: &[u8], out: &mut [u8]) -> 
             place: 0,
         };
     }
-    if size_of(card) > 32768 {
+    if size_of(card) > CARD {
         return Outcome::Refused {
             number: 3,
             place: 0,
         };
     }
-    if card.len() <= 2048 {
+    if card.len() <= SMALL {
         return small(out, stem, number, card);
     }
-    if card.len() <= 8192 {
+    if card.len() <= MEDIUM {
         return medium(out, stem, number, card);
     }
     large(out, stem, number, card)

@@ -84,8 +84,8 @@ fn finish(last: Stream, stem: &[u8], buffer: &mut [u8], out: &mut [u8]) {
 
 fn serve(stem: &[u8]) {
     let mut piece = [0u8; 65536];
-    let mut buffer = [0u8; 32768];
-    let mut out = [0u8; 65536];
+    let mut buffer = [0u8; line_limits::CARD];
+    let mut out = [0u8; json_limits::ROOM];
     let mut s = Stream::fresh();
     // every loop ends: this one after more pieces than any input has
     let mut left = 18446744073709551615u64;

@@ -16,16 +16,16 @@ use Rattle.line.specs.Text.{readText}
 use Rattle.convert.specs.Table.{Slot}
 use Rattle.convert.specs.Model.{Entry}
 use Rattle.convert.specs.Value.{isKeyText, readName}
-use Rattle.convert.specs.Classify.{Class, as-version, as-uid, as-kind, as-dropped, as-full, as-parts, as-entry, as-member, as-kept, Seen, Id, id, withId, see, bare, isDerived, fullClass, partsClass, memberClass, entryOf, entryClass, classify}
+use Rattle.convert.specs.Classify.{Class, as-dropped, as-full, as-parts, as-entry, as-member, as-kept, Seen, Id, id, withId, see, bare, isDerived, fullClass, partsClass, memberClass, entryOf, entryClass, classify}
 use Rattle.line_table.specs.Table.{part, lineIn}
 use Rattle.convert_entry.specs.Rows.{namesIn, codeOf, Is}
 use Rattle.convert_entry.proofs.Classes.{entry-there}
 use Rattle.table_entry.specs.Key.{EntryKey}
 use Rattle.table_entry.specs.declared.Key.the-variants.{Bad, Free, At as At-key}
-use Rattle.class_names.specs.Names.{typesOf, formOf, Slotted}
-use Rattle.class_names.proofs.Numbers.{number-bound}
-use Rattle.class_names.proofs.Classes.{slotted, version-class, uid-class, kind-class, full-class, parts-class, member-class, map-class, other-class}
-use Rattle.class_name.specs.Name.{FullClass, PartsClass}
+use Rattle.class_properties.specs.Names.{typesOf, formOf, Slotted}
+use Rattle.class_properties.proofs.Numbers.{number-bound}
+use Rattle.class_properties.proofs.Classes.{slotted, version-class, uid-class, kind-class, full-class, parts-class, member-class, map-class, other-class}
+use Rattle.class_name_lines.specs.Name.{FullClass, PartsClass}
 use Rattle.class_member.specs.Member.{MemberAt}
 use Rattle.class_line.specs.Class.{idUsed, seenWith, withMember, AnyFlags, FullFlags, PartsFlags, Numbered}
 use Rattle.class_line.specs.declared.Class.the-variants.{Kept, Dropped, Version, Uid, Kind, Full, Parts, Entry as Entry-of, Keyed, Member}

@@ -6,8 +6,8 @@ use native.Mathlib.Omega.{arith}
 use lib.ListN.{getD}
 use Rattle.text.specs.Bytes.{Bytes, lowered}
 use Rattle.line_table.specs.Table.{part, lineIn}
-use Rattle.class_names.specs.Names.{nameNumber}
-use Rattle.class_names.proofs.Numbers.{number-small}
+use Rattle.class_properties.specs.Names.{nameNumber}
+use Rattle.class_properties.proofs.Numbers.{number-small}
 use Rattle.class_line.specs.Class.{Numbered}
 
 name-is : (s : Bytes) (t : List ℕ) → lineIn s t .name ≡ part s (getD t 2 0) (getD t 3 0)

@@ -10,7 +10,7 @@ use Rattle.convert.specs.Pointer.{pointed}
 use Rattle.convert.specs.Classify.{Seen, id, isId, see, classify}
 use Rattle.convert_entry.specs.Rows.{codeOf}
 use Rattle.line_table.specs.Table.{part, Span, lineIn}
-use Rattle.class_names.specs.Names.{nameNumber}
+use Rattle.class_properties.specs.Names.{nameNumber}
 use Rattle.class_line.specs.declared.Class.{Class as Answer}
 use Rattle.class_line.specs.declared.Class.the-variants.{Kept, Dropped, Version, Uid, Kind, Full, Parts, Entry, Keyed, Member}
 

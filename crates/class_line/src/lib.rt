@@ -5,13 +5,16 @@ ghost use Prim.Native.Nat.{_+_};
 ghost use Rattle.table_entry.specs.Key.{Rowed};
 ghost use Rattle.class_member.specs.Member.{Room};
 ghost use Rattle.class_line.specs.Class.{Numbered, Classes, AnyFlags, FullFlags, PartsFlags};
+use card_table::classes;
+use card_table::names;
 use class_member::Member;
 use class_member::member_class;
-use class_name::full_class;
-use class_name::parts_class;
-use class_names::form_of;
-use class_names::name_code;
-use class_names::types_of;
+use class_name_lines::full_class;
+use class_name_lines::parts_class;
+use class_properties::form_of;
+use class_properties::name_code;
+use class_properties::types_of;
+use line_table::table;
 use table_entry::Key;
 use table_entry::entry_key;
 
@@ -86,10 +89,10 @@ fn fn_class(
     ensures { λ r. ⌜ FullFlags (now (s .entry)) (now (t .entry)) full r ⌝ }
 {
     let k = full_class(counts, froms, tos, s, t, full);
-    if k == 21 {
+    if k == classes::FULL {
         return Class::Full;
     }
-    if k == 17 {
+    if k == classes::DROPPED {
         return Class::Dropped;
     }
     Class::Kept
@@ -108,7 +111,7 @@ fn n_class(
     ensures { λ r. ⌜ PartsFlags (now (s .entry)) (now (t .entry)) parts r ⌝ }
 {
     let k = parts_class(counts, froms, tos, s, t, parts);
-    if k == 22 {
+    if k == classes::PARTS {
         return Class::Parts;
     }
     Class::Kept
@@ -152,25 +155,25 @@ pub fn class_numbered(
     requires { ⌜ Rowed (now s) (now t) (now counts) (now froms) (now tos) × Room (now s) (now scratch) × Numbered (now s) (now t) k ⌝ }
     ensures { λ r. ⌜ Classes (now (s .entry)) (now (t .entry)) full parts r ⌝ }
 {
-    if k >= 16 {
-        return map_class(counts, froms, tos, s, t, k - 16);
+    if k >= names::OF_MAPS {
+        return map_class(counts, froms, tos, s, t, k - names::OF_MAPS);
     }
-    if k == 0 {
+    if k == names::OTHER {
         return Class::Kept;
     }
-    if k == 4 {
+    if k == names::FN {
         return fn_class(counts, froms, tos, s, t, full);
     }
-    if k == 5 {
+    if k == names::N {
         return n_class(counts, froms, tos, s, t, parts);
     }
-    if k == 6 {
+    if k == names::JSPROP {
         return jsprop_class(counts, froms, tos, s, t, scratch);
     }
-    if k == 1 {
+    if k == names::VERSION {
         return Class::Version;
     }
-    if k == 2 {
+    if k == names::UID {
         return Class::Uid;
     }
     Class::Kind
@@ -190,8 +193,8 @@ pub fn class_line(
     requires { ⌜ Rowed (now s) (now t) (now counts) (now froms) (now tos) × Room (now s) (now scratch) ⌝ }
     ensures { λ r. ⌜ Classes (now (s .entry)) (now (t .entry)) full parts r ⌝ }
 {
-    let a = t[2];
-    let b = t[3];
+    let a = t[table::NAME];
+    let b = t[table::NAME_END];
     let k = name_code(&s[a..b]);
     class_numbered(k, counts, froms, tos, s, t, scratch, full, parts)
 }

@@ -1,13 +1,12 @@
 -- The class of JSPROP, test by test in the code's order.
 use mathlib.Core.Path.{_≡_, refl, sym, ap, _∙_}
-use mathlib.Core.Bool.{Bool, true, false, _&&_, _||_, not}
+use mathlib.Core.Bool.{Bool, true, false, _&&_, not}
 use mathlib.Core.List.{List, [], _∷_}
 use mathlib.Core.Option.{Option, none, some}
-use Prim.Native.Nat.{ℕ, suc, _<_}
+use Prim.Native.Nat.{ℕ}
 use native.Mathlib.Omega.{arith}
-use lib.Dec.{ltb}
 use lib.ListN.{length, take, drop, getD}
-use Rattle.text.specs.Choice.{pick, with-some, provided, chain, is-some}
+use Rattle.text.specs.Choice.{pick, with-some, provided, is-some}
 use Rattle.text.specs.Bytes.{Bytes, ascii, all, any, same, among}
 use Rattle.text.proofs.Cases.{byBool}
 use Rattle.json.specs.Tree.{Json}
@@ -22,7 +21,7 @@ use Rattle.convert_params.proofs.Which.{kind-4}
 use Rattle.convert_entry.specs.Rows.{zeros}
 use Rattle.convert_entry.proofs.Named.{only-kinds, values-kind, values-besides}
 use Rattle.convert_entry.proofs.Tests.{held-one}
-use Rattle.class_member.specs.Member.{besidesPointer, MemberAt}
+use Rattle.class_member.specs.Member.{besidesPointer}
 use Rattle.class_member.specs.declared.Member.the-variants.{Kept, At}
 use Rattle.class_member.specs.Member.{MemberIs}
 use Rattle.class_member.proofs.Pointing.{among-reserved}

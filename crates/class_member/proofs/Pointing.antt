@@ -10,8 +10,8 @@ use lib.Dec.{eqb}
 use lib.ListN.{length, take, drop, getD, drop-of-length-le}
 use lib.Seq.{drop-cons}
 use borrow.Author.Tests.{eqb-true}
-use Rattle.text.specs.Choice.{pick, is-some}
-use Rattle.text.specs.Bytes.{Bytes, ascii, any, empty, same, among}
+use Rattle.text.specs.Choice.{is-some}
+use Rattle.text.specs.Bytes.{Bytes, ascii, any, same, among}
 use Rattle.text.proofs.Cases.{byBool, not-both}
 use Rattle.text.proofs.Choices.{some-same}
 use Rattle.text.proofs.Same.{same-true, same-eq, among-append}

@@ -1,15 +1,15 @@
 -- The value of JSPROP: its TEXT is no longer than its bytes, and is JSON where the reader of JSON says so.
 use mathlib.Core.Path.{_≡_, refl, sym, ap, _∙_}
 use mathlib.Core.Bool.{Bool, true, false, _||_}
-use mathlib.Core.List.{List, [], _∷_, _++_}
+use mathlib.Core.List.{[], _∷_, _++_}
 use mathlib.Core.Option.{Option, none, some}
-use Prim.Native.Nat.{ℕ, suc, _-_, _≤_, _<_}
+use Prim.Native.Nat.{ℕ, suc, _-_, _≤_}
 use native.Mathlib.Omega.{arith}
-use lib.Dec.{eqb, leb}
+use lib.Dec.{eqb}
 use lib.ListN.{length, take, drop, length-append}
 use lib.Seq.{take-at}
 use borrow.Author.Tests.{le-leb}
-use Rattle.text.specs.Choice.{pick, with-some, chain, is-some}
+use Rattle.text.specs.Choice.{with-some, chain, is-some}
 use Rattle.text.specs.Bytes.{Bytes, between}
 use Rattle.text.specs.Reader.{on, when, past, some-of}
 use Rattle.text.proofs.Cases.{byBool}

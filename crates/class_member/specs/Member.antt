@@ -13,6 +13,7 @@ use Rattle.json.specs.Tree.{Json}
 use Rattle.convert.specs.Pointer.{pointed}
 use Rattle.convert.specs.Classify.{Seen, as-member, as-kept, memberValue, memberClass}
 use Rattle.line_table.specs.Table.{part, Span, lineIn}
+use Rattle.json.specs.Lookup.{room}
 use Rattle.class_member.specs.declared.Member.{Member as Answer}
 use Rattle.class_member.specs.declared.Member.the-variants.{Kept, At}
 
@@ -35,7 +36,7 @@ Pointers (p ∷ ps) (n ∷ ns) = (pointed p ≡ some n) × Pointers ps ns
 -- a scratch as long as the bytes, and bytes that the reader of JSON takes
 pub record Room (s scratch : Bytes) : Type 0 where
   pub fits : length s ≤ length scratch
-  pub small : length s ≤ 65536
+  pub small : length s ≤ room
 
 -- the pointer from a to b points at a name that no member of the table has, and the value is JSON
 pub record MemberAt (s : Bytes) (t : List ℕ) (a b : ℕ) : Type 0 where

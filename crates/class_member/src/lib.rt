@@ -9,11 +9,22 @@ ghost use Rattle.convert.specs.Pointer.{pointed};
 ghost use Rattle.convert.specs.Classify.{memberValue};
 ghost use Rattle.convert_entry.specs.Rows.{zeros};
 ghost use Rattle.table_entry.specs.Key.{Rowed};
+ghost use Rattle.card_table.specs.Numbers.{paramKinds};
 ghost use Rattle.class_member.specs.Member.{besidesPointer, pointsOn, Room, MemberIs};
-use class_name::is_bare;
+use card_table::emails;
+use card_table::links;
+use card_table::members;
+use card_table::nicknames;
+use card_table::notes;
+use card_table::organizations;
+use card_table::params;
+use card_table::phones;
+use card_table::titles;
+use class_name_lines::is_bare;
 use convert_tests::same_bytes;
 use json_read::Verdict;
 use json_read::read;
+use line_table::table;
 use line_text::read_text;
 use output::Wrote;
 
@@ -57,60 +68,62 @@ fn is_pointer(p: &[u8]) -> bool
 fn is_head(p: &[u8]) -> bool
     ensures { λ r. ⌜ r ≡ among (now (p .entry)) (take 5 reserved) ⌝ }
 {
-    if same_bytes(p, b"@type") {
+    if same_bytes(p, &members::TYPE_NAME) {
         return true;
     }
-    if same_bytes(p, b"version") {
+    if same_bytes(p, &members::VERSION_NAME) {
         return true;
     }
-    if same_bytes(p, b"uid") {
+    if same_bytes(p, &members::UID_NAME) {
         return true;
     }
-    if same_bytes(p, b"kind") {
+    if same_bytes(p, &members::KIND_NAME) {
         return true;
     }
-    same_bytes(p, b"name")
+    same_bytes(p, &members::NAME_NAME)
 }
 
 // The others: the maps, and vCardProps.
 fn is_section(p: &[u8]) -> bool
     ensures { λ r. ⌜ r ≡ among (now (p .entry)) (drop 5 reserved) ⌝ }
 {
-    if same_bytes(p, b"nicknames") {
+    if same_bytes(p, &nicknames::NAME) {
         return true;
     }
-    if same_bytes(p, b"emails") {
+    if same_bytes(p, &emails::NAME) {
         return true;
     }
-    if same_bytes(p, b"phones") {
+    if same_bytes(p, &phones::NAME) {
         return true;
     }
-    if same_bytes(p, b"links") {
+    if same_bytes(p, &links::NAME) {
         return true;
     }
-    if same_bytes(p, b"notes") {
+    if same_bytes(p, &notes::NAME) {
         return true;
     }
-    if same_bytes(p, b"titles") {
+    if same_bytes(p, &titles::NAME) {
         return true;
     }
-    if same_bytes(p, b"organizations") {
+    if same_bytes(p, &organizations::NAME) {
         return true;
     }
-    same_bytes(p, b"vCardProps")
+    same_bytes(p, &members::KEPT_NAME)
 }
 
 // No parameter but VALUE and JSPTR.
 fn none_but_pointer(counts: &[usize]) -> bool
-    requires { ⌜ 8 ≤ length (now counts) ⌝ }
+    requires { ⌜ paramKinds ≤ length (now counts) ⌝ }
     ensures { λ r. ⌜ r ≡ zeros besidesPointer (now (counts .entry)) ⌝ }
 {
-    (counts[0] == 0)
-        & ((counts[1] == 0)
-            & ((counts[2] == 0) & ((counts[5] == 0) & ((counts[6] == 0) & (counts[7] == 0)))))
+    (counts[params::PROP_ID] == 0)
+        & ((counts[params::PREF] == 0)
+            & ((counts[params::TYPE] == 0)
+                & ((counts[params::DERIVED] == 0)
+                    & ((counts[params::GROUP] == 0) & (counts[params::OTHER] == 0)))))
 }
 
-// The value: JSON of depth 15 at most, in TEXT, which is decoded into the scratch. A bad escape leaves nothing, which is no JSON.
+// The value: JSON of the depth that a member of a card may have, in TEXT, which is decoded into the scratch. A bad escape leaves nothing, which is no JSON.
 fn is_json(scratch: &mut [u8], v: &[u8]) -> bool
     requires { ⌜ Room (now v) (now scratch) ⌝ }
     ensures { λ r. ⌜ r ≡ is-some (memberValue (now (v .entry))) ⌝ }
@@ -118,7 +131,7 @@ fn is_json(scratch: &mut [u8], v: &[u8]) -> bool
     let Wrote::Bytes(n) = read_text(scratch, v) else {
         return false;
     };
-    match read(&scratch[0..n], 15) {
+    match read(&scratch[0..n], members::DEPTH) {
         Verdict::Sound => {
             return true;
         }
@@ -142,7 +155,7 @@ pub fn member_class(
     requires { ⌜ Rowed (now s) (now t) (now counts) (now froms) (now tos) × Room (now s) (now scratch) ⌝ }
     ensures { λ r. ⌜ MemberIs (now (s .entry)) (now (t .entry)) r ⌝ }
 {
-    if counts[4] != 1 {
+    if counts[params::JSPTR] != 1 {
         return Member::Kept;
     }
     if !none_but_pointer(counts) {
@@ -151,8 +164,8 @@ pub fn member_class(
     if !is_bare(counts, froms, tos, s, t) {
         return Member::Kept;
     }
-    let a = froms[4];
-    let b = tos[4];
+    let a = froms[params::JSPTR];
+    let b = tos[params::JSPTR];
     if !is_pointer(&s[a..b]) {
         return Member::Kept;
     }
@@ -162,8 +175,8 @@ pub fn member_class(
     if is_section(&s[a..b]) {
         return Member::Kept;
     }
-    let c = t[4];
-    let d = t[5];
+    let c = t[table::VALUE];
+    let d = t[table::VALUE_END];
     if !is_json(scratch, &s[c..d]) {
         return Member::Kept;
     }

@@ -1,6 +1,5 @@
 -- Which line converts does not depend on the letter case of its name and of its parameters' names.
 use mathlib.Core.Path.{_≡_, refl}
-use mathlib.Core.Bool.{not}
 use mathlib.Core.List.{List, [], _∷_, map}
 use mathlib.Core.Option.{Option, none, some}
 use Rattle.text.specs.Choice.{with-some}

@@ -6,7 +6,7 @@ use mathlib.Core.Option.{Option, none, some}
 use lib.ListN.{getD}
 use lib.Dec.{eqb, leb}
 use Rattle.text.specs.Choice.{pick}
-use Rattle.text.specs.Bytes.{Bytes, ascii, any, all, empty, same, among, keep, each, flat}
+use Rattle.text.specs.Bytes.{Bytes, ascii, any, all, empty, same, among, keep, flat}
 use Rattle.text.proofs.Cases.{or-left, or-right}
 use Rattle.text.proofs.Same.{same-self}
 use Rattle.text.proofs.Lists.{all-append}

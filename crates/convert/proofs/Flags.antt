@@ -3,10 +3,9 @@ use mathlib.Core.Path.{_≡_, refl, _∙_}
 use mathlib.Core.Bool.{Bool, true, false, _&&_, _||_}
 use mathlib.Core.List.{List, [], _∷_, _++_, map}
 use mathlib.Core.Option.{some}
-use Prim.Native.Nat.{ℕ, _+_}
+use Prim.Native.Nat.{ℕ}
 use lib.ListN.{getD, take, drop}
 use lib.Dec.{eqb}
-use Rattle.text.specs.Choice.{both}
 use Rattle.text.specs.Bytes.{any, all, same, keep, each}
 use Rattle.text.proofs.Cases.{byKeysP, not-both}
 use Rattle.text.proofs.Lists.{all-head, all-tail, any-append, keep-passes}

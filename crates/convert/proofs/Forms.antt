@@ -7,7 +7,7 @@ use native.Mathlib.Omega.{arith}
 use lib.ListN.{length}
 use lib.Dec.{eqb}
 use borrow.Author.Tests.{eqb-true}
-use Rattle.text.specs.Bytes.{Bytes, ascii, any, all, empty, same, among, begins, lowered, lower, between, flat}
+use Rattle.text.specs.Bytes.{Bytes, ascii, any, all, same, among, begins, lowered, lower, between, flat}
 use Rattle.text.proofs.Cases.{byBool, and-left, and-right, not-both}
 use Rattle.text.proofs.Lists.{keep-all}
 use Rattle.line.specs.Class.{isControl}

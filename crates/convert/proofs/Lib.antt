@@ -1,10 +1,13 @@
 pub mod Opened
+pub mod InWords
+pub mod Listed
 pub mod ProvedCases
 pub mod Figures
 pub mod Refusals
 pub mod Limits
 pub mod Unknown
 pub mod Readings
+pub mod CasesMaps
 pub mod Pointers
 pub mod Forms
 pub mod Names

@@ -8,7 +8,7 @@ use native.Mathlib.Omega.{arith}
 use lib.ListN.{length, length-map}
 use lib.Dec.{ltb}
 use borrow.Author.Tests.{le-leb}
-use Rattle.text.specs.Choice.{both, with-some, is-some}
+use Rattle.text.specs.Choice.{with-some, is-some}
 use Rattle.text.specs.Bytes.{Bytes, ascii, any, all, empty, among, joined, keep, each}
 use Rattle.text.proofs.Cases.{byBool, and-left, and-right, or-second, not-both, not-true, tests}
 use Rattle.text.proofs.Choices.{none-some}

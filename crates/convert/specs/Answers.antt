@@ -9,7 +9,7 @@ use Rattle.text.specs.Choice.{pick, with-some, is-some}
 use Rattle.text.specs.Bytes.{Bytes, ascii, empty, any, all, same, among, lowered, each}
 use Rattle.text.specs.Utf8.{utf8}
 use Rattle.json.specs.Read.{Reading, tree, refused, reading}
-use Rattle.json.specs.Lookup.{room}
+use Rattle.json.specs.Lookup.{room, depth}
 use Rattle.line.specs.Class.{isName, isStem, isControl}
 use Rattle.line.specs.Physical.{physical, sizeOf, framed}
 use Rattle.line.specs.Unfold.{unfold′}
@@ -188,5 +188,5 @@ convertTree lent (tree j) = with-some (cardFromJson j) (convertModel lent) (no 1
 -- JSON to card: length of the lent output, the JSON.
 unfoldable pub jsonToCard : ℕ → Bytes → Answer
 jsonToCard lent s =
-    let converted : Answer = convertTree lent (reading 16 s) in
+    let converted : Answer = convertTree lent (reading depth s) in
     pick (ltb jsonRoom (length s)) (no 3 0) converted

@@ -11,6 +11,7 @@ use Rattle.text.specs.Choice.{pick, with-some, chain, provided}
 use Rattle.text.specs.Bytes.{Bytes, ascii, empty, any, same, among, lowered, parts, flat, each}
 use Rattle.json.specs.Tree.{Json}
 use Rattle.json.specs.Read.{Reading, tree, refused, reading}
+use Rattle.json.specs.Lookup.{memberDepth}
 use Rattle.line.specs.Grammar.{Param, param, Line}
 use Rattle.line.specs.Params.{valuesNamed, onlyNamed, valueType, besidesValue}
 use Rattle.line.specs.Text.{readText}
@@ -106,7 +107,7 @@ memberName s ps =
 
 -- its value: JSON of depth 15 at most, in TEXT
 unfoldable pub memberValue : Bytes → Option Json
-memberValue v = chain (readText v) λ t. treeOf (reading 15 t)
+memberValue v = chain (readText v) λ t. treeOf (reading memberDepth t)
 
 unfoldable pub memberClass : Seen → Line → Class
 memberClass s l =

@@ -15,5 +15,7 @@ pub mod Served
 pub mod Demand1
 pub mod NormalCard
 pub mod NormalJson
+pub mod InWords
 pub mod Worked
+pub mod Listed
 pub mod ProvedCases

@@ -8,6 +8,7 @@ use Rattle.text.specs.Bytes.{Bytes, ascii, empty, same, among, flat, keep}
 use Rattle.json.specs.Tree.{Json, jnull, jtrue, jfalse, jnum, jstr, jarr, jobj, Member, member, nameOf, valueOf, field, object, array, asString, asArray, asObject, elemsOf}
 use Rattle.json.specs.Compact.{compact}
 use Rattle.json.specs.Read.{Reading, tree, refused, reading}
+use Rattle.json.specs.Lookup.{depth}
 use Rattle.convert.specs.Table.{Map, maps, TypeName, typeNames, jsonType, componentKinds, reserved}
 
 -- ---- pieces
@@ -129,4 +130,4 @@ compactForm (refused p) = []
 
 -- the normal form of an accepted JSON card
 unfoldable pub normalJson : Bytes → Bytes
-normalJson s = compactForm (reading 16 s)
+normalJson s = compactForm (reading depth s)

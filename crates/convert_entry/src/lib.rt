@@ -6,7 +6,11 @@ ghost use Rattle.text.specs.Choice.{is-some};
 ghost use Rattle.text.specs.Bytes.{ascii, begins};
 ghost use Rattle.line.specs.Params.{valuesNamed, besidesValue, valueType};
 ghost use Rattle.convert.specs.Classify.{prefFrom};
+ghost use Rattle.card_table.specs.Numbers.{paramKinds};
 ghost use Rattle.convert_entry.specs.Rows.{typeNumber, takes, kindsOut, zeros, OfRow, HasRow, ReadsAs};
+use card_table::forms;
+use card_table::params;
+use card_table::values;
 use convert_tests::is_pref;
 use line_name::is_named;
 use line_parts::has_other;
@@ -15,40 +19,45 @@ use line_text::part_end;
 
 // Only parameters that a map's lines take; TYPE and PREF where the map is typed.
 pub fn only_of(typed: bool, counts: &[usize]) -> bool
-    requires { ⌜ 8 ≤ length (now counts) ⌝ }
+    requires { ⌜ paramKinds ≤ length (now counts) ⌝ }
     ensures { λ r. ⌜ r ≡ zeros (kindsOut typed) (now (counts .entry)) ⌝ }
 {
     if typed {
-        return (counts[4] == 0) & ((counts[5] == 0) & ((counts[6] == 0) & (counts[7] == 0)));
+        return (counts[params::JSPTR] == 0)
+            & ((counts[params::DERIVED] == 0)
+                & ((counts[params::GROUP] == 0) & (counts[params::OTHER] == 0)));
     }
-    (counts[4] == 0)
-        & ((counts[5] == 0)
-            & ((counts[6] == 0) & ((counts[7] == 0) & ((counts[1] == 0) & (counts[2] == 0)))))
+    (counts[params::JSPTR] == 0)
+        & ((counts[params::DERIVED] == 0)
+            & ((counts[params::GROUP] == 0)
+                & ((counts[params::OTHER] == 0)
+                    & ((counts[params::PREF] == 0) & (counts[params::TYPE] == 0)))))
 }
 
-// VALUE: 0 absent or unknown, 1 uri, 2 another.
+// What VALUE says, by number (`values`).
 pub fn value_kind(counts: &[usize], froms: &[usize], tos: &[usize], s: &[u8]) -> usize
     requires { ⌜ HasRow (now s) (now counts) (now froms) (now tos) ⌝ }
     ensures { λ r. ⌜ OfRow (now (s .entry)) (now (counts .entry)) (now (froms .entry)) (now (tos .entry)) (λ ps. r ≡ typeNumber (valueType ps)) ⌝ }
 {
-    if counts[3] == 0 {
-        return 0;
+    if counts[params::VALUE] == 0 {
+        return values::UNKNOWN;
     }
-    let a = froms[3];
-    let b = tos[3];
-    if is_named(&s[a..b], b"unknown") {
-        return 0;
+    let a = froms[params::VALUE];
+    let b = tos[params::VALUE];
+    if is_named(&s[a..b], &values::UNKNOWN_NAME) {
+        return values::UNKNOWN;
     }
-    if is_named(&s[a..b], b"uri") {
-        return 1;
+    if is_named(&s[a..b], &values::URI_NAME) {
+        return values::URI;
     }
-    2
+    values::OTHER
 }
 
 pub fn takes_kind(form: usize, kind: usize) -> bool
     ensures { λ r. ⌜ r ≡ takes form kind ⌝ }
 {
-    (kind == 0) | ((kind == 1) & ((form == 2) | (form == 3)))
+    (kind == values::UNKNOWN)
+        | ((kind == values::URI) & ((form == forms::RAW) | (form == forms::PHONE)))
 }
 
 // PREF: absent, or one valid value.
@@ -56,15 +65,15 @@ pub fn pref_fits(counts: &[usize], froms: &[usize], tos: &[usize], s: &[u8]) -> 
     requires { ⌜ HasRow (now s) (now counts) (now froms) (now tos) ⌝ }
     ensures { λ r. ⌜ OfRow (now (s .entry)) (now (counts .entry)) (now (froms .entry)) (now (tos .entry)) (λ ps. r ≡ is-some (prefFrom (valuesNamed (ascii "pref") (besidesValue ps)))) ⌝ }
 {
-    let k = counts[1];
+    let k = counts[params::PREF];
     if k == 0 {
         return true;
     }
     if k != 1 {
         return false;
     }
-    let a = froms[1];
-    let b = tos[1];
+    let a = froms[params::PREF];
+    let b = tos[params::PREF];
     is_pref(&s[a..b])
 }
 
@@ -82,19 +91,19 @@ fn begins_tel(v: &[u8]) -> bool
 pub fn reads_as(form: usize, kind: usize, v: &[u8]) -> bool
     ensures { λ r. ⌜ ReadsAs form kind (now (v .entry)) r ⌝ }
 {
-    if form == 2 {
+    if form == forms::RAW {
         return true;
     }
-    if (form == 3) & (kind == 1) {
+    if (form == forms::PHONE) & (kind == values::URI) {
         return begins_tel(v);
     }
-    if form == 1 {
+    if form == forms::SINGLE {
         if part_end(v, 0, b',') < v.len() {
             return false;
         }
         return is_text(v);
     }
-    if form == 4 {
+    if form == forms::ORGANIZATION {
         if !has_other(v, b';', b';') {
             return false;
         }

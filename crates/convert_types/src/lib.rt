@@ -3,41 +3,43 @@ ghost use mathlib.Core.Path.{_≡_};
 ghost use Prim.Native.Nat.{_≤_, _<_};
 ghost use lib.ListN.{length};
 ghost use Rattle.text.specs.Bytes.{code, parts};
+ghost use Rattle.card_table.specs.Numbers.{typeCount};
 ghost use Rattle.convert_types.specs.Marks.{typeAt, placed, marks, told, split, PartEnds};
+use card_table::types;
 use line_name::is_named;
 
-// The place of a value in the table of TYPE; 9 where it has none.
+// The number of a value of TYPE (`types`); how many there are where it has none.
 fn place_of(v: &[u8]) -> usize
-    ensures { λ r. ⌜ placed r ≡ typeAt 9 (now (v .entry)) ⌝ }
+    ensures { λ r. ⌜ placed r ≡ typeAt typeCount (now (v .entry)) ⌝ }
 {
-    if is_named(v, b"home") {
-        return 0;
+    if is_named(v, &types::HOME_NAME) {
+        return types::HOME;
     }
-    if is_named(v, b"work") {
-        return 1;
+    if is_named(v, &types::WORK_NAME) {
+        return types::WORK;
     }
-    if is_named(v, b"fax") {
-        return 2;
+    if is_named(v, &types::FAX_NAME) {
+        return types::FAX;
     }
-    if is_named(v, b"cell") {
-        return 3;
+    if is_named(v, &types::CELL_NAME) {
+        return types::CELL;
     }
-    if is_named(v, b"pager") {
-        return 4;
+    if is_named(v, &types::PAGER_NAME) {
+        return types::PAGER;
     }
-    if is_named(v, b"text") {
-        return 5;
+    if is_named(v, &types::TEXT_NAME) {
+        return types::TEXT;
     }
-    if is_named(v, b"textphone") {
-        return 6;
+    if is_named(v, &types::TEXTPHONE_NAME) {
+        return types::TEXTPHONE;
     }
-    if is_named(v, b"video") {
-        return 7;
+    if is_named(v, &types::VIDEO_NAME) {
+        return types::VIDEO;
     }
-    if is_named(v, b"voice") {
-        return 8;
+    if is_named(v, &types::VOICE_NAME) {
+        return types::VOICE;
     }
-    9
+    types::COUNT
 }
 
 // The same among the first n.
@@ -48,7 +50,7 @@ fn type_code(v: &[u8], n: usize) -> usize
     if c < n {
         return c;
     }
-    9
+    types::COUNT
 }
 
 // Where the part of a value that begins at `at` ends.
@@ -67,14 +69,14 @@ fn part_end(s: &[u8], at: usize) -> usize
 
 // Marks one value of TYPE, split at commas.
 pub fn mark_value(row: &mut [u8], v: &[u8], n: usize) -> bool
-    requires { ⌜ 9 ≤ length (now row) ⌝ }
+    requires { ⌜ typeCount ≤ length (now row) ⌝ }
     ensures { λ r. ⌜ told r (now (row .exit)) ≡ marks n (parts (code ",") (now (v .entry))) (now (row .entry)) ⌝ }
 {
     let mut i = 0;
     loop {
         let e = part_end(v, i);
         let c = type_code(&v[i..e], n);
-        if c >= 9 {
+        if c >= types::COUNT {
             return false;
         }
         row[c] = 1;

@@ -1,17 +1,17 @@
--- Worked examples: what is allowed for a line, and what is not.
+-- Worked examples: what a line may come home as, and what not.
 use mathlib.Core.Path.{_≡_, refl, sym, ap}
 use mathlib.Core.Logic.{inl}
 use mathlib.Core.Bool.{Bool, false}
 use mathlib.Core.List.{List, [], _∷_}
 use mathlib.Core.Option.{Option}
 use Rattle.text.specs.Choice.{with-some}
-use Rattle.text.specs.Bytes.{Bytes, ascii, any, empty, same}
+use Rattle.text.specs.Bytes.{Bytes, ascii, any, empty, same, keep}
 use Rattle.text.proofs.Cases.{not-both}
 use Rattle.line.specs.Grammar.{Param, param, Line}
 use Rattle.convert.specs.Value.{headOr}
 use Rattle.line.specs.Params.{named}
 use Rattle.convert.proofs.Opened.{convert-opened}
-use Rattle.home.specs.Allowed.{stringsOf, Allowed, uid, kind, full, parts, entry, member, kept, here, AllStand, no-more, one-more, carries, carriedLines}
+use Rattle.home.specs.Allowed.{stringsOf, SameKept, Converted, uid, kind, full, parts, entry, member, here, AllStand, no-more, one-more, carries}
 
 abbrev line : Bytes → List Param → Bytes → Line
 line n ps v = record { group = []; name = n; params = ps; value = v }
@@ -24,7 +24,7 @@ tel = line (ascii "TEL") (param (ascii "TYPE") (ascii "CELL" ∷ []) ∷ []) (as
 abbrev telHome : Bytes → Line
 telHome k = line (ascii "TEL") (param (ascii "PROP-ID") (k ∷ []) ∷ param (ascii "TYPE") (ascii "cell" ∷ []) ∷ []) (ascii "+41 1")
 
-tel-allowed : (k : Bytes) → Allowed tel (telHome k)
+tel-allowed : (k : Bytes) → Converted tel (telHome k)
 unfolding convert-opened stringsOf
 tel-allowed k =
     entry
@@ -53,7 +53,7 @@ note v = line (ascii "NOTE") [] v
 abbrev isA : Option (List Bytes) → Bool
 isA o = with-some o (λ vs. same (headOr [] vs) (ascii "a")) false
 
-other-value : Allowed (note (ascii "a")) (note (ascii "b")) → ⊥
+other-value : Converted (note (ascii "a")) (note (ascii "b")) → ⊥
 unfolding convert-opened stringsOf
 other-value (uid b p q e) = not-both (b .0) refl
 other-value (kind b p q e) = not-both (b .0) refl
@@ -61,7 +61,10 @@ other-value (full b p q v x y) = not-both (b .0) refl
 other-value (parts b p q s) = not-both (b .0) refl
 other-value (entry s) = not-both (sym (ap isA (s .said .0))) (sym (ap isA (s .said .1)))
 other-value (member b s) = not-both (b .0) refl
-other-value (kept s) = not-both (ap (λ (v : Bytes). same v (ascii "a")) (s .value)) refl
+
+other-value-kept : SameKept (note (ascii "a")) (note (ascii "b")) → ⊥
+unfolding convert-opened
+other-value-kept s = not-both (ap (λ (v : Bytes). same v (ascii "a")) (s .value)) refl
 
 -- ---- a parameter or a group may not go
 
@@ -77,7 +80,7 @@ telPlain = line (ascii "TEL") (param (ascii "PROP-ID") (ascii "PHONE-1" ∷ []) 
 abbrev isUser : List Param → Bool
 isUser ps = any (named (ascii "username")) ps
 
-lost-parameter : Allowed telUser telPlain → ⊥
+lost-parameter : Converted telUser telPlain → ⊥
 unfolding convert-opened
 lost-parameter (uid b p q e) = not-both (b .0) refl
 lost-parameter (kind b p q e) = not-both (b .0) refl
@@ -85,9 +88,12 @@ lost-parameter (full b p q v x y) = not-both (b .0) refl
 lost-parameter (parts b p q s) = not-both (b .0) refl
 lost-parameter (entry s) = not-both (s .takes .0 .1) refl
 lost-parameter (member b s) = not-both (b .0) refl
-lost-parameter (kept s) = not-both (ap isUser (s .params)) refl
 
-lost-group : Allowed telGroup telPlain → ⊥
+lost-parameter-kept : SameKept telUser telPlain → ⊥
+unfolding convert-opened
+lost-parameter-kept s = not-both (ap isUser (s .params)) refl
+
+lost-group : Converted telGroup telPlain → ⊥
 unfolding convert-opened
 lost-group (uid b p q e) = not-both (b .0) refl
 lost-group (kind b p q e) = not-both (b .0) refl
@@ -95,11 +101,14 @@ lost-group (full b p q v x y) = not-both (b .0) refl
 lost-group (parts b p q s) = not-both (b .0) refl
 lost-group (entry s) = not-both (s .takes .0 .0) refl
 lost-group (member b s) = not-both (b .0) refl
-lost-group (kept s) = not-both refl (ap (λ (g : Bytes). empty g) (s .group))
+
+lost-group-kept : SameKept telGroup telPlain → ⊥
+unfolding convert-opened
+lost-group-kept s = not-both refl (ap (λ (g : Bytes). empty g) (s .group))
 
 -- ---- a derived FN and VERSION are the only lines that need not stand
 
-carried-example : carriedLines (line (ascii "version") [] (ascii "4.0") ∷ line (ascii "FN") (param (ascii "Derived") (ascii "true" ∷ []) ∷ []) (ascii "x") ∷ line (ascii "FN") [] (ascii "x") ∷ tel ∷ tel ∷ [])
+carried-example : keep carries (line (ascii "version") [] (ascii "4.0") ∷ line (ascii "FN") (param (ascii "Derived") (ascii "true" ∷ []) ∷ []) (ascii "x") ∷ line (ascii "FN") [] (ascii "x") ∷ tel ∷ tel ∷ [])
     ≡ line (ascii "FN") [] (ascii "x") ∷ tel ∷ tel ∷ []
-unfolding convert-opened carries carriedLines
+unfolding convert-opened carries
 carried-example = refl

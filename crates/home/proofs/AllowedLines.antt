@@ -34,7 +34,7 @@ use Rattle.convert.specs.Answers.{isNamed, onlyUri, misused}
 use Rattle.convert.proofs.Names.{read-parts}
 use Rattle.convert.proofs.Entries.{coherent, Proper, entry-read}
 use Rattle.convert.proofs.KeptLines.{ProperKept, kept-line}
-use Rattle.home.specs.Allowed.{plain, nameStrings, partStrings, SameName, SameKept, Allowed, uid, kind, full, parts, entry, member, kept}
+use Rattle.home.specs.Allowed.{plain, nameStrings, partStrings, SameName, SameKept, Converted, uid, kind, full, parts, entry, member}
 use Rattle.home.proofs.Known.{onProvided, onChain}
 use Rattle.home.proofs.CleanLines.{CleanLine}
 use Rattle.home.proofs.ReadNames.{name-well}
@@ -76,11 +76,11 @@ module _ (l : Line) (h : LineFine l) where
       bad : empty (l .group) && empty (l .params) ≡ false → misused l ≡ true
       bad e = rw (same-true (lowered (l .name)) (ascii "kind") n, e)
 
-  pub uid-allowed : isNamed (ascii "uid") l ≡ true → Allowed l (property (ascii "uid") [] (l .value))
+  pub uid-allowed : isNamed (ascii "uid") l ≡ true → Converted l (property (ascii "uid") [] (l .value))
   unfolding same lowered lower between onlyUri
   uid-allowed n = uid (n, refl) (uid-used n) refl refl
 
-  pub kind-allowed : isNamed (ascii "kind") l ≡ true → Allowed l (property (ascii "kind") [] (lowered (l .value)))
+  pub kind-allowed : isNamed (ascii "kind") l ≡ true → Converted l (property (ascii "kind") [] (lowered (l .value)))
   kind-allowed n = kind (n, own-names .0) (kind-used n) refl refl
 
 -- ---- FN and N
@@ -89,7 +89,7 @@ full-back : (v t : Bytes) → readText v ≡ some t → readText (renewed false 
 unfolding renewed
 full-back v t e = rw e (read-write false t)
 
-pub full-allowed : (l : Line) (v : Bytes) → isNamed (ascii "fn") l ≡ true → plain l ≡ true → readText (l .value) ≡ some v → Allowed l (property (ascii "fn") [] (renewed false (l .value)))
+pub full-allowed : (l : Line) (v : Bytes) → isNamed (ascii "fn") l ≡ true → plain l ≡ true → readText (l .value) ≡ some v → Converted l (property (ascii "fn") [] (renewed false (l .value)))
 unfolding same lowered lower between
 full-allowed l v n p e = full (n, refl) p (plain-line (ascii "fn") (renewed false (l .value))) v e (full-back (l .value) v e)
 
@@ -117,7 +117,7 @@ parts-back l ps c e =
           ∙ read-parts (without (part came 5) (part came 0)) (part came 1) (part came 2) (part came 3) (without (part came 6) (part came 4)) (part came 5) (part came 6) g;
     }
 
-pub parts-allowed : (l : Line) (ps : List (List Bytes)) → CleanLine l → isNamed (ascii "n") l ≡ true → plain l ≡ true → readName (l .value) ≡ some ps → Allowed l (property (ascii "n") [] (nameText (nameValues (l .value))))
+pub parts-allowed : (l : Line) (ps : List (List Bytes)) → CleanLine l → isNamed (ascii "n") l ≡ true → plain l ≡ true → readName (l .value) ≡ some ps → Converted l (property (ascii "n") [] (nameText (nameValues (l .value))))
 unfolding same lowered lower between
 parts-allowed l ps c n p e = parts (n, refl) p (plain-line (ascii "n") (nameText (nameValues (l .value)))) (parts-back l ps c e)
 
@@ -137,7 +137,7 @@ module _ (l : Line) (w : Slot) (e : Entry) (c : CleanLine l) (o : slotOf (lowere
   unfolding entryForm
   form-name k = refl
 
-  pub entry-allowed : (k : Bytes) → isKeyText k ≡ true → (empty (propId l) ≡ false → k ≡ propId l) → Allowed l (entryForm (w .map) k l)
+  pub entry-allowed : (k : Bytes) → isKeyText k ≡ true → (empty (propId l) ≡ false → k ≡ propId l) → Converted l (entryForm (w .map) k l)
   entry-allowed k v q =
       let i : e .key ≡ propId l = entry-key nothing w l e h in
       let name : lowered (entryForm (w .map) k l .name) ≡ lowered (l .name) = ap lowered (form-name k) ∙ lowered-lowered (l .name) in
@@ -180,12 +180,12 @@ pointer-taken : (ps : List Param) → onlyNamed (ascii "jsptr" ∷ []) (besidesV
 unfolding among any same
 pointer-taken ps h = with-value (ascii "jsptr" ∷ []) (ascii "jsptr" ∷ ascii "value" ∷ []) (λ n e. byBool (same n (ascii "jsptr")) (λ q. rw q) (λ q. not-both e (rw q))) refl ps h
 
-tree-read : (r : Reading) (j : Json) → treeOf r ≡ some j → r ≡ tree j
+pub tree-read : (r : Reading) (j : Json) → treeOf r ≡ some j → r ≡ tree j
 tree-read (tree i) j e = ap tree (some-same e)
 tree-read (refused n) j e = none-some e
 
 pub member-allowed : (l : Line) (n : Bytes) (j : Json) → isNamed (ascii "jsprop") l ≡ true → bare l ≡ true → memberName nothing (besidesValue (l .params)) ≡ some n → memberValue (l .value) ≡ some j
-    → Allowed l (property (ascii "jsprop") (pointing (valuesNamed (ascii "jsptr") (l .params))) (writeText false (compact j)))
+    → Converted l (property (ascii "jsprop") (pointing (valuesNamed (ascii "jsptr") (l .params))) (writeText false (compact j)))
 unfolding memberName memberValue same
 member-allowed l n j a b m v =
     let ps : List Param = besidesValue (l .params) in
@@ -240,6 +240,3 @@ module _ (l : Line) (h : LineFine l) where
         type = ap (λ (k : Kept). k .type) e;
         value = ap (λ (k : Kept). k .value) e;
       }
-
-  pub kept-allowed : Allowed l (keptForm l)
-  kept-allowed = kept kept-same

@@ -1,4 +1,4 @@
--- What is allowed stays allowed in upper-case names, as a line is written.
+-- A line says the same in upper-case names, as it is written.
 use mathlib.Core.Path.{_≡_, ap, _∙_}
 use mathlib.Core.Bool.{true, _&&_}
 use mathlib.Core.List.{List, [], _∷_, map}
@@ -10,7 +10,7 @@ use Rattle.line.proofs.Parameters.{upperParam}
 use Rattle.line.proofs.Lines.{upperLine}
 use Rattle.line.proofs.Uppered.{valuesNamed-upper, besidesValue-upper, valueType-upper, onlyNamed-upper, merged-upper}
 use Rattle.convert.specs.Answers.{isNamed}
-use Rattle.home.specs.Allowed.{untyped, plain, Takes, taken, SameEntry, SameMember, SameKept, Allowed, uid, kind, full, parts, entry, member, kept}
+use Rattle.home.specs.Allowed.{untyped, plain, Takes, taken, SameEntry, SameMember, SameKept, Converted, uid, kind, full, parts, entry, member}
 use Rattle.home.proofs.Images.{empty-map}
 
 module _ (h : Line) where
@@ -72,11 +72,10 @@ module _ (l h : Line) where
         value = s .value;
       }
 
-pub allowed-upper : (l h : Line) → Allowed l h → Allowed l (upperLine h)
-allowed-upper l h (uid b p q e) = uid (b .0, named-upper h (ascii "uid") (b .1)) p (no-params h q) e
-allowed-upper l h (kind b p q e) = kind (b .0, named-upper h (ascii "kind") (b .1)) p (no-params h q) e
-allowed-upper l h (full b p q v x y) = full (b .0, named-upper h (ascii "fn") (b .1)) p (plain-upper h q) v x y
-allowed-upper l h (parts b p q s) = parts (b .0, named-upper h (ascii "n") (b .1)) p (plain-upper h q) s
-allowed-upper l h (entry s) = entry (entry-upper l h s)
-allowed-upper l h (member b s) = member (b .0, named-upper h (ascii "jsprop") (b .1)) (member-upper l h s)
-allowed-upper l h (kept s) = kept (kept-upper l h s)
+pub converted-upper : (l h : Line) → Converted l h → Converted l (upperLine h)
+converted-upper l h (uid b p q e) = uid (b .0, named-upper h (ascii "uid") (b .1)) p (no-params h q) e
+converted-upper l h (kind b p q e) = kind (b .0, named-upper h (ascii "kind") (b .1)) p (no-params h q) e
+converted-upper l h (full b p q v x y) = full (b .0, named-upper h (ascii "fn") (b .1)) p (plain-upper h q) v x y
+converted-upper l h (parts b p q s) = parts (b .0, named-upper h (ascii "n") (b .1)) p (plain-upper h q) s
+converted-upper l h (entry s) = entry (entry-upper l h s)
+converted-upper l h (member b s) = member (b .0, named-upper h (ascii "jsprop") (b .1)) (member-upper l h s)

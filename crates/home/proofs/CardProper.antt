@@ -211,7 +211,7 @@ any-false : {A : Type 0} (p : A → Bool) (xs : List A) → any p xs ≡ false �
 any-false p [] h = tt
 any-false p (x ∷ xs) h = (any-head p x xs h, any-false p xs (any-tail p x xs h))
 
-not-garbled : (s : Bytes) → garbled s ≡ false → Clean s
+pub not-garbled : (s : Bytes) → garbled s ≡ false → Clean s
 unfolding garbled
 not-garbled s h = (byBool (utf8 s) (λ e. e) (λ e. not-both (ap not e) (or-left (not (utf8 s)) _ h)), or-right (not (utf8 s)) _ h)
 

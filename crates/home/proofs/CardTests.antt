@@ -80,7 +80,7 @@ not-kind : (n : Bytes) → among n heads ≡ false → same n (ascii "kind") ≡
 unfolding among
 not-kind n h = any-head (same n) (ascii "kind") _ (any-tail (same n) (ascii "uid") _ (any-tail (same n) (ascii "version") _ h))
 
-plain-misused : (l : Line) → Plain l → misused l ≡ false
+pub plain-misused : (l : Line) → Plain l → misused l ≡ false
 unfolding misused
 plain-misused l p = rw (not-uid (lowered (l .name)) (p .own), not-kind (lowered (l .name)) (p .own), p .group, p .value)
 
@@ -213,7 +213,7 @@ module _ (c : Card) (p : ProperCard c) where
   versioned : versionFirst (map upperLine (cardLines c)) ≡ true
   versioned = rw (card-parted c) (version-first (uidLine c ∷ (kindLines c ++ laterLines c)))
 
-  none-misused : atLine 7 misused (map upperLine (cardLines c)) ≡ fine
+  pub none-misused : atLine 7 misused (map upperLine (cardLines c)) ≡ fine
   unfolding Passes
   none-misused = no-line 7 misused upperLine (cardLines c) (all-mono Passes (λ l. misused (upperLine l) ≡ false) (λ l q. q .0) (cardLines c) (card-passes c p))
 

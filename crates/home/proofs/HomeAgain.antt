@@ -6,21 +6,22 @@ use mathlib.Core.Option.{Option}
 use Prim.Native.Nat.{ℕ}
 use lib.ListN.{length}
 use lib.Dec.{ltb}
-use Rattle.text.specs.Bytes.{Bytes}
+use Rattle.text.specs.Bytes.{Bytes, any}
 use Rattle.text.proofs.Cases.{and-true}
 use Rattle.line.specs.Grammar.{Line}
 use Rattle.line.specs.Write.{writeCard}
 use Rattle.line.proofs.Lines.{upperLine}
 use Rattle.convert.specs.Model.{Card}
-use Rattle.convert.specs.Classify.{classed}
+use Rattle.convert.specs.Classify.{nothing, classedAfter, classed}
 use Rattle.convert.specs.FromCard.{cardOfLines}
 use Rattle.convert.specs.ToJson.{printJson}
 use Rattle.convert.specs.ToCard.{cardLines, printCard}
 use Rattle.convert.specs.NormalCard.{normalLines}
-use Rattle.convert.specs.Answers.{yes, seek, given, cardRoom, lineRoom, jsonRoom, isStemText, isCardNumber, linesOf, orNone, fitted, cardToJson, jsonToCard}
+use Rattle.convert.specs.Answers.{yes, seek, given, cardRoom, lineRoom, jsonRoom, isStemText, isCardNumber, misused, linesOf, orNone, fitted, cardToJson, jsonToCard}
 use Rattle.home.proofs.Proper.{ProperCard}
-use Rattle.home.specs.Allowed.{AllStand, carriedLines, newLines}
-use Rattle.home.specs.Turns.{InTurn}
+use Rattle.home.specs.Allowed.{newLines}
+use Rattle.home.specs.JsonStands.{JsonStands}
+use Rattle.home.specs.Turns.{LinesStand, InTurn}
 use Rattle.convert.proofs.Seeking.{seek-fine, given-false, fitted-inv}
 use Rattle.home.proofs.Accepted.{AcceptedCard, accepted-card}
 use Rattle.home.proofs.CardLines.{card-unfolded, card-read}
@@ -28,10 +29,12 @@ use Rattle.home.proofs.CardAnswer.{card-to-json}
 use Rattle.home.proofs.NormalCard.{lines-normal}
 use Rattle.home.proofs.WayHome.{written, normalOf, card-is-proper, card-comes-home}
 use Rattle.home.proofs.Respelled.{lines}
-use Rattle.home.proofs.Standing.{stand-map}
-use Rattle.home.proofs.AllowedUpper.{allowed-upper}
 use Rattle.home.proofs.EveryLine.{every-line, every-turn}
-use Rattle.home.proofs.InTurn.{turn-upper}
+use Rattle.home.proofs.InTurn.{lines-upper, turn-upper}
+use Rattle.home.proofs.SectionsStand.{newOf}
+use Rattle.home.proofs.NewLines.{new-lines}
+use Rattle.home.proofs.PairedLines.{standsOf}
+use Rattle.home.proofs.StandsOnce.{the-stands}
 
 written-inv : (lent : ℕ) (ls : List Line) (b : Bytes) → written lent ls ≡ yes b → (ltb lineRoom (length ls) ≡ false) × (ltb cardRoom (length b) ≡ false) × (b ≡ writeCard ls)
 unfolding seek
@@ -89,16 +92,21 @@ module _ (stem : Bytes) (n lent lent′ : ℕ) (s j b : Bytes) (out : cardToJson
       ∙ card-read c (way .proper)
       ∙ ap (map upperLine) (way .normal)
 
-  pub every-line-comes-home : AllStand (map upperLine (newLines stem n (lines s))) (carriedLines (lines s)) (lines b)
-  every-line-comes-home =
+  -- what stands for the lines in the JSON is what their classes say
+  own-stands : (h : JsonStands stem n (lines s) j) → h .stands ≡ standsOf (classedAfter nothing (linesOf (accepted .raw)))
+  own-stands h = the-stands stem n (lines s) j h (ap (any misused) the-lines ∙ accepted .good .used) ∙ ap (λ (x : List Line). standsOf (classedAfter nothing x)) the-lines
+
+  pub every-line-comes-home : (h : JsonStands stem n (lines s) j) → LinesStand (newLines stem n (lines s)) (lines s) (h .stands) (lines b)
+  every-line-comes-home h =
       let ls : List Line = linesOf (accepted .raw) in
-      rw (home-lines, the-lines) (stand-map upperLine allowed-upper (every-line stem n (accepted .raw) ls (accepted .good)))
+      rw (home-lines, own-stands h, the-lines, ← new-lines stem n ls)
+      (lines-upper (newOf stem n (classed ls)) ls (standsOf (classedAfter nothing ls)) (normalLines stem n (classed ls)) (every-line stem n (accepted .raw) ls (accepted .good)))
 
   -- in 01's order, each section in the order in which its lines came
-  pub lines-come-home-in-turn : InTurn (carriedLines (lines s)) (lines b)
-  lines-come-home-in-turn =
+  pub lines-come-home-in-turn : (h : JsonStands stem n (lines s) j) → InTurn (lines s) (h .stands) (lines b)
+  lines-come-home-in-turn h =
       let ls : List Line = linesOf (accepted .raw) in
-      rw (home-lines, the-lines) (turn-upper (carriedLines ls) (normalLines stem n (classed ls)) (every-turn stem n (accepted .raw) ls (accepted .good)))
+      rw (home-lines, own-stands h, the-lines) (turn-upper ls (standsOf (classedAfter nothing ls)) (normalLines stem n (classed ls)) (every-turn stem n (accepted .raw) ls (accepted .good)))
 
   -- ---- a card that came home comes home unchanged, whatever the stem and number, in any output that is long enough
 

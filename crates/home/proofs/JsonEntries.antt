@@ -3,7 +3,7 @@ use mathlib.Core.Path.{_≡_, refl, sym, ap, subst, _∙_}
 use mathlib.Core.Logic.{inl, inr}
 use mathlib.Core.Bool.{Bool, true, _&&_, _||_, not}
 use mathlib.Core.List.{List, [], _∷_, _++_, map}
-use mathlib.Core.Option.{Option, some, Option·map}
+use mathlib.Core.Option.{some, Option·map}
 use Prim.Native.Nat.{ℕ, _+_}
 use lib.ListN.{length, take, drop}
 use lib.Dec.{leb, ltb}
@@ -168,7 +168,7 @@ entry-proper d m r (member k j) e h q =
       texts-utf8 = rw (flat-singly (vs .0)) (t .1);
     })
 
-entry-key : (m : Map) (o : Member) (e : Entry) → entryFrom m o ≡ some e → e .key ≡ nameOf o
+pub entry-key : (m : Map) (o : Member) (e : Entry) → entryFrom m o ≡ some e → e .key ≡ nameOf o
 unfolding entryFrom
 entry-key m (member k j) e q =
     let a = chain-inv (provided (isKeyText k) (asObject j)) _ q in

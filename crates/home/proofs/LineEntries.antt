@@ -48,7 +48,7 @@ key-inv s i (j ∷ (l ∷ ks)) k e = none-some e
 
 -- ---- PREF: none where the map does not take it
 
-unnamed : (ns : List Bytes) (n : Bytes) (ps : List Param) → onlyNamed ns ps ≡ true → among n ns ≡ false → valuesNamed n ps ≡ []
+pub unnamed : (ns : List Bytes) (n : Bytes) (ps : List Param) → onlyNamed ns ps ≡ true → among n ns ≡ false → valuesNamed n ps ≡ []
 unfolding onlyNamed valuesNamed flat named
 unnamed ns n ps h e =
     rw (keep-none (named n) ps (all-none (λ p. among (lowered (paramName p)) ns) (named n) (λ p q. byBool (named n p) (λ r. not-both (ap (λ (x : Bytes). among x ns) (sym (same-true (lowered (paramName p)) n r)) ∙ q) e) (λ r. r)) ps h))
@@ -75,7 +75,7 @@ pref-inv ns ps p h e =
 code-below : (n : ℕ) (v : Bytes) (c : ℕ) → codeOf n v ≡ some c → below n c ≡ true
 code-below n v c e = lt-ltb c n (omega (tests, position-inside (λ t. same (lowered v) (vcardType t)) (take n typeNames) c e, take-length n typeNames))
 
-types-inv : (n : ℕ) (vs : List Bytes) (ts : List ℕ) → typesFrom n vs ≡ some ts → (all (below n) ts ≡ true) × (inOrder ts ≡ ts)
+pub types-inv : (n : ℕ) (vs : List Bytes) (ts : List ℕ) → typesFrom n vs ≡ some ts → (all (below n) ts ≡ true) × (inOrder ts ≡ ts)
 unfolding typesFrom
 types-inv n vs ts e =
     let i = map-inv inOrder (each (codeOf n) (flat (map (parts 44) vs))) e in

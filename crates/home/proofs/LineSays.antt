@@ -29,7 +29,7 @@ key-alone s i [] k e = e
 key-alone s i (j ∷ []) k e = onProvided (isKeyText j && not (any (isId i j) (s .ids))) (some j) e λ t r. rw (and-left (isKeyText j) _ t) r
 key-alone s i (j ∷ (l ∷ ks)) k e = none-some e
 
-entry-alone : (s : Seen) (w : Slot) (l : Line) (e : Entry) → entryOf s w l ≡ some e → entryOf nothing w l ≡ some e
+pub entry-alone : (s : Seen) (w : Slot) (l : Line) (e : Entry) → entryOf s w l ≡ some e → entryOf nothing w l ≡ some e
 unfolding entryOf
 entry-alone s w l e h =
     let ps : List Param = besidesValue (l .params) in
@@ -120,7 +120,7 @@ module _ (s : Seen) (l : Line) where
   comes-full =
       byBool (bare l && isDerived (besidesValue (l .params))) (λ d. rw d) (λ d. rw d (comes-with (provided (plain l && not (s .full)) (readText (l .value))) as-full (λ v. refl)))
 
-  own-derived : (ps : List Param) → onlyDerived ps ≡ isDerived ps
+  pub own-derived : (ps : List Param) → onlyDerived ps ≡ isDerived ps
   unfolding isDerived
   own-derived [] = refl
   own-derived (param n [] ∷ ps) = refl

@@ -68,7 +68,7 @@ module _ (s : Seen) (w : Slot) (l : Line) (e : Entry) where
   abbrev ps : List Param
   ps = besidesValue (l .params)
 
-  onEntry {ℓ} : {P : Type ℓ} → entryOf s w l ≡ some e
+  pub onEntry {ℓ} : {P : Type ℓ} → entryOf s w l ≡ some e
       → (keyFrom s (w .index) (valuesNamed (ascii "prop-id") ps) ≡ some (e .key) → prefFrom (valuesNamed (ascii "pref") ps) ≡ some (e .pref)
       → typesFrom (w .map .types) (valuesNamed (ascii "type") ps) ≡ some (e .types) → readAs (w .map .form) (valueType (l .params)) (l .value) ≡ some (flat (e .parts)) → w .which ≡ e .which → P) → P
   unfolding entryOf

@@ -43,7 +43,7 @@ uid-agrees s l (as-entry i e) h = rw (elsewhere i 1 refl)
 uid-agrees s l (as-member n j) h = refl
 uid-agrees s l as-kept h = refl
 
-uid-named : ByName (λ (g : Gives). g .uid) (ascii "uid")
+pub uid-named : ByName (λ (g : Gives). g .uid) (ascii "uid")
 uid-named s l as-version h n = refl
 uid-named s l (as-uid v) h n = not-both (h .0) n
 uid-named s l (as-kind v) h n = refl
@@ -78,7 +78,7 @@ kind-agrees s l (as-entry i e) h = rw (elsewhere i 2 refl)
 kind-agrees s l (as-member n j) h = refl
 kind-agrees s l as-kept h = refl
 
-kind-named : ByName (λ (g : Gives). g .kind) (ascii "kind")
+pub kind-named : ByName (λ (g : Gives). g .kind) (ascii "kind")
 kind-named s l as-version h n = refl
 kind-named s l (as-uid v) h n = refl
 kind-named s l (as-kind v) h n = not-both (h .0) n
@@ -97,7 +97,7 @@ valued l n e =
     let b : empty (l .value) || not (all isName (l .value)) ≡ false = rw n at a in
     rw (empty-map lower (l .value), or-left (empty (l .value)) _ b)
 
-kind-filled : (s : Seen) (l : Line) (c : Class) → Fact s l c → emptied l ≡ false → all filled (gives l c .kind) ≡ true
+pub kind-filled : (s : Seen) (l : Line) (c : Class) → Fact s l c → emptied l ≡ false → all filled (gives l c .kind) ≡ true
 unfolding all
 kind-filled s l as-version h e = refl
 kind-filled s l (as-uid v) h e = refl

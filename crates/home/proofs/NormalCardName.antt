@@ -38,7 +38,7 @@ full-agrees s l (as-entry i e) h = rw (elsewhere i 3 refl)
 full-agrees s l (as-member n j) h = refl
 full-agrees s l as-kept h = refl
 
-full-once : ByFlag (λ (g : Gives). g .full) (λ (t : Seen). t .full)
+pub full-once : ByFlag (λ (g : Gives). g .full) (λ (t : Seen). t .full)
 full-once s l as-version h = (λ e. (e, refl), λ e. refl)
 full-once s l (as-uid v) h = (λ e. (e, refl), λ e. refl)
 full-once s l (as-kind v) h = (λ e. (e, refl), λ e. refl)
@@ -75,7 +75,7 @@ parts-agrees s l (as-entry i e) h = rw (elsewhere i 4 refl)
 parts-agrees s l (as-member n j) h = refl
 parts-agrees s l as-kept h = refl
 
-parts-once : ByFlag (λ (g : Gives). g .parts) (λ (t : Seen). t .parts)
+pub parts-once : ByFlag (λ (g : Gives). g .parts) (λ (t : Seen). t .parts)
 parts-once s l as-version h = (λ e. (e, refl), λ e. refl)
 parts-once s l (as-uid v) h = (λ e. (e, refl), λ e. refl)
 parts-once s l (as-kind v) h = (λ e. (e, refl), λ e. refl)
@@ -87,7 +87,7 @@ parts-once s l (as-member n j) h = (λ e. (e, refl), λ e. refl)
 parts-once s l as-kept h = (λ e. (e, refl), λ e. refl)
 
 -- a converted N has a component
-parts-left : (s : Seen) (l : Line) (c : Class) → Fact s l c → false ≡ false → all hasParts (gives l c .parts) ≡ true
+pub parts-left : (s : Seen) (l : Line) (c : Class) → Fact s l c → false ≡ false → all hasParts (gives l c .parts) ≡ true
 unfolding all
 parts-left s l as-version h e = refl
 parts-left s l (as-uid v) h e = refl
@@ -99,7 +99,7 @@ parts-left s l (as-entry i x) h e = refl
 parts-left s l (as-member n j) h e = refl
 parts-left s l as-kept h e = refl
 
-any-nothing : (ls : List Line) → any (λ l. false) ls ≡ false
+pub any-nothing : (ls : List Line) → any (λ l. false) ls ≡ false
 unfolding any
 any-nothing [] = refl
 any-nothing (l ∷ ls) = any-nothing ls

@@ -30,12 +30,12 @@ code-value n v d c e h =
     let q : lowered v ≡ typeText d = same-true (lowered v) (typeText d) (position-passes (λ t. same (lowered v) (vcardType t)) (feature-type [] []) typeNames d p) in
     rw q (sym (same-type c d h (position-inside (λ t. same (lowered v) (vcardType t)) typeNames d p)))
 
-given-codes : (n c : ℕ) → ltb c 9 ≡ true → (vs : List Bytes) (cs : List ℕ) → each (codeOf n) vs ≡ some cs → any (eqb c) cs ≡ among (typeText c) (map lowered vs)
+pub given-codes : (n c : ℕ) → ltb c 9 ≡ true → (vs : List Bytes) (cs : List ℕ) → each (codeOf n) vs ≡ some cs → any (eqb c) cs ≡ among (typeText c) (map lowered vs)
 unfolding any among
 given-codes n c h [] cs e = onNone (codeOf n) e λ r. rw (← r)
 given-codes n c h (v ∷ vs) cs e = onEach (codeOf n) v vs e λ d ds p q r. rw (← r) (ap₂ _||_ (code-value n v d c p h) (given-codes n c h vs ds q))
 
-all-codes : all (λ c. ltb c 9) codes ≡ true
+pub all-codes : all (λ c. ltb c 9) codes ≡ true
 unfolding all
 all-codes = refl
 

@@ -120,7 +120,7 @@ items-form (n ∷ (ps ∷ (t ∷ []))) k d e = none-some e
 items-form (n ∷ (ps ∷ (t ∷ (v ∷ [])))) k d e = four-form n ps t v k (all-head distinctNames ps (t ∷ v ∷ []) (all-tail distinctNames n (ps ∷ t ∷ v ∷ []) d)) e
 items-form (n ∷ (ps ∷ (t ∷ (v ∷ (w ∷ ws))))) k d e = none-some e
 
-kept-form : (j : Json) (k : Kept) → distinctNames j ≡ true → keptFrom j ≡ some k → keptJson k ≡ array (keptTree (itemsOf j))
+pub kept-form : (j : Json) (k : Kept) → distinctNames j ≡ true → keptFrom j ≡ some k → keptJson k ≡ array (keptTree (itemsOf j))
 unfolding keptFrom
 kept-form j k d e = onChain (asArray j) keptFromFour e λ js a f. rw a (items-form js k (rw a at (items-distinct j d)) f)
 

@@ -122,24 +122,24 @@ maps-plain i (m ∷ ms) (es ∷ ess) r g = all-joined Plain (map (entryLine m) e
 
 -- ---- kept lines
 
-never-own : (n : Bytes) → among n neverKept ≡ false → among n heads ≡ false
+pub never-own : (n : Bytes) → among n neverKept ≡ false → among n heads ≡ false
 unfolding among
 never-own n h =
     let e = any-tail (same n) (ascii "begin") _ h in
     any-tail (same n) (ascii "end") _ e
 
-no-group : (ps : List Param) → all lowerParam ps ≡ true → any isGroup ps ≡ false → any (named (ascii "group")) ps ≡ false
+pub no-group : (ps : List Param) → all lowerParam ps ≡ true → any isGroup ps ≡ false → any (named (ascii "group")) ps ≡ false
 unfolding any named
 no-group [] s h = refl
 no-group (param n vs ∷ ps) s h =
     rw (word-lowered n (and-left (isLowerWord n) _ (all-head lowerParam (param n vs) ps s)), any-head isGroup (param n vs) ps h)
     (no-group ps (all-tail lowerParam (param n vs) ps s) (any-tail isGroup (param n vs) ps h))
 
-value-group : (t : Bytes) → any (named (ascii "group")) (valueParam t) ≡ false
+pub value-group : (t : Bytes) → any (named (ascii "group")) (valueParam t) ≡ false
 unfolding any named same lowered lower between
 value-group t = byBool (same t (ascii "unknown")) (λ e. rw e) (λ e. rw e)
 
-type-fits : (t : Bytes) → isLowerWord t ≡ true → valueFits (valuesNamed (ascii "value") (valueParam t)) ≡ true
+pub type-fits : (t : Bytes) → isLowerWord t ≡ true → valueFits (valuesNamed (ascii "value") (valueParam t)) ≡ true
 unfolding same lowered lower between
 type-fits t h =
     byBool (same t (ascii "unknown"))

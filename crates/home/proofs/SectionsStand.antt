@@ -20,10 +20,10 @@ use Rattle.convert.specs.Table.{Map, maps}
 use Rattle.convert.specs.Value.{isKeyText}
 use Rattle.convert.specs.Classify.{Class, as-version, as-uid, as-kind, as-dropped, as-full, as-parts, as-entry, as-member, as-kept, nothing, Classed}
 use Rattle.convert.specs.Property.{property}
-use Rattle.convert.specs.NormalCard.{renewed, nameValues, nameText, entryForm, keptForm, Section, nowhere, uids, kinds, fulls, names, members, kepts, map-at, sectionOf, sectionNumber, section, propId, entryForms, mapForms, memberForm, derivedForm, normalLines}
+use Rattle.convert.specs.NormalCard.{renewed, nameValues, nameText, entryForm, keptForm, Section, nowhere, uids, kinds, fulls, names, members, kepts, map-at, sectionOf, sectionNumber, section, propId, entryForms, mapForms, memberForm, orMade, derivedForm, normalLines}
 use Rattle.convert.specs.Keys.{fresh, keysAfter, keys}
 use Rattle.convert.proofs.Entries.{coherent}
-use Rattle.home.specs.Allowed.{Allowed, here, AllStand, no-more, one-more, whereNone}
+use Rattle.home.specs.Allowed.{SameKept, Converted, here, AllStand, no-more, one-more, whereNone}
 use Rattle.home.specs.Members.{Pairwise, no-pair, pair}
 use Rattle.home.proofs.Alls.{All}
 use Rattle.home.proofs.Classes.{elsewhere}
@@ -33,7 +33,7 @@ use Rattle.home.proofs.LineEntries.{entry-drawn}
 use Rattle.home.proofs.LineKept.{LineFine}
 use Rattle.home.proofs.NormalCardEntries.{entry-key}
 use Rattle.home.proofs.LineSays.{Says}
-use Rattle.home.proofs.AllowedLines.{uid-allowed, kind-allowed, full-allowed, parts-allowed, entry-allowed, member-allowed, kept-allowed}
+use Rattle.home.proofs.AllowedLines.{uid-allowed, kind-allowed, full-allowed, parts-allowed, entry-allowed, member-allowed, kept-same}
 use Rattle.home.proofs.InSections.{mapSections, sectioned}
 use Rattle.home.proofs.Standing.{stand-both, stand-each, stand-made}
 
@@ -50,17 +50,17 @@ rows-fit = ((refl, refl), ((refl, refl), ((refl, refl), ((refl, refl), ((refl, r
 
 -- its PROP-ID is a key or empty, and its normal form with a fitting key is allowed
 abbrev pub RowLine : Map → Line → Type 0
-RowLine m l = (isIdText (propId l) ≡ true) × ((k : Bytes) → isKeyText k ≡ true → (empty (propId l) ≡ false → k ≡ propId l) → Allowed l (entryForm m k l))
+RowLine m l = (isIdText (propId l) ≡ true) × ((k : Bytes) → isKeyText k ≡ true → (empty (propId l) ≡ false → k ≡ propId l) → Converted l (entryForm m k l))
 
 -- what a line of the section is
 abbrev pub Fits : Section → Line → Type 0
 Fits nowhere l = Unit {0}
-Fits uids l = Allowed l (property (ascii "uid") [] (l .value))
-Fits kinds l = Allowed l (property (ascii "kind") [] (lowered (l .value)))
-Fits fulls l = Allowed l (property (ascii "fn") [] (renewed false (l .value)))
-Fits names l = Allowed l (property (ascii "n") [] (nameText (nameValues (l .value))))
+Fits uids l = Converted l (property (ascii "uid") [] (l .value))
+Fits kinds l = Converted l (property (ascii "kind") [] (lowered (l .value)))
+Fits fulls l = Converted l (property (ascii "fn") [] (renewed false (l .value)))
+Fits names l = Converted l (property (ascii "n") [] (nameText (nameValues (l .value))))
 Fits members l = Unit {0}
-Fits kepts l = Allowed l (keptForm l)
+Fits kepts l = SameKept l (keptForm l)
 Fits (map-at i) l = (m : Map) → at i maps ≡ some m → RowLine m l
 
 entry-fits : (l : Line) (i : ℕ) → LineFine l → (m : Map) → at i maps ≡ some m → (e : _) → Says l (as-entry i e) → RowLine m l
@@ -82,7 +82,7 @@ line-fits l (as-full v) f h = full-allowed l v (h .0) (h .1) (h .2)
 line-fits l (as-parts ps) f h = parts-allowed l ps (f .clean) (h .0) (h .1) (h .2)
 line-fits l (as-entry i e) f h = λ m r. entry-fits l i f m r e h
 line-fits l (as-member n j) f h = tt
-line-fits l as-kept f h = kept-allowed l f
+line-fits l as-kept f h = kept-same l f
 
 -- ---- the lines of one section
 
@@ -148,11 +148,11 @@ unfolding all
 ids-text m [] h = refl
 ids-text m (l ∷ ls) h = and-true (h .0 .0) (ids-text m ls (h .1))
 
-pair-stand : {ls hs : List Line} → Pairwise Allowed ls hs → AllStand [] ls hs
+pair-stand : {ls hs : List Line} → Pairwise Converted ls hs → AllStand [] ls hs
 pair-stand no-pair = no-more
 pair-stand (pair a s) = one-more a (pair-stand s) here
 
-forms-stand : (m : Map) (ks : List Bytes) (ls : List Line) → All (RowLine m) ls → all isKeyText ks ≡ true → KeysFit (map propId ls) ks → Pairwise Allowed ls (entryForms m ks ls)
+forms-stand : (m : Map) (ks : List Bytes) (ls : List Line) → All (RowLine m) ls → all isKeyText ks ≡ true → KeysFit (map propId ls) ks → Pairwise Converted ls (entryForms m ks ls)
 unfolding entryForms all
 forms-stand m [] [] h a f = no-pair
 forms-stand m [] (l ∷ ls) h a f = absurd f
@@ -171,7 +171,7 @@ section-length n cs =
     omega (arith, length-map (λ (c : Classed). c .line) (keep p cs), length-keep p cs)
 
 module _ (cs : List Classed) (h : All ClassedFine cs) (few : length cs ≤ 512) where
-  pub map-stands : (i : ℕ) (m : Map) → at i maps ≡ some m → Pairwise Allowed (section (map-at i) cs) (entryForms m (keys (m .prefix) (map propId (section (map-at i) cs))) (section (map-at i) cs))
+  pub map-stands : (i : ℕ) (m : Map) → at i maps ≡ some m → Pairwise Converted (section (map-at i) cs) (entryForms m (keys (m .prefix) (map propId (section (map-at i) cs))) (section (map-at i) cs))
   map-stands i m r =
       let ls : List Line = section (map-at i) cs in
       let a : All (RowLine m) ls = rows ls (section-fits (map-at i) cs h) in
@@ -193,8 +193,8 @@ module _ (cs : List Classed) (h : All ClassedFine cs) (few : length cs ≤ 512) 
 
 -- ---- JSPROP
 
-member-stands : (l : Line) (c : Class) → Says l c → (ls hs : List Line) → Pairwise Allowed ls hs
-    → Pairwise Allowed (pick (eqb (sectionNumber (sectionOf c)) 5) (l ∷ ls) ls) (memberForm (record { line = l; class = c }) ++ hs)
+member-stands : (l : Line) (c : Class) → Says l c → (ls hs : List Line) → Pairwise Converted ls hs
+    → Pairwise Converted (pick (eqb (sectionNumber (sectionOf c)) 5) (l ∷ ls) ls) (memberForm (record { line = l; class = c }) ++ hs)
 member-stands l as-version h ls hs s = s
 member-stands l (as-uid v) h ls hs s = s
 member-stands l (as-kind v) h ls hs s = s
@@ -205,7 +205,7 @@ member-stands l (as-entry i e) h ls hs s = rw (elsewhere i 5 refl) s
 member-stands l (as-member n j) h ls hs s = pair (member-allowed l n j (h .0) (h .1) (h .2) (h .3)) s
 member-stands l as-kept h ls hs s = s
 
-pub members-stand : (cs : List Classed) → All ClassedFine cs → Pairwise Allowed (section members cs) (flat (map memberForm cs))
+pub members-stand : (cs : List Classed) → All ClassedFine cs → Pairwise Converted (section members cs) (flat (map memberForm cs))
 unfolding section keep flat
 members-stand [] h = no-pair
 members-stand (c ∷ cs) h = rw (section-first members (c .line) (c .class) cs) (member-stands (c .line) (c .class) (h .0 .1) (section members cs) _ (members-stand cs (h .1)))
@@ -216,11 +216,25 @@ members-stand (c ∷ cs) h = rw (section-first members (c .line) (c .class) cs) 
 abbrev pub newOf : Bytes → ℕ → List Classed → List Line
 newOf stem n cs = property (ascii "version") [] (ascii "4.0") ∷ (whereNone (section uids cs) (property (ascii "uid") [] (stem ++ 45 ∷ decimal n)) ++ whereNone (section fulls cs) (derivedForm (section names cs)))
 
-no-new : (v : Line) (u f : List Line) → v ∷ (u ++ [] ++ f ++ [] ++ [] ++ [] ++ []) ≡ v ∷ (u ++ f)
+no-new : (v : Line) (u f : List Line) → v ∷ (u ++ [] ++ f ++ [] ++ [] ++ []) ≡ v ∷ (u ++ f)
 no-new v u f = simp append-nil
 
-pub sections-stand : (stem : Bytes) (n : ℕ) (cs : List Classed) → All ClassedFine cs → length cs ≤ 512 → AllStand (newOf stem n cs) (sectioned cs) (normalLines stem n cs)
+-- the normal form without the kept lines
+abbrev pub convertedForms : Bytes → ℕ → List Classed → List Line
+convertedForms stem n cs =
+    property (ascii "version") [] (ascii "4.0")
+    ∷ (orMade (map (λ (l : Line). property (ascii "uid") [] (l .value)) (section uids cs)) (property (ascii "uid") [] (stem ++ 45 ∷ decimal n))
+    ++ map (λ (l : Line). property (ascii "kind") [] (lowered (l .value))) (section kinds cs)
+    ++ orMade (map (λ (l : Line). property (ascii "fn") [] (renewed false (l .value))) (section fulls cs)) (derivedForm (section names cs))
+    ++ map (λ (l : Line). property (ascii "n") [] (nameText (nameValues (l .value)))) (section names cs)
+    ++ mapForms 0 maps cs
+    ++ flat (map memberForm cs))
+
+pub normal-parted : (stem : Bytes) (n : ℕ) (cs : List Classed) → normalLines stem n cs ≡ convertedForms stem n cs ++ map keptForm (section kepts cs)
 unfolding normalLines
+normal-parted stem n cs = refl
+
+pub sections-stand : (stem : Bytes) (n : ℕ) (cs : List Classed) → All ClassedFine cs → length cs ≤ 512 → AllStand (newOf stem n cs) (sectioned cs) (convertedForms stem n cs)
 sections-stand stem n cs h few =
     let version : Line = property (ascii "version") [] (ascii "4.0") in
     let vs : AllStand (version ∷ []) [] (version ∷ []) = no-more in
@@ -230,6 +244,5 @@ sections-stand stem n cs h few =
     let ns = stand-each (λ (l : Line). property (ascii "n") [] (nameText (nameValues (l .value)))) (section names cs) (section-fits names cs h) in
     let ms = maps-stand cs h few 0 maps (refl, (refl, (refl, (refl, (refl, (refl, (refl, tt))))))) in
     let js = pair-stand (members-stand cs h) in
-    let xs = stand-each keptForm (section kepts cs) (section-fits kepts cs h) in
     rw (← no-new version (whereNone (section uids cs) (property (ascii "uid") [] (stem ++ 45 ∷ decimal n))) (whereNone (section fulls cs) (derivedForm (section names cs))))
-    (stand-both vs (stand-both (stand-both (stand-both (stand-both (stand-both (stand-both us ks) fs) ns) ms) js) xs))
+    (stand-both vs (stand-both (stand-both (stand-both (stand-both (stand-both us ks) fs) ns) ms) js))

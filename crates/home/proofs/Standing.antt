@@ -1,4 +1,4 @@
--- Lines that stand: side by side, in another order, and under a map that keeps them allowed.
+-- Lines that stand: side by side, in another order, and under a map that keeps what they say.
 use mathlib.Core.Path.{_≡_, refl, ap}
 use mathlib.Core.List.{List, [], _∷_, _++_, map}
 use Prim.Native.Nat.{suc, _+_}
@@ -6,7 +6,7 @@ use native.Mathlib.Omega.{arith}
 use lib.ListN.{length}
 use Rattle.line.specs.Grammar.{Line}
 use Rattle.convert.specs.NormalCard.{orMade}
-use Rattle.home.specs.Allowed.{Allowed, Into, here, later, AllStand, no-more, one-more, whereNone}
+use Rattle.home.specs.Allowed.{Converted, Into, here, later, AllStand, no-more, one-more, whereNone}
 use Rattle.home.proofs.Alls.{All}
 
 -- ---- put in somewhere
@@ -51,17 +51,17 @@ as-many (one-more a s i) = omega (arith, into-length i, as-many s)
 
 -- ---- each by itself
 
-pub stand-each : (f : Line → Line) (ls : List Line) → All (λ l. Allowed l (f l)) ls → AllStand [] ls (map f ls)
+pub stand-each : (f : Line → Line) (ls : List Line) → All (λ l. Converted l (f l)) ls → AllStand [] ls (map f ls)
 stand-each f [] a = no-more
 stand-each f (l ∷ ls) a = one-more (a .0) (stand-each f ls (a .1)) here
 
 -- or one made where there is none
-pub stand-made : (f : Line → Line) (made : Line) (ls : List Line) → All (λ l. Allowed l (f l)) ls → AllStand (whereNone ls made) ls (orMade (map f ls) made)
+pub stand-made : (f : Line → Line) (made : Line) (ls : List Line) → All (λ l. Converted l (f l)) ls → AllStand (whereNone ls made) ls (orMade (map f ls) made)
 stand-made f made [] a = no-more
 stand-made f made (l ∷ ls) a = stand-each f (l ∷ ls) a
 
 -- changed again
-pub stand-map : (f : Line → Line) → ((l h : Line) → Allowed l h → Allowed l (f h)) → {new ls hs : List Line} → AllStand new ls hs → AllStand (map f new) ls (map f hs)
+pub stand-map : (f : Line → Line) → ((l h : Line) → Converted l h → Converted l (f h)) → {new ls hs : List Line} → AllStand new ls hs → AllStand (map f new) ls (map f hs)
 stand-map f g no-more = no-more
 stand-map f g (one-more {l} {h} a s i) = one-more (g l h a) (stand-map f g s) (into-map f i)
 
@@ -72,7 +72,7 @@ pub data Reordered {A : Type 0} : List A → List A → Type 0 where
   one-placed : {x : A} {xs ys zs : List A} → Reordered xs ys → Into x ys zs → Reordered (x ∷ xs) zs
 
 -- a line of those that stand, taken out
-taken-out : {new ls ms hs : List Line} {l : Line} → Into l ls ms → AllStand new ms hs → (h : Line) × (gs : List Line) × Allowed l h × AllStand new ls gs × Into h gs hs
+taken-out : {new ls ms hs : List Line} {l : Line} → Into l ls ms → AllStand new ms hs → (h : Line) × (gs : List Line) × Converted l h × AllStand new ls gs × Into h gs hs
 taken-out here (one-more {h = h} {hs = gs} a s i) = (h, gs, a, s, i)
 taken-out (later j) (one-more a s i) =
     let t = taken-out j s in

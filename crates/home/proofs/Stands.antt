@@ -19,7 +19,7 @@ pub record Stands (s : Seen) (k : Kept) : Type 0 where
   pub fit : fits (keptAsLine k .params) ≡ true
   pub class : classify s (keptAsLine k) ≡ as-kept
 
-is-kept : (c : Class) → isKept c ≡ true → c ≡ as-kept
+pub is-kept : (c : Class) → isKept c ≡ true → c ≡ as-kept
 is-kept as-version h = not-both refl (sym h)
 is-kept (as-uid v) h = not-both refl (sym h)
 is-kept (as-kind v) h = not-both refl (sym h)

@@ -1,6 +1,6 @@
 -- Converters that do nothing of use do not meet demand 2, whatever stands beside them: one that refuses every card, one that refuses no card (it answers the
 -- input, or always one JSON), one that refuses no JSON (always one card).
-use mathlib.Core.Path.{_≡_, refl, sym, ap}
+use mathlib.Core.Path.{refl, sym, ap}
 use mathlib.Core.Bool.{Bool, true, false}
 use mathlib.Core.List.{List}
 use Prim.Native.Nat.{ℕ}

@@ -2,4 +2,8 @@ pub mod Allowed
 pub mod Members
 pub mod Turns
 pub mod Spelled
+pub mod StandsFor
+pub mod Reasons
+pub mod JsonStands
+pub mod CardJson
 pub mod Demand2

@@ -3,11 +3,11 @@ use mathlib.Core.Path.{_≡_, refl, sym, ap, _∙_}
 use mathlib.Core.Bool.{true, false, _&&_}
 use mathlib.Core.List.{[], _∷_, _++_}
 use mathlib.Core.Option.{Option, none, some}
-use Prim.Native.Nat.{ℕ, zero, suc, _+_, _-_, _<_}
+use Prim.Native.Nat.{ℕ, zero, suc, _-_, _<_}
 use native.Mathlib.Omega.{arith}
 use lib.Dec.{ltb, leb}
 use borrow.Author.Tests.{ltb-true, le-ltb, le-leb}
-use Rattle.text.specs.Bytes.{Bytes, is, between}
+use Rattle.text.specs.Bytes.{Bytes, between}
 use Rattle.text.specs.Utf8.{Due, start, broken, next, run, atStart, utf8, encode}
 use Rattle.text.specs.Reader.{got}
 use Rattle.text.proofs.Cases.{byBool, tests, and-left, and-right, between-true, beyond, not-both}

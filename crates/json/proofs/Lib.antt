@@ -1,4 +1,5 @@
 pub mod Opened
+pub mod Classes
 pub mod Examples
 pub mod Takes
 pub mod Spelling

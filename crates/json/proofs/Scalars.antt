@@ -6,14 +6,13 @@ use mathlib.Core.Logic.{_⊎_, inl, inr}
 use mathlib.Core.Option.{some}
 use Prim.Native.Nat.{ℕ}
 use lib.Dec.{eqb}
-use Rattle.text.specs.Bytes.{Bytes, is, distinct}
+use Rattle.text.specs.Bytes.{Bytes, is}
 use Rattle.text.specs.Reader.{got, under, first, on, when, one}
 use Rattle.text.proofs.Choices.{some-same, map-inv}
 use Rattle.text.proofs.Readers.{got-what, bind-inv, under-inv, on-inv, when-inv}
 use Rattle.json.specs.Tree.{Json, jnull, jtrue, jfalse, jnum, jstr}
-use Rattle.json.specs.Syntax.{characters, number, four, scalar, text}
-use Rattle.json.specs.Strings.{decode, decoded, names, distinctNames}
-use Rattle.json.specs.Read.{sound}
+use Rattle.json.specs.Syntax.{characters, number, four, scalar}
+use Rattle.json.specs.Strings.{decode, decoded, distinctNames}
 use Rattle.json.proofs.Sound.{Sound}
 use Rattle.json.proofs.Decoded.{string-utf8}
 

@@ -3,14 +3,14 @@ use mathlib.Core.Path.{_≡_, refl, sym, ap, ap₂, _∙_}
 use mathlib.Core.Bool.{true, false, _||_}
 use mathlib.Core.List.{[], _∷_, _++_, map, append-assoc}
 use mathlib.Core.Option.{some}
-use Prim.Native.Nat.{ℕ, zero, suc, _+_, _-_}
+use Prim.Native.Nat.{ℕ, zero, suc, _+_}
 use native.Mathlib.Omega.{arith}
 use lib.Dec.{eqb, ltb}
 use borrow.Author.Tests.{ltb-false, lt-ltb, le-ltb, ne-eqb}
 use Rattle.text.specs.Choice.{pick}
-use Rattle.text.specs.Bytes.{Bytes, ascii, is, between, all}
+use Rattle.text.specs.Bytes.{Bytes, ascii, between, all}
 use Rattle.text.specs.Utf8.{Due, start, due, broken, lead, tails, next, run, atStart, utf8, encode}
-use Rattle.text.specs.Reader.{got, under, on, more, last, turns, one}
+use Rattle.text.specs.Reader.{got, under, on, more, last, turns}
 use Rattle.text.proofs.Cases.{byBool, byBelow, between-true, beyond, not-both}
 use Rattle.text.proofs.Lists.{all-head, all-tail}
 use Rattle.text.proofs.Characters.{utf8-run, not-start, later, later-lead, later-tails, later-bounds, lead-no-start, isByte, utf8-bytes}

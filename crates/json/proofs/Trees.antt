@@ -3,9 +3,9 @@ use mathlib.Core.Path.{_≡_, refl, _∙_}
 use mathlib.Core.Bool.{true}
 use mathlib.Core.List.{[], _∷_, _++_}
 use Prim.Native.Nat.{ℕ, suc}
-use Rattle.text.specs.Bytes.{Bytes, is, between}
+use Rattle.text.specs.Bytes.{Bytes, between}
 use Rattle.text.specs.Utf8.{utf8}
-use Rattle.text.specs.Reader.{got, on, when, Step, turns, past, one}
+use Rattle.text.specs.Reader.{got, when, Step, turns, past}
 use Rattle.text.proofs.Readers.{takes-moves, loop-enough, turns-more, turns-last}
 use Rattle.json.specs.Tree.{Json, jnull, jtrue, jfalse, jnum, jstr, jarr, jobj, Elems, enil, econs, Members, mnil, mcons}
 use Rattle.json.specs.Grammar.{isE}

@@ -4,14 +4,14 @@ use mathlib.Core.Bool.{true, false}
 use mathlib.Core.List.{[], _∷_, _++_}
 use Prim.Native.Nat.{ℕ, zero, suc}
 use lib.Dec.{eqb}
-use Rattle.text.specs.Bytes.{Bytes, is, between}
+use Rattle.text.specs.Bytes.{Bytes, between}
 use Rattle.text.specs.Utf8.{utf8}
 use Rattle.text.specs.Reader.{Got, got, under, first, on, when, more, last, loop, past, one}
 use Rattle.text.proofs.Cases.{other}
 use Rattle.json.specs.Tree.{Json, jnull, jtrue, jfalse, jnum, jstr, jarr, jobj, Elems, enil, econs, Members, mnil, mcons}
 use Rattle.json.specs.Grammar.{isSpace, isE}
-use Rattle.json.specs.Syntax.{skip, token, characters, number, four, scalar, sep, name, item, elements, pair, pairs, value, text}
-use Rattle.json.specs.Compact.{spelledAll, quoted, written, writtenElems, elemsAfter, writtenMembers, membersAfter, compact}
+use Rattle.json.specs.Syntax.{skip, token, characters, number, four, scalar, sep, name, item, elements, pair, pairs, value}
+use Rattle.json.specs.Compact.{spelledAll, quoted, written, writtenElems, elemsAfter, writtenMembers, membersAfter}
 use Rattle.json.proofs.Spelling.{units, characters-spelled}
 use Rattle.json.proofs.Numbers.{Stops, isNumeral, number-first}
 use Rattle.json.proofs.Sound.{Sound}

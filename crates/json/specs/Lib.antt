@@ -4,4 +4,5 @@ pub mod Syntax
 pub mod Strings
 pub mod Read
 pub mod Compact
+pub mod Classes
 pub mod Lookup

@@ -20,6 +20,10 @@ room = 65536
 abbrev pub depth : ℕ
 depth = 16
 
+-- of a value that stands in the outermost object
+abbrev pub memberDepth : ℕ
+memberDepth = 15
+
 -- A member's name as units, and where its value stands: the rest from its first byte on, and the rest after it.
 pub record Span : Type 0 where
   pub name : Bytes
@@ -59,7 +63,7 @@ isTree (refused n) = false
 -- or has no such member.
 unfoldable pub lookUp : Bytes → Bytes → Option Part
 lookUp s m =
-    pick (leb (length s) room && isTree (reading depth s)) (found (length s) m (given (spans 15 s))) none
+    pick (leb (length s) room && isTree (reading depth s)) (found (length s) m (given (spans memberDepth s))) none
 
 -- its bytes, empty where there is none
 unfoldable pub partOf : Bytes → Option Part → Bytes

@@ -1,4 +1,6 @@
 // Reads each file that an argument names, and writes its name and the reader's verdict on it, with depth 16.
+use json_limits::DEPTH;
+use json_limits::OVER;
 use json_read::Verdict;
 use json_read::read;
 use libc::STDOUT_FILENO;
@@ -23,14 +25,14 @@ fn tell(v: Verdict) {
 // One text: the file that the argument k names.
 fn case(k: usize) {
     let mut path = io::buffer();
-    let mut buf = [0u8; 65537];
+    let mut buf = [0u8; OVER];
     let file = read_named(k, &mut path, &mut buf);
     if !file.found {
         return;
     }
     io::write_all(STDOUT_FILENO, &path[..file.path]);
     io::write_all(STDOUT_FILENO, b": ");
-    tell(read(&buf[..file.text], 16));
+    tell(read(&buf[..file.text], DEPTH));
 }
 
 fn main() {

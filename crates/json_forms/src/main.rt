@@ -3,6 +3,9 @@
 use json_access::Kind;
 use json_access::kind_at;
 use json_compact::put_compact;
+use json_limits::DEPTH;
+use json_limits::OVER;
+use json_limits::ROOM;
 use json_marks::mark;
 use json_read::Verdict;
 use json_read::read;
@@ -40,7 +43,7 @@ fn say_quoted(bytes: &[u8], n: usize) {
     if n > bytes.len() {
         return;
     }
-    let mut out = [0u8; 65536];
+    let mut out = [0u8; ROOM];
     let Wrote::Bytes(m) = put_string(&mut out, &bytes[0..n]) else {
         say(b"no room");
         return;
@@ -50,7 +53,7 @@ fn say_quoted(bytes: &[u8], n: usize) {
 
 // The string from a place on (after its first quote), decoded and written again.
 fn say_string(s: &[u8], at: usize) {
-    let mut bytes = [0u8; 65536];
+    let mut bytes = [0u8; ROOM];
     let Wrote::Bytes(n) = decode_into(&mut bytes, s, at) else {
         say(b"no room");
         return;
@@ -154,7 +157,7 @@ fn say_number(n: usize) {
 
 // A text that is JSON, and last its file and how long its compact form is.
 fn show(file: &[u8], s: &[u8]) {
-    let mut out = [0u8; 65536];
+    let mut out = [0u8; ROOM];
     let Wrote::Bytes(m) = put_compact(&mut out, s) else {
         say(b"no room\n");
         return;
@@ -171,7 +174,7 @@ fn show(file: &[u8], s: &[u8]) {
 }
 
 fn tell(file: &[u8], s: &[u8]) {
-    match read(s, 16) {
+    match read(s, DEPTH) {
         Verdict::Sound => {
             show(file, s);
         }
@@ -187,7 +190,7 @@ fn tell(file: &[u8], s: &[u8]) {
 // One text: the file that the argument k names.
 fn case(k: usize) {
     let mut path = io::buffer();
-    let mut buf = [0u8; 65537];
+    let mut buf = [0u8; OVER];
     let file = read_named(k, &mut path, &mut buf);
     if !file.found {
         return;

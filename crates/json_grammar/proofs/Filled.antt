@@ -4,7 +4,7 @@ use mathlib.Core.List.{[], _∷_, _++_, append-assoc}
 use mathlib.Core.Logic.{inl, inr}
 use Prim.Native.Nat.{ℕ, zero, suc}
 use Rattle.text.specs.Bytes.{Bytes}
-use Rattle.text.specs.Reader.{Got, got, bind, under, Step, more, last, after, turns, loop, one}
+use Rattle.text.specs.Reader.{Got, got, bind, under, Step, more, last, after, turns, loop}
 use Rattle.text.proofs.Readers.{Moves, not-bad, bind-inv, loop-enough, turns-more, turns-last}
 use Rattle.json.specs.Tree.{jnull, jtrue, jfalse, jnum, jstr}
 use Rattle.json.specs.Grammar.{Lang, _then_, Many, none-more, one-more, Ws, Mark, String, Scalar, Value}

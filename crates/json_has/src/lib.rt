@@ -7,7 +7,7 @@ use json_walk::next_member;
 ghost use Rattle.json_has.specs.Has.{HasMember};
 
 // Whether the value at a place is an object with that member; false past the end.
-pub fn has_member<'a, 'b>(s: &'a [u8], at: usize, depth: usize, name: &'b [u8]) -> bool
+pub fn has_member(s: &[u8], at: usize, depth: usize, name: &[u8]) -> bool
     ensures { λ r. ⌜ HasMember depth (now (s .entry)) at (now (name .entry)) r ⌝ }
 {
     let mut m = first_member(s, at);

@@ -3,7 +3,7 @@ use mathlib.Core.Path.{_≡_, refl, sym, ap, subst, _∙_}
 use mathlib.Core.Bool.{Bool, true, false, not}
 use mathlib.Core.List.{[], _∷_}
 use mathlib.Core.Option.{Option, none, some}
-use Prim.Native.Nat.{ℕ, suc, _+_, _-_, _≤_, _<_}
+use Prim.Native.Nat.{ℕ, _+_, _-_, _≤_, _<_}
 use native.Mathlib.Omega.{arith}
 use native.Mathlib.Numerals.{add-one}
 use lib.Dec.{eqb}
@@ -19,7 +19,7 @@ use Rattle.json_skip.specs.Skip.{quoted}
 use Rattle.json_strings.specs.Decoded.{decodedAt, spells}
 use Rattle.json_strings.proofs.Laws.{quote-at, bare-at, nothing-at}
 use Rattle.json_index.specs.declared.Tried.{Tried}
-use Rattle.json_index.specs.Index.{NameEnds, nameIn, RawByte, Together, Skims, Alike, Differs, Tries}
+use Rattle.json_index.specs.Index.{nameIn, RawByte, Together, Skims, Differs, Tries}
 use Rattle.json_index.proofs.Names.{front, ends-on, name-full}
 
 pub raw-low : (c : ℕ) {r : Bool} → 32 ≤ c → c ≤ 92 → (c ≡ 34 → ⊥) → r ≡ not (eqb c 92) → RawByte c r

@@ -117,9 +117,14 @@ module _ (s m : Bytes) where
           let x = spanned 15 s (suc (length r)) r us w (ends-then (ends-skip s) (ends-then (ends-tail (skip s)) (ends-skip (tail (skip s))))) (p .1) in
           subst looked (sym (opened ∙ on-false (is 125) _ _ r (p .0) ∙ x .1)) (held s m (x .0) us ms (x .2) f g)
 
+  -- a value one deep or more, by its first byte: stated at any depth, so that 16 of them are not written out
+  opens-as : (d : ℕ) → value (suc d) s ≡ on (is 91) (λ c t. under jarr (elements (value d) t)) (on (is 123) (λ c t. under jobj (pairs (value d) t)) scalar) (skip s)
+  unfolding value
+  opens-as d = refl
+
   value-held : (u k : Json) (w : Bytes) → value 16 s ≡ got u w → decoded u ≡ some k → distinctNames k ≡ true → Holds (partOf s (found (length s) m (given (spans 15 s)))) (chain (asObject k) (field m))
-  unfolding value decoded distinctNames
-  value-held u k w e f g = by (on-inv (is 91) _ _ (skip s) e)
+  unfolding decoded distinctNames
+  value-held u k w e f g = by (on-inv (is 91) _ _ (skip s) (sym (opens-as 15) ∙ e))
     where
       looked : Json → Type 0
       looked x = Holds (partOf s (found (length s) m (given (spans 15 s)))) (chain (asObject x) (field m))

@@ -1,5 +1,6 @@
 // The look-up service: a top-level member's value as that very part of the caller's JSON.
 use json_access::Part;
+use json_limits::DEPTH;
 use json_read::Verdict;
 use json_read::read;
 use json_skip::skip_value;
@@ -16,7 +17,7 @@ ghost use Rattle.json_lookup.specs.Finds.{Bounds, FindsIn, placeOf, stan
 ghost use Rattle.json_lookup.specs.Held.{valueOf, Holds};
 
 // The value of the first member of that name in a text that is JSON. Nothing is found where the part is empty.
-fn find_in<'a, 'b>(s: &'a [u8], name: &'b [u8]) -> Part
+fn find_in(s: &[u8], name: &[u8]) -> Part
     ensures { λ r. ⌜ Bounds (length (now (s .entry))) r ⌝ }
     ensures { λ r. ⌜ FindsIn (now (s .entry)) (now (name .entry)) r ⌝ }
 {
@@ -34,11 +35,11 @@ fn find_in<'a, 'b>(s: &'a [u8], name: &'b [u8]) -> Part
 }
 
 // From where to where that value stands; 0 to 0 where there is none.
-pub fn locate<'a, 'b>(s: &'a [u8], name: &'b [u8]) -> Part
+pub fn locate(s: &[u8], name: &[u8]) -> Part
     ensures { λ r. ⌜ Bounds (length (now (s .entry))) r ⌝ }
     ensures { λ r. ⌜ r ≡ placeOf (lookUp (now (s .entry)) (now (name .entry))) ⌝ }
 {
-    match read(s, 16) {
+    match read(s, DEPTH) {
         Verdict::Sound => find_in(s, name),
         Verdict::Large => Part { start: 0, end: 0 },
         Verdict::NotJson(b) => Part { start: 0, end: 0 },

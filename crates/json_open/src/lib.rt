@@ -1,5 +1,8 @@
 // The validating reader of a text whose top-level object is wanted by a list of names: its members are indexed while they are read, in one pass over the text.
 use json_index::which_name;
+use json_limits::DEPTH;
+use json_limits::INNER;
+use json_limits::ROOM;
 use json_marks::separator;
 use json_marks::skip_space;
 use json_read::Verdict;
@@ -26,6 +29,7 @@ ghost use Rattle.json_strings.specs.Decoded.{decodedAt};
 ghost use Rattle.json_sound.specs.Sound.{soundMembers, Judged, Onward};
 ghost use Rattle.json_index.specs.Index.{placed, noted, Clear};
 ghost use Rattle.json_read.specs.Verdict.{verdictOf, verdict, InWords};
+ghost use Rattle.json.specs.Lookup.{room};
 ghost use Rattle.json_open.specs.Opened.{asVerdict, answered, IndexedIf, Opens};
 
 // Object: it is JSON, an object. Other: it is JSON, no object. Large: refusal 3. NotJson: refusal 11, with its place.
@@ -48,13 +52,7 @@ fn answer(v: Verdict, o: Opened) -> Opened
 }
 
 // Notes where the value of a member stands, in the slot of its name, where none is noted there yet.
-fn note_member<'a, 'b, 'c>(
-    slots: &'a mut [usize],
-    s: &'b [u8],
-    name: usize,
-    value: usize,
-    names: &'c [u8],
-)
+fn note_member(slots: &mut [usize], s: &[u8], name: usize, value: usize, names: &[u8])
     requires { ⌜ length (parts (code ",") (now names)) < length (now slots) ⌝ }
     ensures { λ r. ⌜ now (slots .exit) ≡ noted (now (slots .entry)) (placed (decodedAt (now (s .entry)) name) (parts (code ",") (now (names .entry)))) value ⌝ }
 {
@@ -75,7 +73,7 @@ fn sound_members<'a, 'b, 'c, 'd>(
     prints: &'d mut [u16],
 ) -> Sounded
     requires { ⌜ at ≤ length (now s) ⌝ }
-    requires { ⌜ length (now s) ≤ 65536 ⌝ }
+    requires { ⌜ length (now s) ≤ room ⌝ }
     requires { ⌜ length (now s) < at + 4 * length (now places) ⌝ }
     requires { ⌜ length (now prints) ≡ length (now places) ⌝ }
     requires { ⌜ length (parts (code ",") (now names)) < length (now slots) ⌝ }
@@ -131,7 +129,7 @@ fn read_in<'a, 'b, 'c, 'd>(
     places: &'d mut [u16],
     prints: &'d mut [u16],
 ) -> Opened
-    requires { ⌜ length (now s) ≤ 65536 ⌝ }
+    requires { ⌜ length (now s) ≤ room ⌝ }
     requires { ⌜ length (now s) ≤ 4 * length (now places) ⌝ }
     requires { ⌜ length (now prints) ≡ length (now places) ⌝ }
     requires { ⌜ length (parts (code ",") (now names)) < length (now slots) ⌝ }
@@ -141,10 +139,10 @@ fn read_in<'a, 'b, 'c, 'd>(
 {
     let i = skip_space(s, 0);
     if look(s, i) == LEFT_BRACE {
-        let r = sound_members(slots, s, i + 1, 15, names, places, prints);
+        let r = sound_members(slots, s, i + 1, INNER, names, places, prints);
         return answer(verdict_on(s, r), Opened::Object);
     }
-    let r = sound_value(s, 0, 16, places, prints);
+    let r = sound_value(s, 0, DEPTH, places, prints);
     answer(verdict_on(s, r), Opened::Other)
 }
 
@@ -165,7 +163,7 @@ pub fn read_indexed<'a, 'b, 'c, 'd>(
     ensures { λ r. ⌜ InWords 16 (now (s .entry)) (asVerdict r) ⌝ }
     ensures { λ r. ⌜ Opens (now (s .entry)) (now (names .entry)) (now (slots .exit)) r ⌝ }
 {
-    if s.len() > 65536 {
+    if s.len() > ROOM {
         return Opened::Large;
     }
     read_in(slots, s, names, places, prints)

@@ -1,6 +1,6 @@
 -- Escapes of a string: where it goes on after one, and whether a surrogate is alone.
-use mathlib.Core.Path.{_≡_, refl, sym, ap, _∙_}
-use mathlib.Core.Bool.{true, false}
+use mathlib.Core.Path.{_≡_, refl, ap, _∙_}
+use mathlib.Core.Bool.{false}
 use mathlib.Core.List.{[], _∷_}
 use Prim.Native.Nat.{ℕ, zero, suc, _+_, _-_, _≤_, _<_}
 use native.Mathlib.Omega.{arith}
@@ -10,7 +10,7 @@ use borrow.Author.Tests.{eq-eqb, ne-eqb, lt-leb, ltb-true, ltb-false}
 use Rattle.text.specs.Choice.{is-some}
 use Rattle.text.specs.Bytes.{Bytes, is, between}
 use Rattle.text.specs.Reader.{got, under}
-use Rattle.text.specs.Places.{byteAt, Gives}
+use Rattle.text.specs.Places.{byteAt}
 use Rattle.text.specs.declared.Read.the-variants.{Next, Bad as Read-Bad}
 use Rattle.text.proofs.Cases.{byBool, in-between}
 use Rattle.text.proofs.Places.{byte-default, on-yes, on-no, same-as, at-bad}
@@ -20,7 +20,6 @@ use Rattle.json_chars.specs.Strings.{ToEnd, Unmarked}
 use Rattle.json_chars.proofs.Laws.{string-on, char-escape}
 use Rattle.json_escapes.specs.declared.Value.{Value}
 use Rattle.json_escapes.specs.declared.Value.the-variants.{Of}
-use Rattle.json_escapes.specs.declared.Piece.the-variants.{Of as Piece-Of}
 use Rattle.json_escapes.specs.Units.{push, unit}
 use Rattle.json_escapes.specs.Values.{Tells}
 use Rattle.json_escapes.proofs.Laws.{tells-as, by-place}

@@ -185,7 +185,7 @@ pub fn is_paired(s: &[u8], at: usize) -> bool
 }
 
 // The string stands for these bytes. Bytes that stand for themselves are compared as they are.
-pub fn equals<'a, 'b>(s: &'a [u8], at: usize, bytes: &'b [u8]) -> bool
+pub fn equals(s: &[u8], at: usize, bytes: &[u8]) -> bool
     ensures { λ r. ⌜ r ≡ spells (decodedAt (now (s .entry)) at) (now (bytes .entry)) ⌝ }
 {
     if at > s.len() {
@@ -216,7 +216,7 @@ pub fn equals<'a, 'b>(s: &'a [u8], at: usize, bytes: &'b [u8]) -> bool
 }
 
 // The string stands for these bytes from a place on.
-fn equals_from<'a, 'b>(s: &'a [u8], at: usize, bytes: &'b [u8], from: usize) -> bool
+fn equals_from(s: &[u8], at: usize, bytes: &[u8], from: usize) -> bool
     requires { ⌜ at ≤ length (now s) ⌝ }
     requires { ⌜ from ≤ length (now bytes) ⌝ }
     ensures { λ r. ⌜ r ≡ spells (decodedAt (now (s .entry)) at) (drop from (now (bytes .entry))) ⌝ }
@@ -387,7 +387,7 @@ pub fn copy_sixteen(out: &mut [u8], to: usize, s: &[u8], at: usize)
 }
 
 // The bytes from a place on that stand for themselves, copied while there is room: how many. None where bytes are held, which come first.
-fn copy_bare<'a, 'b>(out: &'a mut [u8], s: &'b [u8], at: usize, hold: u32) -> usize
+fn copy_bare(out: &mut [u8], s: &[u8], at: usize, hold: u32) -> usize
     requires { ⌜ at ≤ length (now s) ⌝ }
     ensures { λ r. ⌜ Copied (now (s .entry)) at hold (now (out .entry)) r (now (out .exit)) ⌝ }
 {
@@ -405,7 +405,7 @@ fn copy_bare<'a, 'b>(out: &'a mut [u8], s: &'b [u8], at: usize, hold: u32) -> us
 
 // The decoded bytes of the string whose first quote stands just before a place. Nothing is written where it stands for nothing: a surrogate
 // is alone in it, it is no string, or the place is past the end.
-pub fn decode_into<'a, 'b>(out: &'a mut [u8], s: &'b [u8], at: usize) -> Wrote
+pub fn decode_into(out: &mut [u8], s: &[u8], at: usize) -> Wrote
     ensures { λ r. ⌜ Puts (now (out .entry)) (textAt (now (s .entry)) at) r (now (out .exit)) ⌝ }
 {
     if !is_paired(s, at) {

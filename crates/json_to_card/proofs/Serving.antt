@@ -15,11 +15,9 @@ use Rattle.json_read.specs.Verdict.{verdict, verdictOf, number, InWords}
 use Rattle.json_read.specs.declared.Verdict.{Verdict}
 use Rattle.json_read.specs.declared.Verdict.the-variants.{Sound, Large, NotJson}
 use Rattle.convert.specs.Answers.{Answer, no, yes, cardRoom, jsonRoom, jsonToCard}
-use Rattle.convert.specs.Served.{leftBy}
 use Rattle.served.specs.declared.Outcome.{Outcome}
-use Rattle.served.specs.declared.Outcome.the-variants.{Refused as Outcome-Refused}
-use Rattle.served.specs.Served.{outcomeOf}
-use Rattle.served_put.specs.Lent.{fitLent, Serves}
+use Rattle.served.specs.Served.{Serves}
+use Rattle.served_put.specs.Lent.{fitLent}
 use Rattle.served_put.proofs.Serving.{serves-refused, serves-as}
 use Rattle.to_card_lines.specs.declared.Lines.the-variants.{Wrong}
 use Rattle.to_card_card.specs.Whole.{cardNames}
@@ -103,7 +101,7 @@ served-no out s n p e = serves-refused out _ n p (ap (fit (length out)) e)
 pub served-as : (out : Bytes) (a b : Answer) (o : Outcome) (after : Bytes) → b ≡ a → Serves out (fit (length out) a) o after → Serves out (fit (length out) b) o after
 served-as out a b o after e v = serves-as out _ _ o after (ap (fit (length out)) (sym e)) v
 
--- both promises of the service
+-- the promise of the service
 pub seen : (s out : Bytes) (o : Outcome) (after : Bytes) → Serves out (fit (length out) (becomes s)) o after
-    → (o ≡ outcomeOf (jsonToCard (length out) s)) × (after ≡ leftBy out (jsonToCard (length out) s))
-seen s out o after v = let w = serves-as out _ _ o after (sym (answer-is (length out) s)) v in (w .said, w .left)
+    → Serves out (jsonToCard (length out) s) o after
+seen s out o after v = serves-as out _ _ o after (sym (answer-is (length out) s)) v

@@ -9,6 +9,7 @@ use Rattle.text.specs.Choice.{pick, with-some}
 use Rattle.text.specs.Bytes.{Bytes}
 use Rattle.json.specs.Tree.{Json}
 use Rattle.json.specs.Read.{Reading, tree, refused, reading}
+use Rattle.json.specs.Lookup.{depth}
 use Rattle.convert.specs.Model.{Card}
 use Rattle.convert.specs.FromJson.{cardFromJson}
 use Rattle.convert.specs.Carry.{carried}
@@ -31,7 +32,7 @@ inner (tree j) = with-some (cardFromJson j) ofCard (no 12 0)
 
 -- 3 (bytes), then these
 unfoldable pub becomes : Bytes → Answer
-becomes s = pick (ltb jsonRoom (length s)) (no 3 0) (inner (reading 16 s))
+becomes s = pick (ltb jsonRoom (length s)) (no 3 0) (inner (reading depth s))
 
 -- refusals 3 (result) and 14
 abbrev pub fit : ℕ → Answer → Answer

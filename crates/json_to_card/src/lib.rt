@@ -7,20 +7,31 @@ ghost use Rattle.json.specs.Read.{reading};
 ghost use Rattle.json_index.specs.Index.{Clear, Indexes};
 ghost use Rattle.json_open.specs.Opened.{asVerdict, Opens};
 ghost use Rattle.json_read.specs.Verdict.{verdict, InWords};
-ghost use Rattle.convert.specs.Answers.{jsonRoom, jsonToCard};
-ghost use Rattle.convert.specs.Served.{leftBy};
-ghost use Rattle.served.specs.Served.{outcomeOf};
-ghost use Rattle.served_put.specs.Lent.{Serves};
+ghost use Rattle.convert.specs.Answers.{jsonRoom};
+ghost use Rattle.served.specs.Served.{Serves};
+ghost use Rattle.services.specs.Contracts.{JsonGives};
 ghost use Rattle.to_card_kept.specs.Kept.{LentText, Lent};
 ghost use Rattle.to_card_card.specs.Whole.{cardNames};
 ghost use Rattle.json_to_card.specs.Inner.{Reads, inner, becomes, fit};
 ghost use Rattle.json_to_card.specs.Making.{Makes};
+use card_table::members;
+use json_limits::NAME;
+use json_limits::NAMES;
+use json_limits::ROOM;
 use json_open::Opened;
 use json_open::read_indexed;
+use line_limits::LINES;
+use line_limits::OVER;
+use line_table::table;
 use served::Outcome;
 use served_put::put_served;
 use to_card_card::put_card;
 use to_card_lines::Lines;
+
+// Sizes of texts that have scratch of their own.
+const TINY: usize = 2048;
+
+const SMALL: usize = 4096;
 
 // The length of a card at the front of a result; or a refusal; or the card fills the result, and may be longer.
 pub enum Made {
@@ -30,14 +41,14 @@ pub enum Made {
 }
 
 // 12, 13, 3 (lines), else the card. All that is lent but `result` is scratch.
-fn convert<'a, 'b, 'c, 'd, 'e, 'f, 'g>(
-    result: &'a mut [u8],
-    buffer: &'b mut [u8],
-    b: &'c mut [u8],
-    t: &'d mut [usize],
-    scratch: &'e mut [u8],
-    json: &'f [u8],
-    slots: &'g [usize],
+fn convert(
+    result: &mut [u8],
+    buffer: &mut [u8],
+    b: &mut [u8],
+    t: &mut [usize],
+    scratch: &mut [u8],
+    json: &[u8],
+    slots: &[usize],
 ) -> Made
     requires { ⌜ Reads (now json) ⌝ }
     requires { ⌜ length (now result) ≤ length (now buffer) ⌝ }
@@ -62,7 +73,7 @@ fn convert<'a, 'b, 'c, 'd, 'e, 'f, 'g>(
             place: 0,
         };
     }
-    if k > 512 {
+    if k > LINES {
         return Made::Refused {
             number: 3,
             place: 0,
@@ -89,28 +100,22 @@ fn read_members<'a, 'b, 'c>(
     ensures { λ r. ⌜ InWords 16 (now (json .entry)) (asVerdict r) ⌝ }
     ensures { λ r. ⌜ Opens (now (json .entry)) cardNames (now (slots .exit)) r ⌝ }
 {
-    read_indexed(
-        slots,
-        json,
-        b"@type,version,uid,kind,name,nicknames,emails,phones,links,notes,titles,organizations,vCardProps",
-        places,
-        prints,
-    )
+    read_indexed(slots, json, &members::NAMES, places, prints)
 }
 
 // Scratch for every text that has room: 65,536 bytes, and a result of one byte more than a card's 32,768.
-fn convert_long<'a, 'b, 'c>(out: &'a mut [u8], json: &'b [u8], slots: &'c [usize]) -> Outcome
+fn convert_long(out: &mut [u8], json: &[u8], slots: &[usize]) -> Outcome
     requires { ⌜ Reads (now json) ⌝ }
     requires { ⌜ length (now json) ≤ jsonRoom ⌝ }
     requires { ⌜ 14 ≤ length (now slots) ⌝ }
     requires { ⌜ Indexes 15 (now json) 0 cardNames (now slots) true ⌝ }
     ensures { λ r. ⌜ Serves (now (out .entry)) (fit (length (now (out .entry))) (inner (reading 16 (now (json .entry))))) r (now (out .exit)) ⌝ }
 {
-    let mut result = [0u8; 32769];
-    let mut buffer = [0u8; 32769];
-    let mut b = [0u8; 65536];
-    let mut t = [0usize; 264];
-    let mut scratch = [0u8; 65536];
+    let mut result = [0u8; OVER];
+    let mut buffer = [0u8; OVER];
+    let mut b = [0u8; ROOM];
+    let mut t = [0usize; table::LENGTH];
+    let mut scratch = [0u8; ROOM];
     let n = json.len();
     match convert(
         &mut result,
@@ -141,9 +146,9 @@ fn large(out: &mut [u8], json: &[u8]) -> Outcome
     requires { ⌜ length (now json) ≤ jsonRoom ⌝ }
     ensures { λ r. ⌜ Serves (now (out .entry)) (fit (length (now (out .entry))) (becomes (now (json .entry)))) r (now (out .exit)) ⌝ }
 {
-    let mut places = [0u16; 16384];
-    let mut prints = [0u16; 16384];
-    let mut slots = [0usize; 14];
+    let mut places = [0u16; NAMES];
+    let mut prints = [0u16; NAMES];
+    let mut slots = [0usize; members::SLOTS];
     match read_members(&mut slots, json, &mut places, &mut prints) {
         Opened::Large => {
             return Outcome::Refused {
@@ -186,7 +191,7 @@ fn make<'a, 'b, 'c, 'd, 'e, 'f, 'g>(
     requires { ⌜ length (now prints) ≡ length (now places) ⌝ }
     ensures { λ r. ⌜ Makes (becomes (now (json .entry))) (now (result .entry)) r (now (result .exit)) ⌝ }
 {
-    let mut slots = [0usize; 14];
+    let mut slots = [0usize; members::SLOTS];
     match read_members(&mut slots, json, places, prints) {
         Opened::Large => {
             return Made::Refused {
@@ -217,13 +222,13 @@ fn small(out: &mut [u8], json: &[u8]) -> Outcome
     requires { ⌜ length (now json) ≤ 4096 ⌝ }
     ensures { λ r. ⌜ Serves (now (out .entry)) (fit (length (now (out .entry))) (becomes (now (json .entry)))) r (now (out .exit)) ⌝ }
 {
-    let mut result = [0u8; 4096];
-    let mut buffer = [0u8; 4096];
-    let mut b = [0u8; 4096];
-    let mut t = [0usize; 264];
-    let mut scratch = [0u8; 4096];
-    let mut places = [0u16; 1024];
-    let mut prints = [0u16; 1024];
+    let mut result = [0u8; SMALL];
+    let mut buffer = [0u8; SMALL];
+    let mut b = [0u8; SMALL];
+    let mut t = [0usize; table::LENGTH];
+    let mut scratch = [0u8; SMALL];
+    let mut places = [0u16; SMALL / NAME];
+    let mut prints = [0u16; SMALL / NAME];
     let n = json.len();
     match make(
         &mut result,
@@ -252,13 +257,13 @@ fn tiny(out: &mut [u8], json: &[u8]) -> Outcome
     requires { ⌜ length (now json) ≤ 2048 ⌝ }
     ensures { λ r. ⌜ Serves (now (out .entry)) (fit (length (now (out .entry))) (becomes (now (json .entry)))) r (now (out .exit)) ⌝ }
 {
-    let mut result = [0u8; 2048];
-    let mut buffer = [0u8; 2048];
-    let mut b = [0u8; 2048];
-    let mut t = [0usize; 264];
-    let mut scratch = [0u8; 2048];
-    let mut places = [0u16; 512];
-    let mut prints = [0u16; 512];
+    let mut result = [0u8; TINY];
+    let mut buffer = [0u8; TINY];
+    let mut b = [0u8; TINY];
+    let mut t = [0usize; table::LENGTH];
+    let mut scratch = [0u8; TINY];
+    let mut places = [0u16; TINY / NAME];
+    let mut prints = [0u16; TINY / NAME];
     let n = json.len();
     match make(
         &mut result,
@@ -284,16 +289,15 @@ fn tiny(out: &mut [u8], json: &[u8]) -> Outcome
 
 // JSON to card. The scratch goes by the size of the text, and so does the stack that a call takes. A refusal leaves the lent output as it was.
 pub fn json_to_card(json: &[u8], out: &mut [u8]) -> Outcome
-    ensures { λ r. ⌜ r ≡ outcomeOf (jsonToCard (length (now (out .entry))) (now (json .entry))) ⌝ }
-    ensures { λ r. ⌜ now (out .exit) ≡ leftBy (now (out .entry)) (jsonToCard (length (now (out .entry))) (now (json .entry))) ⌝ }
+    ensures { λ r. ⌜ JsonGives (now (json .entry)) (now (out .entry)) r (now (out .exit)) ⌝ }
 {
-    if json.len() <= 2048 {
+    if json.len() <= TINY {
         return tiny(out, json);
     }
-    if json.len() <= 4096 {
+    if json.len() <= SMALL {
         return small(out, json);
     }
-    if json.len() > 65536 {
+    if json.len() > ROOM {
         return Outcome::Refused {
             number: 3,
             place: 0,

@@ -13,7 +13,7 @@ use Rattle.text.specs.declared.Turn.the-variants.{Go, Stop}
 use Rattle.text.specs.Choice.{pick, both}
 use Rattle.text.specs.Bytes.{Bytes}
 use Rattle.text.specs.Reader.{Got, got, bad, first, on, more, last, past, loop}
-use Rattle.text.specs.Places.{byteAt, AgreeT, GivesT, Passes}
+use Rattle.text.specs.Places.{byteAt, AgreeT, Passes}
 use Rattle.text.proofs.Choices.{some-same, both-inv}
 use Rattle.text.proofs.Readers.{not-bad, got-what, got-rest, bind-inv, under-inv}
 use Rattle.json.specs.Grammar.{isSpace}

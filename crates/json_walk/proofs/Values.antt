@@ -2,7 +2,7 @@
 use mathlib.Core.Path.{_≡_, refl, sym, ap, _∙_}
 use mathlib.Core.Bool.{true, false}
 use mathlib.Core.Logic.{_⊎_, inl, inr}
-use mathlib.Core.List.{[], tail}
+use mathlib.Core.List.{tail}
 use mathlib.Core.Option.{none, some}
 use Prim.Native.Nat.{ℕ, suc, _+_, _-_}
 use native.Mathlib.Omega.{arith}
@@ -15,7 +15,7 @@ use Rattle.text.specs.Places.{byteAt}
 use Rattle.text.proofs.Choices.{none-some, some-same, map-inv}
 use Rattle.text.proofs.Places.{on-yes, on-no}
 use Rattle.text.proofs.Readers.{got-what, bind-inv, under-inv, on-inv, when-inv}
-use Rattle.json.specs.Tree.{Json, jnull, jtrue, jfalse, jnum, jstr, jarr, jobj, Elems, enil, Members, mnil, membersOf, elemsOf, asArray, asObject}
+use Rattle.json.specs.Tree.{Json, jnull, jtrue, jfalse, jnum, jstr, jarr, jobj, Elems, enil, Members, mnil, asArray, asObject}
 use Rattle.json.specs.Syntax.{skip, characters, number, four, scalar, item, elements, pair, pairs, value}
 use Rattle.json.specs.Strings.{decode, decoded, decodedElems, decodedMembers}
 use Rattle.json_marks.proofs.Laws.{skip-to}

@@ -12,6 +12,7 @@ use Rattle.text.specs.Utf8.{Due, start, due, broken, byRow, lead, tails, next, 
 use Rattle.text.proofs.Cases.{byBool, byBelow, tests, and-left, and-right, between-true, not-both}
 use Rattle.text.proofs.Characters.{lead-high, not-start, utf8-run, run-utf8, later, later-lead, later-tails}
 use Rattle.line.specs.Write.{width, breaks}
+pub use Rattle.line.specs.Folded.{Short}
 use Rattle.line.proofs.Pieces.{piecesFrom, pieces}
 
 -- ---- what a first byte tells
@@ -28,15 +29,15 @@ fitting w start = eqb w 1
 fitting w (due low high k) = eqb w (suc (suc k))
 fitting w broken = true
 
-fits-width : (c : ℕ) → fitting (width c) (lead c) ≡ true
+pub fits-width : (c : ℕ) → fitting (width c) (lead c) ≡ true
 unfolding lead byRow between width
 fits-width c = byBelow (λ c. fitting (width c) (lead c)) (λ c. true) c 256 refl (λ l. ap (fitting (width c)) (lead-high c l))
 
-later-width : (c : ℕ) → 128 ≤ c → c ≤ 191 → width c ≡ 0
+pub later-width : (c : ℕ) → 128 ≤ c → c ≤ 191 → width c ≡ 0
 unfolding width
 later-width c l h = rw (le-ltb c 128 l, lt-ltb c 192 (omega arith))
 
-wide : (w : ℕ) (d : Due) → fitting w d ≡ true → later d ≡ true → (d ≡ broken → ⊥) → (w ≡ suc (left d)) × (left d ≤ 3)
+pub wide : (w : ℕ) (d : Due) → fitting w d ≡ true → later d ≡ true → (d ≡ broken → ⊥) → (w ≡ suc (left d)) × (left d ≤ 3)
 wide w start f l n = (eqb-true w 1 f, omega arith)
 wide w (due low high k) f l n =
     let m : k ≤ 2 = leb-true k 2 (and-right (leb high 191) _ (and-right (leb 128 low) _ l)) in
@@ -44,10 +45,6 @@ wide w (due low high k) f l n =
 wide w broken f l n = absurd (n refl)
 
 -- ---- the pieces
-
-abbrev pub Short : List Bytes → Type 0
-Short [] = Unit {0}
-Short (p ∷ ps) = (utf8 p ≡ true) × (length p ≤ 75) × Short ps
 
 -- from a column and a state on: the first piece ends the character, and fits
 abbrev Good : Due → ℕ → Bytes × List Bytes → Type 0
@@ -62,19 +59,19 @@ good-break : (column c : ℕ) (p : Bytes × List Bytes) → column ≤ 75 → Go
 unfolding run next lead
 good-break column c p l g = (refl, omega arith, (run-utf8 (32 ∷ c ∷ p .0) (g .0), omega (arith, g .1), g .2))
 
-stays : (column w : ℕ) → breaks column w ≡ false → 1 ≤ w → column + w ≤ 75
+pub stays : (column w : ℕ) → breaks column w ≡ false → 1 ≤ w → column + w ≤ 75
 unfolding breaks
 stays column w b l = byBool (ltb 75 (column + w)) (λ e. not-both refl (rw (ne-eqb w 0 (omega arith), e) at b)) (λ e. omega tests)
 
-goes-on : (column w : ℕ) → w ≡ 0 → breaks column w ≡ false
+pub goes-on : (column w : ℕ) → w ≡ 0 → breaks column w ≡ false
 unfolding breaks
 goes-on column w e = rw e
 
-left-tails : (k : ℕ) → left (tails k) ≡ k
+pub left-tails : (k : ℕ) → left (tails k) ≡ k
 left-tails zero = refl
 left-tails (suc k) = refl
 
-good : (d : Due) (s : Bytes) (column : ℕ) → run d s ≡ start → later d ≡ true → column + left d ≤ 75 → Good d column (piecesFrom column s)
+pub good : (d : Due) (s : Bytes) (column : ℕ) → run d s ≡ start → later d ≡ true → column + left d ≤ 75 → Good d column (piecesFrom column s)
 unfolding run piecesFrom next
 good d [] column u l h = (u, omega arith, tt)
 good start (c ∷ s) column u l h =

@@ -1,4 +1,7 @@
 pub mod Opened
+pub mod Listed
+pub mod Shown
+pub mod Folded
 pub mod Shapes
 pub mod Examples
 pub mod Texts

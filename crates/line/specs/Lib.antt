@@ -6,3 +6,6 @@ pub mod Params
 pub mod Text
 pub mod Write
 pub mod Upper
+pub mod Listed
+pub mod Shown
+pub mod Folded

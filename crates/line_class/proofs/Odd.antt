@@ -1,5 +1,5 @@
 -- Where no byte is odd, the line is UTF-8 and has no controls.
-use mathlib.Core.Path.{_≡_, refl, sym, ap, _∙_}
+use mathlib.Core.Path.{_≡_, refl}
 use mathlib.Core.Bool.{Bool, true, false, _||_, not}
 use mathlib.Core.List.{[], _∷_}
 use Prim.Native.Nat.{ℕ, _+_, _≤_, _<_}
@@ -8,7 +8,7 @@ use lib.ListN.{length, getD, drop, drop-of-length-le}
 use lib.Seq.{drop-cons}
 use lib.Dec.{ltb}
 use Rattle.text.specs.Bytes.{Bytes, any}
-use Rattle.text.specs.Utf8.{start, lead, next, run, atStart, utf8}
+use Rattle.text.specs.Utf8.{start, lead, next, run, utf8}
 use Rattle.text.proofs.Cases.{or-left, or-right, not-false}
 use Rattle.line.specs.Class.{isControl}
 use Rattle.line_class.specs.Odd.{isOdd}

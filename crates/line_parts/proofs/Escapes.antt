@@ -6,7 +6,7 @@ use mathlib.Core.Option.{Option, none, some}
 use Prim.Native.Nat.{ℕ}
 use lib.Dec.{eqb}
 use borrow.Author.Tests.{eqb-true}
-use Rattle.text.specs.Choice.{pick, both, is-some}
+use Rattle.text.specs.Choice.{both, is-some}
 use Rattle.text.specs.Bytes.{Bytes, all, onHead, each}
 use Rattle.text.proofs.Cases.{byBool}
 use Rattle.line.specs.Text.{push, escaped, textFrom, readText, splitFrom, splitText}

@@ -4,10 +4,8 @@ use mathlib.Core.Bool.{Bool, true, false, _&&_, _||_, not}
 use mathlib.Core.List.{List, [], _∷_}
 use mathlib.Core.Option.{Option, none, some}
 use Prim.Native.Nat.{ℕ}
-use native.Mathlib.Omega.{arith}
 use lib.Dec.{eqb}
 use borrow.Author.Tests.{eqb-true}
-use Rattle.text.specs.Choice.{pick, both}
 use Rattle.text.specs.Bytes.{Bytes, any, empty, onHead, each}
 use Rattle.text.proofs.Cases.{byBool}
 use Rattle.text.proofs.Choices.{none-some, both-inv}

@@ -1,18 +1,12 @@
 -- The folding writer, byte by byte.
-use mathlib.Core.Path.{_≡_, refl}
-use mathlib.Core.Bool.{Bool, true, false}
-use mathlib.Core.List.{[], _++_}
+use mathlib.Core.Path.{_≡_}
+use mathlib.Core.Bool.{true, false}
 use Prim.Native.Nat.{ℕ, _+_, _-_, _≤_, _<_}
 use native.Mathlib.Omega.{arith}
-use native.Mathlib.Numerals.{add-one}
 use lib.Dec.{ltb}
-use lib.ListN.{length, drop, getD, drop-of-length-le}
-use lib.Seq.{drop-cons}
 use borrow.Author.Tests.{ne-eqb, lt-ltb, le-ltb}
-use Rattle.text.specs.Bytes.{Bytes}
-use Rattle.line.specs.Write.{width, breaks, foldFrom, fold}
-use Rattle.text.proofs.Cases.{byBool, split}
-use Rattle.line_write.specs.Fold.{piece, columnAfter}
+use Rattle.line.specs.Write.{width, breaks}
+use Rattle.text.proofs.Cases.{split}
 
 -- ---- one character's width
 
@@ -63,26 +57,3 @@ breaks-late column w n h =
     split column (75 - w)
     (λ l. let m : column + w ≤ 75 = omega arith in rw (ne-eqb w 0 n, le-ltb (75 - w) column l, le-ltb 75 (column + w) m))
     (λ l. let m : 75 < column + w = omega arith in rw (ne-eqb w 0 n, lt-ltb (75 - w) column l, lt-ltb 75 (column + w) m))
-
--- ---- one turn
-
-pub fold-one : (column : ℕ) (s : Bytes) (i : ℕ) (b : Bool) → i < length s → b ≡ breaks column (width (getD s i 0))
-    → foldFrom column (drop i s) ≡ piece b (getD s i 0) ++ foldFrom (columnAfter b column) (drop (i + 1) s)
-unfolding foldFrom piece columnAfter
-fold-one column s i b h e =
-    byBool (breaks column (width (getD s i 0)))
-    (λ t. rw (e, drop-cons s i 0, t, add-one))
-    (λ t. rw (e, drop-cons s i 0, t, add-one))
-
-pub fold-out : (column : ℕ) (s : Bytes) (i : ℕ) → length s ≤ i → foldFrom column (drop i s) ≡ []
-unfolding foldFrom
-fold-out column s i h = rw (drop-of-length-le s h)
-
-pub fold-all : (s : Bytes) → fold s ≡ foldFrom 0 s
-unfolding fold
-fold-all s = refl
-
-pub column-few : (b : Bool) (column i : ℕ) → column ≤ i + 2 → columnAfter b column ≤ i + 1 + 2
-unfolding columnAfter
-column-few true column i h = omega arith
-column-few false column i h = omega arith

@@ -9,7 +9,7 @@ use Rattle.text.specs.Places.{Within, GivesT}
 use Rattle.text.specs.declared.Read.{Read}
 use Rattle.text.specs.declared.Read.the-variants.{Next, Bad}
 use Rattle.text.specs.declared.Turn.{Turn}
-use Rattle.text.specs.declared.Turn.the-variants.{Go, Stop}
+use Rattle.text.specs.declared.Turn.the-variants.{Stop}
 use Rattle.text.proofs.Places.{turn-as}
 use Rattle.json_access.specs.Access.{placeOf}
 

@@ -1,13 +1,18 @@
-// For measuring alone (`tools/bench --pieces`), and not delivered: the pieces that the services are made of, under C names. Each function does one piece's work
-// over a whole input, so that a call is long enough to be timed. A part of the bytes is what stands from one of the starts to the next.
+// For measuring alone (`tools/bench --pieces`), and not delivered: the pieces that the services are made of, under C names. They are proved as far as
+// that no call goes wrong; what they give is for timing, and their contracts say little of it. Each function does one piece's work over a whole input, so that
+// a call is long enough to be timed. A part of the bytes is what stands from one of the starts to the next.
 ghost use Prim.Native.Nat.{_≤_};
 ghost use lib.ListN.{length};
 ghost use Rattle.line_table.specs.Table.{Sound};
-ghost use Rattle.card_garbled.specs.Garbled.{FirstGarbled};
-use card_garbled::first_garbled;
+ghost use Rattle.from_card_garbled.specs.Garbled.{FirstGarbled};
+ghost use Rattle.card_table.specs.Numbers.{typeCount};
+use card_table::params;
+use card_table::types;
+use from_card_garbled::first_garbled;
 use json_access::head_at;
 use json_access::place;
 use json_compact::put_compact;
+use json_limits::DEPTH;
 use json_marks::separator;
 use json_marks::skip_space;
 use json_read::Verdict;
@@ -18,9 +23,11 @@ use json_write::put_requoted;
 use json_write::put_string;
 use line_frame::Frame;
 use line_frame::frame_of;
+use line_limits::LINES;
 use line_pen::fill as fill_bytes;
 use line_pen::pen_bytes;
 use line_table::fill;
+use line_table::table;
 use line_text::read_text;
 use line_text::write_text;
 use line_unfold::Unfolded;
@@ -36,10 +43,13 @@ use text::RIGHT_BRACKET;
 use text::Turn;
 use text::look;
 
+// Where each line begins, and where the last ends.
+const STARTS: usize = LINES + 1;
+
 // The lines between BEGIN and END, unfolded: how many.
 #[no_mangle]
 pub extern "C" fn pieces_unfold(out: &mut [u8], starts: &mut [usize], card: &[u8]) -> usize {
-    if starts.len() < 513 {
+    if starts.len() < STARTS {
         return 0;
     }
     let Frame::Body { start: a, end: b } = frame_of(card) else {
@@ -55,7 +65,7 @@ pub extern "C" fn pieces_unfold(out: &mut [u8], starts: &mut [usize], card: &[u8
     if body.len() > out.len() {
         return 0;
     }
-    match unfold(out, starts, 512, body) {
+    match unfold(out, starts, LINES, body) {
         Unfolded::Lines(n) => n,
         Unfolded::TooMany => 0,
     }
@@ -71,22 +81,22 @@ pub extern "C" fn pieces_garbled(bytes: &[u8], starts: &[usize], n: usize) -> us
 
 // The parameters of a line that the table holds: how many values each kind has and where the first stands, and the marks of TYPE.
 fn mark_line(row: &mut [u8], line: &[u8], table: &[usize]) -> bool
-    requires { ⌜ (9 ≤ length (now row)) × Sound (now line) (now table) ⌝ }
+    requires { ⌜ (typeCount ≤ length (now row)) × Sound (now line) (now table) ⌝ }
 {
-    let mut counts = [0usize; 8];
-    let mut froms = [0usize; 8];
-    let mut tos = [0usize; 8];
+    let mut counts = [0usize; params::COUNT];
+    let mut froms = [0usize; params::COUNT];
+    let mut tos = [0usize; params::COUNT];
     scan_rows(&mut counts, &mut froms, &mut tos, line, table);
     // Each row is looked at, so that none of them is left out.
-    if (counts[7] > 0) | (froms[2] > tos[2]) {
+    if (counts[params::OTHER] > 0) | (froms[params::TYPE] > tos[params::TYPE]) {
         return false;
     }
-    mark_rows(row, line, table, 9)
+    mark_rows(row, line, table, types::COUNT)
 }
 
 // Nothing is asked of the line where `marks` is 0.
 fn is_good(row: &mut [u8], line: &[u8], table: &[usize], marks: u8) -> bool
-    requires { ⌜ (9 ≤ length (now row)) × Sound (now line) (now table) ⌝ }
+    requires { ⌜ (typeCount ≤ length (now row)) × Sound (now line) (now table) ⌝ }
 {
     if marks == 0 {
         return true;
@@ -104,10 +114,10 @@ pub extern "C" fn pieces_parse(
     n: usize,
     marks: u8,
 ) -> usize {
-    if table.len() < 264 {
+    if table.len() < table::LENGTH {
         return 0;
     }
-    if row.len() < 9 {
+    if row.len() < types::COUNT {
         return 0;
     }
     let mut k = 0;
@@ -128,7 +138,7 @@ pub extern "C" fn pieces_parse(
 // The validating reader: the length of the text, and 0 where it is refused.
 #[no_mangle]
 pub extern "C" fn pieces_read(json: &[u8]) -> usize {
-    match read(json, 16) {
+    match read(json, DEPTH) {
         Verdict::Sound => json.len(),
         Verdict::Large => 0,
         Verdict::NotJson(_) => 0,
@@ -258,5 +268,5 @@ fn walk(s: &[u8], at: usize, depth: usize) -> usize
 pub extern "C" fn pieces_walk(json: &[u8]) -> usize
     ensures { λ r. ⌜ r ≤ length (now (json .entry)) ⌝ }
 {
-    walk(json, 0, 16)
+    walk(json, 0, DEPTH)
 }

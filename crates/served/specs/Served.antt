@@ -1,6 +1,9 @@
--- The code's answer for an answer of 01. The lent output afterwards is `leftBy` of convert/specs/Served: every service promises both.
+-- What the code answers for an answer of 01.
+use mathlib.Core.Path.{_≡_}
 use lib.ListN.{length}
+use Rattle.text.specs.Bytes.{Bytes}
 use Rattle.convert.specs.Answers.{Answer, no, yes}
+use Rattle.convert.specs.Served.{leftBy}
 use Rattle.served.specs.declared.Outcome.{Outcome}
 use Rattle.served.specs.declared.Outcome.the-variants.{Written, Refused}
 
@@ -8,3 +11,8 @@ use Rattle.served.specs.declared.Outcome.the-variants.{Written, Refused}
 abbrev pub outcomeOf : Answer → Outcome
 outcomeOf (no n p) = Refused n p
 outcomeOf (yes bs) = Written (length bs)
+
+-- the outcome and the lent output afterwards are those of an answer: every service promises both
+pub record Serves (out : Bytes) (a : Answer) (r : Outcome) (after : Bytes) : Type 0 where
+  pub said : r ≡ outcomeOf a
+  pub left : after ≡ leftBy out a

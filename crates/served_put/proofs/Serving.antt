@@ -13,8 +13,8 @@ use Rattle.convert.specs.Answers.{Answer, no, yes, seek}
 use Rattle.convert.specs.Served.{leftBy}
 use Rattle.served.specs.declared.Outcome.{Outcome}
 use Rattle.served.specs.declared.Outcome.the-variants.{Written, Refused}
-use Rattle.served.specs.Served.{outcomeOf}
-use Rattle.served_put.specs.Lent.{fitLent, Serves}
+use Rattle.served.specs.Served.{outcomeOf, Serves}
+use Rattle.served_put.specs.Lent.{fitLent}
 
 -- a refusal leaves the lent output as it was
 pub serves-refused : (out : Bytes) (a : Answer) (n p : ℕ) → a ≡ no n p → Serves out a (Refused n p) out

@@ -3,7 +3,8 @@ use output::Wrote;
 use output::put_text;
 use served::Outcome;
 ghost use lib.ListN.{length};
-ghost use Rattle.served_put.specs.Lent.{fitLent, Serves};
+ghost use Rattle.served.specs.Served.{Serves};
+ghost use Rattle.served_put.specs.Lent.{fitLent};
 
 // 14 where the result is longer than the lent output, and then no byte is written.
 pub fn put_served(out: &mut [u8], text: &[u8]) -> Outcome

@@ -9,7 +9,7 @@ use Rattle.convert.specs.Served.{leftBy, served}
 use Rattle.convert.specs.Demand1.{Demand1}
 use Rattle.convert.proofs.Demand1.{demand-1}
 use Rattle.served.specs.declared.Outcome.{Outcome}
-use Rattle.served.specs.Served.{outcomeOf}
+use Rattle.served.specs.Served.{outcomeOf, Serves}
 use Rattle.home.specs.Demand2.{Demand2}
 use Rattle.home.proofs.Demand2.{demand-2}
 use Rattle.services.specs.Contracts.{Call, CardService, JsonService, CardPromises, JsonPromises, shown, seen, readFrom, answered, Lends}
@@ -24,19 +24,19 @@ read-is : (out : Bytes) (a : Answer) → readFrom (outcomeOf a) (leftBy out a) �
 read-is out (no n p) = refl
 read-is out (yes bs) = ap yes (take-at bs (drop (length bs) out) (length bs) refl)
 
-module _ (out : Bytes) (a : Answer) (c : Call) (said : c .outcome ≡ outcomeOf a) (left : c .output ≡ leftBy out a) where
+module _ (out : Bytes) (a : Answer) (c : Call) (gives : Serves out a (c .outcome) (c .output)) where
   call-seen : seen c ≡ served out a
-  call-seen = ap (λ (o : Outcome). shown o (c .output)) said ∙ ap (shown (outcomeOf a)) left ∙ shown-is out a
+  call-seen = ap (λ (o : Outcome). shown o (c .output)) (gives .said) ∙ ap (shown (outcomeOf a)) (gives .left) ∙ shown-is out a
 
   call-answered : answered c ≡ a
-  call-answered = ap (λ (o : Outcome). readFrom o (c .output)) said ∙ ap (readFrom (outcomeOf a)) left ∙ read-is out a
+  call-answered = ap (λ (o : Outcome). readFrom o (c .output)) (gives .said) ∙ ap (readFrom (outcomeOf a)) (gives .left) ∙ read-is out a
 
 module _ (f : CardService) (g : JsonService) (cards : CardPromises f) (jsons : JsonPromises g) where
   card-call : (stem : Bytes) (n : ℕ) (card out : Bytes) → seen (f stem n card out) ≡ served out (cardToJson stem n (length out) card)
-  card-call stem n card out = call-seen out (cardToJson stem n (length out) card) (f stem n card out) (cards .said stem n card out) (cards .left stem n card out)
+  card-call stem n card out = call-seen out (cardToJson stem n (length out) card) (f stem n card out) (cards stem n card out)
 
   json-call : (json out : Bytes) → seen (g json out) ≡ served out (jsonToCard (length out) json)
-  json-call json out = call-seen out (jsonToCard (length out) json) (g json out) (jsons .said json out) (jsons .left json out)
+  json-call json out = call-seen out (jsonToCard (length out) json) (g json out) (jsons json out)
 
   -- DEMAND 1 of the services: number, place, length and every byte of the lent output are those of 01's grounds in 01's order
   pub services-demand-1 : Demand1 (λ stem n card out. seen (f stem n card out)) (λ json out. seen (g json out))
@@ -56,12 +56,12 @@ module _ (f : CardService) (g : JsonService) (cards : CardPromises f) (jsons : J
 
     card-answer : (stem : Bytes) (n lent : ℕ) (card : Bytes) → toJson stem n lent card ≡ cardToJson stem n lent card
     card-answer stem n lent card =
-        call-answered (room lent) (cardToJson stem n (length (room lent)) card) (f stem n card (room lent)) (cards .said stem n card (room lent)) (cards .left stem n card (room lent))
+        call-answered (room lent) (cardToJson stem n (length (room lent)) card) (f stem n card (room lent)) (cards stem n card (room lent))
         ∙ ap (λ (l : ℕ). cardToJson stem n l card) (lends .long lent)
 
     json-answer : (lent : ℕ) (json : Bytes) → toCard lent json ≡ jsonToCard lent json
     json-answer lent json =
-        call-answered (room lent) (jsonToCard (length (room lent)) json) (g json (room lent)) (jsons .said json (room lent)) (jsons .left json (room lent))
+        call-answered (room lent) (jsonToCard (length (room lent)) json) (g json (room lent)) (jsons json (room lent))
         ∙ ap (λ (l : ℕ). jsonToCard l json) (lends .long lent)
 
     to-json : cardToJson ≡ toJson

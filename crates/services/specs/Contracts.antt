@@ -1,13 +1,26 @@
--- The two services' contracts, as they stand in card_to_json and json_to_card, said of any functions; and what their caller sees.
+-- The two services' contracts: `card_to_json` and `json_to_card` cite these definitions in their `ensures`. Here they are said of any functions as well; and what
+-- the caller of such a function sees.
 use mathlib.Core.Path.{_≡_}
 use Prim.Native.Nat.{ℕ}
 use lib.ListN.{length, take}
 use Rattle.text.specs.Bytes.{Bytes}
 use Rattle.convert.specs.Answers.{Answer, no, yes, cardToJson, jsonToCard}
-use Rattle.convert.specs.Served.{Served, leftBy}
+use Rattle.convert.specs.Served.{Served}
 use Rattle.served.specs.declared.Outcome.{Outcome}
 use Rattle.served.specs.declared.Outcome.the-variants.{Written, Refused}
-use Rattle.served.specs.Served.{outcomeOf}
+use Rattle.served.specs.Served.{Serves}
+
+-- ---- the contracts
+
+-- `card_to_json::card_to_json`: the outcome r and the lent output afterwards, for every stem, number, card and output
+abbrev pub CardGives : (stem : Bytes) (number : ℕ) (card out : Bytes) → (r : Outcome) (after : Bytes) → Type 0
+CardGives stem n card out r after = Serves out (cardToJson stem n (length out) card) r after
+
+-- `json_to_card::json_to_card`
+abbrev pub JsonGives : (json out : Bytes) → (r : Outcome) (after : Bytes) → Type 0
+JsonGives json out r after = Serves out (jsonToCard (length out) json) r after
+
+-- ---- functions that keep them
 
 -- what a call gives: its outcome, and the lent output afterwards
 pub record Call : Type 0 where
@@ -21,15 +34,11 @@ CardService = (stem : Bytes) (number : ℕ) (card out : Bytes) → Call
 abbrev pub JsonService : Type 0
 JsonService = (json out : Bytes) → Call
 
--- the promises of card_to_json::card_to_json
-pub record CardPromises (f : CardService) : Type 0 where
-  pub said : (stem : Bytes) (number : ℕ) (card out : Bytes) → f stem number card out .outcome ≡ outcomeOf (cardToJson stem number (length out) card)
-  pub left : (stem : Bytes) (number : ℕ) (card out : Bytes) → f stem number card out .output ≡ leftBy out (cardToJson stem number (length out) card)
+abbrev pub CardPromises : CardService → Type 0
+CardPromises f = (stem : Bytes) (number : ℕ) (card out : Bytes) → CardGives stem number card out (f stem number card out .outcome) (f stem number card out .output)
 
--- the promises of json_to_card::json_to_card
-pub record JsonPromises (g : JsonService) : Type 0 where
-  pub said : (json out : Bytes) → g json out .outcome ≡ outcomeOf (jsonToCard (length out) json)
-  pub left : (json out : Bytes) → g json out .output ≡ leftBy out (jsonToCard (length out) json)
+abbrev pub JsonPromises : JsonService → Type 0
+JsonPromises g = (json out : Bytes) → JsonGives json out (g json out .outcome) (g json out .output)
 
 -- ---- what the caller sees
 

@@ -1,14 +1,14 @@
 -- Demand 3 of the calls as their contracts give them.
 use Prim.Native.Nat.{_≤_}
-use mathlib.Core.Path.{_≡_, refl, sym, ap, _∙_}
+use mathlib.Core.Path.{_≡_, refl, ap, _∙_}
 use lib.ListN.{length, take, drop}
 use lib.Seq.{take-append-seam}
 use Rattle.text.specs.Bytes.{Bytes}
-use Rattle.convert.specs.Answers.{Answer, no, yes}
-use Rattle.stream.specs.Calls.{Call, piece, end, Shown, shows-more, shows, Machine}
+use Rattle.convert.specs.Answers.{no, yes}
+use Rattle.stream.specs.Calls.{Call, piece, end, Shown, shows-more, shows}
 use Rattle.stream.specs.Demand.{Demand3, OutputAfter}
 use Rattle.stream_reader.specs.declared.State.{State}
-use Rattle.stream_reader.specs.Machine.{freshOf, inRange}
+use Rattle.stream_reader.specs.Machine.{inRange}
 use Rattle.stream_machine.specs.Turn.{Given, called}
 use Rattle.stream_proved.specs.Stream.{stream}
 use Rattle.stream_proved.proofs.Demand.{demand-3}

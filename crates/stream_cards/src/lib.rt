@@ -3,9 +3,11 @@ ghost use mathlib.Core.Path.{_≡_};
 ghost use lib.ListN.{length};
 ghost use Rattle.stream_machine.specs.Turn.{unfit, answered, outputAfter, givenBy};
 ghost use Rattle.stream_cards.specs.Promise.{FreshGives, StepGives, EndGives, saidOf, answerOf, refusedAs, InBuffer};
-use card_stem::is_stem;
 use card_to_json::card_to_json;
+use from_card_stem::is_stem;
+use json_limits::ROOM;
 use served::Outcome;
+use stream_reader::CAP;
 use stream_reader::Event;
 use stream_reader::Fed;
 use stream_reader::State;
@@ -32,7 +34,7 @@ pub struct Answered {
 fn is_unfit(s: State, room: usize, lent: usize) -> bool
     ensures { λ r. ⌜ r ≡ unfit s room lent ⌝ }
 {
-    (room < 32768) | ((lent < 65536) | !s.in_range())
+    (room < CAP) | ((lent < ROOM) | !s.in_range())
 }
 
 // A refusal at entry: nothing is consumed, and the state is as it was.

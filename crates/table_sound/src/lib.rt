@@ -2,7 +2,10 @@
 // is known yet.
 ghost use Prim.Native.Nat.{_+_, _≤_, _<_};
 ghost use lib.ListN.{length, getD};
+ghost use Rattle.line_table.specs.Table.{tableLength};
 ghost use Rattle.table_sound.specs.Sound.{TellsSpan, TellsSound};
+use line_limits::VALUES;
+use line_table::table;
 
 // Whether the part at the slots i and i + 1 is within n bytes.
 fn has_span(t: &[usize], i: usize, n: usize) -> bool
@@ -10,7 +13,7 @@ fn has_span(t: &[usize], i: usize, n: usize) -> bool
     ensures { λ r. ⌜ TellsSpan n (getD (now (t .entry)) i 0) (getD (now (t .entry)) (i + 1) 0) r ⌝ }
 {
     let a = t[i];
-    let e = t[i + 1];
+    let e = t[i + table::ROW_NAME_END];
     if a > e {
         return false;
     }
@@ -20,28 +23,28 @@ fn has_span(t: &[usize], i: usize, n: usize) -> bool
     true
 }
 
-pub fn is_sound<'a, 'b>(b: &'a [u8], t: &'b [usize]) -> bool
-    requires { ⌜ 264 ≤ length (now t) ⌝ }
+pub fn is_sound(b: &[u8], t: &[usize]) -> bool
+    requires { ⌜ tableLength ≤ length (now t) ⌝ }
     ensures { λ r. ⌜ TellsSound (now (b .entry)) (now (t .entry)) r ⌝ }
 {
     let m = b.len();
-    let n = t[6];
-    if n > 64 {
+    let n = t[table::COUNT];
+    if n > VALUES {
         return false;
     }
-    if !has_span(t, 0, m) {
+    if !has_span(t, table::GROUP, m) {
         return false;
     }
-    if !has_span(t, 2, m) {
+    if !has_span(t, table::NAME, m) {
         return false;
     }
-    if !has_span(t, 4, m) {
+    if !has_span(t, table::VALUE, m) {
         return false;
     }
     let mut k: usize = 0;
     while k < n {
-        let i = 4 * k + 8;
-        let j = i + 2;
+        let i = table::ROW * k + table::ROWS;
+        let j = i + table::ROW_VALUE;
         if !has_span(t, i, m) {
             return false;
         }

@@ -2,7 +2,7 @@
 use mathlib.Core.Path.{_≡_, refl, sym, ap, _∙_}
 use mathlib.Core.Bool.{Bool, true, false, _&&_}
 use mathlib.Core.List.{List, [], _∷_, _++_}
-use Prim.Native.Nat.{ℕ, zero, suc, _+_, _≤_, _<_}
+use Prim.Native.Nat.{ℕ, zero, suc, _≤_, _<_}
 use native.Mathlib.Omega.{arith}
 use lib.ListN.{getD}
 use lib.Dec.{ltb, leb}
@@ -46,10 +46,21 @@ not-start s e = not-both refl (ap atStart (sym e ∙ run-broken s))
 
 -- ---- first bytes, by the rows
 
+-- every row ends below 256
+abbrev ends : List Row → Bool
+ends [] = true
+ends (row from to low high k ∷ rs) = ltb to 256 && ends rs
+
+high-row : (rs : List Row) (c : ℕ) → ends rs ≡ true → ltb c 256 ≡ false → byRow rs c ≡ broken
+unfolding byRow
+high-row [] c h l = refl
+high-row (row from to low high k ∷ rs) c h l =
+    let m : ltb to 256 ≡ true = and-left (ltb to 256) _ h in
+    rw (beyond from to c (omega tests)) (high-row rs c (and-right (ltb to 256) _ h) l)
+
 pub lead-high : (c : ℕ) → ltb c 256 ≡ false → lead c ≡ broken
-unfolding lead byRow
-lead-high c l =
-    rw (le-ltb c 128 (omega tests), beyond 0xc2 0xdf c (omega tests), beyond 0xe0 0xe0 c (omega tests), beyond 0xe1 0xec c (omega tests), beyond 0xed 0xed c (omega tests), beyond 0xee 0xef c (omega tests), beyond 0xf0 0xf0 c (omega tests), beyond 0xf1 0xf3 c (omega tests), beyond 0xf4 0xf4 c (omega tests))
+unfolding lead
+lead-high c l = rw (le-ltb c 128 (omega tests)) (high-row rows c refl l)
 
 -- only later bytes of a character are due, three at most
 abbrev pub later : Due → Bool

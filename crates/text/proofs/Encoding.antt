@@ -7,9 +7,9 @@ use native.Mathlib.Omega.{arith}
 use lib.Dec.{ltb, leb}
 use borrow.Author.Tests.{le-leb}
 use Rattle.text.specs.Choice.{pick}
-use Rattle.text.specs.Bytes.{between, all}
-use Rattle.text.specs.Utf8.{row, Due, start, due, byRow, rows, lead, next, run, utf8, encode}
-use Rattle.text.proofs.Cases.{byBool, byBelow, upTo, tests, in-between, beyond, not-both}
+use Rattle.text.specs.Bytes.{between}
+use Rattle.text.specs.Utf8.{Due, start, due, byRow, lead, next, run, utf8, encode}
+use Rattle.text.proofs.Cases.{byBool, byBelow, upTo, tests, in-between, not-both}
 use Rattle.text.proofs.Characters.{run-utf8}
 
 -- ---- the rows of first bytes
@@ -55,19 +55,19 @@ lead-f4 = leads 0xf4 0xf4 (due 0x80 0x8f 2) (omega arith) refl
 
 -- ---- whole characters
 
-two : (a b : ℕ) → 0xc2 ≤ a → a ≤ 0xdf → 0x80 ≤ b → b ≤ 0xbf → run start (a ∷ b ∷ []) ≡ start
+pub two : (a b : ℕ) → 0xc2 ≤ a → a ≤ 0xdf → 0x80 ≤ b → b ≤ 0xbf → run start (a ∷ b ∷ []) ≡ start
 unfolding run next
 two a b l h p q = rw (lead-c2 a l h, in-between 0x80 0xbf b p q)
 
-three : (low high a b c : ℕ) → lead a ≡ due low high 1 → low ≤ b → b ≤ high → 0x80 ≤ c → c ≤ 0xbf → run start (a ∷ b ∷ c ∷ []) ≡ start
+pub three : (low high a b c : ℕ) → lead a ≡ due low high 1 → low ≤ b → b ≤ high → 0x80 ≤ c → c ≤ 0xbf → run start (a ∷ b ∷ c ∷ []) ≡ start
 unfolding run next
 three low high a b c e l h p q = rw (e, in-between low high b l h, in-between 0x80 0xbf c p q)
 
-four : (low high a b c d : ℕ) → lead a ≡ due low high 2 → low ≤ b → b ≤ high → 0x80 ≤ c → c ≤ 0xbf → 0x80 ≤ d → d ≤ 0xbf → run start (a ∷ b ∷ c ∷ d ∷ []) ≡ start
+pub four : (low high a b c d : ℕ) → lead a ≡ due low high 2 → low ≤ b → b ≤ high → 0x80 ≤ c → c ≤ 0xbf → 0x80 ≤ d → d ≤ 0xbf → run start (a ∷ b ∷ c ∷ d ∷ []) ≡ start
 unfolding run next
 four low high a b c d e l h p q m n = rw (e, in-between low high b l h, in-between 0x80 0xbf c p q, in-between 0x80 0xbf d m n)
 
-one-byte : (u : ℕ) → ltb u 0x80 ≡ true → run start (u ∷ []) ≡ start
+pub one-byte : (u : ℕ) → ltb u 0x80 ≡ true → run start (u ∷ []) ≡ start
 unfolding run next lead
 one-byte u e = rw e
 

@@ -2,7 +2,7 @@
 use mathlib.Core.Path.{_≡_, refl, ap, ap₂}
 use mathlib.Core.Bool.{Bool, false}
 use mathlib.Core.List.{[], _∷_, _++_, map}
-use Prim.Native.Nat.{ℕ, _+_, _-_}
+use Prim.Native.Nat.{ℕ}
 use lib.Dec.{ltb}
 use Rattle.text.specs.Bytes.{Bytes, ascii, between, isLower, isUpper, lower, upper, lowered, uppered, empty}
 use Rattle.text.proofs.Cases.{byBelow, upTo, tests, beyond}

@@ -1,4 +1,5 @@
 pub mod Opened
+pub mod Listed
 pub mod Cases
 pub mod Same
 pub mod Choices
@@ -8,6 +9,7 @@ pub mod Parts
 pub mod Decimals
 pub mod Characters
 pub mod Encoding
+pub mod Scalars
 pub mod Readers
 pub mod Places
 pub mod Runs

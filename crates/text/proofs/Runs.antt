@@ -1,6 +1,6 @@
 -- The laws of a loop over turns: its invariant `Run`, its start, a turn that goes on, one that ends.
 use mathlib.Core.Path.{ap}
-use Prim.Native.Nat.{ℕ, zero, suc, _+_, _-_, _≤_, _<_}
+use Prim.Native.Nat.{ℕ, zero, suc, _+_, _≤_, _<_}
 use native.Mathlib.Omega.{arith}
 use lib.ListN.{length, drop, length-drop}
 use Rattle.text.specs.declared.Read.{Read}

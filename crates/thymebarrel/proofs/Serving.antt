@@ -5,7 +5,8 @@ use Rattle.convert.specs.Answers.{Answer, no, yes}
 use Rattle.convert.specs.Served.{leftBy, Served, served}
 use Rattle.served.specs.declared.Outcome.{Outcome}
 use Rattle.served.specs.Served.{outcomeOf}
-use Rattle.thymebarrel.specs.Given.{Told, given, outcomeTold}
+use Rattle.c_calls.specs.Promise.{Told, given}
+use Rattle.thymebarrel.specs.Given.{outcomeTold}
 
 abbrev givenTold : Bytes → Told → Served
 givenTold out t = given (t .number) (t .place) (t .written) out

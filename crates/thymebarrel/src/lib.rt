@@ -1,15 +1,11 @@
 // The C interface: the services under C names. What a pointer or a length from C can break is said in include/thymebarrel.h; all else is promised as of
 // every other function.
 ghost use mathlib.Core.Path.{_≡_};
-ghost use lib.ListN.{length};
-ghost use Rattle.convert.specs.Answers.{cardToJson, jsonToCard};
-ghost use Rattle.convert.specs.Served.{served};
 ghost use Rattle.json.specs.Lookup.{lookUp};
 ghost use Rattle.json_lookup.specs.Finds.{placeOf};
-ghost use Rattle.stream.specs.Calls.{piece as piece-call, end as end-call};
-ghost use Rattle.stream_machine.specs.Turn.{called};
-ghost use Rattle.thymebarrel.specs.Given.{partFrom, given, told, outcomeTold};
-ghost use Rattle.thymebarrel.specs.Streamed.{bit, stateOf, rowAfter, toldBy, callGiven, calledOf};
+ghost use Rattle.c_calls.specs.Numbers.{bit, stateOf};
+ghost use Rattle.c_calls.specs.Promise.{given, told, callGiven, CardGives, JsonGives, StepGives, EndGives};
+ghost use Rattle.thymebarrel.specs.Given.{partFrom, outcomeTold, toldBy, rowPut, Tells};
 use card_to_json::card_to_json;
 use json_lookup::locate;
 use json_to_card::json_to_card;
@@ -51,7 +47,7 @@ pub extern "C" fn thymebarrel_card_to_json(
     place: &mut usize,
     written: &mut usize,
 ) -> u8
-    ensures { λ r. ⌜ given r (now (place .exit)) (now (written .exit)) (now (out .exit)) ≡ served (now (out .entry)) (cardToJson (now (stem .entry)) number (length (now (out .entry))) (now (card .entry))) ⌝ }
+    ensures { λ r. ⌜ CardGives (now (stem .entry)) number (now (card .entry)) (now (out .entry)) (given r (now (place .exit)) (now (written .exit)) (now (out .exit))) ⌝ }
 {
     let r = card_to_json(stem, number, card, out);
     tell_outcome(r, place, written)
@@ -65,7 +61,7 @@ pub extern "C" fn thymebarrel_json_to_card(
     place: &mut usize,
     written: &mut usize,
 ) -> u8
-    ensures { λ r. ⌜ given r (now (place .exit)) (now (written .exit)) (now (out .exit)) ≡ served (now (out .entry)) (jsonToCard (length (now (out .entry))) (now (json .entry))) ⌝ }
+    ensures { λ r. ⌜ JsonGives (now (json .entry)) (now (out .entry)) (given r (now (place .exit)) (now (written .exit)) (now (out .exit))) ⌝ }
 {
     let r = json_to_card(json, out);
     tell_outcome(r, place, written)
@@ -83,13 +79,22 @@ pub extern "C" fn thymebarrel_member(json: &[u8], name: &[u8], length: &mut usiz
     start
 }
 
+// How many numbers a state is for a caller.
+const STATE: usize = 7;
+
+// No state has this number.
+const NO_NUMBER: usize = stream_reader::PAST + 1;
+
+// What a call of the stream answers for more.
+const MORE: u8 = 255;
+
 // The state that a caller's seven numbers stand for; what are not seven are no state.
 fn state_in(row: &[usize]) -> State
     ensures { λ r. ⌜ r ≡ stateOf (now (row .entry)) ⌝ }
 {
-    if row.len() != 7 {
+    if row.len() != STATE {
         return State {
-            number: 1000001,
+            number: NO_NUMBER,
             inside: false,
             len: 0,
             col: 0,
@@ -117,9 +122,9 @@ fn bit_of(b: bool) -> usize
 
 // The state as the caller's seven numbers.
 fn put_state(row: &mut [usize], s: State)
-    ensures { λ _. ⌜ now (row .exit) ≡ rowAfter (now (row .entry)) s ⌝ }
+    ensures { λ _. ⌜ now (row .exit) ≡ rowPut (now (row .entry)) s ⌝ }
 {
-    if row.len() != 7 {
+    if row.len() != STATE {
         return;
     }
     row[0] = s.number;
@@ -139,12 +144,33 @@ fn tell(said: Said, place: &mut usize, written: &mut usize) -> u8
         Said::More => {
             *place = 0;
             *written = 0;
-            return 255;
+            return MORE;
         }
         Said::Answer(r) => {
             return tell_outcome(r, place, written);
         }
     }
+}
+
+// All that is told of a call of the stream. 15 and 16 leave the caller's numbers as they were.
+fn tell_call(
+    a: Answered,
+    state: &mut [usize],
+    consumed: &mut usize,
+    place: &mut usize,
+    written: &mut usize,
+) -> u8
+    ensures { λ n. ⌜ Tells a (now (state .entry)) (told n (now (place .exit)) (now (written .exit))) (now (consumed .exit)) (now (state .exit)) ⌝ }
+{
+    *consumed = a.used;
+    let said = a.said;
+    let n = tell(said, place, written);
+    if (n == 15) | (n == 16) {
+        return n;
+    }
+    let next = a.next;
+    put_state(state, next.state);
+    n
 }
 
 // A call of the stream with a piece: answers 255 for more, 0 where a JSON stands at the front of `out`, or the refusal number; the bytes consumed, the refusal's
@@ -160,17 +186,13 @@ pub extern "C" fn thymebarrel_stream_step(
     place: &mut usize,
     written: &mut usize,
 ) -> u8
-    ensures { λ r. ⌜ callGiven (told r (now (place .exit)) (now (written .exit))) (now (consumed .exit)) (now (state .exit)) (now (buffer .exit)) (now (out .exit)) ≡ calledOf (called (piece-call (now (stem .entry)) (now (piece .entry))) (stateOf (now (state .entry))) (now (buffer .entry)) (now (out .entry))) ⌝ }
+    ensures { λ r. ⌜ StepGives (now (state .entry)) (now (stem .entry)) (now (piece .entry)) (now (buffer .entry)) (now (out .entry)) (callGiven (told r (now (place .exit)) (now (written .exit))) (now (consumed .exit)) (now (state .exit)) (now (buffer .exit)) (now (out .exit))) ⌝ }
 {
     let s = Stream {
         state: state_in(state),
     };
     let a = s.step(stem, piece, buffer, out);
-    let next = a.next;
-    put_state(state, next.state);
-    *consumed = a.used;
-    let said = a.said;
-    tell(said, place, written)
+    tell_call(a, state, consumed, place, written)
 }
 
 // An end call of the stream; it consumes nothing.
@@ -184,15 +206,11 @@ pub extern "C" fn thymebarrel_stream_end(
     place: &mut usize,
     written: &mut usize,
 ) -> u8
-    ensures { λ r. ⌜ callGiven (told r (now (place .exit)) (now (written .exit))) (now (consumed .exit)) (now (state .exit)) (now (buffer .exit)) (now (out .exit)) ≡ calledOf (called (end-call (now (stem .entry))) (stateOf (now (state .entry))) (now (buffer .entry)) (now (out .entry))) ⌝ }
+    ensures { λ r. ⌜ EndGives (now (state .entry)) (now (stem .entry)) (now (buffer .entry)) (now (out .entry)) (callGiven (told r (now (place .exit)) (now (written .exit))) (now (consumed .exit)) (now (state .exit)) (now (buffer .exit)) (now (out .exit))) ⌝ }
 {
     let s = Stream {
         state: state_in(state),
     };
     let a = s.end(stem, buffer, out);
-    let next = a.next;
-    put_state(state, next.state);
-    *consumed = a.used;
-    let said = a.said;
-    tell(said, place, written)
+    tell_call(a, state, consumed, place, written)
 }

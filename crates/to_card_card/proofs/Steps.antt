@@ -16,7 +16,7 @@ use Rattle.convert.specs.Table.{maps, reserved}
 use Rattle.convert.specs.Model.{Entry, hasParts}
 use Rattle.convert.specs.FromJson.{Name, mapFrom}
 use Rattle.convert.specs.ToCard.{lineWhere}
-use Rattle.card_maps.specs.Seven.{MapsAs, PutsMaps}
+use Rattle.to_card_maps.specs.Seven.{MapsAs, PutsMaps}
 use Rattle.to_card_lines.specs.declared.Lines.{Lines}
 use Rattle.to_card_lines.specs.declared.Lines.the-variants.{All, Wrong}
 use Rattle.to_card_lines.specs.Lines.{Part, PartAs, joinParts}

@@ -1,9 +1,12 @@
 // The whole card from JSON that was read as sound: its sections one after the other, each lent the rest of the room.
-use card_maps::put_maps;
+use card_table::lines;
+use card_table::members;
+use line_limits::LINES;
 use line_pen::fill;
 use to_card_head::put_head;
 use to_card_kept::put_kept;
 use to_card_lines::Lines;
+use to_card_maps::put_maps;
 use to_card_members::put_members;
 use to_card_name::Named;
 use to_card_name::put_name;
@@ -14,32 +17,31 @@ ghost use lib.ListN.{length};
 ghost use Rattle.json_index.specs.Index.{Indexes};
 ghost use Rattle.to_card_lines.specs.Lines.{LinesIn};
 ghost use Rattle.to_card_kept.specs.Kept.{Lent};
+ghost use Rattle.card_table.specs.Numbers.{cardSlots};
 ghost use Rattle.to_card_card.specs.Whole.{cardNames, few, FewIn, PutsOthers, PutsLast, PutsRest, PutsBody, PutsCard};
 
-// 513 for every number over 512.
+// This stands for every number of lines that is over a card's.
+const MORE: usize = LINES + 1;
+
+// The number of lines, or that.
 fn up_to(n: usize) -> usize
     ensures { λ r. ⌜ r ≡ few n ⌝ }
 {
-    if n > 512 {
-        return 513;
+    if n > LINES {
+        return MORE;
     }
     n
 }
 
 // The other members: none where their slot, after those of the reserved names, is empty, and then the text is not gone through again.
-fn put_others<'a, 'b, 'c, 'd>(
-    out: &'a mut [u8],
-    buffer: &'b mut [u8],
-    s: &'c [u8],
-    slots: &'d [usize],
-) -> Lines
+fn put_others(out: &mut [u8], buffer: &mut [u8], s: &[u8], slots: &[usize]) -> Lines
     requires { ⌜ length (now out) ≤ length (now buffer) ⌝ }
-    requires { ⌜ 14 ≤ length (now slots) ⌝ }
+    requires { ⌜ cardSlots ≤ length (now slots) ⌝ }
     ensures { λ r. ⌜ LinesIn (length (now (out .entry))) r ⌝ }
     ensures { λ r. ⌜ length (now (out .exit)) ≡ length (now (out .entry)) ⌝ }
     ensures { λ r. ⌜ PutsOthers (now (s .entry)) (now (slots .entry)) (now (out .entry)) r (now (out .exit)) ⌝ }
 {
-    if slots[13] == 0 {
+    if slots[members::OTHER] == 0 {
         return Lines::All {
             bytes: 0,
             lines: 0,
@@ -50,14 +52,14 @@ fn put_others<'a, 'b, 'c, 'd>(
 }
 
 // Other members, then the kept lines.
-fn put_last<'a, 'b, 'c, 'd, 'e, 'f, 'g>(
-    out: &'a mut [u8],
-    buffer: &'b mut [u8],
-    b: &'c mut [u8],
-    t: &'d mut [usize],
-    scratch: &'e mut [u8],
-    s: &'f [u8],
-    slots: &'g [usize],
+fn put_last(
+    out: &mut [u8],
+    buffer: &mut [u8],
+    b: &mut [u8],
+    t: &mut [usize],
+    scratch: &mut [u8],
+    s: &[u8],
+    slots: &[usize],
     full: bool,
     parts: bool,
 ) -> Lines
@@ -94,14 +96,14 @@ fn put_last<'a, 'b, 'c, 'd, 'e, 'f, 'g>(
 }
 
 // The maps, then these.
-fn put_rest<'a, 'b, 'c, 'd, 'e, 'f, 'g>(
-    out: &'a mut [u8],
-    buffer: &'b mut [u8],
-    b: &'c mut [u8],
-    t: &'d mut [usize],
-    scratch: &'e mut [u8],
-    s: &'f [u8],
-    slots: &'g [usize],
+fn put_rest(
+    out: &mut [u8],
+    buffer: &mut [u8],
+    b: &mut [u8],
+    t: &mut [usize],
+    scratch: &mut [u8],
+    s: &[u8],
+    slots: &[usize],
     full: bool,
     parts: bool,
 ) -> Lines
@@ -138,14 +140,14 @@ fn put_rest<'a, 'b, 'c, 'd, 'e, 'f, 'g>(
 }
 
 // The name, then these. Two lines of a name are FN and N.
-fn put_body<'a, 'b, 'c, 'd, 'e, 'f, 'g>(
-    out: &'a mut [u8],
-    buffer: &'b mut [u8],
-    b: &'c mut [u8],
-    t: &'d mut [usize],
-    scratch: &'e mut [u8],
-    s: &'f [u8],
-    slots: &'g [usize],
+fn put_body(
+    out: &mut [u8],
+    buffer: &mut [u8],
+    b: &mut [u8],
+    t: &mut [usize],
+    scratch: &mut [u8],
+    s: &[u8],
+    slots: &[usize],
 ) -> Lines
     requires { ⌜ length (now out) ≤ length (now buffer) ⌝ }
     requires { ⌜ Lent (now b) (now t) (now scratch) (now s) (now slots) ⌝ }
@@ -153,7 +155,7 @@ fn put_body<'a, 'b, 'c, 'd, 'e, 'f, 'g>(
     ensures { λ r. ⌜ length (now (out .exit)) ≡ length (now (out .entry)) ⌝ }
     ensures { λ r. ⌜ PutsBody (now (s .entry)) (now (slots .entry)) (now (out .entry)) r (now (out .exit)) ⌝ }
 {
-    let name = slots[4];
+    let name = slots[members::NAME];
     let Named::All {
         bytes: n,
         lines: l,
@@ -183,14 +185,14 @@ fn put_body<'a, 'b, 'c, 'd, 'e, 'f, 'g>(
 }
 
 // The card of a sound JSON text that is an object, by the slots of its members: 12, or as much of it as the room holds. BEGIN and the head, then these and END.
-pub fn put_card<'a, 'b, 'c, 'd, 'e, 'f, 'g>(
-    out: &'a mut [u8],
-    buffer: &'b mut [u8],
-    b: &'c mut [u8],
-    t: &'d mut [usize],
-    scratch: &'e mut [u8],
-    s: &'f [u8],
-    slots: &'g [usize],
+pub fn put_card(
+    out: &mut [u8],
+    buffer: &mut [u8],
+    b: &mut [u8],
+    t: &mut [usize],
+    scratch: &mut [u8],
+    s: &[u8],
+    slots: &[usize],
 ) -> Lines
     requires { ⌜ length (now out) ≤ length (now buffer) ⌝ }
     requires { ⌜ Lent (now b) (now t) (now scratch) (now s) (now slots) ⌝ }
@@ -199,10 +201,10 @@ pub fn put_card<'a, 'b, 'c, 'd, 'e, 'f, 'g>(
     ensures { λ r. ⌜ length (now (out .exit)) ≡ length (now (out .entry)) ⌝ }
     ensures { λ r. ⌜ PutsCard (now (s .entry)) (now (out .entry)) r (now (out .exit)) ⌝ }
 {
-    let card = slots[0];
-    let version = slots[1];
-    let uid = slots[2];
-    let kind = slots[3];
+    let card = slots[members::TYPE];
+    let version = slots[members::VERSION];
+    let uid = slots[members::UID];
+    let kind = slots[members::KIND];
     let Lines::All {
         bytes: n,
         lines: l,
@@ -220,7 +222,7 @@ pub fn put_card<'a, 'b, 'c, 'd, 'e, 'f, 'g>(
         return Lines::Wrong;
     };
     let e = n + m;
-    let z = fill(&mut out[e..], b"END:VCARD\r\n");
+    let z = fill(&mut out[e..], &lines::END);
     let bytes = e + z;
     let lines = up_to(up_to(l) + k);
     let ok = c & d;

@@ -1,13 +1,13 @@
 -- The head's lines, and which answer its members ask for.
 use mathlib.Core.Path.{_≡_, refl, sym, ap, subst, _∙_}
-use mathlib.Core.Bool.{Bool, true, false, _&&_, not}
-use mathlib.Core.List.{List, [], _∷_, _++_, map, append-nil, append-assoc}
+use mathlib.Core.Bool.{Bool, true, false}
+use mathlib.Core.List.{[], _∷_, _++_, append-nil, append-assoc}
 use mathlib.Core.Option.{Option, none, some}
-use Prim.Native.Nat.{ℕ, _+_, _-_, _≤_, _<_}
+use Prim.Native.Nat.{ℕ, _+_, _-_}
 use native.Mathlib.Omega.{arith}
 use borrow.Rule.Slice.PartMut.{midOf, putMid}
 use lib.ListN.{length}
-use Rattle.text.specs.Choice.{pick, with-some, chain, provided}
+use Rattle.text.specs.Choice.{provided}
 use Rattle.text.specs.Bytes.{Bytes, ascii, empty, flat, uppered, upper, between, all}
 use Rattle.text.proofs.Cases.{and-left, not-true}
 use Rattle.text.proofs.Choices.{provided-inv, chain-inv, some-same}
@@ -16,22 +16,22 @@ use Rattle.line.specs.Grammar.{Line}
 use Rattle.line.specs.Class.{isLowerName}
 use Rattle.line.specs.Write.{width, breaks, fold, foldFrom, writeGroup, writeParams, writeLine}
 use Rattle.json_strings.specs.Decoded.{decodedAt}
-use Rattle.json_index.specs.Index.{jsonAt, Slot}
+use Rattle.json_index.specs.Index.{Slot}
 use Rattle.line_pen.specs.Pen.{Fills}
 use Rattle.line_pen.proofs.Filling.{then}
-use Rattle.card_pen.specs.Styles.{writtenIn}
-use Rattle.card_pen.proofs.Styles.{written-raw, stands-raw}
+use Rattle.to_card_pen.specs.Styles.{writtenIn}
+use Rattle.to_card_pen.proofs.Styles.{written-raw, stands-raw}
 use Rattle.convert.specs.Value.{filled}
-use Rattle.convert.specs.FromJson.{isLowerWord, isText}
+use Rattle.convert.specs.FromJson.{isLowerWord}
 use Rattle.convert.specs.Carry.{carriedRaw}
 use Rattle.convert.specs.Property.{property}
-use Rattle.card_value.specs.Values.{StringIs}
+use Rattle.to_card_value.specs.Values.{StringIs}
 use Rattle.to_card_lines.specs.declared.Lines.{Lines}
 use Rattle.to_card_lines.specs.declared.Lines.the-variants.{All, Wrong}
 use Rattle.to_card_lines.specs.declared.Penned.{Penned}
 use Rattle.to_card_lines.specs.Lines.{lineBytes, linesBytes, Part, StringLine}
 use Rattle.to_card_lines.proofs.Laws.{lines-append, lines-one, fills-as}
-use Rattle.to_card_head.specs.Head.{TellsSame, FilledIn, WordIn, filledString, wordString, begin, startLines, headLines, Starts, isCard, isVersion, uidIn, kindIn, headOf, headFrom, HeadAs, PutsHead}
+use Rattle.to_card_head.specs.Head.{TellsSame, FilledIn, WordIn, wordString, begin, startLines, headLines, Starts, isCard, isVersion, uidIn, kindIn, headOf, headFrom, HeadAs, PutsHead}
 use Rattle.to_card_head.proofs.Slots.{slot-none, slot-some}
 
 -- ---- lines of a name and a value

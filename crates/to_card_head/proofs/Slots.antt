@@ -1,19 +1,18 @@
 -- Strings in slots, and tests of them.
 use mathlib.Core.Path.{_≡_, refl, sym, ap, subst, _∙_}
-use mathlib.Core.Bool.{Bool, true, false, not}
-use mathlib.Core.List.{[], _∷_}
+use mathlib.Core.Bool.{Bool, true, false}
 use mathlib.Core.Option.{Option, none, some}
-use Prim.Native.Nat.{ℕ, _≤_, _<_}
+use Prim.Native.Nat.{ℕ}
 use native.Mathlib.Omega.{arith}
 use lib.Dec.{eqb}
 use borrow.Author.Tests.{eq-eqb, ne-eqb, eqb-true}
-use Rattle.text.specs.Choice.{pick, with-some, is-some, chain, provided}
+use Rattle.text.specs.Choice.{with-some, chain, provided}
 use Rattle.text.specs.Bytes.{Bytes, same}
 use Rattle.json.specs.Tree.{Json, asString}
 use Rattle.json_strings.specs.Decoded.{decodedAt, spells}
 use Rattle.json_index.specs.Index.{jsonAt, Slot}
 use Rattle.convert.specs.FromJson.{isText}
-use Rattle.card_value.specs.Values.{StringIs, TellsString}
+use Rattle.to_card_value.specs.Values.{StringIs, TellsString}
 use Rattle.to_card_head.specs.Head.{TellsSame, FilledIn, filledString}
 
 -- ---- slots of any depth

@@ -1,24 +1,23 @@
 -- Lower-case words, byte by byte.
 use mathlib.Core.Path.{_≡_, refl, sym, ap, _∙_}
-use mathlib.Core.Bool.{Bool, true, false, _&&_, _||_, not}
+use mathlib.Core.Bool.{Bool, true, false}
 use mathlib.Core.List.{[], _∷_}
 use mathlib.Core.Option.{Option, none, some}
-use Prim.Native.Nat.{ℕ, suc, _≤_, _<_}
+use Prim.Native.Nat.{ℕ, _≤_, _<_}
 use native.Mathlib.Omega.{arith}
 use lib.Dec.{eqb}
-use borrow.Author.Tests.{eq-eqb, ne-eqb}
-use Rattle.text.specs.Bytes.{Bytes, between, all}
-use Rattle.text.proofs.Cases.{byBool, in-between, below, beyond}
+use borrow.Author.Tests.{ne-eqb}
+use Rattle.text.specs.Bytes.{Bytes, all}
+use Rattle.text.proofs.Cases.{in-between, below, beyond}
 use Rattle.line.specs.Class.{isLowerName}
 use Rattle.json.specs.Strings.{before}
 use Rattle.json_strings.specs.declared.Byte.{Byte}
 use Rattle.json_strings.specs.declared.Byte.the-variants.{One, End, Alone}
-use Rattle.json_strings.specs.Decoded.{decodedAt, left, byteOf}
+use Rattle.json_strings.specs.Decoded.{left, byteOf}
 use Rattle.json_strings.proofs.Laws.{left-none, decoded-past}
 use Rattle.json_strings.proofs.NextByte.{not-alone, none-left, one-left}
 use Rattle.text.proofs.Choices.{none-some}
 use Rattle.convert.specs.Value.{filled}
-use Rattle.convert.specs.FromJson.{isLowerWord}
 use Rattle.to_card_head.specs.Head.{wordOf, wordFrom, TellsFilled}
 
 module _ (c : ℕ) where

@@ -17,7 +17,7 @@ use Rattle.convert.specs.FromJson.{isLowerWord, isText}
 use Rattle.convert.specs.Carry.{carriedRaw}
 use Rattle.convert.specs.Property.{property}
 use Rattle.convert.specs.ToCard.{whereFilled}
-use Rattle.card_value.specs.Values.{StringIs}
+use Rattle.to_card_value.specs.Values.{StringIs}
 use Rattle.to_card_lines.specs.declared.Lines.{Lines}
 use Rattle.to_card_lines.specs.declared.Lines.the-variants.{All, Wrong}
 use Rattle.to_card_lines.specs.declared.Penned.{Penned}

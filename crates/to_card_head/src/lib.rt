@@ -1,12 +1,15 @@
 // The first lines of a card from the members of the JSON: BEGIN, VERSION, UID and KIND. A slot is the place of a member's value, 0 where it is absent.
-use card_pen::byte_at;
-use card_value::string_in;
+use card_table::lines;
+use card_table::members;
 use json_strings::Byte;
 use json_strings::equals;
 use line_pen::fill;
 use to_card_lines::Lines;
 use to_card_lines::Penned;
 use to_card_lines::put_string_line;
+use to_card_pen::byte_at;
+use to_card_pen::style;
+use to_card_value::string_in;
 ghost use mathlib.Core.Path.{_≡_};
 ghost use lib.ListN.{length};
 ghost use Rattle.json_strings.specs.Decoded.{decodedAt};
@@ -86,7 +89,7 @@ pub fn is_filled(s: &[u8], at: usize) -> bool
 }
 
 // Whether a slot holds the string of these bytes.
-fn holds<'a, 'b>(s: &'a [u8], slot: usize, bytes: &'b [u8]) -> bool
+fn holds(s: &[u8], slot: usize, bytes: &[u8]) -> bool
     ensures { λ r. ⌜ TellsSame (now (s .entry)) slot (now (bytes .entry)) r ⌝ }
 {
     if slot == 0 {
@@ -131,11 +134,11 @@ fn word_in(s: &[u8], slot: usize) -> usize
 }
 
 // BEGIN, VERSION and the UID at a place.
-fn put_start<'a, 'b>(out: &'a mut [u8], s: &'b [u8], uid: usize) -> Penned
+fn put_start(out: &mut [u8], s: &[u8], uid: usize) -> Penned
     ensures { λ r. ⌜ Starts (now (s .entry)) uid (now (out .entry)) r (now (out .exit)) ⌝ }
 {
-    let n = fill(out, b"BEGIN:VCARD\r\nVERSION:4.0\r\n");
-    let p = put_string_line(&mut out[n..], b"UID:", 0, s, uid);
+    let n = fill(out, &lines::START);
+    let p = put_string_line(&mut out[n..], &lines::UID, style::RAW, s, uid);
     let m = n + p.bytes;
     let ok = p.carried;
     Penned {
@@ -145,9 +148,9 @@ fn put_start<'a, 'b>(out: &'a mut [u8], s: &'b [u8], uid: usize) -> Penned
 }
 
 // The lines up to KIND, by the slots of @type, version, uid and kind.
-pub fn put_head<'a, 'b>(
-    out: &'a mut [u8],
-    s: &'b [u8],
+pub fn put_head(
+    out: &mut [u8],
+    s: &[u8],
     card: usize,
     version: usize,
     uid: usize,
@@ -157,10 +160,10 @@ pub fn put_head<'a, 'b>(
     ensures { λ r. ⌜ length (now (out .exit)) ≡ length (now (out .entry)) ⌝ }
     ensures { λ r. ⌜ PutsHead (now (s .entry)) card version uid kind (now (out .entry)) r (now (out .exit)) ⌝ }
 {
-    if !holds(s, card, b"Card") {
+    if !holds(s, card, &members::CARD) {
         return Lines::Wrong;
     }
-    if !holds(s, version, b"1.0") {
+    if !holds(s, version, &members::FIRST_VERSION) {
         return Lines::Wrong;
     }
     let u = filled_in(s, uid);
@@ -184,7 +187,7 @@ pub fn put_head<'a, 'b>(
     let p = put_start(out, s, u);
     let n = p.bytes;
     let ok = p.carried;
-    let q = put_string_line(&mut out[n..], b"KIND:", 0, s, k);
+    let q = put_string_line(&mut out[n..], &lines::KIND, style::RAW, s, k);
     let m = n + q.bytes;
     Lines::All {
         bytes: m,

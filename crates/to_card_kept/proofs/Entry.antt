@@ -20,12 +20,11 @@ use Rattle.table_entry.proofs.Spread.{classify-spread}
 use Rattle.class_member.specs.Member.{Room}
 use Rattle.class_line.specs.declared.Class.{Class}
 use Rattle.class_line.specs.Class.{Classes}
-use Rattle.kept_used.specs.Used.{CardIn, KeptIn}
-use Rattle.kept_used.proofs.Standing.{stands-kept}
-use Rattle.kept_table.specs.Kept.{keptForm, formed}
-use Rattle.kept_entry.specs.Entry.{HoldsKept, HoldsAs, FillsKept}
-use Rattle.kept_fill.proofs.Composed.{fills-formed, stands-formed}
-use Rattle.kept_line.specs.Line.{PutsKept as PutsLine}
+use Rattle.to_card_kept_used.specs.Used.{CardIn, KeptIn}
+use Rattle.to_card_kept_used.proofs.Standing.{stands-kept}
+use Rattle.to_card_kept_entry.specs.table.Kept.{keptForm, formed}
+use Rattle.to_card_kept_entry.specs.entry.Entry.{HoldsKept, HoldsAs, FillsKept}
+use Rattle.to_card_kept_entry.proofs.fill.Composed.{fills-formed, stands-formed}
 use Rattle.to_card_lines.specs.declared.Lines.{Lines}
 use Rattle.to_card_lines.specs.declared.Lines.the-variants.{All, Wrong}
 use Rattle.to_card_lines.specs.declared.Penned.{Penned}

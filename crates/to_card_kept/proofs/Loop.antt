@@ -19,8 +19,8 @@ use Rattle.json.specs.Syntax.{sep, item, value}
 use Rattle.json.specs.Strings.{decoded, decodedElems, distinctNames}
 use Rattle.json_access.specs.Access.{EndsAt}
 use Rattle.json_index.specs.Index.{meant, jsonAt}
-use Rattle.kept_strings.specs.Strings.{size, sizeElems}
-use Rattle.kept_strings.proofs.Elements.{item-here, elems-on, elems-none, next-elem, elems-nil, elems-cons, enil-decoded}
+use Rattle.to_card_kept_entry.specs.strings.Strings.{size, sizeElems}
+use Rattle.to_card_kept_entry.proofs.strings.Elements.{item-here, elems-on, elems-none, next-elem, elems-nil, elems-cons, enil-decoded}
 use Rattle.convert.specs.Classify.{Seen}
 use Rattle.to_card_lines.specs.declared.Lines.{Lines}
 use Rattle.to_card_lines.specs.declared.Lines.the-variants.{All, Wrong}

@@ -7,7 +7,7 @@ use native.Mathlib.Omega.{arith}
 use borrow.Rule.Slice.PartMut.{midOf, putMid}
 use lib.ListN.{length, take, drop}
 use Rattle.text.specs.Bytes.{Bytes}
-use Rattle.name_index.specs.Groups.{Indexes}
+use Rattle.to_card_kept_names.specs.Groups.{Indexes}
 use Rattle.to_card_lines.specs.declared.Lines.{Lines}
 use Rattle.to_card_lines.specs.declared.Lines.the-variants.{All, Wrong}
 use Rattle.to_card_lines.specs.Lines.{LinesIn}

@@ -13,20 +13,20 @@ use Rattle.text.proofs.Cases.{byBool}
 use Rattle.text.proofs.Choices.{none-some, some-same}
 use Rattle.text.proofs.Same.{same-true}
 use Rattle.json.specs.Grammar.{isSpace}
-use Rattle.json.specs.Tree.{Json, jnull, jtrue, jfalse, jnum, jstr, jarr, jobj, Members, mnil, mcons, Member, member, membersOf, Elems, elemsOf, field, asArray}
+use Rattle.json.specs.Tree.{Json, jnull, jtrue, jfalse, jnum, jstr, jarr, jobj, Members, mnil, mcons, Member, membersOf, Elems, elemsOf, field, asArray}
 use Rattle.json.specs.Strings.{distinctNames}
 use Rattle.json_access.specs.declared.Kind.the-variants.{Array}
 use Rattle.json_access.specs.Access.{kindOf}
 use Rattle.json_index.specs.Index.{jsonAt, firstAt, Slot}
 use Rattle.json_index.proofs.Fields.{first-field}
-use Rattle.kept_strings.specs.Strings.{size, sizeElems, sizeMembers}
-use Rattle.kept_strings.proofs.Elements.{elems-nil, empty-array, array-elems, not-array}
-use Rattle.kept_room.proofs.Room.{room}
-use Rattle.kept_fill.proofs.Distinct.{elements-distinct, members-distinct, field-distinct}
+use Rattle.to_card_kept_entry.specs.strings.Strings.{size, sizeElems, sizeMembers}
+use Rattle.to_card_kept_entry.proofs.strings.Elements.{elems-nil, empty-array, array-elems, not-array}
+use Rattle.to_card_kept_entry.proofs.room.Room.{room}
+use Rattle.to_card_kept_entry.proofs.fill.Distinct.{elements-distinct, members-distinct, field-distinct}
 use Rattle.convert.specs.Table.{reserved}
 use Rattle.convert.specs.Model.{Entry}
 use Rattle.convert.specs.Classify.{Seen}
-use Rattle.card_params.proofs.Walk.{slot-none, slot-some, none-past}
+use Rattle.to_card_params.proofs.Walk.{slot-none, slot-some, none-past}
 use Rattle.to_card_lines.specs.declared.Lines.{Lines}
 use Rattle.to_card_lines.specs.declared.Lines.the-variants.{All, Wrong}
 use Rattle.to_card_lines.specs.Lines.{PartAs, noLines, partsOf}

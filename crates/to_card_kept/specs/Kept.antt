@@ -17,6 +17,9 @@ use Rattle.convert.specs.FromJson.{Name, mapFrom, keptFrom, keptAsLine, keptSta
 use Rattle.convert.specs.Carry.{carriedKept}
 use Rattle.to_card_lines.specs.declared.Lines.{Lines}
 use Rattle.to_card_lines.specs.Lines.{Part, PartAs, noLines, partsOf}
+use Rattle.card_table.specs.Numbers.{cardSlots}
+use Rattle.line_table.specs.Table.{tableLength}
+use Rattle.json.specs.Lookup.{room}
 
 -- ---- what an entry comes to
 
@@ -39,15 +42,15 @@ seenOf n ess ms = record { full = is-some (n .full); parts = hasParts (n .parts)
 
 -- A buffer for the strings of an entry, a table of its places and a scratch for a JSPROP value. An entry of a text has fewer bytes than the text.
 pub record LentText (b : Bytes) (t : List ℕ) (scratch s : Bytes) : Type 0 where
-  pub small : length s ≤ 65536
+  pub small : length s ≤ room
   pub buffer : length b ≡ length s
-  pub table : 264 ≤ length t
+  pub table : tableLength ≤ length t
   pub text : length s ≤ length scratch
 
 -- and the slots of the top-level members, by the reserved names
 pub record Lent (b : Bytes) (t : List ℕ) (scratch s : Bytes) (slots : List ℕ) : Type 0 where
   pub all : LentText b t scratch s
-  pub index : 14 ≤ length slots
+  pub index : cardSlots ≤ length slots
 
 -- ---- what is promised
 

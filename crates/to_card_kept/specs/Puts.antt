@@ -13,13 +13,13 @@ use Rattle.json.specs.Tree.{Json, Members, membersOf, Elems, elemsOf}
 use Rattle.json.specs.Syntax.{item, value}
 use Rattle.json.specs.Strings.{decodedElems, distinctNames}
 use Rattle.json_index.specs.Index.{jsonAt}
-use Rattle.kept_strings.specs.Strings.{size, sizeElems}
+use Rattle.to_card_kept_entry.specs.strings.Strings.{size, sizeElems}
 use Rattle.line_table.specs.Table.{lineIn}
 use Rattle.convert.specs.Model.{Entry, hasParts}
 use Rattle.convert.specs.Classify.{Seen, classify}
 use Rattle.convert.specs.FromJson.{Name, isKept}
-use Rattle.card_entry.specs.declared.Entered.{Entered}
-use Rattle.card_entry.specs.declared.Entered.the-variants.{Line, Refused}
+use Rattle.to_card_entry.specs.declared.Entered.{Entered}
+use Rattle.to_card_entry.specs.declared.Entered.the-variants.{Line, Refused}
 use Rattle.to_card_lines.specs.declared.Lines.{Lines}
 use Rattle.to_card_lines.specs.declared.Lines.the-variants.{All, Wrong}
 use Rattle.to_card_lines.specs.Lines.{PartAs, partsOf}

@@ -1,31 +1,39 @@
 // The entries of vCardProps of a JSON text as kept lines of a card. Each is decoded into a lent buffer and laid out as a line's table. The classifier of
 // card lines then judges it: an entry whose line would convert in its place is 12.
+use card_table::members;
+use card_table::params;
 use class_line::Class;
 use class_line::class_line;
+use json_limits::NAMES;
 use json_marks::separator;
 use json_marks::skip_space;
-use kept_fill::Held;
-use kept_fill::fill_kept;
-use kept_line::put_kept_line;
-use kept_used::is_kept_class;
-use name_index::note_groups;
 use table_params::scan_rows;
 use table_sound::is_sound;
 use text::LEFT_BRACKET;
 use text::RIGHT_BRACKET;
 use text::Turn;
 use text::look;
+use to_card_kept_entry::fill::Held;
+use to_card_kept_entry::fill::fill_kept;
+use to_card_kept_entry::writing::put_kept_line;
+use to_card_kept_names::ENDS;
+use to_card_kept_names::note_groups;
+use to_card_kept_used::is_kept_class;
 use to_card_lines::Lines;
 ghost use mathlib.Core.Path.{_≡_};
 ghost use Prim.Native.Nat.{_+_, _≤_};
 ghost use lib.ListN.{length};
 ghost use Rattle.line_table.specs.Table.{Sound};
 ghost use Rattle.class_member.specs.Member.{Room};
-ghost use Rattle.card_entry.specs.Rows.{EnteredIn};
+ghost use Rattle.to_card_entry.specs.Rows.{EnteredIn};
 ghost use Rattle.to_card_lines.specs.Lines.{LinesIn};
-ghost use Rattle.name_index.specs.Groups.{Indexes};
+ghost use Rattle.to_card_kept_names.specs.Groups.{Indexes};
+ghost use Rattle.card_table.specs.Numbers.{cardSlots};
 ghost use Rattle.to_card_kept.specs.Kept.{Lent, PutsKept};
 ghost use Rattle.to_card_kept.specs.Puts.{TellsKept, asEntered, asLines, AskedOnce, PutsEntry, PutsFrom, LinesWithin, RunIn, PutsRun};
+
+// So many questions are looked up by walks over the text: few cards have more of them, and most have none.
+const QUESTIONS: usize = 16;
 
 // Whether a line is kept, and how often the names of the card were asked for that: once at most.
 struct Judged {
@@ -56,14 +64,14 @@ fn is_kept_line<'a, 'b, 'c, 'd, 'e, 'f, 'g>(
     full: bool,
     parts: bool,
 ) -> Judged
-    requires { ⌜ Sound (now b) (now t) × Room (now b) (now scratch) × (14 ≤ length (now slots)) ⌝ }
+    requires { ⌜ Sound (now b) (now t) × Room (now b) (now scratch) × (cardSlots ≤ length (now slots)) ⌝ }
     requires { ⌜ Indexes (now s) (now slots) (now places) (now prints) (now ends) ⌝ }
     ensures { λ r. ⌜ TellsKept (now (s .entry)) (now (slots .entry)) (now (b .entry)) (now (t .entry)) full parts (r .kept) ⌝ }
     ensures { λ r. ⌜ r .asked ≤ 1 ⌝ }
 {
-    let mut counts = [0usize; 8];
-    let mut froms = [0usize; 8];
-    let mut tos = [0usize; 8];
+    let mut counts = [0usize; params::COUNT];
+    let mut froms = [0usize; params::COUNT];
+    let mut tos = [0usize; params::COUNT];
     scan_rows(&mut counts, &mut froms, &mut tos, b, t);
     let class = class_line(&counts, &froms, &tos, b, t, scratch, full, parts);
     let asked = questions(class);
@@ -220,13 +228,13 @@ fn put_run<'a, 'b, 'c, 'd, 'e, 'f, 'g, 'h>(
 }
 
 // All entries from a place on, after the names of the card are noted: no text has more entries than bytes.
-fn put_noted<'a, 'b, 'c, 'd, 'e, 'f>(
-    out: &'a mut [u8],
-    b: &'b mut [u8],
-    t: &'c mut [usize],
-    scratch: &'d mut [u8],
-    s: &'e [u8],
-    slots: &'f [usize],
+fn put_noted(
+    out: &mut [u8],
+    b: &mut [u8],
+    t: &mut [usize],
+    scratch: &mut [u8],
+    s: &[u8],
+    slots: &[usize],
     at: usize,
     full: bool,
     parts: bool,
@@ -237,9 +245,9 @@ fn put_noted<'a, 'b, 'c, 'd, 'e, 'f>(
     ensures { λ r. ⌜ length (now (out .exit)) ≡ length (now (out .entry)) ⌝ }
     ensures { λ r. ⌜ PutsFrom (now (s .entry)) (now (slots .entry)) at full parts (now (out .entry)) r (now (out .exit)) ⌝ }
 {
-    let mut places = [0u16; 16384];
-    let mut prints = [0u16; 16384];
-    let mut ends = [0usize; 9];
+    let mut places = [0u16; NAMES];
+    let mut prints = [0u16; NAMES];
+    let mut ends = [0usize; ENDS];
     let k = note_groups(&mut places, &mut prints, &mut ends, s, slots);
     let most = s.len() + 1;
     match put_run(
@@ -267,14 +275,14 @@ fn put_noted<'a, 'b, 'c, 'd, 'e, 'f>(
     }
 }
 
-// The entries from a place on. The first sixteen questions are looked up by walks over the text: few cards have more of them, and most have none.
-fn put_from<'a, 'b, 'c, 'd, 'e, 'f>(
-    out: &'a mut [u8],
-    b: &'b mut [u8],
-    t: &'c mut [usize],
-    scratch: &'d mut [u8],
-    s: &'e [u8],
-    slots: &'f [usize],
+// The entries from a place on: the first questions by walks over the text, the names noted for the others.
+fn put_from(
+    out: &mut [u8],
+    b: &mut [u8],
+    t: &mut [usize],
+    scratch: &mut [u8],
+    s: &[u8],
+    slots: &[usize],
     at: usize,
     full: bool,
     parts: bool,
@@ -299,7 +307,7 @@ fn put_from<'a, 'b, 'c, 'd, 'e, 'f>(
         at,
         full,
         parts,
-        16,
+        QUESTIONS,
     ) {
         Run::Ended(r) => r,
         Run::More {
@@ -326,13 +334,13 @@ fn put_from<'a, 'b, 'c, 'd, 'e, 'f>(
 }
 
 // All entries of vCardProps, whose slot is that of the last reserved name; no lines where the text has none. The buffer is as long as the text.
-pub fn put_kept<'a, 'b, 'c, 'd, 'e, 'f>(
-    out: &'a mut [u8],
-    b: &'b mut [u8],
-    t: &'c mut [usize],
-    scratch: &'d mut [u8],
-    s: &'e [u8],
-    slots: &'f [usize],
+pub fn put_kept(
+    out: &mut [u8],
+    b: &mut [u8],
+    t: &mut [usize],
+    scratch: &mut [u8],
+    s: &[u8],
+    slots: &[usize],
     full: bool,
     parts: bool,
 ) -> Lines
@@ -341,7 +349,7 @@ pub fn put_kept<'a, 'b, 'c, 'd, 'e, 'f>(
     ensures { λ r. ⌜ length (now (out .exit)) ≡ length (now (out .entry)) ⌝ }
     ensures { λ r. ⌜ PutsKept (now (s .entry)) (now (slots .entry)) full parts (now (out .entry)) r (now (out .exit)) ⌝ }
 {
-    let at = slots[12];
+    let at = slots[members::KEPT];
     if at == 0 {
         return Lines::All {
             bytes: 0,

@@ -1,9 +1,8 @@
 -- Lines one after the other: the whole card as its parts, and rows of writers that write as much as fits.
 use mathlib.Core.Path.{_≡_, refl, sym, ap, subst, _∙_}
-use mathlib.Core.Bool.{Bool, true, _&&_}
+use mathlib.Core.Bool.{Bool}
 use mathlib.Core.List.{List, [], _∷_, _++_, map, append-nil, append-assoc}
-use mathlib.Core.Option.{Option, none, some}
-use Prim.Native.Nat.{ℕ, _+_, _-_, _^_, min, _≤_, _<_}
+use Prim.Native.Nat.{ℕ, _+_, _-_, _^_, _≤_, _<_}
 use native.Mathlib.Omega.{arith}
 use mir.Val.{Fits}
 use mir.Syntax.{w64}
@@ -15,14 +14,12 @@ use Rattle.text.proofs.Lists.{map-both, flat-append}
 use Rattle.output.specs.Put.{put}
 use Rattle.output.proofs.Laws.{length-put}
 use Rattle.line.specs.Grammar.{Line}
-use Rattle.line.specs.Write.{fold, foldFrom, writeLine, writeLines, writeCard}
-use Rattle.line_pen.specs.declared.Pen.{Pen}
-use Rattle.line_pen.specs.Pen.{Fills, Pens}
+use Rattle.line.specs.Write.{fold, writeLine, writeLines, writeCard}
+use Rattle.line_pen.specs.Pen.{Fills}
 use Rattle.line_pen.proofs.Filling.{then}
-use Rattle.line_pen.proofs.Laws.{filled}
 use Rattle.to_card_lines.specs.declared.Lines.{Lines}
-use Rattle.to_card_lines.specs.declared.Lines.the-variants.{All, Wrong}
-use Rattle.to_card_lines.specs.Lines.{lineBytes, linesBytes, Part, PartAs, LinesIn}
+use Rattle.to_card_lines.specs.declared.Lines.the-variants.{All}
+use Rattle.to_card_lines.specs.Lines.{lineBytes, linesBytes, LinesIn}
 
 -- ---- a card by its parts
 

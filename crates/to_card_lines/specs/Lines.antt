@@ -11,7 +11,7 @@ use Rattle.line.specs.Grammar.{Line}
 use Rattle.line.specs.Write.{fold, foldFrom, writeLine}
 use Rattle.json_strings.specs.Decoded.{decodedAt}
 use Rattle.line_pen.specs.Pen.{Fills}
-use Rattle.card_pen.specs.Styles.{writtenIn, allStandIn}
+use Rattle.to_card_pen.specs.Styles.{writtenIn, allStandIn}
 use Rattle.to_card_lines.specs.declared.Lines.{Lines}
 use Rattle.to_card_lines.specs.declared.Lines.the-variants.{All, Wrong}
 use Rattle.to_card_lines.specs.declared.Penned.{Penned}

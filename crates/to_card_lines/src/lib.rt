@@ -1,7 +1,7 @@
 // What every part of a card answers, and a line whose value is one string of the JSON text.
-use card_pen::pen_string;
 use line_pen::fill;
 use line_pen::pen_bytes;
+use to_card_pen::pen_string;
 ghost use Rattle.to_card_lines.specs.Lines.{StringLine};
 
 // How many bytes were written, how many lines, and whether lines can carry what they say (13 otherwise); or 12.
@@ -20,14 +20,8 @@ pub struct Penned {
     pub carried: bool,
 }
 
-// A line that begins with `head` and whose value is the string at a place, in a style of `card_pen`.
-pub fn put_string_line<'a, 'b, 'c>(
-    out: &'a mut [u8],
-    head: &'b [u8],
-    style: u8,
-    s: &'c [u8],
-    at: usize,
-) -> Penned
+// A line that begins with `head` and whose value is the string at a place, in a style of `to_card_pen`.
+pub fn put_string_line(out: &mut [u8], head: &[u8], style: u8, s: &[u8], at: usize) -> Penned
     ensures { λ r. ⌜ StringLine (now (s .entry)) at style (now (head .entry)) (now (out .entry)) r (now (out .exit)) ⌝ }
 {
     let p = pen_bytes(out, 0, head);

@@ -1,10 +1,9 @@
 -- The pass over the members, over plain values.
-use mathlib.Core.Path.{_≡_, refl, sym, ap, subst, _∙_}
-use mathlib.Core.Bool.{Bool, true, false, _&&_}
-use mathlib.Core.List.{List, [], _∷_, _++_}
+use mathlib.Core.Path.{_≡_, sym, ap, subst, _∙_}
+use mathlib.Core.Bool.{Bool, true, _&&_}
+use mathlib.Core.List.{List, [], _∷_}
 use mathlib.Core.Option.{Option, none, some}
-use Prim.Native.Nat.{ℕ, zero, suc, _+_, _-_, _≤_, _<_}
-use native.Mathlib.Omega.{arith}
+use Prim.Native.Nat.{ℕ, zero, suc, _+_, _-_, _≤_}
 use borrow.Rule.Slice.PartMut.{midOf, putMid}
 use lib.ListN.{length, drop}
 use Rattle.text.specs.declared.Read.{Read}
@@ -14,14 +13,12 @@ use Rattle.text.specs.Bytes.{Bytes}
 use Rattle.text.specs.Reader.{got, loop}
 use Rattle.text.specs.Places.{byteAt, Passes, GivesT}
 use Rattle.json.specs.Grammar.{isSpace}
-use Rattle.json.specs.Tree.{Json, Members, mnil, mcons, Member, member, membersOf, asObject}
+use Rattle.json.specs.Tree.{Members, mnil, mcons, Member, member, membersOf}
 use Rattle.json.specs.Syntax.{sep, pair, value}
 use Rattle.json.specs.Strings.{decodedMembers}
-use Rattle.json_strings.specs.Decoded.{decodedAt}
 use Rattle.json_access.specs.declared.Places.{Places}
 use Rattle.json_access.specs.Access.{TellsMember, Inside}
-use Rattle.json_index.specs.Index.{jsonAt}
-use Rattle.json_index.proofs.Laws.{Here, pair-here, others-on, others-none, Next, next-of, members-cons, members-nil, nil-decoded}
+use Rattle.json_index.proofs.Laws.{Here, pair-here, others-on, others-none, next-of, members-cons, members-nil, nil-decoded}
 use Rattle.json_index.proofs.Objects.{not-object, empty-object, object-members}
 use Rattle.to_card_lines.specs.declared.Lines.{Lines}
 use Rattle.to_card_lines.specs.declared.Lines.the-variants.{All, Wrong}

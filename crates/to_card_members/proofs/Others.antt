@@ -1,16 +1,15 @@
 -- A member as a part of a card, and all of them in the definitions' words.
 use mathlib.Core.Path.{_≡_, refl, sym, ap, subst, _∙_}
 use mathlib.Core.Bool.{Bool, true, false, _&&_, not}
-use mathlib.Core.List.{List, [], _∷_, _++_, map, append-nil, append-assoc}
+use mathlib.Core.List.{List, [], _∷_, _++_, map, append-assoc}
 use mathlib.Core.Option.{Option, none, some}
-use Prim.Native.Nat.{ℕ, _+_, _-_, _≤_, _<_}
-use native.Mathlib.Omega.{arith}
+use Prim.Native.Nat.{ℕ, _-_}
 use lib.Dec.{eqb}
 use lib.ListN.{length, take, drop}
-use borrow.Author.Tests.{eq-eqb, ne-eqb, eqb-true, eqb-false}
+use borrow.Author.Tests.{eq-eqb, ne-eqb}
 use Rattle.text.specs.Choice.{pick, both, provided, is-some}
-use Rattle.text.specs.Bytes.{Bytes, ascii, all, among, any, same, keep, parts, onHead, uppered, upper, between}
-use Rattle.text.proofs.Cases.{byBool, not-both, not-true, not-false}
+use Rattle.text.specs.Bytes.{Bytes, ascii, all, among, same, keep, parts, onHead, uppered, upper, between}
+use Rattle.text.proofs.Cases.{byBool, not-true, not-false}
 use Rattle.text.proofs.Same.{among-of}
 use Rattle.json.specs.Tree.{Json, jnull, Member, member, nameOf}
 use Rattle.json.specs.Compact.{compact}
@@ -20,17 +19,15 @@ use Rattle.json_index.specs.Index.{placed, firstAt}
 use Rattle.json_index.proofs.Fields.{first-other}
 use Rattle.line.specs.Text.{writeText}
 use Rattle.line.specs.Write.{fold, foldFrom, writeValue, writeValues, writeParams, writeGroup, writeLine}
-use Rattle.line_pen.specs.Pen.{Fills}
 use Rattle.convert.specs.Table.{reserved}
 use Rattle.convert.specs.Value.{filled}
 use Rattle.convert.specs.Pointer.{pointer}
 use Rattle.convert.specs.FromJson.{otherMembers}
 use Rattle.convert.specs.Carry.{carriedParam}
 use Rattle.convert.specs.ToCard.{memberLine}
-use Rattle.to_card_lines.specs.declared.Lines.{Lines}
 use Rattle.to_card_lines.specs.declared.Lines.the-variants.{All, Wrong}
 use Rattle.to_card_lines.specs.declared.Penned.{Penned}
-use Rattle.to_card_lines.specs.Lines.{lineBytes, linesBytes, Part, PartAs, noLines, joinParts, partsOf}
+use Rattle.to_card_lines.specs.Lines.{lineBytes, Part, PartAs, noLines, joinParts, partsOf}
 use Rattle.to_card_lines.proofs.Laws.{lines-none, lines-one, fills-none, fills-as}
 use Rattle.to_card_head.specs.Head.{TellsFilled}
 use Rattle.to_card_members.specs.Members.{memberBytes, MemberLine, memberPart, otherPart, membersPart, PutsOther}

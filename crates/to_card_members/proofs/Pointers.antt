@@ -1,13 +1,13 @@
 -- Pointers and TEXT, byte by byte.
 use mathlib.Core.Path.{_≡_, refl, sym, ap, _∙_}
-use mathlib.Core.Bool.{Bool, true, false, _&&_, _||_, not}
-use mathlib.Core.List.{List, [], _∷_, _++_, append-nil, append-assoc}
-use mathlib.Core.Option.{Option, none, some}
-use Prim.Native.Nat.{ℕ, _+_, _-_, _≤_, _<_}
+use mathlib.Core.Bool.{Bool, true, false, _&&_, not}
+use mathlib.Core.List.{[], _∷_, _++_, append-nil, append-assoc}
+use mathlib.Core.Option.{none, some}
+use Prim.Native.Nat.{ℕ, _+_, _-_, _<_}
 use lib.Dec.{eqb}
 use lib.ListN.{length, take, getD}
 use borrow.Rule.Slice.PartMut.{midOf, putMid}
-use borrow.Author.Tests.{eq-eqb, ne-eqb}
+use borrow.Author.Tests.{ne-eqb}
 use Rattle.text.specs.Choice.{pick}
 use Rattle.text.specs.Bytes.{Bytes, any, all}
 use Rattle.text.proofs.Choices.{none-some}
@@ -22,8 +22,8 @@ use Rattle.line.specs.Text.{escape, writeText}
 use Rattle.line_pen.specs.declared.Pen.{Pen}
 use Rattle.line_pen.specs.Pen.{Pens}
 use Rattle.line_pen.proofs.Laws.{pens-none, pens-as, pens-then, one-more}
-use Rattle.card_pen.specs.Styles.{standsIn, allStandIn}
-use Rattle.card_pen.proofs.Strings.{stand-more}
+use Rattle.to_card_pen.specs.Styles.{standsIn, allStandIn}
+use Rattle.to_card_pen.proofs.Strings.{stand-more}
 use Rattle.convert.specs.Carry.{carriedRaw, carriedParam}
 use Rattle.convert.specs.Pointer.{pointer}
 use Rattle.to_card_members.specs.Members.{Points}

@@ -1,14 +1,12 @@
 -- A member's value, compactly, through a buffer that holds as much of it as the room could take.
-use mathlib.Core.Path.{_≡_, refl, sym, ap, subst, _∙_}
-use mathlib.Core.Bool.{Bool, true, false}
-use mathlib.Core.List.{List, [], _∷_, _++_, append-assoc}
-use mathlib.Core.Option.{Option, none, some}
-use Prim.Native.Nat.{ℕ, suc, _+_, _-_, min, _≤_, _<_}
+use mathlib.Core.Path.{_≡_, refl, sym, ap, _∙_}
+use mathlib.Core.Bool.{Bool, false}
+use mathlib.Core.List.{[], _∷_, _++_, append-assoc}
+use mathlib.Core.Option.{some}
+use Prim.Native.Nat.{ℕ, suc, _+_, _-_, _≤_, _<_}
 use native.Mathlib.Omega.{arith}
-use borrow.Rule.Slice.PartMut.{midOf, putMid}
-use lib.ListN.{length, take, drop, length-append, length-take, length-drop, take-append-drop}
+use lib.ListN.{length, take, drop, length-append, length-take, take-append-drop}
 use lib.Seq.{take-all, take-append-le}
-use Rattle.text.specs.Choice.{pick}
 use Rattle.text.specs.Bytes.{Bytes, ascii}
 use Rattle.text.specs.Reader.{got}
 use Rattle.text.proofs.Cases.{byBool, split}
@@ -18,9 +16,9 @@ use Rattle.output.specs.declared.Wrote.the-variants.{Bytes as Wrote-Bytes, Full
 use Rattle.output.specs.Put.{put, Puts}
 use Rattle.output.proofs.Laws.{put-over, said-bytes, said-full, length-put}
 use Rattle.json.specs.Tree.{Json}
-use Rattle.json.specs.Syntax.{skip, value}
+use Rattle.json.specs.Syntax.{value}
 use Rattle.json.specs.Strings.{decoded}
-use Rattle.json.specs.Compact.{compact, written}
+use Rattle.json.specs.Compact.{compact}
 use Rattle.json.proofs.Fine.{value-fine}
 use Rattle.json_access.specs.Access.{Stands}
 use Rattle.json_access.proofs.Laws.{value-skip}

@@ -18,7 +18,7 @@ use Rattle.json_index.specs.Index.{jsonAt}
 use Rattle.line.specs.Text.{writeText}
 use Rattle.line.specs.Write.{foldFrom}
 use Rattle.line_pen.specs.Pen.{Fills, Pens}
-use Rattle.card_pen.specs.declared.Told.{Told}
+use Rattle.to_card_pen.specs.declared.Told.{Told}
 use Rattle.convert.specs.Table.{reserved}
 use Rattle.convert.specs.Value.{filled}
 use Rattle.convert.specs.Pointer.{pointer}

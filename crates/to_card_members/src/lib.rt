@@ -1,7 +1,6 @@
 // Top-level members that no other line of a card says, each as a JSPROP line: a pointer to the member, and its value as compact JSON in TEXT.
-use card_pen::Told;
-use card_pen::can_stand;
-use card_pen::pen_escape;
+use card_table::lines;
+use card_table::members;
 use json_access::member_at;
 use json_compact::put_compact;
 use json_index::which_name;
@@ -21,6 +20,10 @@ use text::look;
 use to_card_head::is_filled;
 use to_card_lines::Lines;
 use to_card_lines::Penned;
+use to_card_pen::Told;
+use to_card_pen::can_stand;
+use to_card_pen::pen_escape;
+use to_card_pen::style;
 ghost use mathlib.Core.Path.{_≡_};
 ghost use mathlib.Core.List.{[], _∷_};
 ghost use Prim.Native.Nat.{_-_, _≤_};
@@ -47,7 +50,7 @@ fn pen_pointed(out: &mut [u8], column: usize, c: u8) -> Pen
 }
 
 // The pointer to the member whose name is the string at a place.
-fn pen_pointer<'a, 'b>(out: &'a mut [u8], column: usize, s: &'b [u8], at: usize) -> Told
+fn pen_pointer(out: &mut [u8], column: usize, s: &[u8], at: usize) -> Told
     ensures { λ r. ⌜ Points (now (s .entry)) at (now (out .entry)) column r (now (out .exit)) ⌝ }
 {
     if at > s.len() {
@@ -86,7 +89,7 @@ fn pen_pointer<'a, 'b>(out: &'a mut [u8], column: usize, s: &'b [u8], at: usize)
                 let p = pen_pointed(&mut out[n..], k, b);
                 n += p.bytes;
                 k = p.column;
-                ok = ok & can_stand(3, b);
+                ok = ok & can_stand(style::PARAM, b);
                 i = j;
                 h = g;
             }
@@ -95,7 +98,7 @@ fn pen_pointer<'a, 'b>(out: &'a mut [u8], column: usize, s: &'b [u8], at: usize)
 }
 
 // Bytes as TEXT.
-fn pen_text<'a, 'b>(out: &'a mut [u8], column: usize, s: &'b [u8]) -> Pen
+fn pen_text(out: &mut [u8], column: usize, s: &[u8]) -> Pen
     ensures { λ r. ⌜ Pens (now (out .entry)) column (writeText false (now (s .entry))) r (now (out .exit)) ⌝ }
 {
     let mut at = 0;
@@ -114,7 +117,7 @@ fn pen_text<'a, 'b>(out: &'a mut [u8], column: usize, s: &'b [u8]) -> Pen
 }
 
 // The value that stands from a to e, compactly, as much of it as the buffer holds.
-fn put_value<'a, 'b>(buffer: &'a mut [u8], s: &'b [u8], a: usize, e: usize) -> usize
+fn put_value(buffer: &mut [u8], s: &[u8], a: usize, e: usize) -> usize
     requires { ⌜ a ≤ e ⌝ }
     requires { ⌜ e ≤ length (now s) ⌝ }
     ensures { λ r. ⌜ Fills (now (buffer .entry)) (squeezed (take (e - a) (drop a (now (s .entry))))) r (now (buffer .exit)) ⌝ }
@@ -126,10 +129,10 @@ fn put_value<'a, 'b>(buffer: &'a mut [u8], s: &'b [u8], a: usize, e: usize) -> u
 }
 
 // The line of a member, by the places of its name and of its value. A value that the buffer does not hold leaves no room in `out` either.
-fn put_member<'a, 'b, 'c>(
-    out: &'a mut [u8],
-    buffer: &'b mut [u8],
-    s: &'c [u8],
+fn put_member(
+    out: &mut [u8],
+    buffer: &mut [u8],
+    s: &[u8],
     name: usize,
     a: usize,
     e: usize,
@@ -140,7 +143,7 @@ fn put_member<'a, 'b, 'c>(
     ensures { λ r. ⌜ MemberLine (now (s .entry)) name a e (now (out .entry)) r (now (out .exit)) ⌝ }
     ensures { λ r. ⌜ length (now (buffer .exit)) ≡ length (now (buffer .entry)) ⌝ }
 {
-    let p = pen_bytes(out, 0, b"JSPROP;JSPTR=\"");
+    let p = pen_bytes(out, 0, &lines::JSPROP);
     let n1 = p.bytes;
     let q = pen_pointer(&mut out[n1..], p.column, s, name);
     let n2 = n1 + q.bytes;
@@ -159,14 +162,7 @@ fn put_member<'a, 'b, 'c>(
 }
 
 // A member: no line where another part of the card says it, 12 where its name is empty.
-fn put_other<'a, 'b, 'c>(
-    out: &'a mut [u8],
-    buffer: &'b mut [u8],
-    s: &'c [u8],
-    name: usize,
-    a: usize,
-    e: usize,
-) -> Lines
+fn put_other(out: &mut [u8], buffer: &mut [u8], s: &[u8], name: usize, a: usize, e: usize) -> Lines
     requires { ⌜ a ≤ e ⌝ }
     requires { ⌜ e ≤ length (now s) ⌝ }
     requires { ⌜ length (now out) ≤ length (now buffer) ⌝ }
@@ -175,12 +171,8 @@ fn put_other<'a, 'b, 'c>(
     ensures { λ r. ⌜ length (now (buffer .exit)) ≡ length (now (buffer .entry)) ⌝ }
     ensures { λ r. ⌜ PutsOther (now (s .entry)) name a e (now (out .entry)) r (now (out .exit)) ⌝ }
 {
-    let k = which_name(
-        s,
-        name,
-        b"@type,version,uid,kind,name,nicknames,emails,phones,links,notes,titles,organizations,vCardProps",
-    );
-    if k != 13 {
+    let k = which_name(s, name, &members::NAMES);
+    if k != members::OTHER {
         return Lines::All {
             bytes: 0,
             lines: 0,
@@ -201,7 +193,7 @@ fn put_other<'a, 'b, 'c>(
 }
 
 // The members from a place on.
-fn put_from<'a, 'b, 'c>(out: &'a mut [u8], buffer: &'b mut [u8], s: &'c [u8], at: usize) -> Lines
+fn put_from(out: &mut [u8], buffer: &mut [u8], s: &[u8], at: usize) -> Lines
     requires { ⌜ at ≤ length (now s) ⌝ }
     requires { ⌜ length (now out) ≤ length (now buffer) ⌝ }
     ensures { λ r. ⌜ LinesIn (length (now (out .entry))) r ⌝ }
@@ -213,7 +205,7 @@ fn put_from<'a, 'b, 'c>(out: &'a mut [u8], buffer: &'b mut [u8], s: &'c [u8], at
     let mut lines = 0;
     let mut ok = true;
     loop {
-        let m = member_at(s, i, 15);
+        let m = member_at(s, i, members::DEPTH);
         let q = m.name;
         let a = m.start;
         let e = m.end;
@@ -244,7 +236,7 @@ fn put_from<'a, 'b, 'c>(out: &'a mut [u8], buffer: &'b mut [u8], s: &'c [u8], at
 }
 
 // The other members of the JSON text's object as JSPROP lines, in their order. The buffer is as long as the room, for one value at a time.
-pub fn put_members<'a, 'b, 'c>(out: &'a mut [u8], buffer: &'b mut [u8], s: &'c [u8]) -> Lines
+pub fn put_members(out: &mut [u8], buffer: &mut [u8], s: &[u8]) -> Lines
     requires { ⌜ length (now out) ≤ length (now buffer) ⌝ }
     ensures { λ r. ⌜ LinesIn (length (now (out .entry))) r ⌝ }
     ensures { λ r. ⌜ length (now (out .exit)) ≡ length (now (out .entry)) ⌝ }

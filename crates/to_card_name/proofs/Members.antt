@@ -23,9 +23,8 @@ use Rattle.json_index.proofs.Objects.{at-inv}
 use Rattle.convert.specs.Model.{hasParts}
 use Rattle.convert.specs.Carry.{apart}
 use Rattle.convert.specs.FromJson.{Component, componentOf, byKind, isFalse}
-use Rattle.card_value.specs.Values.{StringIs, TellsString}
+use Rattle.to_card_value.specs.Values.{StringIs, TellsString}
 use Rattle.to_card_head.proofs.Slots.{slot-none, slot-some}
-use Rattle.to_card_parts.specs.declared.Array.{Array as Arr}
 use Rattle.to_card_parts.specs.declared.Array.the-variants.{At as ArrayAt, Empty, Wrong as NoArray}
 use Rattle.to_card_parts.specs.Parts.{ArrayIn, OpenedAs, OpensAs, Elements, valuesOf, Marked, CheckedAs, ChecksFrom}
 use Rattle.to_card_parts.proofs.Elements.{kind-told}

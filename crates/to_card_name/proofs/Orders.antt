@@ -7,9 +7,8 @@ use Rattle.text.specs.Bytes.{Bytes, ascii, all, empty, flat, joined}
 use Rattle.text.proofs.Lists.{map-both}
 use Rattle.line.specs.Text.{escape, writeText}
 use Rattle.line.proofs.Texts.{write-append}
-use Rattle.card_pen.specs.Styles.{writtenIn, standsIn, allStandIn}
-use Rattle.card_pen.proofs.Styles.{written-text, written-parts, stands-text}
-use Rattle.convert.specs.Model.{part}
+use Rattle.to_card_pen.specs.Styles.{writtenIn, standsIn, allStandIn}
+use Rattle.to_card_pen.proofs.Styles.{written-text, written-parts, stands-text}
 use Rattle.convert.specs.Value.{writtenParts, writeName, writeParts}
 use Rattle.convert.specs.Carry.{carriedText}
 use Rattle.to_card_parts.specs.Parts.{listFrom}

@@ -15,8 +15,8 @@ use Rattle.line.specs.Text.{writeText}
 use Rattle.line.specs.Write.{width, breaks, fold, foldFrom, writeValue, writeValues, writeParams, writeGroup, writeLine}
 use Rattle.line_pen.specs.Pen.{Fills}
 use Rattle.line_pen.proofs.Filling.{then}
-use Rattle.card_pen.specs.Styles.{writtenIn, allStandIn}
-use Rattle.card_pen.proofs.Styles.{written-text, stands-text}
+use Rattle.to_card_pen.specs.Styles.{writtenIn, allStandIn}
+use Rattle.to_card_pen.proofs.Styles.{written-text, stands-text}
 use Rattle.json_strings.specs.Decoded.{decodedAt}
 use Rattle.convert.specs.Table.{nameRow}
 use Rattle.convert.specs.Model.{part, hasParts}
@@ -25,7 +25,7 @@ use Rattle.convert.specs.FromJson.{Component, byKind}
 use Rattle.convert.specs.Carry.{carriedText, apart, apartParts}
 use Rattle.convert.specs.Property.{property}
 use Rattle.convert.specs.ToCard.{lineWhere, derivedLine}
-use Rattle.card_value.specs.Values.{StringIs}
+use Rattle.to_card_value.specs.Values.{StringIs}
 use Rattle.to_card_lines.specs.declared.Lines.the-variants.{All}
 use Rattle.to_card_lines.specs.declared.Penned.{Penned}
 use Rattle.to_card_lines.specs.Lines.{lineBytes, linesBytes, PartAs, StringLine}

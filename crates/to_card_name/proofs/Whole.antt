@@ -8,7 +8,7 @@ use native.Mathlib.Omega.{arith}
 use lib.Dec.{eqb}
 use lib.ListN.{length, getD, drop-of-length-le}
 use borrow.Author.Tests.{eqb-true}
-use Rattle.text.specs.Choice.{with-some, is-some, both, chain, provided}
+use Rattle.text.specs.Choice.{is-some, both, chain, provided}
 use Rattle.text.specs.Bytes.{Bytes, ascii, any, among, same, parts, onHead}
 use Rattle.text.proofs.Cases.{and-left, and-right}
 use Rattle.text.proofs.Readers.{not-bad}
@@ -17,10 +17,9 @@ use Rattle.json.specs.Syntax.{value}
 use Rattle.json_index.specs.Index.{firstAt, Slot, Clear, Indexed, IndexOf, Indexes}
 use Rattle.json_index.proofs.Fields.{first-field, first-other}
 use Rattle.json_index.proofs.Objects.{at-inv}
-use Rattle.convert.specs.FromJson.{onlyMembers, Component, Name, nameless, nameFrom}
-use Rattle.card_value.specs.Values.{StringIs}
+use Rattle.convert.specs.FromJson.{onlyMembers, Component, Name, nameFrom}
+use Rattle.to_card_value.specs.Values.{StringIs}
 use Rattle.to_card_lines.specs.declared.Lines.{Lines}
-use Rattle.to_card_lines.specs.declared.Lines.the-variants.{Wrong as Twelve}
 use Rattle.to_card_lines.specs.Lines.{Part, PartAs}
 use Rattle.to_card_lines.proofs.Parts.{none-wrong}
 use Rattle.to_card_head.proofs.Slots.{slot-none, slot-some}

@@ -20,7 +20,7 @@ use Rattle.convert.specs.FromJson.{Component, componentOf, byKind, Name, namele
 use Rattle.convert.specs.Carry.{carriedText, apart, apartParts}
 use Rattle.convert.specs.Property.{property}
 use Rattle.convert.specs.ToCard.{lineWhere, derivedLine}
-use Rattle.card_value.specs.Values.{StringIs}
+use Rattle.to_card_value.specs.Values.{StringIs}
 use Rattle.to_card_lines.specs.declared.Lines.{Lines}
 use Rattle.to_card_lines.specs.declared.Lines.the-variants.{All, Wrong as Twelve}
 use Rattle.to_card_lines.specs.declared.Penned.{Penned}

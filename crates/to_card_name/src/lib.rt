@@ -1,5 +1,7 @@
 // FN and N from the member `name` of the JSON: judged (12), written, and told whether lines can carry them (13).
-use card_value::string_in;
+use card_table::lines;
+use card_table::name;
+use card_table::parts;
 use json_access::Kind;
 use json_access::kind_at;
 use json_index::index_object;
@@ -11,14 +13,18 @@ use to_card_lines::put_string_line;
 use to_card_order::are_apart;
 use to_card_order::pen_order;
 use to_card_parts::Array;
+use to_card_parts::ROWS;
 use to_card_parts::list_rows;
 use to_card_parts::open_array;
+use to_card_pen::style;
+use to_card_value::string_in;
 ghost use mathlib.Core.Path.{_≡_};
 ghost use Prim.Native.Nat.{_≤_, _<_};
 ghost use lib.ListN.{length};
 ghost use Rattle.json_index.specs.Index.{Clear};
 ghost use Rattle.to_card_lines.specs.Lines.{LinesIn};
 ghost use Rattle.to_card_parts.specs.Parts.{RowsFrom};
+ghost use Rattle.card_table.specs.Numbers.{partCount};
 ghost use Rattle.to_card_name.specs.Name.{TellsUnordered, TellsFull, ListedIn, ListsAs, TellsParts, TellsApart, OrderLine, FnLine, NLine, PutsAlone, PutsBoth, PutsList, PutsSlots, asLines, PutsName, SaysFull};
 
 // The full name: where its string stands; it is absent; or 12.
@@ -86,14 +92,14 @@ fn full_in(s: &[u8], slot: usize) -> Full
 }
 
 // The components in a slot: a row for each, and marks of the kinds that have a value.
-fn list_components<'a, 'b, 'c, 'd>(
-    marks: &'a mut [usize],
-    kinds: &'b mut [usize],
-    values: &'c mut [usize],
-    s: &'d [u8],
+fn list_components(
+    marks: &mut [usize],
+    kinds: &mut [usize],
+    values: &mut [usize],
+    s: &[u8],
     slot: usize,
 ) -> Listed
-    requires { ⌜ 7 ≤ length (now marks) ⌝ }
+    requires { ⌜ partCount ≤ length (now marks) ⌝ }
     requires { ⌜ Clear (now marks) ⌝ }
     requires { ⌜ 16 ≤ length (now kinds) ⌝ }
     requires { ⌜ 16 ≤ length (now values) ⌝ }
@@ -121,33 +127,35 @@ fn list_components<'a, 'b, 'c, 'd>(
 
 // Whether any kind has a value.
 fn has_parts(marks: &[usize]) -> bool
-    requires { ⌜ 7 ≤ length (now marks) ⌝ }
+    requires { ⌜ partCount ≤ length (now marks) ⌝ }
     ensures { λ r. ⌜ TellsParts (now (marks .entry)) r ⌝ }
 {
-    (marks[0] != 0)
-        | ((marks[1] != 0)
-            | ((marks[2] != 0)
-                | ((marks[3] != 0) | ((marks[4] != 0) | ((marks[5] != 0) | (marks[6] != 0))))))
+    (marks[parts::SURNAME] != 0)
+        | ((marks[parts::GIVEN] != 0)
+            | ((marks[parts::GIVEN2] != 0)
+                | ((marks[parts::TITLE] != 0)
+                    | ((marks[parts::CREDENTIAL] != 0)
+                        | ((marks[parts::SURNAME2] != 0) | (marks[parts::GENERATION] != 0))))))
 }
 
 // Whether two kinds have no value in common; looked for where both have values.
-fn apart_in<'a, 'b, 'c, 'd>(
-    s: &'a [u8],
+fn apart_in(
+    s: &[u8],
     at: usize,
-    marks: &'b [usize],
-    kinds: &'c [usize],
-    values: &'d [usize],
+    marks: &[usize],
+    kinds: &[usize],
+    values: &[usize],
     rows: usize,
     one: usize,
     other: usize,
 ) -> bool
     requires { ⌜ at ≤ length (now s) ⌝ }
-    requires { ⌜ 7 ≤ length (now marks) ⌝ }
+    requires { ⌜ partCount ≤ length (now marks) ⌝ }
     requires { ⌜ 16 ≤ length (now kinds) ⌝ }
     requires { ⌜ 16 ≤ length (now values) ⌝ }
     requires { ⌜ RowsFrom (now s) at (now kinds) (now values) rows ⌝ }
-    requires { ⌜ one < 7 ⌝ }
-    requires { ⌜ other < 7 ⌝ }
+    requires { ⌜ one < partCount ⌝ }
+    requires { ⌜ other < partCount ⌝ }
     ensures { λ r. ⌜ TellsApart (now (s .entry)) at (now (marks .entry)) one other r ⌝ }
 {
     if marks[one] == 0 {
@@ -160,21 +168,21 @@ fn apart_in<'a, 'b, 'c, 'd>(
 }
 
 // A line whose value is the values of the components in an order of kinds.
-fn put_order_line<'a, 'b, 'c, 'd, 'e, 'f, 'g>(
-    out: &'a mut [u8],
-    head: &'b [u8],
+fn put_order_line(
+    out: &mut [u8],
+    head: &[u8],
     style: u8,
     mark: u8,
-    s: &'c [u8],
+    s: &[u8],
     at: usize,
-    marks: &'d [usize],
-    kinds: &'e [usize],
-    values: &'f [usize],
+    marks: &[usize],
+    kinds: &[usize],
+    values: &[usize],
     rows: usize,
-    order: &'g [u8],
+    order: &[u8],
 ) -> Penned
     requires { ⌜ at ≤ length (now s) ⌝ }
-    requires { ⌜ 7 ≤ length (now marks) ⌝ }
+    requires { ⌜ partCount ≤ length (now marks) ⌝ }
     requires { ⌜ 16 ≤ length (now kinds) ⌝ }
     requires { ⌜ 16 ≤ length (now values) ⌝ }
     requires { ⌜ RowsFrom (now s) at (now kinds) (now values) rows ⌝ }
@@ -206,30 +214,30 @@ fn put_order_line<'a, 'b, 'c, 'd, 'e, 'f, 'g>(
 }
 
 // FN: the full name, or one made of the components where there is none (its place is 0).
-fn put_fn<'a, 'b, 'c, 'd, 'e>(
-    out: &'a mut [u8],
-    s: &'b [u8],
+fn put_fn(
+    out: &mut [u8],
+    s: &[u8],
     full: usize,
     at: usize,
-    marks: &'c [usize],
-    kinds: &'d [usize],
-    values: &'e [usize],
+    marks: &[usize],
+    kinds: &[usize],
+    values: &[usize],
     rows: usize,
 ) -> Penned
     requires { ⌜ at ≤ length (now s) ⌝ }
-    requires { ⌜ 7 ≤ length (now marks) ⌝ }
+    requires { ⌜ partCount ≤ length (now marks) ⌝ }
     requires { ⌜ 16 ≤ length (now kinds) ⌝ }
     requires { ⌜ 16 ≤ length (now values) ⌝ }
     requires { ⌜ RowsFrom (now s) at (now kinds) (now values) rows ⌝ }
     ensures { λ r. ⌜ FnLine (now (s .entry)) full at (now (marks .entry)) (now (out .entry)) r (now (out .exit)) ⌝ }
 {
     if full != 0 {
-        return put_string_line(out, b"FN:", 1, s, full);
+        return put_string_line(out, &lines::FN, style::TEXT, s, full);
     }
     let p = put_order_line(
         out,
-        b"FN;DERIVED=TRUE:",
-        1,
+        &lines::DERIVED_FN,
+        style::TEXT,
         b' ',
         s,
         at,
@@ -237,7 +245,7 @@ fn put_fn<'a, 'b, 'c, 'd, 'e>(
         kinds,
         values,
         rows,
-        b"0123456",
+        &parts::FN_ORDER,
     );
     let n = p.bytes;
     Penned {
@@ -247,17 +255,17 @@ fn put_fn<'a, 'b, 'c, 'd, 'e>(
 }
 
 // N, where there is a component that is not empty: its parts with surname2 after the surname and generation after the credential.
-fn put_n<'a, 'b, 'c, 'd, 'e>(
-    out: &'a mut [u8],
-    s: &'b [u8],
+fn put_n(
+    out: &mut [u8],
+    s: &[u8],
     at: usize,
-    marks: &'c [usize],
-    kinds: &'d [usize],
-    values: &'e [usize],
+    marks: &[usize],
+    kinds: &[usize],
+    values: &[usize],
     rows: usize,
 ) -> Counted
     requires { ⌜ at ≤ length (now s) ⌝ }
-    requires { ⌜ 7 ≤ length (now marks) ⌝ }
+    requires { ⌜ partCount ≤ length (now marks) ⌝ }
     requires { ⌜ 16 ≤ length (now kinds) ⌝ }
     requires { ⌜ 16 ≤ length (now values) ⌝ }
     requires { ⌜ RowsFrom (now s) at (now kinds) (now values) rows ⌝ }
@@ -272,8 +280,8 @@ fn put_n<'a, 'b, 'c, 'd, 'e>(
     }
     let p = put_order_line(
         out,
-        b"N:",
-        2,
+        &lines::N,
+        style::PARTS,
         b',',
         s,
         at,
@@ -281,12 +289,30 @@ fn put_n<'a, 'b, 'c, 'd, 'e>(
         kinds,
         values,
         rows,
-        b"05;1;2;3;46;5;6",
+        &parts::N_ORDER,
     );
     let n = p.bytes;
     let ok = p.carried;
-    let a = apart_in(s, at, marks, kinds, values, rows, 0, 5);
-    let b = apart_in(s, at, marks, kinds, values, rows, 4, 6);
+    let a = apart_in(
+        s,
+        at,
+        marks,
+        kinds,
+        values,
+        rows,
+        parts::SURNAME,
+        parts::SURNAME2,
+    );
+    let b = apart_in(
+        s,
+        at,
+        marks,
+        kinds,
+        values,
+        rows,
+        parts::CREDENTIAL,
+        parts::GENERATION,
+    );
     Counted {
         bytes: n,
         lines: 1,
@@ -295,20 +321,20 @@ fn put_n<'a, 'b, 'c, 'd, 'e>(
 }
 
 // The lines of a name without components.
-fn put_alone<'a, 'b>(out: &'a mut [u8], s: &'b [u8], full: usize) -> Lines
+fn put_alone(out: &mut [u8], s: &[u8], full: usize) -> Lines
     ensures { λ r. ⌜ LinesIn (length (now (out .entry))) r ⌝ }
     ensures { λ r. ⌜ length (now (out .exit)) ≡ length (now (out .entry)) ⌝ }
     ensures { λ r. ⌜ PutsAlone (now (s .entry)) full (now (out .entry)) r (now (out .exit)) ⌝ }
 {
     if full == 0 {
-        let n = fill(out, b"FN;DERIVED=TRUE:\r\n");
+        let n = fill(out, &lines::EMPTY_FN);
         return Lines::All {
             bytes: n,
             lines: 1,
             carries: true,
         };
     }
-    let p = put_string_line(out, b"FN:", 1, s, full);
+    let p = put_string_line(out, &lines::FN, style::TEXT, s, full);
     let n = p.bytes;
     let ok = p.carried;
     Lines::All {
@@ -319,18 +345,18 @@ fn put_alone<'a, 'b>(out: &'a mut [u8], s: &'b [u8], full: usize) -> Lines
 }
 
 // The lines of a name with components.
-fn put_both<'a, 'b, 'c, 'd, 'e>(
-    out: &'a mut [u8],
-    s: &'b [u8],
+fn put_both(
+    out: &mut [u8],
+    s: &[u8],
     full: usize,
     at: usize,
-    marks: &'c [usize],
-    kinds: &'d [usize],
-    values: &'e [usize],
+    marks: &[usize],
+    kinds: &[usize],
+    values: &[usize],
     rows: usize,
 ) -> Lines
     requires { ⌜ at ≤ length (now s) ⌝ }
-    requires { ⌜ 7 ≤ length (now marks) ⌝ }
+    requires { ⌜ partCount ≤ length (now marks) ⌝ }
     requires { ⌜ 16 ≤ length (now kinds) ⌝ }
     requires { ⌜ 16 ≤ length (now values) ⌝ }
     requires { ⌜ RowsFrom (now s) at (now kinds) (now values) rows ⌝ }
@@ -352,14 +378,14 @@ fn put_both<'a, 'b, 'c, 'd, 'e>(
 }
 
 // The lines of a name whose full name stands at a place (0: it has none), by the slot of its components.
-fn put_list<'a, 'b>(out: &'a mut [u8], s: &'b [u8], full: usize, components: usize) -> Lines
+fn put_list(out: &mut [u8], s: &[u8], full: usize, components: usize) -> Lines
     ensures { λ r. ⌜ LinesIn (length (now (out .entry))) r ⌝ }
     ensures { λ r. ⌜ length (now (out .exit)) ≡ length (now (out .entry)) ⌝ }
     ensures { λ r. ⌜ PutsList (now (s .entry)) full components (now (out .entry)) r (now (out .exit)) ⌝ }
 {
-    let mut marks = [0usize; 7];
-    let mut kinds = [0usize; 16];
-    let mut values = [0usize; 16];
+    let mut marks = [0usize; parts::COUNT];
+    let mut kinds = [0usize; ROWS];
+    let mut values = [0usize; ROWS];
     match list_components(&mut marks, &mut kinds, &mut values, s, components) {
         Listed::Wrong => Lines::Wrong,
         Listed::Nothing => put_alone(out, s, full),
@@ -368,9 +394,9 @@ fn put_list<'a, 'b>(out: &'a mut [u8], s: &'b [u8], full: usize, components: usi
 }
 
 // The lines of a name, by the slots of its members, and that of any other member.
-fn put_slots<'a, 'b>(
-    out: &'a mut [u8],
-    s: &'b [u8],
+fn put_slots(
+    out: &mut [u8],
+    s: &[u8],
     full: usize,
     components: usize,
     ordered: usize,
@@ -397,7 +423,7 @@ fn put_slots<'a, 'b>(
 }
 
 // FN, and N where there is a component, by the slot of `name`.
-pub fn put_name<'a, 'b>(out: &'a mut [u8], s: &'b [u8], slot: usize) -> Named
+pub fn put_name(out: &mut [u8], s: &[u8], slot: usize) -> Named
     ensures { λ r. ⌜ LinesIn (length (now (out .entry))) (asLines r) ⌝ }
     ensures { λ r. ⌜ length (now (out .exit)) ≡ length (now (out .entry)) ⌝ }
     ensures { λ r. ⌜ PutsName (now (s .entry)) slot (now (out .entry)) (asLines r) (now (out .exit)) ⌝ }
@@ -422,14 +448,14 @@ pub fn put_name<'a, 'b>(out: &'a mut [u8], s: &'b [u8], slot: usize) -> Named
     if slot > s.len() {
         return Named::Wrong;
     }
-    let mut slots = [0usize; 4];
-    if !index_object(&mut slots, s, slot, 14, b"full,components,isOrdered") {
+    let mut slots = [0usize; name::SLOTS];
+    if !index_object(&mut slots, s, slot, name::DEPTH, &name::NAMES) {
         return Named::Wrong;
     }
-    let a = slots[0];
-    let b = slots[1];
-    let c = slots[2];
-    let d = slots[3];
+    let a = slots[name::FULL];
+    let b = slots[name::COMPONENTS];
+    let c = slots[name::ORDERED];
+    let d = slots[name::OTHER];
     let Lines::All {
         bytes: n,
         lines: l,

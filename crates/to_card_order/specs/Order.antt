@@ -12,8 +12,8 @@ use Rattle.text.specs.Bytes.{Bytes, all, among, empty}
 use Rattle.json_strings.specs.Decoded.{decodedAt}
 use Rattle.json_prints.specs.Prints.{printOf, Names}
 use Rattle.line_pen.specs.Pen.{Pens}
-use Rattle.card_pen.specs.declared.Told.{Told}
-use Rattle.card_pen.specs.Styles.{writtenIn, allStandIn}
+use Rattle.to_card_pen.specs.declared.Told.{Told}
+use Rattle.to_card_pen.specs.Styles.{writtenIn, allStandIn}
 use Rattle.convert.specs.Model.{part}
 use Rattle.convert.specs.Value.{filled}
 use Rattle.convert.specs.Carry.{apart}

@@ -1,5 +1,5 @@
 // The values of a name's components in an order of kinds that is given as data, and whether two kinds have no value in common.
-use card_pen::Told;
+use card_table::parts;
 use json_marks::separator;
 use json_prints::is_noted_wide;
 use json_prints::print_at;
@@ -10,33 +10,42 @@ use text::Turn;
 use to_card_head::is_filled;
 use to_card_parts::Ended;
 use to_card_parts::Inked;
+use to_card_parts::ROWS;
 use to_card_parts::component_to_end;
 use to_card_parts::pen_listed;
+use to_card_pen::Told;
 ghost use mathlib.Core.Path.{_≡_};
 ghost use mathlib.Core.Bool.{_&&_};
 ghost use Prim.Native.Nat.{_≤_};
 ghost use lib.ListN.{length};
 ghost use Rattle.json_strings.specs.Decoded.{decodedAt, agree};
 ghost use Rattle.to_card_parts.specs.Parts.{RowsFrom};
+ghost use Rattle.card_table.specs.Numbers.{partCount};
 ghost use Rattle.to_card_order.specs.Order.{InksPlace, InksOrder, FindsAmong, Clashes, TellsApart, PrintsValue, MeetsNoted, ApartNoted, NotesValue};
 
+// No value has this print.
+const NO_PRINT: u32 = 65536;
+
+// So many values are noted at once: a component with one takes 29 bytes with its comma, so a text of 65,536 bytes has fewer.
+const NOTED: usize = 2304;
+
 // One place of an order: a semicolon, or the values of the kind that a digit names, by the rows of the components. Kinds without a mark have no values.
-fn pen_place<'a, 'b, 'c, 'd, 'e>(
-    out: &'a mut [u8],
+fn pen_place(
+    out: &mut [u8],
     column: usize,
     style: u8,
     mark: u8,
-    s: &'b [u8],
+    s: &[u8],
     at: usize,
-    marks: &'c [usize],
-    kinds: &'d [usize],
-    values: &'e [usize],
+    marks: &[usize],
+    kinds: &[usize],
+    values: &[usize],
     rows: usize,
     place: u8,
     begun: bool,
 ) -> Inked
     requires { ⌜ at ≤ length (now s) ⌝ }
-    requires { ⌜ 7 ≤ length (now marks) ⌝ }
+    requires { ⌜ partCount ≤ length (now marks) ⌝ }
     requires { ⌜ 16 ≤ length (now kinds) ⌝ }
     requires { ⌜ 16 ≤ length (now values) ⌝ }
     requires { ⌜ RowsFrom (now s) at (now kinds) (now values) rows ⌝ }
@@ -62,7 +71,7 @@ fn pen_place<'a, 'b, 'c, 'd, 'e>(
         };
     }
     let kind = (place - b'0') as usize;
-    if kind >= 7 {
+    if kind >= parts::COUNT {
         return Inked {
             bytes: 0,
             column: column,
@@ -94,21 +103,21 @@ fn pen_place<'a, 'b, 'c, 'd, 'e>(
 }
 
 // The values of the components from a place on, by their rows, in an order of kinds: a digit is a kind, a semicolon itself.
-pub fn pen_order<'a, 'b, 'c, 'd, 'e, 'f>(
-    out: &'a mut [u8],
+pub fn pen_order(
+    out: &mut [u8],
     column: usize,
     style: u8,
     mark: u8,
-    s: &'b [u8],
+    s: &[u8],
     at: usize,
-    marks: &'c [usize],
-    kinds: &'d [usize],
-    values: &'e [usize],
+    marks: &[usize],
+    kinds: &[usize],
+    values: &[usize],
     rows: usize,
-    order: &'f [u8],
+    order: &[u8],
 ) -> Told
     requires { ⌜ at ≤ length (now s) ⌝ }
-    requires { ⌜ 7 ≤ length (now marks) ⌝ }
+    requires { ⌜ partCount ≤ length (now marks) ⌝ }
     requires { ⌜ 16 ≤ length (now kinds) ⌝ }
     requires { ⌜ 16 ≤ length (now values) ⌝ }
     requires { ⌜ RowsFrom (now s) at (now kinds) (now values) rows ⌝ }
@@ -158,11 +167,11 @@ fn agrees(s: &[u8], wanted: bool, a: usize, b: usize) -> bool
 }
 
 // Whether a string that is not empty is a value of a kind, by the rows of the components from a place on.
-fn is_listed<'a, 'b, 'c>(
-    s: &'a [u8],
+fn is_listed(
+    s: &[u8],
     at: usize,
-    kinds: &'b [usize],
-    values: &'c [usize],
+    kinds: &[usize],
+    values: &[usize],
     rows: usize,
     kind: usize,
     value: usize,
@@ -184,11 +193,11 @@ fn is_listed<'a, 'b, 'c>(
 }
 
 // Whether a value, where it is asked for and not empty, is one of a kind too.
-fn clashes<'a, 'b, 'c>(
-    s: &'a [u8],
+fn clashes(
+    s: &[u8],
     at: usize,
-    kinds: &'b [usize],
-    values: &'c [usize],
+    kinds: &[usize],
+    values: &[usize],
     rows: usize,
     wanted: bool,
     value: usize,
@@ -210,15 +219,15 @@ fn clashes<'a, 'b, 'c>(
     is_listed(s, at, kinds, values, rows, kind, value)
 }
 
-// The print of a value that is asked for and not empty; 65536 for others.
+// The print of a value that is asked for and not empty; none for others.
 fn value_print(s: &[u8], wanted: bool, value: usize) -> u32
     ensures { λ r. ⌜ PrintsValue (now (s .entry)) wanted value r ⌝ }
 {
     if !wanted {
-        return 65536;
+        return NO_PRINT;
     }
     if !is_filled(s, value) {
-        return 65536;
+        return NO_PRINT;
     }
     print_at(s, value)
 }
@@ -237,7 +246,7 @@ fn is_met<'a, 'b>(
     ensures { λ r. ⌜ MeetsNoted (now (s .entry)) wanted value (now (places .entry)) (now (prints .entry)) count r ⌝ }
 {
     let m = value_print(s, wanted, value);
-    if m == 65536 {
+    if m == NO_PRINT {
         return false;
     }
     is_noted_wide(s, value, m as u16, places, prints, count)
@@ -302,13 +311,13 @@ fn note_value<'a, 'b>(
     ensures { λ r. ⌜ NotesValue (now (s .entry)) at one wanted value (now (places .entry)) (now (prints .entry)) count (now (places .exit)) (now (prints .exit)) r ⌝ }
 {
     let m = value_print(s, wanted, value);
-    if m == 65536 {
+    if m == NO_PRINT {
         return Kept {
             count: count,
             ok: true,
         };
     }
-    if count < 2304 {
+    if count < NOTED {
         places[count] = value;
         prints[count] = m as u16;
         return Kept {
@@ -357,22 +366,22 @@ fn note_apart<'a, 'b>(
     }
 }
 
-// The same, with places for the values: a component with one takes 29 bytes with its comma, so a text of 65,536 bytes has less than 2,304.
+// The same, with places for the values.
 fn walk_apart(s: &[u8], at: usize, one: usize, other: usize) -> bool
     requires { ⌜ at ≤ length (now s) ⌝ }
     ensures { λ r. ⌜ TellsApart (now (s .entry)) at one other r ⌝ }
 {
-    let mut places = [0usize; 2304];
-    let mut prints = [0u16; 2304];
+    let mut places = [0usize; NOTED];
+    let mut prints = [0u16; NOTED];
     note_apart(&mut places, &mut prints, s, at, one, other)
 }
 
 // Whether no value of the one kind is a value of the other, by the rows of the components from a place on.
-pub fn are_apart<'a, 'b, 'c>(
-    s: &'a [u8],
+pub fn are_apart(
+    s: &[u8],
     at: usize,
-    kinds: &'b [usize],
-    values: &'c [usize],
+    kinds: &[usize],
+    values: &[usize],
     rows: usize,
     one: usize,
     other: usize,
@@ -383,7 +392,7 @@ pub fn are_apart<'a, 'b, 'c>(
     requires { ⌜ RowsFrom (now s) at (now kinds) (now values) rows ⌝ }
     ensures { λ r. ⌜ TellsApart (now (s .entry)) at one other r ⌝ }
 {
-    if rows > 16 {
+    if rows > ROWS {
         return walk_apart(s, at, one, other);
     }
     let mut i = 0;

@@ -1,31 +1,31 @@
 -- One component, by its members.
 use mathlib.Core.Path.{_≡_, refl, sym, ap, subst, _∙_}
-use mathlib.Core.Bool.{Bool, true, false, not}
+use mathlib.Core.Bool.{Bool, true, false}
 use mathlib.Core.List.{List, [], _∷_}
 use mathlib.Core.Option.{Option, none, some}
 use Prim.Native.Nat.{ℕ, zero, suc, _+_, _≤_, _<_}
 use native.Mathlib.Omega.{arith}
 use lib.Dec.{eqb, ltb}
-use lib.ListN.{length, getD, take}
+use lib.ListN.{length, getD}
 use borrow.Author.Tests.{eq-eqb, ne-eqb, lt-ltb, le-ltb, ltb-true, ltb-false}
-use Rattle.text.specs.Choice.{pick, with-some, is-some, both, chain, provided}
-use Rattle.text.specs.Bytes.{Bytes, ascii, all, any, same, among, parts, onHead}
+use Rattle.text.specs.Choice.{pick, with-some, both, chain, provided}
+use Rattle.text.specs.Bytes.{Bytes, ascii, any, same, among, parts, onHead}
 use Rattle.text.specs.Places.{byteAt, Passes}
 use Rattle.text.proofs.Cases.{byBool}
 use Rattle.text.proofs.Same.{same-swap}
 use Rattle.json.specs.Grammar.{isSpace}
-use Rattle.json.specs.Tree.{Json, Member, field, asString, asObject}
+use Rattle.json.specs.Tree.{Json, Member, field, asObject}
 use Rattle.json_strings.specs.Decoded.{decodedAt}
-use Rattle.json_index.specs.Index.{jsonAt, placed, firstAt, Slot, Clear, Indexed, IndexOf, Indexes}
+use Rattle.json_index.specs.Index.{placed, firstAt, Slot, Clear, Indexed, IndexOf, Indexes}
 use Rattle.json_index.proofs.Fields.{first-field, first-other}
 use Rattle.convert.specs.Table.{position, componentKinds}
 use Rattle.convert.specs.FromJson.{onlyMembers, Component, component, componentIn}
-use Rattle.card_value.specs.Values.{StringIs, TellsString}
+use Rattle.to_card_value.specs.Values.{StringIs, TellsString}
 use Rattle.to_card_head.proofs.Slots.{slot-none, slot-some}
 use Rattle.to_card_parts.specs.declared.Found.{Found}
 use Rattle.to_card_parts.specs.declared.Found.the-variants.{Of, Wrong}
 use Rattle.to_card_parts.specs.declared.Array.the-variants.{At, Empty, Wrong as NoArray}
-use Rattle.to_card_parts.specs.Parts.{kindFrom, stringFrom, ComponentIs, TellsSlots, TellsComponent, Elements, OpensAs}
+use Rattle.to_card_parts.specs.Parts.{kindFrom, stringFrom, ComponentIs, TellsSlots, TellsComponent, OpensAs}
 use Rattle.to_card_parts.proofs.Elements.{not-array, empty-array, array-elements}
 
 -- the slots of kind, value and others, before the index

@@ -1,6 +1,5 @@
 -- Whether a value is an array, and a pass over its elements that takes each of them as something: `each f` of what is read.
 use mathlib.Core.Path.{_≡_, refl, sym, ap, subst, _∙_}
-use mathlib.Core.Bool.{Bool, true, false}
 use mathlib.Core.Logic.{_⊎_, ⊎-elim}
 use mathlib.Core.List.{List, [], _∷_, _++_, append-nil, append-assoc}
 use mathlib.Core.Option.{Option, none, some}
@@ -13,7 +12,7 @@ use Rattle.text.specs.declared.Read.{Read}
 use Rattle.text.specs.declared.Turn.the-variants.{Go, Stop}
 use Rattle.text.specs.Choice.{both}
 use Rattle.text.specs.Bytes.{Bytes, is, each}
-use Rattle.text.specs.Reader.{Got, got, bind, under, on, Step, more, last, after, loop}
+use Rattle.text.specs.Reader.{Got, got, under, on, Step, more, last, after, loop}
 use Rattle.text.specs.Places.{byteAt, Passes, GivesT}
 use Rattle.text.proofs.Cases.{byBool}
 use Rattle.text.proofs.Places.{on-yes, on-no}

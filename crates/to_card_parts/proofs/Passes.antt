@@ -1,9 +1,9 @@
 -- Passes over the components, over plain values.
 use mathlib.Core.Path.{_≡_, refl, sym, ap, subst, _∙_}
-use mathlib.Core.Bool.{Bool, true, false, _&&_, _||_, not}
-use mathlib.Core.List.{List, [], _∷_, _++_, map, append-nil}
+use mathlib.Core.Bool.{Bool, true, false, _&&_}
+use mathlib.Core.List.{List, [], _∷_, _++_, append-nil}
 use mathlib.Core.Option.{Option, none, some}
-use Prim.Native.Nat.{ℕ, zero, suc, _+_, _-_, _≤_, _<_}
+use Prim.Native.Nat.{ℕ, zero, suc, _+_, _-_, _<_}
 use native.Mathlib.Omega.{arith}
 use borrow.Rule.Slice.PartMut.{midOf, putMid}
 use lib.Dec.{eqb}
@@ -13,18 +13,17 @@ use borrow.Author.Tests.{eq-eqb, ne-eqb, eqb-true, eqb-false}
 use Rattle.text.specs.declared.Read.{Read}
 use Rattle.text.specs.declared.Turn.the-variants.{Go, Stop}
 use Rattle.text.specs.Choice.{pick}
-use Rattle.text.specs.Bytes.{Bytes, empty, each}
+use Rattle.text.specs.Bytes.{Bytes, empty}
 use Rattle.text.specs.Reader.{got, loop}
 use Rattle.text.specs.Places.{GivesT}
 use Rattle.text.proofs.Cases.{byBool}
 use Rattle.text.proofs.Choices.{none-some, some-same}
-use Rattle.json.specs.Tree.{Json, Elems, elemsOf}
+use Rattle.json.specs.Tree.{Elems, elemsOf}
 use Rattle.json.specs.Syntax.{sep, item, value}
 use Rattle.json.specs.Strings.{decodedElems}
 use Rattle.json_strings.specs.Decoded.{decodedAt}
 use Rattle.json_access.specs.Access.{EndsAt}
-use Rattle.json_index.specs.Index.{jsonAt, Clear}
-use Rattle.line_pen.specs.declared.Pen.{Pen}
+use Rattle.json_index.specs.Index.{Clear}
 use Rattle.line_pen.specs.Pen.{Pens}
 use Rattle.line_pen.proofs.Laws.{pens-none, pens-then}
 use Rattle.convert.specs.Value.{filled}
@@ -35,7 +34,7 @@ use Rattle.to_card_parts.specs.declared.Found.the-variants.{Of, Wrong}
 use Rattle.to_card_parts.specs.declared.Inked.{Inked}
 use Rattle.to_card_head.specs.Head.{TellsFilled}
 use Rattle.to_card_parts.specs.Parts.{foundOf, EndIn, KindIn, ComponentIs, TellsComponent, Lists, valuesOf, Marked, Marks, CheckedAs, ChecksFrom, Says, InksOne, InksKind}
-use Rattle.to_card_parts.proofs.Elements.{Far, far-first, Now, now-to, first-of}
+use Rattle.to_card_parts.proofs.Elements.{Far, far-first, now-to, first-of}
 use Rattle.to_card_parts.proofs.Values.{values-none, values-more, says-none, says-then, says-as}
 
 -- ---- what was found

@@ -2,9 +2,8 @@
 use mathlib.Core.Path.{_≡_, refl, sym, ap, subst, _∙_}
 use mathlib.Core.Bool.{Bool, true, false, _&&_, _||_, not}
 use mathlib.Core.List.{List, [], _∷_, _++_, map, append-nil, append-assoc}
-use mathlib.Core.Option.{Option, none, some}
-use Prim.Native.Nat.{ℕ, _+_, _-_, _≤_, _<_}
-use native.Mathlib.Omega.{arith}
+use mathlib.Core.Option.{some}
+use Prim.Native.Nat.{ℕ, _+_, _-_}
 use borrow.Rule.Slice.PartMut.{midOf, putMid}
 use lib.ListN.{length}
 use Rattle.text.specs.Choice.{pick}
@@ -14,10 +13,10 @@ use Rattle.json_strings.specs.Decoded.{decodedAt}
 use Rattle.line_pen.specs.declared.Pen.{Pen}
 use Rattle.line_pen.specs.Pen.{Pens}
 use Rattle.line_pen.proofs.Laws.{pens-none, pens-then}
-use Rattle.card_pen.specs.declared.Told.{Told}
-use Rattle.card_pen.specs.Styles.{writtenIn, allStandIn, Writes}
+use Rattle.to_card_pen.specs.declared.Told.{Told}
+use Rattle.to_card_pen.specs.Styles.{writtenIn, allStandIn, Writes}
 use Rattle.convert.specs.Value.{filled}
-use Rattle.convert.specs.FromJson.{Component, component, ofKind}
+use Rattle.convert.specs.FromJson.{Component, ofKind}
 use Rattle.to_card_head.specs.Head.{TellsFilled}
 use Rattle.to_card_parts.specs.declared.Inked.{Inked}
 use Rattle.to_card_parts.specs.Parts.{valuesOf, listFrom, Says, valueIf, InksOne}

@@ -15,10 +15,11 @@ use Rattle.json.specs.Strings.{decodedElems}
 use Rattle.json_strings.specs.Decoded.{decodedAt}
 use Rattle.json_index.specs.Index.{jsonAt, Slot, ValueEnds}
 use Rattle.line_pen.specs.Pen.{Pens}
-use Rattle.card_pen.specs.Styles.{writtenIn, allStandIn}
+use Rattle.to_card_pen.specs.Styles.{writtenIn, allStandIn}
 use Rattle.convert.specs.Table.{position, componentKinds}
 use Rattle.convert.specs.Value.{filled}
 use Rattle.convert.specs.FromJson.{Component, component, componentOf, ofKind}
+use Rattle.card_table.specs.Numbers.{partCount}
 use Rattle.to_card_parts.specs.declared.Found.{Found}
 use Rattle.to_card_parts.specs.declared.Found.the-variants.{Of, Wrong}
 use Rattle.to_card_parts.specs.declared.Ended.{Ended}
@@ -36,7 +37,7 @@ abbrev pub stringFrom : Option Json → Option Bytes
 stringFrom o = chain o asString
 
 abbrev pub KindIn : Found → Type 0
-KindIn (Of k p) = k < 7
+KindIn (Of k p) = k < partCount
 KindIn Wrong = Unit {0}
 
 -- its kind, and the place of its value
@@ -100,7 +101,7 @@ valuesOf i cs = flat (map (ofKind i) cs)
 
 -- a mark for each kind that has a value
 abbrev pub Marked : List ℕ → List Component → Type 0
-Marked m cs = (i : ℕ) → i < 7 → eqb (getD m i 0) 0 ≡ empty (valuesOf i cs)
+Marked m cs = (i : ℕ) → i < partCount → eqb (getD m i 0) 0 ≡ empty (valuesOf i cs)
 
 pub record Marks (s : Bytes) (at kind : ℕ) (m after : List ℕ) : Type 0 where
   pub long : length after ≡ length m

@@ -1,6 +1,6 @@
 // The components of a name: judged in one pass, and written kind by kind, in an order that is given as data.
-use card_pen::pen_string;
-use card_value::string_in;
+use card_table::component;
+use card_table::parts;
 use json_index::index_to_end;
 use json_index::which_name;
 use json_marks::separator;
@@ -11,12 +11,20 @@ use text::RIGHT_BRACKET;
 use text::Turn;
 use text::look;
 use to_card_head::is_filled;
+use to_card_pen::pen_string;
+use to_card_value::string_in;
 ghost use mathlib.Core.Path.{_≡_};
 ghost use mathlib.Core.Bool.{true};
 ghost use Prim.Native.Nat.{_≤_, _<_};
 ghost use lib.ListN.{length};
 ghost use Rattle.json_index.specs.Index.{Clear};
+ghost use Rattle.card_table.specs.Numbers.{partCount};
 ghost use Rattle.to_card_parts.specs.Parts.{KindIn, TellsSlots, TellsComponent, foundOf, EndIn, ArrayIn, OpensAs, Marks, ChecksFrom, InksOne, InksKind, AddsRow, RowsFrom};
+
+// So many components have a row each; more are gone through again where they are asked for.
+pub const ROWS: usize = 16;
+
+pub const MORE: usize = ROWS + 1;
 
 // A component: the place of its kind among the kinds, and the place of its value; or 12.
 pub enum Found {
@@ -60,12 +68,8 @@ fn component_of(s: &[u8], kind: usize, value: usize) -> Found
     if q == 0 {
         return Found::Wrong;
     }
-    let k = which_name(
-        s,
-        q,
-        b"surname,given,given2,title,credential,surname2,generation",
-    );
-    if k >= 7 {
+    let k = which_name(s, q, &parts::KINDS);
+    if k >= parts::COUNT {
         return Found::Wrong;
     }
     let v = string_in(s, value);
@@ -82,14 +86,14 @@ pub fn component_to_end(s: &[u8], at: usize) -> Ended
     ensures { λ r. ⌜ TellsComponent (now (s .entry)) at (foundOf r) ⌝ }
     ensures { λ r. ⌜ EndIn (now (s .entry)) at r ⌝ }
 {
-    let mut slots = [0usize; 3];
-    let end = index_to_end(&mut slots, s, at, 12, b"kind,value");
+    let mut slots = [0usize; component::SLOTS];
+    let end = index_to_end(&mut slots, s, at, component::DEPTH, &component::NAMES);
     if end == 0 {
         return Ended::Wrong;
     }
-    let a = slots[0];
-    let b = slots[1];
-    let other = slots[2];
+    let a = slots[component::KIND];
+    let b = slots[component::VALUE];
+    let other = slots[component::OTHER];
     if other != 0 {
         return Ended::Wrong;
     }
@@ -117,7 +121,7 @@ pub fn open_array(s: &[u8], at: usize) -> Array
 }
 
 // Marks the kind of a value that is not empty.
-fn mark_kind<'a, 'b>(marks: &'a mut [usize], s: &'b [u8], kind: usize, value: usize) -> bool
+fn mark_kind(marks: &mut [usize], s: &[u8], kind: usize, value: usize) -> bool
     requires { ⌜ kind < length (now marks) ⌝ }
     ensures { λ r. ⌜ Marks (now (s .entry)) value kind (now (marks .entry)) (now (marks .exit)) ⌝ }
 {
@@ -128,10 +132,10 @@ fn mark_kind<'a, 'b>(marks: &'a mut [usize], s: &'b [u8], kind: usize, value: us
     true
 }
 
-// A row for one more component: its kind, and the place of its value. How many rows there are then; 17 where they would be more than 16.
-fn put_row<'a, 'b>(
-    kinds: &'a mut [usize],
-    values: &'b mut [usize],
+// A row for one more component: its kind, and the place of its value. How many rows there are then; MORE where there is none left.
+fn put_row(
+    kinds: &mut [usize],
+    values: &mut [usize],
     rows: usize,
     kind: usize,
     value: usize,
@@ -140,24 +144,24 @@ fn put_row<'a, 'b>(
     requires { ⌜ 16 ≤ length (now values) ⌝ }
     ensures { λ r. ⌜ AddsRow (now (kinds .entry)) (now (values .entry)) rows kind value (now (kinds .exit)) (now (values .exit)) r ⌝ }
 {
-    if rows >= 16 {
-        return 17;
+    if rows >= ROWS {
+        return MORE;
     }
     kinds[rows] = kind;
     values[rows] = value;
     rows + 1
 }
 
-// A row for each component from a place on, and marks of the kinds that have a value that is not empty. How many there are; 17 where they are more than 16; 0 where an element is no component.
-pub fn list_rows<'a, 'b, 'c, 'd>(
-    marks: &'a mut [usize],
-    kinds: &'b mut [usize],
-    values: &'c mut [usize],
-    s: &'d [u8],
+// A row for each component from a place on, and marks of the kinds that have a value that is not empty. How many there are; MORE where they are more than the rows; 0 where an element is no component.
+pub fn list_rows(
+    marks: &mut [usize],
+    kinds: &mut [usize],
+    values: &mut [usize],
+    s: &[u8],
     at: usize,
 ) -> usize
     requires { ⌜ at ≤ length (now s) ⌝ }
-    requires { ⌜ 7 ≤ length (now marks) ⌝ }
+    requires { ⌜ partCount ≤ length (now marks) ⌝ }
     requires { ⌜ Clear (now marks) ⌝ }
     requires { ⌜ 16 ≤ length (now kinds) ⌝ }
     requires { ⌜ 16 ≤ length (now values) ⌝ }
@@ -184,12 +188,12 @@ pub fn list_rows<'a, 'b, 'c, 'd>(
 }
 
 // One value that is wanted, after the mark between values where one has been written before; nothing where it is empty.
-fn pen_wanted<'a, 'b>(
-    out: &'a mut [u8],
+fn pen_wanted(
+    out: &mut [u8],
     column: usize,
     style: u8,
     mark: u8,
-    s: &'b [u8],
+    s: &[u8],
     at: usize,
     begun: bool,
 ) -> Inked
@@ -230,12 +234,12 @@ fn pen_wanted<'a, 'b>(
 }
 
 // The same of any value; nothing where it is not wanted, as most are not.
-fn pen_value<'a, 'b>(
-    out: &'a mut [u8],
+fn pen_value(
+    out: &mut [u8],
     column: usize,
     style: u8,
     mark: u8,
-    s: &'b [u8],
+    s: &[u8],
     at: usize,
     wanted: bool,
     begun: bool,
@@ -254,12 +258,12 @@ fn pen_value<'a, 'b>(
 }
 
 // The values of one kind, of the components from a place on.
-fn pen_kind<'a, 'b>(
-    out: &'a mut [u8],
+fn pen_kind(
+    out: &mut [u8],
     column: usize,
     style: u8,
     mark: u8,
-    s: &'b [u8],
+    s: &[u8],
     at: usize,
     kind: usize,
     begun: bool,
@@ -303,15 +307,15 @@ fn pen_kind<'a, 'b>(
 }
 
 // The values of one kind, by the rows of the components from a place on.
-pub fn pen_listed<'a, 'b, 'c, 'd>(
-    out: &'a mut [u8],
+pub fn pen_listed(
+    out: &mut [u8],
     column: usize,
     style: u8,
     mark: u8,
-    s: &'b [u8],
+    s: &[u8],
     at: usize,
-    kinds: &'c [usize],
-    values: &'d [usize],
+    kinds: &[usize],
+    values: &[usize],
     rows: usize,
     kind: usize,
     begun: bool,
@@ -322,7 +326,7 @@ pub fn pen_listed<'a, 'b, 'c, 'd>(
     requires { ⌜ RowsFrom (now s) at (now kinds) (now values) rows ⌝ }
     ensures { λ r. ⌜ InksKind (now (s .entry)) at style mark kind begun (now (out .entry)) column r (now (out .exit)) ⌝ }
 {
-    if rows > 16 {
+    if rows > ROWS {
         return pen_kind(out, column, style, mark, s, at, kind, begun);
     }
     let mut i = 0;

@@ -1,6 +1,6 @@
 -- The sections in groups are the whole.
 use mathlib.Core.Path.{_≡_, sym, _∙_}
-use mathlib.Core.List.{List, [], _∷_, _++_, append-assoc, append-nil}
+use mathlib.Core.List.{List, [], _∷_, append-assoc, append-nil}
 use Prim.Native.Nat.{ℕ}
 use Rattle.text.specs.Bytes.{Bytes, flat}
 use Rattle.convert.specs.Classify.{Classed}

@@ -1,9 +1,9 @@
 -- The members of JSPROP, line by line.
-use mathlib.Core.Path.{_≡_, refl, sym, ap, subst, _∙_}
+use mathlib.Core.Path.{_≡_, refl, sym, ap, _∙_}
 use mathlib.Core.Bool.{Bool, true, false, _&&_, not}
 use mathlib.Core.List.{List, [], _∷_, _++_}
 use mathlib.Core.Option.{Option, none, some}
-use Prim.Native.Nat.{ℕ, zero, suc, _+_, _-_, _≤_, _<_}
+use Prim.Native.Nat.{ℕ, _+_, _-_, _≤_, _<_}
 use native.Mathlib.Omega.{arith}
 use lib.Dec.{eqb, leb, ltb}
 use lib.ListN.{length, take, drop, getD, length-take, length-drop}
@@ -11,7 +11,7 @@ use borrow.Author.Tests.{eqb-true, eqb-false}
 use borrow.Rule.Slice.PartMut.{midOf, putMid}
 use Rattle.text.specs.Choice.{pick, with-some, provided}
 use Rattle.text.specs.Bytes.{Bytes, ascii, same, lowered, empty}
-use Rattle.text.proofs.Cases.{byBool, not-both}
+use Rattle.text.proofs.Cases.{not-both}
 use Rattle.text.proofs.Choices.{some-same}
 use Rattle.json.specs.Tree.{Json, Member, member}
 use Rattle.line.specs.Grammar.{Line, readLine}
@@ -30,8 +30,8 @@ use Rattle.convert.specs.FromCard.{Gives, gives, gathered}
 use Rattle.convert_entry.specs.Rows.{codeOf}
 use Rattle.convert_put.specs.Pieces.{memberBytes, after}
 use Rattle.table_entry.proofs.Spread.{class-held}
-use Rattle.card_lines.specs.Classified.{Classified}
-use Rattle.card_lines.proofs.Lines.{LineOf, line-of, no-more}
+use Rattle.from_card_lines.specs.Classified.{Classified}
+use Rattle.from_card_lines.proofs.Lines.{LineOf, line-of, no-more}
 use Rattle.home.proofs.Classes.{Fact}
 use Rattle.to_json_sections.specs.Sections.{membersIn}
 use Rattle.to_json_sections.proofs.Lines.{entry-low, gathered-cons, gathered-none, fact-of}

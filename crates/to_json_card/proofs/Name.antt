@@ -2,19 +2,18 @@
 use mathlib.Core.Path.{_≡_, refl, sym, ap, _∙_}
 use mathlib.Core.Bool.{Bool, true, false, _||_}
 use mathlib.Core.List.{List, [], _∷_, _++_}
-use mathlib.Core.Option.{Option, none, some}
-use Prim.Native.Nat.{ℕ, _+_, _≤_, _<_}
+use mathlib.Core.Option.{none, some}
+use Prim.Native.Nat.{ℕ, _+_}
 use native.Mathlib.Omega.{arith}
 use lib.Dec.{ltb}
-use lib.ListN.{length, drop, getD}
-use borrow.Author.Tests.{ltb-true, ltb-false}
-use Rattle.text.specs.Choice.{pick, with-some, is-some}
+use lib.ListN.{drop, getD}
+use Rattle.text.specs.Choice.{with-some, is-some}
 use Rattle.text.specs.Bytes.{Bytes, ascii}
 use Rattle.text.proofs.Cases.{tests}
 use Rattle.json.specs.Tree.{member}
 use Rattle.line.specs.Grammar.{Line, readLine}
 use Rattle.line.specs.Text.{readText}
-use Rattle.line_table.specs.Table.{part, lineIn, Holds, Filled}
+use Rattle.line_table.specs.Table.{part, Holds}
 use Rattle.line_unfold.specs.Table.{lineAt}
 use Rattle.convert.specs.Model.{noParts, hasParts}
 use Rattle.convert.specs.Value.{readName}
@@ -25,7 +24,7 @@ use Rattle.convert.proofs.CardParts.{has-no-parts}
 use Rattle.convert_entry.specs.Rows.{codeOf}
 use Rattle.convert_put.specs.Pieces.{after}
 use Rattle.table_entry.proofs.Entry.{value-is}
-use Rattle.card_lines.specs.Classified.{Classified}
+use Rattle.from_card_lines.specs.Classified.{Classified}
 use Rattle.home.proofs.Classes.{Fact}
 use Rattle.home.proofs.NormalCardParts.{name-read}
 use Rattle.text.proofs.Choices.{none-some, some-same}

@@ -15,10 +15,11 @@ use Rattle.convert.specs.Table.{maps}
 use Rattle.convert.specs.FromCard.{Gives, gathered, mapsFrom, cardOfClassed}
 use Rattle.convert.specs.ToJson.{mapsJson, printJson}
 use Rattle.convert_put.specs.Pieces.{memberBytes, after}
-use Rattle.card_lines.specs.Classified.{Classified}
+use Rattle.from_card_lines.specs.Classified.{Classified}
 use Rattle.to_json_maps.specs.Maps.{HasLines}
 use Rattle.to_json_head.specs.Head.{startBytes}
 use Rattle.to_json_sections.specs.Sections.{uidIn, kindIn, kindMember, nameIn, membersIn, keptOf, propsBytes}
+use Rattle.line_table.specs.Table.{tableLength}
 
 -- the value of a line that is read
 abbrev pub ValueOf : Bytes → Bytes → Type 0
@@ -48,7 +49,7 @@ PutsMembers room scratch starts codes n r out = (cs : List Classed) → Classifi
 
 -- a table for one line, lines, and a scratch for the TEXT of a line
 pub record Lent (t text scratch starts codes : List ℕ) (n : ℕ) : Type 0 where
-  pub parts : 264 ≤ length t
+  pub parts : tableLength ≤ length t
   pub room : length scratch ≤ length text
   pub lines : HasLines scratch starts codes n
 

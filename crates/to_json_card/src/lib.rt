@@ -3,8 +3,12 @@ ghost use mathlib.Core.Path.{_≡_};
 ghost use Prim.Native.Nat.{_≤_};
 ghost use lib.ListN.{length};
 ghost use Rattle.to_json_maps.specs.Maps.{HasLines};
+ghost use Rattle.line_table.specs.Table.{tableLength};
 ghost use Rattle.to_json_card.specs.Card.{ValueOf, PutsName, HasMember, PutsMemberTurn, PutsMembers, Lent, PutsTop, PutsMiddle, PutsEnd, PutsRest, PutsCard};
+use card_table::classes;
+use card_table::params;
 use line_table::fill;
+use line_table::table;
 use line_unfold::line_at;
 use output::Wrote;
 use output::put_byte;
@@ -20,14 +24,14 @@ use to_json_sections::put_start_of;
 
 // The value of a line; nothing where the bytes are no line.
 fn value_of<'a, 'b>(t: &'b mut [usize], s: &'a [u8]) -> &'a [u8]
-    requires { ⌜ 264 ≤ length (now t) ⌝ }
+    requires { ⌜ tableLength ≤ length (now t) ⌝ }
     ensures { λ r. ⌜ ValueOf (now (s .entry)) (now r) ⌝ }
 {
     if !fill(t, s) {
         return &s[0..0];
     }
-    let a = t[4];
-    let b = t[5];
+    let a = t[table::VALUE];
+    let b = t[table::VALUE_END];
     &s[a..b]
 }
 
@@ -40,11 +44,11 @@ fn put_name_of(
     codes: &[u8],
     n: usize,
 ) -> Wrote
-    requires { ⌜ (264 ≤ length (now t)) × HasLines (now scratch) (now starts) (now codes) n ⌝ }
+    requires { ⌜ (tableLength ≤ length (now t)) × HasLines (now scratch) (now starts) (now codes) n ⌝ }
     ensures { λ r. ⌜ PutsName (now (out .entry)) (now (scratch .entry)) (now (starts .entry)) (now (codes .entry)) n r (now (out .exit)) ⌝ }
 {
-    let j = first_of(codes, n, 21);
-    let k = first_of(codes, n, 22);
+    let j = first_of(codes, n, classes::FULL);
+    let k = first_of(codes, n, classes::PARTS);
     let fv = value_of(t, line_at(scratch, starts, j));
     let nv = value_of(t, line_at(scratch, starts, k));
     put_name(out, j < n, fv, k < n, nv)
@@ -52,12 +56,12 @@ fn put_name_of(
 
 // A member of JSPROP, after a comma.
 fn put_member_turn(out: &mut [u8], t: &mut [usize], text: &mut [u8], s: &[u8]) -> Wrote
-    requires { ⌜ (264 ≤ length (now t)) × (length (now s) ≤ length (now text)) × HasMember (now s) ⌝ }
+    requires { ⌜ (tableLength ≤ length (now t)) × (length (now s) ≤ length (now text)) × HasMember (now s) ⌝ }
     ensures { λ r. ⌜ PutsMemberTurn (now (out .entry)) (now (s .entry)) r (now (out .exit)) ⌝ }
 {
-    let mut counts = [0usize; 8];
-    let mut froms = [0usize; 8];
-    let mut tos = [0usize; 8];
+    let mut counts = [0usize; params::COUNT];
+    let mut froms = [0usize; params::COUNT];
+    let mut tos = [0usize; params::COUNT];
     if !fill(t, s) {
         return Wrote::Full;
     }
@@ -88,7 +92,7 @@ fn put_members(
     let mut at = 0;
     let mut k = 0;
     while k < n {
-        if !is_of(codes[k], 23) {
+        if !is_of(codes[k], classes::MEMBER) {
             k += 1;
             continue;
         }
@@ -113,7 +117,7 @@ fn put_top(
     codes: &[u8],
     n: usize,
 ) -> Wrote
-    requires { ⌜ (264 ≤ length (now t)) × HasLines (now scratch) (now starts) (now codes) n ⌝ }
+    requires { ⌜ (tableLength ≤ length (now t)) × HasLines (now scratch) (now starts) (now codes) n ⌝ }
     ensures { λ r. ⌜ PutsTop (now (out .entry)) (now (stem .entry)) number (now (scratch .entry)) (now (starts .entry)) (now (codes .entry)) n r (now (out .exit)) ⌝ }
 {
     let Wrote::Bytes(a1) = put_start_of(out, t, stem, number, scratch, starts, codes, n) else {
@@ -162,7 +166,7 @@ fn put_end(
     codes: &[u8],
     n: usize,
 ) -> Wrote
-    requires { ⌜ (264 ≤ length (now t)) × HasLines (now scratch) (now starts) (now codes) n ⌝ }
+    requires { ⌜ (tableLength ≤ length (now t)) × HasLines (now scratch) (now starts) (now codes) n ⌝ }
     ensures { λ r. ⌜ PutsEnd (now (out .entry)) (now (scratch .entry)) (now (starts .entry)) (now (codes .entry)) n r (now (out .exit)) ⌝ }
 {
     let Wrote::Bytes(a1) = put_props(out, t, scratch, starts, codes, n) else {

@@ -1,25 +1,25 @@
 -- ORG: its parts as the name and the units.
 use mathlib.Core.Path.{_≡_, refl, sym, ap, _∙_}
-use mathlib.Core.Bool.{Bool, true, false, _&&_, _||_, not}
+use mathlib.Core.Bool.{Bool, true, false, _||_, not}
 use mathlib.Core.List.{List, [], _∷_, _++_, map, append-assoc, append-nil, tail}
-use mathlib.Core.Option.{Option, none, some}
+use mathlib.Core.Option.{some}
 use Prim.Native.Nat.{ℕ, zero, suc, _+_, _-_, _≤_, _<_}
 use native.Mathlib.Omega.{arith}
-use lib.Dec.{eqb, ltb}
+use lib.Dec.{ltb}
 use lib.ListN.{length, take, drop}
-use borrow.Author.Tests.{lt-ltb, le-ltb, ltb-true, ltb-false}
-use Rattle.text.specs.Choice.{pick, is-some, both, chain, provided, with-some}
-use Rattle.text.specs.Bytes.{Bytes, ascii, empty, any, same, among, keep, each, flat}
+use borrow.Author.Tests.{lt-ltb, le-ltb}
+use Rattle.text.specs.Choice.{pick, is-some}
+use Rattle.text.specs.Bytes.{Bytes, ascii, empty, any, keep, each, flat}
 use Rattle.text.proofs.Cases.{byBool}
-use Rattle.text.proofs.Choices.{both-inv, some-same, none-some}
-use Rattle.line.specs.Text.{readText, textFrom, splitFrom, splitText}
+use Rattle.text.proofs.Choices.{both-inv, some-same}
+use Rattle.line.specs.Text.{readText, splitText}
 use Rattle.json.specs.Tree.{Json, Member, member, object, array, jstr, fromMembers}
 use Rattle.json.specs.Compact.{spelled, spelledAll, quoted, written, writtenMembers, membersAfter}
 use Rattle.line_text.specs.Read.{plainText}
 use Rattle.line_text.specs.Split.{PartEnds}
 use Rattle.convert.specs.Table.{organization}
 use Rattle.convert.specs.Value.{filled, headOr, organized}
-use Rattle.convert.specs.ToJson.{where′, contentJson}
+use Rattle.convert.specs.ToJson.{contentJson}
 use Rattle.convert_put.specs.Pieces.{contentPiece, valuePiece, memberBytes, inside}
 use Rattle.convert_put.proofs.Compact.{quoted-append}
 use Rattle.convert_put.proofs.Entries.{string-bytes}

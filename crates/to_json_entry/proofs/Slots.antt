@@ -1,9 +1,9 @@
 -- The pieces of each row of the table of maps: by data, whichever property a line has.
-use mathlib.Core.Path.{_≡_, refl, sym, ap, _∙_}
-use mathlib.Core.Bool.{Bool, true, false, not}
+use mathlib.Core.Path.{_≡_, refl, sym}
+use mathlib.Core.Bool.{Bool, true, false}
 use mathlib.Core.List.{List, [], _∷_}
 use mathlib.Core.Option.{Option, none, some}
-use Prim.Native.Nat.{ℕ, zero, suc, _+_, _<_}
+use Prim.Native.Nat.{ℕ, suc, _+_}
 use native.Mathlib.Omega.{arith}
 use lib.ListN.{getD}
 use Rattle.text.specs.Choice.{pick, with-some}
@@ -12,7 +12,7 @@ use Rattle.text.proofs.Same.{same-true}
 use Rattle.text.proofs.Cases.{byBool}
 use Rattle.text.proofs.Choices.{some-same, none-some}
 use Rattle.json.specs.Compact.{spelled, spelledAll, quoted, written}
-use Rattle.convert.specs.Table.{Map, Slot, maps, text, position, slotFrom, slotOf}
+use Rattle.convert.specs.Table.{Map, Slot, maps, position, slotFrom, slotOf}
 use Rattle.line_table.specs.Table.{part, lineIn}
 use Rattle.convert_put.specs.Pieces.{kindPiece, contentPiece, memberBytes, before}
 use Rattle.to_json_entry.specs.Entry.{RowPieces, KindOfLine}

@@ -2,12 +2,12 @@
 use mathlib.Core.Path.{_≡_, refl, sym, ap, _∙_}
 use mathlib.Core.Bool.{Bool, true, false}
 use mathlib.Core.List.{List, [], _∷_}
-use mathlib.Core.Option.{Option, some}
+use mathlib.Core.Option.{some}
 use Prim.Native.Nat.{ℕ, _<_}
 use native.Mathlib.Omega.{arith}
 use lib.Dec.{eqb}
 use borrow.Author.Tests.{ne-eqb}
-use Rattle.text.specs.Choice.{pick, is-some, chain, provided}
+use Rattle.text.specs.Choice.{pick, is-some, provided}
 use Rattle.text.specs.Bytes.{Bytes, any, each, flat}
 use Rattle.text.proofs.Choices.{provided-inv, chain-inv, some-same}
 use Rattle.line.specs.Text.{readText, splitText}
@@ -17,11 +17,11 @@ use Rattle.convert.specs.Table.{Form, text, single, uri, phone, organization}
 use Rattle.convert.specs.Value.{filled, readAs, organized}
 use Rattle.convert.specs.ToJson.{contentJson}
 use Rattle.convert_entry.specs.Rows.{formNumber, typeNumber}
-use Rattle.convert_put.specs.Pieces.{contentPiece, valuePiece, inside}
+use Rattle.convert_put.specs.Pieces.{contentPiece, inside}
 use Rattle.convert_put.proofs.Entries.{string-bytes}
 use Rattle.to_json_entry.specs.Entry.{stringPiece, orgPiece, stringsPiece, StringsSound}
-use Rattle.to_json_entry.proofs.Fields.{rawOf, TextOf, text-of, content-of}
-use Rattle.to_json_entry.proofs.Org.{OrgOf, org-of}
+use Rattle.to_json_entry.proofs.Fields.{rawOf, text-of, content-of}
+use Rattle.to_json_entry.proofs.Org.{org-of}
 
 abbrev pub RowContent : Bytes → ℕ → Type 0
 RowContent n i = quoted n (58 ∷ []) ≡ contentPiece i

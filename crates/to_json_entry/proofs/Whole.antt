@@ -3,30 +3,27 @@ use mathlib.Core.Path.{_≡_, refl, sym, ap, _∙_}
 use mathlib.Core.Bool.{Bool, true, not}
 use mathlib.Core.List.{List, [], _∷_}
 use mathlib.Core.Option.{some}
-use Prim.Native.Nat.{ℕ, zero, suc, _-_, _≤_, _<_}
+use Prim.Native.Nat.{ℕ, zero, suc, _≤_}
 use native.Mathlib.Omega.{arith}
-use lib.ListN.{length, take, drop, getD}
-use Rattle.text.specs.Choice.{pick, is-some}
+use lib.ListN.{length, getD}
 use Rattle.text.specs.Bytes.{Bytes, ascii, empty, all, flat}
 use Rattle.text.proofs.Lists.{all-head, all-tail}
 use borrow.Author.Tests.{eqb-true}
 use lib.Dec.{eqb}
 use Rattle.line.specs.Grammar.{Param}
 use Rattle.line.specs.Params.{valuesNamed, besidesValue, valueType}
-use Rattle.line.specs.Text.{readText}
 use Rattle.json.specs.Tree.{member, jstr}
-use Rattle.json.specs.Compact.{quoted}
 use Rattle.convert.specs.Table.{Slot}
 use Rattle.convert.specs.Model.{Entry}
-use Rattle.convert.specs.Classify.{Seen, prefFrom, typesFrom, entryOf}
-use Rattle.convert.specs.ToJson.{where′, contentJson, entryJson}
+use Rattle.convert.specs.Classify.{Seen, typesFrom, entryOf}
+use Rattle.convert.specs.ToJson.{where′, entryJson}
 use Rattle.convert_types.specs.Marks.{marks, told, split}
-use Rattle.convert_params.specs.Row.{valuesKind, First, Row}
+use Rattle.convert_params.specs.Row.{valuesKind, Row}
 use Rattle.line_table.specs.Table.{part, lineIn}
-use Rattle.convert_entry.specs.Rows.{Is, typeNumber, formNumber}
+use Rattle.convert_entry.specs.Rows.{Is, typeNumber}
 use Rattle.convert_entry.proofs.Named.{prefs}
 use Rattle.convert_entry.proofs.Tests.{first-pref}
-use Rattle.convert_put.specs.Pieces.{contentPiece, entryPieces, memberBytes, before}
+use Rattle.convert_put.specs.Pieces.{entryPieces, memberBytes, before}
 use Rattle.convert_put.proofs.Entries.{entry-bytes}
 use Rattle.to_json_entry.specs.Entry.{keyed, RowPieces, stringsPiece, StringsSound}
 use Rattle.to_json_entry.proofs.Fields.{Fields, fields, marked-types, rawOf, pref-none, pref-first}

@@ -13,7 +13,15 @@ ghost use Rattle.convert_values.specs.Values.{textsOf, Readable};
 ghost use Rattle.output.specs.Put.{Puts};
 ghost use Rattle.line_table.specs.Table.{Sound};
 ghost use Rattle.convert_put.specs.Pieces.{entryPieces};
+ghost use Rattle.card_table.specs.Numbers.{typeCount};
 ghost use Rattle.to_json_entry.specs.Entry.{MapLine, PutsEntry, KindOfLine, stringPiece, orgName, unitsPiece, unitsAfter, orgPiece, stringsPiece, StringsSound};
+use card_table::forms;
+use card_table::kinds;
+use card_table::params;
+use card_table::parts;
+use card_table::titles;
+use card_table::types;
+use card_table::values;
 use convert_entry::value_kind;
 use convert_put::put_content;
 use convert_put::put_flags;
@@ -22,6 +30,7 @@ use convert_put::put_pref;
 use convert_put::put_value;
 use json_write::put_name;
 use line_name::is_named;
+use line_table::table;
 use line_text::part_end;
 use output::Wrote;
 use output::put_byte;
@@ -88,9 +97,9 @@ fn unit_kind(named: bool) -> usize
     ensures { λ r. ⌜ r ≡ pick named 7 8 ⌝ }
 {
     if named {
-        return 7;
+        return parts::UNITS_AFTER;
     }
-    8
+    parts::UNITS_ALONE
 }
 
 // ORG's name and units, split at bare semicolons.
@@ -115,13 +124,13 @@ fn put_strings(out: &mut [u8], i: usize, form: usize, raw: bool, v: &[u8]) -> Wr
     requires { ⌜ StringsSound form raw (now v) ⌝ }
     ensures { λ r. ⌜ Puts (now (out .entry)) (stringsPiece i form raw (now (v .entry))) r (now (out .exit)) ⌝ }
 {
-    if form == 4 {
+    if form == forms::ORGANIZATION {
         return put_org(out, i, v);
     }
     put_string_member(out, i, raw, v)
 }
 
-// An entry: its key, kind (0 title, 1 role, else none), strings, marks of TYPE, and PREF.
+// An entry: its key, kind, strings, marks of TYPE, and PREF.
 fn put_entry(
     out: &mut [u8],
     key: &[u8],
@@ -133,7 +142,7 @@ fn put_entry(
     row: &[u8],
     p: &[u8],
 ) -> Wrote
-    requires { ⌜ (9 ≤ length (now row)) × StringsSound form raw (now v) ⌝ }
+    requires { ⌜ (typeCount ≤ length (now row)) × StringsSound form raw (now v) ⌝ }
     ensures { λ r. ⌜ Puts (now (out .entry)) (entryPieces (now (key .entry)) kind (stringsPiece i form raw (now (v .entry))) (now (row .entry)) (now (p .entry))) r (now (out .exit)) ⌝ }
 {
     let Wrote::Bytes(a1) = put_name(out, key) else {
@@ -151,11 +160,11 @@ fn put_entry(
         return Wrote::Full;
     };
     let b4 = b3 + a4;
-    let Wrote::Bytes(a5) = put_flags(&mut out[b4..], row, 0, 2) else {
+    let Wrote::Bytes(a5) = put_flags(&mut out[b4..], row, 0, types::CONTEXTS) else {
         return Wrote::Full;
     };
     let b5 = b4 + a5;
-    let Wrote::Bytes(a6) = put_flags(&mut out[b5..], row, 2, 9) else {
+    let Wrote::Bytes(a6) = put_flags(&mut out[b5..], row, types::CONTEXTS, types::COUNT) else {
         return Wrote::Full;
     };
     let b6 = b5 + a6;
@@ -188,32 +197,32 @@ pub fn put_map_line(
     ensures { λ r. ⌜ PutsEntry (now (out .entry)) (now (s .entry)) (now (t .entry)) i types form kind (now (key .entry)) r (now (out .exit)) ⌝ }
 {
     let vk = value_kind(counts, froms, tos, s);
-    let raw = (form == 2) | ((form == 3) & (vk == 1));
-    let mut row = [0u8; 9];
+    let raw = (form == forms::RAW) | ((form == forms::PHONE) & (vk == values::URI));
+    let mut row = [0u8; types::COUNT];
     mark_rows(&mut row, s, t, types);
-    let a = t[4];
-    let b = t[5];
-    let k = counts[1];
+    let a = t[table::VALUE];
+    let b = t[table::VALUE_END];
+    let k = counts[params::PREF];
     if k == 0 {
         return put_entry(out, key, kind, i, form, raw, &s[a..b], &row, &s[0..0]);
     }
-    let c = froms[1];
-    let d = tos[1];
+    let c = froms[params::PREF];
+    let d = tos[params::PREF];
     put_entry(out, key, kind, i, form, raw, &s[a..b], &row, &s[c..d])
 }
 
-// The kind of the entry that a line of a map becomes, by its name: 0 title, 1 role, 2 none.
+// The kind of the entry that a line of a map becomes, by its name.
 pub fn kind_of_line(s: &[u8], t: &[usize]) -> usize
     requires { ⌜ Sound (now s) (now t) ⌝ }
     ensures { λ r. ⌜ KindOfLine (now (s .entry)) (now (t .entry)) r ⌝ }
 {
-    let a = t[2];
-    let b = t[3];
-    if is_named(&s[a..b], b"title") {
-        return 0;
+    let a = t[table::NAME];
+    let b = t[table::NAME_END];
+    if is_named(&s[a..b], &titles::TITLE_LINE) {
+        return kinds::TITLE;
     }
-    if is_named(&s[a..b], b"role") {
-        return 1;
+    if is_named(&s[a..b], &titles::ROLE_LINE) {
+        return kinds::ROLE;
     }
-    2
+    kinds::NONE
 }

@@ -1,24 +1,20 @@
 -- The pieces of a card's head.
 use mathlib.Core.Path.{_≡_, refl, sym, ap, _∙_}
 use mathlib.Core.Bool.{Bool, true, false}
-use mathlib.Core.List.{List, [], _∷_, _++_, append-nil, append-assoc}
-use Prim.Native.Nat.{ℕ, _≤_, _<_}
+use mathlib.Core.List.{[], _∷_, _++_, append-assoc}
+use Prim.Native.Nat.{ℕ}
 use native.Mathlib.Omega.{arith}
 use lib.ListN.{length}
 use borrow.Author.Tests.{ne-eqb, le-ltb}
-use Rattle.text.specs.Choice.{pick}
 use Rattle.text.specs.Bytes.{Bytes, ascii, all, isDigit, lowered, flat}
 use Rattle.text.specs.Decimal.{decimal}
 use Rattle.text.proofs.Cases.{between-true}
 use Rattle.text.proofs.Lists.{all-head, all-tail}
 use Rattle.text.proofs.Decimals.{decimal-digits}
-use Rattle.json.specs.Tree.{member, jstr}
 use Rattle.json.specs.Compact.{spelled, spelledAll, quoted, written}
 use Rattle.json_write.specs.Pieces.{bare}
 use Rattle.json_write.proofs.Spelling.{bare-one}
 use Rattle.convert.specs.FromCard.{madeUid}
-use Rattle.convert.specs.Value.{filled}
-use Rattle.convert.specs.ToJson.{where′}
 use Rattle.convert_put.specs.Pieces.{memberBytes, after}
 use Rattle.to_json_head.specs.Head.{uidOf, startBytes, kindBytes}
 

@@ -5,13 +5,14 @@ ghost use Rattle.json.specs.Compact.{quoted};
 ghost use Rattle.output.specs.Put.{Puts};
 ghost use Rattle.convert.specs.FromCard.{madeUid};
 ghost use Rattle.to_json_head.specs.Head.{uidOf, startBytes, kindBytes};
+use card_table::members;
 use json_write::put_number;
 use json_write::put_spelled;
 use json_write::put_string;
 use output::Wrote;
 use output::put_byte;
 use output::put_text;
-use table_kept::put_lower;
+use to_json_kept_values::put_lower;
 
 // A made uid: the stem, a hyphen, the card's number.
 fn put_made_uid(out: &mut [u8], stem: &[u8], number: usize) -> Wrote
@@ -53,7 +54,7 @@ fn put_uid(out: &mut [u8], given: bool, uid: &[u8], stem: &[u8], number: usize) 
 pub fn put_start(out: &mut [u8], given: bool, uid: &[u8], stem: &[u8], number: usize) -> Wrote
     ensures { λ r. ⌜ Puts (now (out .entry)) (startBytes (uidOf given (now (uid .entry)) (now (stem .entry)) number)) r (now (out .exit)) ⌝ }
 {
-    let Wrote::Bytes(a) = put_text(out, b"{\"@type\":\"Card\",\"version\":\"1.0\",\"uid\":") else {
+    let Wrote::Bytes(a) = put_text(out, &members::START) else {
         return Wrote::Full;
     };
     let Wrote::Bytes(b) = put_uid(&mut out[a..], given, uid, stem, number) else {
@@ -66,7 +67,7 @@ pub fn put_start(out: &mut [u8], given: bool, uid: &[u8], stem: &[u8], number: u
 fn put_kind_member(out: &mut [u8], v: &[u8]) -> Wrote
     ensures { λ r. ⌜ Puts (now (out .entry)) (flat (ascii ",\"kind\":" ∷ quoted (lowered (now (v .entry))) [] ∷ [])) r (now (out .exit)) ⌝ }
 {
-    let Wrote::Bytes(a) = put_text(out, b",\"kind\":") else {
+    let Wrote::Bytes(a) = put_text(out, &members::KIND_HEAD) else {
         return Wrote::Full;
     };
     let Wrote::Bytes(b) = put_lower(&mut out[a..], v) else {

@@ -1,12 +1,12 @@
 -- Arrays in compact form, element by element.
 use mathlib.Core.Path.{_≡_, refl, sym, ap, _∙_}
 use mathlib.Core.Bool.{Bool, true, false, _||_, not}
-use mathlib.Core.List.{List, [], _∷_, _++_, map, append-assoc, append-nil}
-use Prim.Native.Nat.{ℕ, _≤_, _<_}
+use mathlib.Core.List.{List, [], _∷_, _++_, map, append-assoc}
+use Prim.Native.Nat.{ℕ, _<_}
 use native.Mathlib.Omega.{arith}
 use lib.ListN.{length, length-append}
 use Rattle.text.specs.Choice.{pick}
-use Rattle.text.specs.Bytes.{Bytes, ascii, empty, flat}
+use Rattle.text.specs.Bytes.{Bytes, empty, flat}
 use Rattle.json.specs.Tree.{Json, fromElems, array}
 use Rattle.json.specs.Compact.{quoted, written, writtenElems, elemsAfter}
 use Rattle.convert_put.proofs.Compact.{written-append}

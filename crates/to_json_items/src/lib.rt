@@ -10,15 +10,21 @@ ghost use Rattle.line.specs.Text.{readText};
 ghost use Rattle.output.specs.Put.{Puts};
 ghost use Rattle.line_text.specs.Read.{plainText};
 ghost use Rattle.convert_values.specs.Values.{textsOf, Readable, Noted};
+ghost use Rattle.convert.specs.Answers.{cardRoom};
 ghost use Rattle.to_json_items.specs.Items.{lead, itemHead, itemPiece, listed, isOwn};
+use card_table::parts;
 use convert_put::put_plain;
 use convert_values::is_among;
 use convert_values::is_noted;
 use convert_values::note_values;
+use line_limits::CARD;
 use line_text::part_end;
 use output::Wrote;
 use output::put_byte;
 use output::put_text;
+
+// A list of so many bytes is read for each value: it is not noted.
+const SHORT: usize = 64;
 
 // Whether a value is filled, and none of those of o, which may be noted.
 fn is_own<'a, 'b, 'c>(
@@ -46,28 +52,28 @@ fn is_own<'a, 'b, 'c>(
 fn put_lead(out: &mut [u8], k: usize) -> Wrote
     ensures { λ r. ⌜ Puts (now (out .entry)) (lead k) r (now (out .exit)) ⌝ }
 {
-    if k == 0 {
-        return put_text(out, b"{\"kind\":\"surname\",\"value\":");
+    if k == parts::SURNAME {
+        return put_text(out, &parts::SURNAME_HEAD);
     }
-    if k == 1 {
-        return put_text(out, b"{\"kind\":\"given\",\"value\":");
+    if k == parts::GIVEN {
+        return put_text(out, &parts::GIVEN_HEAD);
     }
-    if k == 2 {
-        return put_text(out, b"{\"kind\":\"given2\",\"value\":");
+    if k == parts::GIVEN2 {
+        return put_text(out, &parts::GIVEN2_HEAD);
     }
-    if k == 3 {
-        return put_text(out, b"{\"kind\":\"title\",\"value\":");
+    if k == parts::TITLE {
+        return put_text(out, &parts::TITLE_HEAD);
     }
-    if k == 4 {
-        return put_text(out, b"{\"kind\":\"credential\",\"value\":");
+    if k == parts::CREDENTIAL {
+        return put_text(out, &parts::CREDENTIAL_HEAD);
     }
-    if k == 5 {
-        return put_text(out, b"{\"kind\":\"surname2\",\"value\":");
+    if k == parts::SURNAME2 {
+        return put_text(out, &parts::SURNAME2_HEAD);
     }
-    if k == 6 {
-        return put_text(out, b"{\"kind\":\"generation\",\"value\":");
+    if k == parts::GENERATION {
+        return put_text(out, &parts::GENERATION_HEAD);
     }
-    put_text(out, b"{\"name\":")
+    put_text(out, &parts::UNIT_HEAD)
 }
 
 fn put_item_head(out: &mut [u8], begun: bool, k: usize) -> Wrote
@@ -76,11 +82,11 @@ fn put_item_head(out: &mut [u8], begun: bool, k: usize) -> Wrote
     if begun {
         return put_byte(out, b',');
     }
-    if k == 7 {
-        return put_text(out, b",\"units\":[");
+    if k == parts::UNITS_AFTER {
+        return put_text(out, &parts::UNITS_AFTER_HEAD);
     }
-    if k == 8 {
-        return put_text(out, b"\"units\":[");
+    if k == parts::UNITS_ALONE {
+        return put_text(out, &parts::UNITS_ALONE_HEAD);
     }
     Wrote::Bytes(0)
 }
@@ -152,11 +158,11 @@ fn put_own<'a, 'b, 'c, 'd>(
 
 // The same where o is long: its values are noted once, and not read again for each of v.
 fn put_noted(out: &mut [u8], v: &[u8], d: u8, o: &[u8], k: usize, begun: bool) -> Wrote
-    requires { ⌜ Readable d (now v) × Readable (code ",") (now o) × (length (now o) ≤ 32768) ⌝ }
+    requires { ⌜ Readable d (now v) × Readable (code ",") (now o) × (length (now o) ≤ cardRoom) ⌝ }
     ensures { λ r. ⌜ Puts (now (out .entry)) (listed k begun (keep (isOwn (textsOf (code ",") (now (o .entry)))) (textsOf d (now (v .entry))))) r (now (out .exit)) ⌝ }
 {
-    let mut places = [0u16; 16384];
-    let mut prints = [0u16; 16384];
+    let mut places = [0u16; CARD / 2];
+    let mut prints = [0u16; CARD / 2];
     let n = note_values(o, &mut places, &mut prints);
     put_own(out, v, d, o, k, begun, true, &places[0..n], &prints[0..n])
 }
@@ -167,7 +173,7 @@ pub fn put_items(out: &mut [u8], v: &[u8], d: u8, o: &[u8], k: usize, begun: boo
     requires { ⌜ Readable d (now v) × Readable (code ",") (now o) ⌝ }
     ensures { λ r. ⌜ Puts (now (out .entry)) (listed k begun (keep (isOwn (textsOf (code ",") (now (o .entry)))) (textsOf d (now (v .entry))))) r (now (out .exit)) ⌝ }
 {
-    if (64 < o.len()) & (o.len() <= 32768) {
+    if (SHORT < o.len()) & (o.len() <= CARD) {
         // Two calls: so the compiler keeps put_noted apart, and its 64 KiB of stack are taken only here.
         if begun {
             return put_noted(out, v, d, o, k, true);

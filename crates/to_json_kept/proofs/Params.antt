@@ -4,27 +4,25 @@ use mathlib.Core.Bool.{Bool, true, false, _||_, _&&_, not}
 use mathlib.Core.List.{List, [], _∷_, _++_, map, map-append, append-nil, append-assoc}
 use Prim.Native.Nat.{ℕ, zero, suc, _+_, _-_, _≤_, _<_}
 use native.Mathlib.Omega.{arith}
-use lib.ListN.{length, getD}
+use lib.ListN.{getD}
 use Rattle.text.specs.Choice.{pick}
 use Rattle.text.specs.Bytes.{Bytes, ascii, same, lowered, empty, flat, any, keep}
-use Rattle.text.proofs.Cases.{byBool}
 use Rattle.json.specs.Tree.{Json, Member, member}
 use Rattle.json.specs.Compact.{quoted, written}
-use Rattle.line.specs.Grammar.{Param, param}
+use Rattle.line.specs.Grammar.{param}
 use Rattle.line.specs.Params.{valuesNamed, besidesValue, lacking, named}
-use Rattle.convert.specs.Model.{Kept}
 use Rattle.convert.specs.FromCard.{keptLine}
 use Rattle.convert.specs.ToJson.{valuesJson, paramJson}
 use Rattle.convert_put.specs.Pieces.{memberBytes, inside}
 use Rattle.convert_put.proofs.Compact.{quoted-append, inside-append}
 use Rattle.output.specs.Put.{Puts, Sofar}
-use Rattle.output.specs.declared.Wrote.{Wrote}
 use Rattle.output.specs.declared.Wrote.the-variants.{Bytes as Wrote-Bytes, Full}
 use Rattle.output.proofs.Laws.{start, done, more, puts-as, sofar-as}
 use Rattle.line_table.specs.Table.{nameAt, rowsIn, lineIn}
 use Rattle.line_table.specs.Spread.{namesOf}
 use Rattle.line_table.proofs.Rows.{rows-none, line-rows}
-use Rattle.table_kept.proofs.Names.{member-at, kept-names-more, kept-params, values-besides}
+use Rattle.to_json_kept_values.specs.Kept.{hasMember}
+use Rattle.to_json_kept_values.proofs.Names.{kept-names-more, kept-params, values-besides}
 use Rattle.to_json_kept.specs.Entry.{paramPiece}
 
 -- ---- the names so far
@@ -44,7 +42,7 @@ names-on s t k zero m e = let z : m ≡ k = omega arith in ([], ap (names s t) z
 names-on s t k (suc d) m e =
     let q = names-on s t k d (d + k) refl in
     let z : m ≡ (d + k) + 1 = omega arith in
-    let one : List Bytes = pick (member-at s t (d + k)) (lowered (nameAt s t (d + k)) ∷ []) [] in (
+    let one : List Bytes = pick (hasMember s t (d + k)) (lowered (nameAt s t (d + k)) ∷ []) [] in (
       q .0 ++ one,
       ap (names s t) z ∙ kept-names-more s t (d + k) ∙ ap (λ (l : List Bytes). l ++ one) (q .1) ∙ append-assoc (names s t k) (q .0) one,
     )
@@ -63,7 +61,7 @@ picked : (on : Bool) (f : Bytes → Member) (x : Bytes) → map f (pick on (x �
 picked true f x = refl
 picked false f x = refl
 
-members-more : (s : Bytes) (t : List ℕ) (k : ℕ) (on : Bool) → on ≡ member-at s t k
+members-more : (s : Bytes) (t : List ℕ) (k : ℕ) (on : Bool) → on ≡ hasMember s t k
     → members s t (k + 1) ≡ members s t k ++ pick on (memberOf s t (lowered (nameAt s t k)) ∷ []) []
 members-more s t k on e =
     ap (map (memberOf s t)) (kept-names-more s t k ∙ ap (λ b. names s t k ++ pick b (lowered (nameAt s t k) ∷ []) []) (sym e))
@@ -82,7 +80,7 @@ member-piece b x j =
     ∙ sym (quoted-append x [] (58 ∷ written j []))
     ∙ sym (append-nil (quoted x (58 ∷ written j []))))
 
-inside-one : (b on : Bool) (s : Bytes) (t : List ℕ) (k : ℕ) → on ≡ member-at s t k
+inside-one : (b on : Bool) (s : Bytes) (t : List ℕ) (k : ℕ) → on ≡ hasMember s t k
     → inside b (pick on (memberOf s t (lowered (nameAt s t k)) ∷ []) []) ≡ pick on (paramPiece b s t (nameAt s t k)) []
 unfolding inside
 inside-one b true s t k e =
@@ -124,7 +122,7 @@ whole-params s t =
     named-params (n ∷ ns) = ap (λ l. memberOf s t n ∷ l) (named-params ns)
 
 module _ (s : Bytes) (t : List ℕ) {g : Bool} {out₀ : List ℕ} {n : ℕ} {out : List ℕ} {at k : ℕ} {begun : Bool} (h : Going s t g out₀ n out at k begun) (l : k < n)
-    (on : Bool) (e : on ≡ member-at s t k) where
+    (on : Bool) (e : on ≡ hasMember s t k) where
   abbrev piece : Bytes
   piece = pick on (paramPiece begun s t (nameAt s t k)) []
 
@@ -164,9 +162,9 @@ going-all s t {g = g} {n = n} {k = k} h l is =
 
 -- ---- whether a row begins a parameter
 
-pub is-value : (s : Bytes) (t : List ℕ) (k : ℕ) {v : Bool} → v ≡ same (lowered (nameAt s t k)) (ascii "value") → v ≡ true → false ≡ member-at s t k
+pub is-value : (s : Bytes) (t : List ℕ) (k : ℕ) {v : Bool} → v ≡ same (lowered (nameAt s t k)) (ascii "value") → v ≡ true → false ≡ hasMember s t k
 is-value s t k e f = sym (ap (λ b. not b && not (any (named (lowered (nameAt s t k))) (rowsIn s t k))) (sym e ∙ f))
 
 pub is-other : (s : Bytes) (t : List ℕ) (k : ℕ) {v r : Bool} → v ≡ same (lowered (nameAt s t k)) (ascii "value") → v ≡ false
-    → r ≡ not (any (named (lowered (nameAt s t k))) (rowsIn s t k)) → r ≡ member-at s t k
+    → r ≡ not (any (named (lowered (nameAt s t k))) (rowsIn s t k)) → r ≡ hasMember s t k
 is-other s t k e f g = g ∙ sym (ap (λ b. not b && not (any (named (lowered (nameAt s t k))) (rowsIn s t k))) (sym e ∙ f))

@@ -2,20 +2,18 @@
 use mathlib.Core.Path.{_≡_, refl, sym, ap, _∙_}
 use mathlib.Core.Bool.{Bool, true, false, not}
 use mathlib.Core.List.{List, [], _∷_, _++_, map, append-nil, append-assoc}
-use Prim.Native.Nat.{ℕ, zero, suc, _+_, _-_, _≤_, _<_}
+use Prim.Native.Nat.{ℕ, _+_, _≤_, _<_}
 use native.Mathlib.Omega.{arith}
 use lib.Dec.{ltb}
-use lib.ListN.{length, take, drop, getD, length-take, length-drop}
+use lib.ListN.{length, getD}
 use borrow.Author.Tests.{lt-ltb, le-ltb, ltb-true, ltb-false}
 use Rattle.text.specs.Choice.{pick}
 use Rattle.text.specs.Bytes.{Bytes, ascii, between, same, lower, lowered, empty, flat}
 use Rattle.text.proofs.Cases.{byBool}
-use Rattle.json.specs.Tree.{Json, jstr, Member, member, object, array, fromElems}
+use Rattle.json.specs.Tree.{jstr, Member, member, object, array, fromElems}
 use Rattle.json.specs.Compact.{spelled, spelledAll, quoted, written, writtenElems, elemsAfter}
-use Rattle.line.specs.Grammar.{Line, Param, param}
 use Rattle.line.specs.Params.{valuesNamed, valueType, firstOr}
 use Rattle.line.proofs.Named.{valuesNamed-append, valuesNamed-none}
-use Rattle.convert.specs.Model.{Kept}
 use Rattle.convert.specs.Value.{filled}
 use Rattle.convert.specs.FromCard.{keptLine}
 use Rattle.convert.specs.ToJson.{where′, paramJson, keptJson}
@@ -25,8 +23,8 @@ use Rattle.output.specs.Put.{Puts}
 use Rattle.output.specs.declared.Wrote.{Wrote}
 use Rattle.output.proofs.Laws.{puts-as}
 use Rattle.line_table.specs.Table.{part, Span, nameAt, valueAt, rowsIn, lineIn, Holds}
-use Rattle.line_table.proofs.Rows.{rows-more, rows-none, rows-split, line-rows}
-use Rattle.table_kept.proofs.Lists.{values-more}
+use Rattle.line_table.proofs.Rows.{rows-none, rows-split, line-rows}
+use Rattle.to_json_kept_values.proofs.Lists.{values-more}
 use Rattle.table_entry.proofs.Entry.{part-empty, part-some}
 use Rattle.table_entry.proofs.Spread.{kept-held}
 use Rattle.to_json_kept.specs.Entry.{groupPiece, headPiece, tailPiece, ValueRow}

@@ -11,17 +11,20 @@ ghost use Rattle.convert.specs.FromCard.{keptLine};
 ghost use Rattle.convert.specs.ToJson.{keptJson, paramJson};
 ghost use Rattle.output.specs.Put.{Puts};
 ghost use Rattle.line_table.specs.Table.{part, Span, Sound, nameAt, lineIn};
-ghost use Rattle.table_kept.proofs.Names.{member-at};
+ghost use Rattle.to_json_kept_values.specs.Kept.{hasMember};
 ghost use Rattle.convert_put.specs.Pieces.{inside};
 ghost use Rattle.to_json_kept.specs.Entry.{paramPiece, groupPiece, headPiece, tailPiece, ValueRow};
+use card_table::kept;
+use card_table::params;
 use json_write::put_string;
 use line_name::is_named;
+use line_table::table;
 use output::Wrote;
 use output::put_byte;
 use output::put_text;
-use table_kept::is_first;
-use table_kept::put_lower;
-use table_kept::put_values;
+use to_json_kept_values::is_first;
+use to_json_kept_values::put_lower;
+use to_json_kept_values::put_values;
 
 fn put_comma(out: &mut [u8], begun: bool) -> Wrote
     ensures { λ r. ⌜ Puts (now (out .entry)) (pick begun (ascii ",") []) r (now (out .exit)) ⌝ }
@@ -77,16 +80,16 @@ fn is_value(s: &[u8], t: &[usize], k: usize) -> bool
     requires { ⌜ Sound (now s) (now t) × (k < getD (now t) 6 0) ⌝ }
     ensures { λ r. ⌜ r ≡ same (lowered (nameAt (now (s .entry)) (now (t .entry)) k)) (ascii "value") ⌝ }
 {
-    let i = 4 * k + 8;
+    let i = table::ROW * k + table::ROWS;
     let a = t[i];
-    let b = t[i + 1];
-    is_named(&s[a..b], b"value")
+    let b = t[i + table::ROW_NAME_END];
+    is_named(&s[a..b], &params::VALUE_NAME)
 }
 
 // Whether the row k begins a parameter of the entry: it is not VALUE, and the first of its name.
 fn is_param(s: &[u8], t: &[usize], k: usize) -> bool
     requires { ⌜ Sound (now s) (now t) × (k < getD (now t) 6 0) ⌝ }
-    ensures { λ r. ⌜ r ≡ member-at (now (s .entry)) (now (t .entry)) k ⌝ }
+    ensures { λ r. ⌜ r ≡ hasMember (now (s .entry)) (now (t .entry)) k ⌝ }
 {
     if is_value(s, t, k) {
         return false;
@@ -99,15 +102,15 @@ fn put_params(out: &mut [u8], grouped: bool, s: &[u8], t: &[usize]) -> Wrote
     requires { ⌜ Sound (now s) (now t) ⌝ }
     ensures { λ r. ⌜ Puts (now (out .entry)) (inside grouped (map paramJson (keptLine (lineIn (now (s .entry)) (now (t .entry))) .params))) r (now (out .exit)) ⌝ }
 {
-    let n = t[6];
+    let n = t[table::COUNT];
     let mut at = 0;
     let mut k: usize = 0;
     let mut begun = grouped;
     while k < n {
         let on = is_param(s, t, k);
-        let i = 4 * k + 8;
+        let i = table::ROW * k + table::ROWS;
         let a = t[i];
-        let b = t[i + 1];
+        let b = t[i + table::ROW_NAME_END];
         let Wrote::Bytes(m) = put_param_if(&mut out[at..], on, begun, s, t, a, b) else {
             return Wrote::Full;
         };
@@ -123,7 +126,7 @@ fn value_row(s: &[u8], t: &[usize]) -> usize
     requires { ⌜ Sound (now s) (now t) ⌝ }
     ensures { λ r. ⌜ ValueRow (now (s .entry)) (now (t .entry)) r ⌝ }
 {
-    let n = t[6];
+    let n = t[table::COUNT];
     let mut k: usize = 0;
     while k < n {
         if is_value(s, t, k) {
@@ -140,19 +143,19 @@ fn put_type(out: &mut [u8], s: &[u8], t: &[usize]) -> Wrote
     ensures { λ r. ⌜ Puts (now (out .entry)) (quoted (valueType (lineIn (now (s .entry)) (now (t .entry)) .params)) []) r (now (out .exit)) ⌝ }
 {
     let k = value_row(s, t);
-    if k >= t[6] {
-        return put_text(out, b"\"unknown\"");
+    if k >= t[table::COUNT] {
+        return put_text(out, &kept::UNKNOWN);
     }
-    let i = 4 * k + 8;
-    let a = t[i + 2];
-    let b = t[i + 3];
+    let i = table::ROW * k + table::ROWS;
+    let a = t[i + table::ROW_VALUE];
+    let b = t[i + table::ROW_VALUE_END];
     put_lower(out, &s[a..b])
 }
 
 fn put_group_member(out: &mut [u8], g: &[u8]) -> Wrote
     ensures { λ r. ⌜ Puts (now (out .entry)) (flat (ascii "\"group\":" ∷ quoted (lowered (now (g .entry))) [] ∷ [])) r (now (out .exit)) ⌝ }
 {
-    let Wrote::Bytes(a) = put_text(out, b"\"group\":") else {
+    let Wrote::Bytes(a) = put_text(out, &kept::GROUP_HEAD) else {
         return Wrote::Full;
     };
     let Wrote::Bytes(b) = put_lower(&mut out[a..], g) else {
@@ -225,10 +228,10 @@ pub fn put_kept(out: &mut [u8], s: &[u8], t: &[usize]) -> Wrote
     requires { ⌜ Sound (now s) (now t) ⌝ }
     ensures { λ r. ⌜ Puts (now (out .entry)) (written (keptJson (keptLine (lineIn (now (s .entry)) (now (t .entry))))) []) r (now (out .exit)) ⌝ }
 {
-    let a = t[2];
-    let b = t[3];
-    let c = t[0];
-    let d = t[1];
+    let a = t[table::NAME];
+    let b = t[table::NAME_END];
+    let c = t[table::GROUP];
+    let d = t[table::GROUP_END];
     let Wrote::Bytes(x) = put_head(out, &s[a..b], &s[c..d]) else {
         return Wrote::Full;
     };
@@ -236,8 +239,8 @@ pub fn put_kept(out: &mut [u8], s: &[u8], t: &[usize]) -> Wrote
         return Wrote::Full;
     };
     let xy = x + y;
-    let e = t[4];
-    let f = t[5];
+    let e = t[table::VALUE];
+    let f = t[table::VALUE_END];
     let Wrote::Bytes(z) = put_tail(&mut out[xy..], &s[e..f], s, t) else {
         return Wrote::Full;
     };

@@ -1,17 +1,16 @@
 -- Made numbers only grow within a map, so that one counter is enough.
 use mathlib.Core.Path.{_≡_, refl, sym, ap, _∙_}
-use mathlib.Core.Bool.{Bool, true, false, _||_}
-use mathlib.Core.List.{List, [], _∷_, _++_}
+use mathlib.Core.Bool.{true, false, _||_}
+use mathlib.Core.List.{List, _∷_}
 use Prim.Native.Nat.{ℕ, zero, suc, _+_, _≤_, _<_}
 use native.Mathlib.Omega.{arith}
-use native.Mathlib.Nat.{le-refl}
 use lib.Dec.{eqb}
 use lib.ListN.{length}
 use borrow.Author.Tests.{eqb-true, eqb-false}
 use Rattle.text.specs.Bytes.{Bytes, any, same, among}
-use Rattle.text.proofs.Cases.{byBool, split, not-both, tests}
+use Rattle.text.proofs.Cases.{byBool, split, not-both}
 use Rattle.text.proofs.Same.{same-true, among-head, among-later, differ-same}
-use Rattle.convert.specs.Keys.{numbered, freshFrom, fresh}
+use Rattle.convert.specs.Keys.{numbered, fresh}
 use Rattle.convert.proofs.Fresh.{numbered-injective, numberFrom, fresh-numbered, fresh-unused, fresh-least}
 use Rattle.to_json_keys.specs.Taken.{Next, Going}
 

@@ -2,7 +2,7 @@
 use mathlib.Core.Path.{_≡_, refl, sym, ap, _∙_}
 use mathlib.Core.Bool.{Bool, true, false, _||_}
 use mathlib.Core.List.{List, [], _∷_, _++_}
-use Prim.Native.Nat.{ℕ, zero, suc, _+_, _≤_, _<_}
+use Prim.Native.Nat.{ℕ, _+_, _≤_, _<_}
 use native.Mathlib.Omega.{arith}
 use native.Mathlib.Nat.{le-refl}
 use lib.Dec.{eqb}
@@ -13,7 +13,7 @@ use Rattle.text.specs.Bytes.{Bytes, any, same, among}
 use Rattle.text.proofs.Cases.{byBool, or-second, not-both}
 use Rattle.text.proofs.Same.{among-append, among-none}
 use Rattle.convert.specs.Keys.{numbered}
-use Rattle.to_json_keys.specs.Taken.{Numbers, Taken, Marks, Blocked, NextFree, Next, Nexts}
+use Rattle.to_json_keys.specs.Taken.{Numbers, Marks, NextFree, Nexts}
 
 or-false : (b : Bool) → b || false ≡ b
 or-false true = refl

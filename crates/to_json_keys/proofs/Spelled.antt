@@ -1,17 +1,17 @@
 -- Digits that spell a number from 1 to 1024, and keys with such a number after the prefix and a hyphen.
 use mathlib.Core.Path.{_≡_, refl, sym, ap, _∙_}
 use mathlib.Core.Bool.{Bool, true, false}
-use mathlib.Core.List.{List, [], _∷_, _++_, append-nil}
+use mathlib.Core.List.{[], _∷_, _++_, append-nil}
 use Prim.Native.Nat.{ℕ, zero, suc, _+_, _-_, _*_, _/_, _%_, _≤_, _<_}
 use native.Mathlib.Omega.{arith}
 use native.Mathlib.Numerals.{add-one}
 use lib.Dec.{eqb, leb}
 use lib.ListN.{length, take, drop, getD, length-append, length-drop, take-append-drop}
-use lib.Seq.{take-all, take-suc, drop-cons, take-at, getD-append-add}
+use lib.Seq.{take-all, take-suc, drop-cons, take-at}
 use borrow.Author.Tests.{eqb-true, eqb-false, ne-eqb, eq-eqb, leb-true}
 use Rattle.text.specs.Bytes.{Bytes, between, isDigit, all, same, flat}
 use Rattle.text.specs.Decimal.{digitsBefore, decimal, valueFrom, number}
-use Rattle.text.proofs.Cases.{byBool, inRange, below, beyond, not-both, tests}
+use Rattle.text.proofs.Cases.{byBool, inRange, below, beyond, not-both}
 use Rattle.text.proofs.Lists.{all-head, all-tail}
 use Rattle.text.proofs.Same.{same-true, same-eq, differ-same, same-false}
 use Rattle.text.proofs.Decimals.{decimal-injective, decimal-digits, number-decimal}

@@ -9,6 +9,7 @@ ghost use Rattle.convert.specs.Keys.{numbered};
 ghost use Rattle.to_json_keys.specs.Taken.{Spells, Numbers, Marks, NextFree, Nexts};
 use convert_tests::same_bytes;
 use json_write::put_number;
+use line_limits::LINES;
 use output::Wrote;
 use output::put_byte;
 use output::put_text;
@@ -39,7 +40,16 @@ fn digit(b: u8) -> usize
     (b - b'0') as usize
 }
 
-// The number from 1 to 1024 that is spelled so, without a leading zero; else 0.
+// No made key has a greater number: a map has as many entries as a card has lines at most, and as many PROP-IDs may take a number.
+const LAST: usize = 2 * LINES;
+
+// With one digit more, a greater number is over the last.
+const TENTH: usize = LAST / 10;
+
+// The length of a row of marks, one for each number.
+pub const ROW: usize = LAST + 1;
+
+// The number from 1 to the last that is spelled so, without a leading zero; else 0.
 fn spelled_number(d: &[u8]) -> usize
     ensures { λ r. ⌜ Spells (now (d .entry)) r ⌝ }
 {
@@ -63,19 +73,19 @@ fn spelled_number(d: &[u8]) -> usize
         if b > b'9' {
             return 0;
         }
-        if n > 102 {
+        if n > TENTH {
             return 0;
         }
         n = n * 10 + digit(b);
         i += 1;
     }
-    if n > 1024 {
+    if n > LAST {
         return 0;
     }
     n
 }
 
-// The number from 1 to 1024 whose made key is that key; else 0.
+// The number from 1 to the last whose made key is that key; else 0.
 fn number_of(prefix: &[u8], key: &[u8]) -> usize
     ensures { λ r. ⌜ Numbers (now (prefix .entry)) (now (key .entry)) r ⌝ }
 {

@@ -1,13 +1,11 @@
 -- The PROP-IDs of a map's entries, line by line.
 use mathlib.Core.Path.{_≡_, refl, sym, ap, _∙_}
-use mathlib.Core.Bool.{Bool, true, false, not, _||_}
-use mathlib.Core.List.{List, [], _∷_, _++_, map, append-nil}
-use Prim.Native.Nat.{ℕ, zero, suc, _+_, _≤_, _<_}
+use mathlib.Core.Bool.{true, false, not}
+use mathlib.Core.List.{List, [], _∷_, _++_, map}
+use Prim.Native.Nat.{ℕ, suc, _≤_}
 use native.Mathlib.Omega.{arith}
-use native.Mathlib.Numerals.{add-one}
-use lib.ListN.{length, take, drop, getD, length-append, take-append-drop}
+use lib.ListN.{length, take, drop, length-append, take-append-drop}
 use lib.Dec.{eqb}
-use Rattle.text.specs.Choice.{pick}
 use Rattle.text.specs.Bytes.{Bytes, empty, flat, keep, among}
 use Rattle.text.proofs.Cases.{byBool, or-second}
 use Rattle.text.proofs.Lists.{keep-append, map-both, flat-append, length-keep}
@@ -16,9 +14,7 @@ use Rattle.line.specs.Grammar.{Line}
 use Rattle.convert.specs.Model.{Entry}
 use Rattle.convert.specs.Classify.{Class, as-version, as-uid, as-kind, as-dropped, as-full, as-parts, as-entry, as-member, as-kept, Classed}
 use Rattle.convert.specs.FromCard.{Placed, placed, Gives, gives, gathered, inMap}
-use Rattle.convert_entry.specs.Rows.{codeOf}
 use Rattle.to_json_maps.specs.Maps.{entriesOf, idsOf}
-use Rattle.to_json_maps.proofs.Whole.{entry-line, other-line}
 
 in-append : (i : ℕ) (ps qs : List Placed) → inMap i (ps ++ qs) ≡ inMap i ps ++ inMap i qs
 unfolding inMap

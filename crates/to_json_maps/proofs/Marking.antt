@@ -1,15 +1,15 @@
 -- The marks of a map's PROP-IDs, line by line.
 use mathlib.Core.Path.{_≡_, refl, sym, ap, subst, _∙_}
 use mathlib.Core.Bool.{Bool, true, false, not, _||_}
-use mathlib.Core.List.{List, [], _∷_, _++_, map, append-nil}
-use mathlib.Core.Option.{none, some}
+use mathlib.Core.List.{List, [], _∷_, _++_, append-nil}
+use mathlib.Core.Option.{none}
 use Prim.Native.Nat.{ℕ, zero, suc, _+_, _-_, _≤_, _<_}
 use native.Mathlib.Omega.{arith}
 use native.Mathlib.Numerals.{add-one}
 use lib.Dec.{eqb}
 use lib.ListN.{length, take, drop, getD}
 use lib.Seq.{take-all}
-use borrow.Author.Tests.{eqb-true, eqb-false, not-true, not-false, ne-eqb}
+use borrow.Author.Tests.{eqb-true, eqb-false, ne-eqb}
 use Rattle.text.specs.Bytes.{Bytes, empty, keep, among}
 use Rattle.text.proofs.Cases.{byBool, not-both}
 use Rattle.text.proofs.Choices.{none-some}
@@ -22,8 +22,8 @@ use Rattle.convert.specs.Classify.{as-entry, Classed}
 use Rattle.convert.specs.Keys.{numbered}
 use Rattle.convert_params.specs.Row.{Row}
 use Rattle.convert_entry.specs.Rows.{codeOf}
-use Rattle.card_lines.specs.Classified.{Classified}
-use Rattle.card_lines.proofs.Lines.{LineOf, line-of, count-is}
+use Rattle.from_card_lines.specs.Classified.{Classified}
+use Rattle.from_card_lines.proofs.Lines.{LineOf, line-of, count-is}
 use Rattle.to_json_keys.specs.Taken.{Taken, Marks, Blocked}
 use Rattle.to_json_maps.specs.Maps.{entriesOf, idsOf, Enters, Entering, MarksLine, Unmarked}
 use Rattle.to_json_maps.proofs.Whole.{entry-line, other-line, entry-code}

@@ -1,37 +1,34 @@
 -- The row of the table that a line's slot has, and the entry's key.
 use mathlib.Core.Path.{_≡_, refl, sym, ap, subst, _∙_}
 use mathlib.Core.Bool.{Bool, true, false, not, _&&_}
-use mathlib.Core.List.{List, [], _∷_, _++_, map}
+use mathlib.Core.List.{List, [], _∷_, map}
 use mathlib.Core.Option.{Option, none, some}
-use Prim.Native.Nat.{ℕ, zero, suc, _+_, _-_, _≤_, _<_}
+use Prim.Native.Nat.{ℕ, zero, suc, _-_, _<_}
 use native.Mathlib.Omega.{arith}
-use lib.Dec.{eqb, ltb}
+use lib.Dec.{eqb}
 use lib.ListN.{length, take, drop, getD}
-use borrow.Author.Tests.{eqb-true, ltb-true, ne-eqb}
-use Rattle.text.specs.Choice.{pick, provided, chain}
-use Rattle.text.specs.Bytes.{Bytes, ascii, empty, same, lowered}
-use Rattle.text.proofs.Cases.{byBool, inRange, not-both, and-left}
+use Rattle.text.specs.Choice.{provided, chain}
+use Rattle.text.specs.Bytes.{Bytes, ascii, empty, lowered}
+use Rattle.text.proofs.Cases.{inRange, not-both, and-left}
 use Rattle.text.proofs.Choices.{none-some, some-same, provided-inv}
-use Rattle.text.proofs.Same.{same-true, same-eq}
-use Rattle.line.specs.Grammar.{Param, Line, readLine}
+use Rattle.line.specs.Grammar.{Param, Line}
 use Rattle.line.specs.Params.{valuesNamed, onlyNamed, besidesValue, valueType}
-use Rattle.convert.specs.Table.{Map, maps, Slot, slotOf, slotFrom, position}
+use Rattle.convert.specs.Table.{Map, maps, Slot, slotOf}
 use Rattle.convert.specs.Model.{Entry, singly}
-use Rattle.convert.specs.Value.{isKeyText, takesType, readAs, filled}
-use Rattle.convert.specs.Classify.{Seen, Class, as-entry, Classed, isId, keyFrom, prefFrom, typesFrom, entryOf, classify}
+use Rattle.convert.specs.Value.{isKeyText, takesType, readAs}
+use Rattle.convert.specs.Classify.{Seen, as-entry, Classed, keyFrom, prefFrom, typesFrom, entryOf}
 use Rattle.convert_params.specs.Row.{valuesKind, Row}
-use Rattle.convert_entry.specs.Rows.{namesIn, formNumber, Is, codeOf}
+use Rattle.convert_entry.specs.Rows.{namesIn, formNumber, Is}
 use Rattle.convert_entry.proofs.Named.{prop-ids}
 use Rattle.convert_entry.proofs.Tests.{first-id}
-use Rattle.class_names.specs.Names.{typesOf, formOf}
+use Rattle.class_properties.specs.Names.{typesOf, formOf}
 use Rattle.line_table.specs.Table.{lineIn, Holds}
 use Rattle.line_unfold.specs.Table.{lineAt}
 use Rattle.table_entry.proofs.Spread.{entry-held}
-use Rattle.card_lines.proofs.Lines.{LineOf}
+use Rattle.from_card_lines.proofs.Lines.{LineOf}
 use Rattle.home.proofs.Classes.{Fact, class-fact}
 use Rattle.home.proofs.Slots.{at, slot-row}
 use Rattle.to_json_maps.specs.Maps.{noMap, mapAt, Enters, Converts}
-use Rattle.to_json_maps.proofs.Whole.{entry-code}
 use Rattle.to_json_maps.proofs.Dashes.{Dashless, no-prop-id}
 
 -- ---- from the number of a line's class to its entry

@@ -2,40 +2,37 @@
 use mathlib.Core.Path.{_≡_, refl, sym, ap, subst, _∙_}
 use mathlib.Core.Bool.{Bool, true, false, not}
 use mathlib.Core.List.{List, [], _∷_, _++_, append-nil}
-use mathlib.Core.Option.{some}
-use Prim.Native.Nat.{ℕ, zero, suc, _+_, _-_, _≤_, _<_}
+use Prim.Native.Nat.{ℕ, _+_, _-_, _≤_, _<_}
 use native.Mathlib.Omega.{arith}
 use lib.Dec.{eqb}
 use lib.ListN.{length, take, drop, getD}
 use lib.Seq.{take-at}
 use borrow.Rule.Slice.PartMut.{midOf, putMid}
 use Rattle.text.specs.Choice.{pick}
-use Rattle.text.specs.Bytes.{Bytes, empty, flat, among, lowered}
-use Rattle.text.proofs.Cases.{not-both}
+use Rattle.text.specs.Bytes.{Bytes, empty, flat, lowered}
 use Rattle.output.specs.declared.Wrote.{Wrote}
 use Rattle.output.specs.declared.Wrote.the-variants.{Bytes as Wrote-Bytes, Full}
-use Rattle.output.specs.Put.{put, Puts, Sofar, Rest}
+use Rattle.output.specs.Put.{Puts, Rest}
 use Rattle.output.proofs.Laws.{first, put-fits, said-full, puts-as}
 use Rattle.output.proofs.Rests.{rest-all, rest-as, rest-next, rest-stop}
-use Rattle.convert.specs.Table.{Map, Slot, slotOf}
+use Rattle.convert.specs.Table.{Map}
 use Rattle.convert.specs.Model.{Entry}
 use Rattle.convert.specs.Classify.{Classed}
 use Rattle.convert.specs.Keys.{numbered, fresh, keyOr}
-use Rattle.convert.specs.FromCard.{keyedEntries}
 use Rattle.convert.specs.ToJson.{entryJson}
 use Rattle.convert_entry.specs.Rows.{namesIn, Is}
-use Rattle.convert_put.specs.Pieces.{memberBytes, after, closing}
+use Rattle.convert_put.specs.Pieces.{memberBytes, closing}
 use Rattle.line_table.specs.Table.{lineIn}
 use Rattle.line_unfold.specs.Table.{lineAt}
-use Rattle.class_names.specs.Names.{typesOf, formOf}
+use Rattle.class_properties.specs.Names.{typesOf, formOf}
 use Rattle.to_json_entry.specs.Entry.{keyed, RowPieces, PutsEntry, KindOfLine}
-use Rattle.card_lines.specs.Classified.{Classified}
-use Rattle.card_lines.proofs.Lines.{count-is, few-lines, no-more}
+use Rattle.from_card_lines.specs.Classified.{Classified}
+use Rattle.from_card_lines.proofs.Lines.{count-is, few-lines, no-more}
 use Rattle.to_json_keys.specs.Taken.{Blocked, Next, Going}
 use Rattle.to_json_keys.proofs.Going.{going-first, going-own, made-key, going-made}
 use Rattle.to_json_maps.specs.declared.Turn.{Turn}
 use Rattle.to_json_maps.specs.declared.Turn.the-variants.{Put, Full as Filled}
-use Rattle.to_json_maps.specs.Maps.{mapAt, prefixOf, entriesOf, idsOf, mapMember, headPiece, entryPiece, mapFrom, Enters, Converts, Turning, HasTurn, wroteOf, Goes, PutsTurn, mapBytes}
+use Rattle.to_json_maps.specs.Maps.{mapAt, entriesOf, idsOf, headPiece, entryPiece, mapFrom, Enters, Converts, Turning, HasTurn, wroteOf, Goes, PutsTurn, mapBytes}
 use Rattle.to_json_maps.proofs.Whole.{map-whole}
 use Rattle.to_json_maps.proofs.Rows.{slot-map, slot-is}
 use Rattle.to_json_maps.proofs.Ids.{own-among, ids-few, entries-none}

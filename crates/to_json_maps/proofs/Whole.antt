@@ -1,23 +1,21 @@
 -- A map's member entry by entry, and its entries line by line.
 use mathlib.Core.Path.{_≡_, refl, sym, ap, _∙_}
-use mathlib.Core.Bool.{Bool, true, false, not}
+use mathlib.Core.Bool.{true, false, not}
 use mathlib.Core.List.{List, [], _∷_, _++_, map, append-assoc, append-nil}
-use Prim.Native.Nat.{ℕ, zero, suc, _+_, _≤_, _<_}
+use Prim.Native.Nat.{ℕ, suc, _+_, _≤_, _<_}
 use native.Mathlib.Omega.{arith}
-use lib.Dec.{eqb}
 use native.Mathlib.Numerals.{add-one}
-use lib.ListN.{length, drop, getD, drop-of-length-le}
+use lib.ListN.{length, drop, drop-of-length-le}
 use lib.Seq.{drop-cons}
 use borrow.Author.Tests.{ne-eqb, eq-eqb}
-use Rattle.text.specs.Choice.{pick}
 use Rattle.text.specs.Bytes.{Bytes, empty, flat, keep}
-use Rattle.json.specs.Tree.{Member, member, object}
+use Rattle.json.specs.Tree.{member, object}
 use Rattle.json.specs.Compact.{quoted}
 use Rattle.convert.specs.Table.{Map, maps}
 use Rattle.convert.specs.Model.{Entry}
 use Rattle.convert.specs.Classify.{Class, as-version, as-uid, as-kind, as-dropped, as-full, as-parts, as-entry, as-member, as-kept, Classed}
 use Rattle.convert.specs.Keys.{keyOr, keysAfter, keys}
-use Rattle.convert.specs.FromCard.{Placed, placed, Gives, gives, gathered, inMap, withKeys, keyedEntries, mapsFrom}
+use Rattle.convert.specs.FromCard.{Placed, Gives, gives, gathered, inMap, withKeys, keyedEntries, mapsFrom}
 use Rattle.convert.specs.ToJson.{where′, entryJson, mapsJson}
 use Rattle.convert_entry.specs.Rows.{codeOf}
 use Rattle.convert_put.specs.Pieces.{memberBytes, after, closing}

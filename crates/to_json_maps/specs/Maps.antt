@@ -22,10 +22,11 @@ use Rattle.convert.specs.FromCard.{Gives, gathered, inMap, keyedEntries, mapsFr
 use Rattle.convert.specs.ToJson.{where′, entryJson, mapsJson}
 use Rattle.to_json_entry.specs.Entry.{keyed}
 use Rattle.line_table.specs.Table.{lineIn}
-use Rattle.card_lines.specs.Classified.{Classified}
+use Rattle.from_card_lines.specs.Classified.{Classified}
 use Rattle.to_json_keys.specs.Taken.{Taken, Blocked, Going}
 use Rattle.convert_put.specs.Pieces.{memberBytes, after, closing}
 use Rattle.table_entry.specs.Key.{Rowed}
+use Rattle.card_table.specs.Numbers.{mapCount}
 use Rattle.to_json_maps.specs.declared.Turn.{Turn}
 use Rattle.to_json_maps.specs.declared.Turn.the-variants.{Put, Full as Filled}
 
@@ -170,7 +171,7 @@ PutsMap room scratch starts codes n i r out = (cs : List Classed) → Classified
 -- what there is to write a map's entries from
 pub record HasMap (scratch starts codes : List ℕ) (n i : ℕ) (prefix : Bytes) (row : List ℕ) (taken : Bool) : Type 0 where
   pub lines : HasLines scratch starts codes n
-  pub small : i < 7
+  pub small : i < mapCount
   pub is : prefix ≡ prefixOf i
   pub ids : MarksIds prefix scratch starts codes n i row taken
 

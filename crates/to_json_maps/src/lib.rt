@@ -1,4 +1,4 @@
-// The maps of a card's JSON, from its classified lines. A map's row is its member's name, its keys' prefix, and the rows of `class_names`.
+// The maps of a card's JSON, from its classified lines. A map's row is its member's name, its keys' prefix, and the rows of `class_properties`.
 ghost use mathlib.Core.Path.{_≡_};
 ghost use mathlib.Core.Bool.{false};
 ghost use mathlib.Core.List.{_∷_, []};
@@ -8,9 +8,20 @@ ghost use lib.ListN.{length};
 ghost use Rattle.text.specs.Bytes.{code, is, any};
 ghost use Rattle.output.specs.Put.{Puts};
 ghost use Rattle.convert.specs.Keys.{numbered};
+ghost use Rattle.line_table.specs.Table.{tableLength};
+ghost use Rattle.card_table.specs.Numbers.{mapCount};
 ghost use Rattle.to_json_maps.specs.Maps.{mapAt, prefixOf, headPiece, Entering, MarksLine, Unmarked, HasLines, NoIds, MarksIds, HasEntry, PutsKeyed, HasTurn, PutsTurn, HasMap, PutsMap, PutsMaps};
-use class_names::form_of;
-use class_names::types_of;
+use card_table::emails;
+use card_table::links;
+use card_table::maps;
+use card_table::nicknames;
+use card_table::notes;
+use card_table::organizations;
+use card_table::params;
+use card_table::phones;
+use card_table::titles;
+use class_properties::form_of;
+use class_properties::types_of;
 use line_table::fill;
 use line_unfold::line_at;
 use output::Wrote;
@@ -19,9 +30,15 @@ use output::put_text;
 use table_params::scan_rows;
 use to_json_entry::kind_of_line;
 use to_json_entry::put_map_line;
+use to_json_keys::ROW;
 use to_json_keys::mark_key;
 use to_json_keys::next_number;
 use to_json_keys::put_key;
+
+// So many bytes has a made key at most, and so many its prefix.
+const KEY: usize = 32;
+
+const PREFIX: usize = 16;
 
 // What comes before an entry of the map i: its member's name, or a comma where there is an entry before.
 fn put_map_head(out: &mut [u8], i: usize, begun: bool) -> Wrote
@@ -30,54 +47,54 @@ fn put_map_head(out: &mut [u8], i: usize, begun: bool) -> Wrote
     if begun {
         return put_byte(out, b',');
     }
-    if i == 0 {
-        return put_text(out, b",\"nicknames\":{");
+    if i == nicknames::MAP {
+        return put_text(out, &nicknames::HEAD);
     }
-    if i == 1 {
-        return put_text(out, b",\"emails\":{");
+    if i == emails::MAP {
+        return put_text(out, &emails::HEAD);
     }
-    if i == 2 {
-        return put_text(out, b",\"phones\":{");
+    if i == phones::MAP {
+        return put_text(out, &phones::HEAD);
     }
-    if i == 3 {
-        return put_text(out, b",\"links\":{");
+    if i == links::MAP {
+        return put_text(out, &links::HEAD);
     }
-    if i == 4 {
-        return put_text(out, b",\"notes\":{");
+    if i == notes::MAP {
+        return put_text(out, &notes::HEAD);
     }
-    if i == 5 {
-        return put_text(out, b",\"titles\":{");
+    if i == titles::MAP {
+        return put_text(out, &titles::HEAD);
     }
-    if i == 6 {
-        return put_text(out, b",\"organizations\":{");
+    if i == organizations::MAP {
+        return put_text(out, &organizations::HEAD);
     }
-    put_text(out, b",\"\":{")
+    put_text(out, &maps::NO_HEAD)
 }
 
 // The prefix of the keys that are made for the map i.
 fn put_prefix(out: &mut [u8], i: usize) -> Wrote
     ensures { λ r. ⌜ Puts (now (out .entry)) (prefixOf i) r (now (out .exit)) ⌝ }
 {
-    if i == 0 {
-        return put_text(out, b"NICK");
+    if i == nicknames::MAP {
+        return put_text(out, &nicknames::PREFIX);
     }
-    if i == 1 {
-        return put_text(out, b"EMAIL");
+    if i == emails::MAP {
+        return put_text(out, &emails::PREFIX);
     }
-    if i == 2 {
-        return put_text(out, b"PHONE");
+    if i == phones::MAP {
+        return put_text(out, &phones::PREFIX);
     }
-    if i == 3 {
-        return put_text(out, b"LINK");
+    if i == links::MAP {
+        return put_text(out, &links::PREFIX);
     }
-    if i == 4 {
-        return put_text(out, b"NOTE");
+    if i == notes::MAP {
+        return put_text(out, &notes::PREFIX);
     }
-    if i == 5 {
-        return put_text(out, b"TITLE");
+    if i == titles::MAP {
+        return put_text(out, &titles::PREFIX);
     }
-    if i == 6 {
-        return put_text(out, b"ORG");
+    if i == organizations::MAP {
+        return put_text(out, &organizations::PREFIX);
     }
     Wrote::Bytes(0)
 }
@@ -97,25 +114,25 @@ fn has_dash(line: &[u8]) -> bool
 
 // Marks the number that the line's PROP-ID takes, and answers whether it has one.
 fn mark_line(row: &mut [u8], t: &mut [usize], s: &[u8], prefix: &[u8]) -> bool
-    requires { ⌜ (1025 ≤ length (now row)) × (264 ≤ length (now t)) × Entering (now s) ⌝ }
+    requires { ⌜ (1025 ≤ length (now row)) × (tableLength ≤ length (now t)) × Entering (now s) ⌝ }
     ensures { λ r. ⌜ MarksLine (now (prefix .entry)) (now (s .entry)) (now (row .entry)) (now (row .exit)) r ⌝ }
 {
     if !has_dash(s) {
         return false;
     }
-    let mut counts = [0usize; 8];
-    let mut froms = [0usize; 8];
-    let mut tos = [0usize; 8];
+    let mut counts = [0usize; params::COUNT];
+    let mut froms = [0usize; params::COUNT];
+    let mut tos = [0usize; params::COUNT];
     if !fill(t, s) {
         return false;
     }
     scan_rows(&mut counts, &mut froms, &mut tos, s, t);
-    let k = counts[0];
+    let k = counts[params::PROP_ID];
     if k == 0 {
         return false;
     }
-    let a = froms[0];
-    let b = tos[0];
+    let a = froms[params::PROP_ID];
+    let b = tos[params::PROP_ID];
     mark_key(row, prefix, &s[a..b]);
     true
 }
@@ -138,7 +155,7 @@ fn mark_ids(
     n: usize,
     i: usize,
 ) -> bool
-    requires { ⌜ Unmarked (now row) × (264 ≤ length (now t)) × HasLines (now scratch) (now starts) (now codes) n × (i < 16) ⌝ }
+    requires { ⌜ Unmarked (now row) × (tableLength ≤ length (now t)) × HasLines (now scratch) (now starts) (now codes) n × (i < 16) ⌝ }
     ensures { λ r. ⌜ MarksIds (now (prefix .entry)) (now (scratch .entry)) (now (starts .entry)) (now (codes .entry)) n i (now (row .exit)) r ⌝ }
 {
     let mut any = false;
@@ -233,7 +250,7 @@ fn put_made(
     requires { ⌜ HasEntry (now s) (now t) (now counts) (now froms) (now tos) i × (length (numbered (now prefix) number) ≤ 32) ⌝ }
     ensures { λ r. ⌜ PutsKeyed (now (out .entry)) (now (s .entry)) (now (t .entry)) i begun (numbered (now (prefix .entry)) number) r (now (out .exit)) ⌝ }
 {
-    let mut key = [0u8; 32];
+    let mut key = [0u8; KEY];
     let Wrote::Bytes(k) = put_key(&mut key, prefix, number) else {
         return Wrote::Full;
     };
@@ -258,17 +275,17 @@ fn put_turn(
     taken: bool,
     from: usize,
 ) -> Turn
-    requires { ⌜ (264 ≤ length (now t)) × HasTurn (now s) (now prefix) (now row) i taken from ⌝ }
+    requires { ⌜ (tableLength ≤ length (now t)) × HasTurn (now s) (now prefix) (now row) i taken from ⌝ }
     ensures { λ r. ⌜ PutsTurn (now (out .entry)) (now (s .entry)) (now (prefix .entry)) (now (row .entry)) i begun taken from r (now (out .exit)) ⌝ }
 {
-    let mut counts = [0usize; 8];
-    let mut froms = [0usize; 8];
-    let mut tos = [0usize; 8];
+    let mut counts = [0usize; params::COUNT];
+    let mut froms = [0usize; params::COUNT];
+    let mut tos = [0usize; params::COUNT];
     if !fill(t, s) {
         return Turn::Full;
     }
     scan_rows(&mut counts, &mut froms, &mut tos, s, t);
-    let ids = counts[0];
+    let ids = counts[params::PROP_ID];
     if ids == 0 {
         let number = next_number(row, taken, from);
         let next = number + 1;
@@ -288,8 +305,8 @@ fn put_turn(
         };
         return Turn::Put { bytes, next };
     }
-    let a = froms[0];
-    let b = tos[0];
+    let a = froms[params::PROP_ID];
+    let b = tos[params::PROP_ID];
     let Wrote::Bytes(bytes) = put_keyed(out, s, t, &counts, &froms, &tos, i, begun, &s[a..b]) else {
         return Turn::Full;
     };
@@ -309,7 +326,7 @@ fn put_entries(
     row: &[u8],
     taken: bool,
 ) -> Wrote
-    requires { ⌜ (264 ≤ length (now t)) × HasMap (now scratch) (now starts) (now codes) n i (now prefix) (now row) taken ⌝ }
+    requires { ⌜ (tableLength ≤ length (now t)) × HasMap (now scratch) (now starts) (now codes) n i (now prefix) (now row) taken ⌝ }
     ensures { λ r. ⌜ PutsMap (now (out .entry)) (now (scratch .entry)) (now (starts .entry)) (now (codes .entry)) n i r (now (out .exit)) ⌝ }
 {
     let mut at = 0;
@@ -360,10 +377,10 @@ fn put_map(
     n: usize,
     i: usize,
 ) -> Wrote
-    requires { ⌜ (264 ≤ length (now t)) × HasLines (now scratch) (now starts) (now codes) n × (i < 7) ⌝ }
+    requires { ⌜ (tableLength ≤ length (now t)) × HasLines (now scratch) (now starts) (now codes) n × (i < mapCount) ⌝ }
     ensures { λ r. ⌜ PutsMap (now (out .entry)) (now (scratch .entry)) (now (starts .entry)) (now (codes .entry)) n i r (now (out .exit)) ⌝ }
 {
-    let mut prefix = [0u8; 16];
+    let mut prefix = [0u8; PREFIX];
     let Wrote::Bytes(p) = put_prefix(&mut prefix, i) else {
         return Wrote::Full;
     };
@@ -382,7 +399,7 @@ fn put_map(
             false,
         );
     }
-    let mut row = [0u8; 1025];
+    let mut row = [0u8; ROW];
     let taken = mark_ids(&mut row, t, &prefix[0..p], scratch, starts, codes, n, i);
     put_entries(
         out,
@@ -407,12 +424,12 @@ pub fn put_maps(
     codes: &[u8],
     n: usize,
 ) -> Wrote
-    requires { ⌜ (264 ≤ length (now t)) × HasLines (now scratch) (now starts) (now codes) n ⌝ }
+    requires { ⌜ (tableLength ≤ length (now t)) × HasLines (now scratch) (now starts) (now codes) n ⌝ }
     ensures { λ r. ⌜ PutsMaps (now (out .entry)) (now (scratch .entry)) (now (starts .entry)) (now (codes .entry)) n r (now (out .exit)) ⌝ }
 {
     let mut at = 0;
     let mut i: usize = 0;
-    while i < 7 {
+    while i < maps::COUNT {
         let Wrote::Bytes(m) = put_map(&mut out[at..], t, scratch, starts, codes, n, i) else {
             return Wrote::Full;
         };

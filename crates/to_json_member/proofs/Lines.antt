@@ -3,7 +3,7 @@ use mathlib.Core.Path.{_≡_, refl, sym, ap, _∙_}
 use mathlib.Core.Bool.{Bool, true, false, _&&_, _||_, not}
 use mathlib.Core.List.{List, [], _∷_, _++_, map, append-nil}
 use mathlib.Core.Option.{Option, none, some}
-use Prim.Native.Nat.{ℕ, zero, suc, _+_, _-_, _≤_, _<_}
+use Prim.Native.Nat.{ℕ, suc, _-_, _≤_}
 use native.Mathlib.Omega.{arith}
 use lib.Dec.{eqb}
 use lib.ListN.{length, take, drop, getD, length-append, length-take, length-drop}
@@ -19,7 +19,7 @@ use Rattle.json.specs.Tree.{Json, member}
 use Rattle.json.specs.Read.{Reading, tree, refused, reading}
 use Rattle.json.specs.Compact.{spelledAll, quoted, written, compact}
 use Rattle.line_text.specs.Read.{plainText}
-use Rattle.output.specs.Put.{put, Puts}
+use Rattle.output.specs.Put.{Puts}
 use Rattle.output.specs.declared.Wrote.{Wrote}
 use Rattle.output.specs.declared.Wrote.the-variants.{Bytes as Wrote-Bytes, Full}
 use Rattle.output.proofs.Laws.{said-bytes, said-full, put-fits}
@@ -27,11 +27,11 @@ use Rattle.json_compact.specs.Squeezed.{squeezed}
 use Rattle.json_compact.proofs.Text.{squeezed-compact}
 use Rattle.convert.specs.Table.{reserved, position}
 use Rattle.convert.specs.Pointer.{pointed}
-use Rattle.convert.specs.Classify.{Seen, Class, as-member, as-kept, bare, sole, treeOf, memberName, memberValue, memberClass}
+use Rattle.convert.specs.Classify.{Seen, as-member, as-kept, bare, sole, treeOf, memberName, memberValue, memberClass}
 use Rattle.line_table.specs.Table.{part, lineIn}
-use Rattle.convert_params.specs.Row.{kindOf, kindNames, isKind, valuesKind, First, Held, Row}
+use Rattle.convert_params.specs.Row.{kindOf, isKind, valuesKind, First, Row}
 use Rattle.convert_entry.proofs.Named.{kind-same}
-use Rattle.table_kept.proofs.Names.{values-besides}
+use Rattle.to_json_kept_values.proofs.Names.{values-besides}
 use Rattle.convert_put.specs.Pieces.{memberBytes}
 use Rattle.convert_pointer.specs.Name.{nameIn, Pointing}
 use Rattle.convert_pointer.proofs.Pointers.{is-pointing, is-name}

@@ -9,10 +9,12 @@ ghost use Rattle.output.specs.Put.{Puts};
 ghost use Rattle.json_compact.specs.Squeezed.{squeezed};
 ghost use Rattle.convert_pointer.specs.Name.{nameIn, Pointing};
 ghost use Rattle.to_json_member.specs.Line.{MemberLine, PutsMember};
+use card_table::params;
 use convert_pointer::pointer_byte;
 use convert_pointer::pointer_next;
 use json_compact::put_compact;
 use json_write::put_byte_spelled;
+use line_table::table;
 use line_text::read_text;
 use output::Wrote;
 use output::put_byte;
@@ -72,12 +74,12 @@ pub fn put_member_line(
     requires { ⌜ MemberLine (now s) (now t) (now counts) (now froms) (now tos) × (length (now s) ≤ length (now scratch)) ⌝ }
     ensures { λ r. ⌜ PutsMember (now (out .entry)) (now (s .entry)) (now (t .entry)) r (now (out .exit)) ⌝ }
 {
-    let a = t[4];
-    let b = t[5];
+    let a = t[table::VALUE];
+    let b = t[table::VALUE_END];
     let Wrote::Bytes(k) = read_text(scratch, &s[a..b]) else {
         return Wrote::Full;
     };
-    let c = froms[4];
-    let d = tos[4];
+    let c = froms[params::JSPTR];
+    let d = tos[params::JSPTR];
     put_pointed(out, &s[c..d], &scratch[0..k])
 }

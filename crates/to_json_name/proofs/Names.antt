@@ -3,7 +3,7 @@ use mathlib.Core.Path.{_≡_, refl, sym, ap, _∙_}
 use mathlib.Core.Bool.{Bool, true, false, _||_, not}
 use mathlib.Core.List.{List, [], _∷_, _++_, map, append-assoc, append-nil}
 use mathlib.Core.Option.{Option, none, some}
-use Prim.Native.Nat.{ℕ, zero, suc, _+_, _-_, _≤_, _<_}
+use Prim.Native.Nat.{ℕ, suc, _+_, _-_, _≤_, _<_}
 use native.Mathlib.Omega.{arith}
 use native.Mathlib.Numerals.{add-one}
 use lib.Dec.{ltb}
@@ -33,7 +33,7 @@ use Rattle.to_json_items.specs.Items.{lead, opening, listed, elems}
 use Rattle.convert_values.proofs.Texts.{plain-is}
 use Rattle.to_json_items.proofs.Arrays.{elems-append, array-bytes, Item, all-items, listed-some}
 use Rattle.to_json_name.specs.Name.{valuesOf, componentsFrom, NameSound, fullPiece, partsPiece, NamesSound, fullOf, partsOf, nameBytes}
-use Rattle.to_json_name.proofs.Parts.{Seven, name-seven}
+use Rattle.to_json_name.proofs.Parts.{name-seven}
 
 -- ---- one component
 

@@ -1,18 +1,18 @@
 -- N's parts: where they begin, and their own values.
 use mathlib.Core.Path.{_≡_, refl, sym, ap, subst, _∙_}
-use mathlib.Core.Bool.{Bool, true, false, _&&_, _||_, not}
-use mathlib.Core.List.{List, [], _∷_, _++_, map}
-use mathlib.Core.Option.{Option, none, some, Option·map}
+use mathlib.Core.Bool.{true, false, _||_, not}
+use mathlib.Core.List.{List, [], _∷_}
+use mathlib.Core.Option.{some}
 use Prim.Native.Nat.{ℕ, zero, suc, _+_, _-_, _≤_, _<_}
 use native.Mathlib.Nat.{le-refl}
 use native.Mathlib.Omega.{arith}
 use lib.Dec.{eqb, ltb, leb}
 use lib.ListN.{length, take, drop, getD, drop-of-length-le}
 use borrow.Author.Tests.{ne-eqb, lt-ltb, le-ltb, ltb-true, ltb-false}
-use Rattle.text.specs.Choice.{pick, is-some, both, chain, provided}
+use Rattle.text.specs.Choice.{pick, is-some, provided}
 use Rattle.text.specs.Bytes.{Bytes, empty, any, same, among, keep, each}
 use Rattle.text.proofs.Cases.{byBool}
-use Rattle.text.proofs.Choices.{both-inv, map-inv, chain-inv, provided-inv, some-same, none-some}
+use Rattle.text.proofs.Choices.{both-inv, map-inv, chain-inv, provided-inv, some-same}
 use Rattle.line.specs.Text.{readText, textFrom, splitFrom, splitText}
 use Rattle.line_text.specs.Read.{plainText}
 use Rattle.line_text.specs.Split.{PartEnds}

@@ -12,7 +12,11 @@ ghost use Rattle.output.specs.Put.{Puts};
 ghost use Rattle.line_text.specs.Read.{plainText};
 ghost use Rattle.line_text.specs.Split.{PartEnds};
 ghost use Rattle.to_json_items.specs.Items.{listed};
+ghost use Rattle.card_table.specs.Numbers.{partCount};
 ghost use Rattle.to_json_name.specs.Name.{PartFrom, otherPart, valuesOf, componentsFrom, NameSound, fullPiece, partsPiece, NamesSound, nameBytes};
+use card_table::members;
+use card_table::name;
+use card_table::parts;
 use convert_put::put_plain;
 use line_text::part_end;
 use output::Wrote;
@@ -37,17 +41,17 @@ fn part_from(v: &[u8], k: usize) -> usize
     at
 }
 
-// The part whose values part k does not repeat; 7 for none.
+// The part whose values part k does not repeat, or none.
 fn other_part(k: usize) -> usize
     ensures { λ r. ⌜ r ≡ otherPart k ⌝ }
 {
-    if k == 0 {
-        return 5;
+    if k == parts::SURNAME {
+        return parts::SURNAME2;
     }
-    if k == 4 {
-        return 6;
+    if k == parts::CREDENTIAL {
+        return parts::GENERATION;
     }
-    7
+    parts::NONE
 }
 
 // The components of part k, which stands from a to b.
@@ -56,7 +60,7 @@ fn put_part(out: &mut [u8], v: &[u8], k: usize, a: usize, b: usize, begun: bool)
     ensures { λ r. ⌜ Puts (now (out .entry)) (listed k begun (valuesOf (now (v .entry)) k)) r (now (out .exit)) ⌝ }
 {
     let q = other_part(k);
-    if q == 7 {
+    if q == parts::NONE {
         return put_items(out, &v[a..b], b',', &v[0..0], k, begun);
     }
     let c = part_from(v, q);
@@ -77,13 +81,13 @@ fn part_after(v: &[u8], e: usize) -> usize
 // The components of all seven parts.
 fn put_parts(out: &mut [u8], v: &[u8]) -> Wrote
     requires { ⌜ NameSound (now v) ⌝ }
-    ensures { λ r. ⌜ Puts (now (out .entry)) (componentsFrom 7 (now (v .entry)) 0 false) r (now (out .exit)) ⌝ }
+    ensures { λ r. ⌜ Puts (now (out .entry)) (componentsFrom partCount (now (v .entry)) 0 false) r (now (out .exit)) ⌝ }
 {
     let mut at = 0;
     let mut k: usize = 0;
     let mut from = 0;
     let mut begun = false;
-    while k < 7 {
+    while k < parts::COUNT {
         let end = part_end(v, from, b';');
         let Wrote::Bytes(n) = put_part(&mut out[at..], v, k, from, end, begun) else {
             return Wrote::Full;
@@ -99,7 +103,7 @@ fn put_parts(out: &mut [u8], v: &[u8]) -> Wrote
 // N's value as the array of components.
 fn put_components(out: &mut [u8], v: &[u8]) -> Wrote
     requires { ⌜ NameSound (now v) ⌝ }
-    ensures { λ r. ⌜ Puts (now (out .entry)) (flat (ascii "[" ∷ componentsFrom 7 (now (v .entry)) 0 false ∷ ascii "]" ∷ [])) r (now (out .exit)) ⌝ }
+    ensures { λ r. ⌜ Puts (now (out .entry)) (flat (ascii "[" ∷ componentsFrom partCount (now (v .entry)) 0 false ∷ ascii "]" ∷ [])) r (now (out .exit)) ⌝ }
 {
     let Wrote::Bytes(a) = put_byte(out, b'[') else {
         return Wrote::Full;
@@ -119,7 +123,7 @@ fn put_full(out: &mut [u8], v: &[u8]) -> Wrote
     requires { ⌜ is-some (readText (now v)) ≡ true ⌝ }
     ensures { λ r. ⌜ Puts (now (out .entry)) (flat (ascii "\"full\":" ∷ quoted (plainText (now (v .entry))) [] ∷ [])) r (now (out .exit)) ⌝ }
 {
-    let Wrote::Bytes(a) = put_text(out, b"\"full\":") else {
+    let Wrote::Bytes(a) = put_text(out, &name::FULL_HEAD) else {
         return Wrote::Full;
     };
     let Wrote::Bytes(b) = put_plain(&mut out[a..], v) else {
@@ -143,14 +147,14 @@ fn put_parts_head(out: &mut [u8], full: bool) -> Wrote
     ensures { λ r. ⌜ Puts (now (out .entry)) (pick full (ascii ",\"components\":") (ascii "\"components\":")) r (now (out .exit)) ⌝ }
 {
     if full {
-        return put_text(out, b",\"components\":");
+        return put_text(out, &name::COMPONENTS_AFTER);
     }
-    put_text(out, b"\"components\":")
+    put_text(out, &name::COMPONENTS_HEAD)
 }
 
 fn put_parts_member(out: &mut [u8], full: bool, v: &[u8]) -> Wrote
     requires { ⌜ NameSound (now v) ⌝ }
-    ensures { λ r. ⌜ Puts (now (out .entry)) (flat (pick full (ascii ",\"components\":") (ascii "\"components\":") ∷ flat (ascii "[" ∷ componentsFrom 7 (now (v .entry)) 0 false ∷ ascii "]" ∷ []) ∷ [])) r (now (out .exit)) ⌝ }
+    ensures { λ r. ⌜ Puts (now (out .entry)) (flat (pick full (ascii ",\"components\":") (ascii "\"components\":") ∷ flat (ascii "[" ∷ componentsFrom partCount (now (v .entry)) 0 false ∷ ascii "]" ∷ []) ∷ [])) r (now (out .exit)) ⌝ }
 {
     let Wrote::Bytes(a) = put_parts_head(out, full) else {
         return Wrote::Full;
@@ -176,7 +180,7 @@ fn put_name_member(out: &mut [u8], full: bool, fv: &[u8], parts: bool, nv: &[u8]
     requires { ⌜ NamesSound full (now fv) parts (now nv) ⌝ }
     ensures { λ r. ⌜ Puts (now (out .entry)) (flat (ascii ",\"name\":{" ∷ fullPiece full (now (fv .entry)) ∷ partsPiece full parts (now (nv .entry)) ∷ ascii "}" ∷ [])) r (now (out .exit)) ⌝ }
 {
-    let Wrote::Bytes(a) = put_text(out, b",\"name\":{") else {
+    let Wrote::Bytes(a) = put_text(out, &members::NAME_HEAD) else {
         return Wrote::Full;
     };
     let Wrote::Bytes(b) = put_full_if(&mut out[a..], full, fv) else {

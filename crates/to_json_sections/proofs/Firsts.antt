@@ -1,24 +1,23 @@
 -- The first line of a number: UID and KIND.
-use mathlib.Core.Path.{_≡_, refl, sym, ap, subst, _∙_}
-use mathlib.Core.Bool.{Bool, true, false, not}
-use mathlib.Core.List.{List, [], _∷_, _++_, map}
-use mathlib.Core.Option.{Option, none, some}
-use Prim.Native.Nat.{ℕ, zero, suc, _+_, _-_, _≤_, _<_}
+use mathlib.Core.Path.{_≡_, refl, sym, ap, _∙_}
+use mathlib.Core.Bool.{true, false}
+use mathlib.Core.List.{List, [], _∷_, _++_}
+use mathlib.Core.Option.{none}
+use Prim.Native.Nat.{ℕ, zero, suc, _+_, _≤_, _<_}
 use native.Mathlib.Omega.{arith}
 use native.Mathlib.Numerals.{add-one}
-use lib.ListN.{length, drop, getD}
-use Rattle.text.specs.Choice.{pick}
+use lib.ListN.{drop, getD}
 use Rattle.text.specs.Bytes.{Bytes, lowered}
 use Rattle.text.proofs.Choices.{some-same, none-some}
 use Rattle.line.specs.Grammar.{Line, readLine}
-use Rattle.line_table.specs.Table.{part, lineIn, Holds}
+use Rattle.line_table.specs.Table.{part, Holds}
 use Rattle.line_unfold.specs.Table.{lineAt}
 use Rattle.convert.specs.Classify.{Seen, Class, as-version, as-uid, as-kind, as-dropped, as-full, as-parts, as-entry, as-member, as-kept, Classed}
 use Rattle.convert.specs.FromCard.{Gives, gives, gathered, firstOf, orElse, madeUid}
 use Rattle.convert_entry.specs.Rows.{codeOf}
 use Rattle.table_entry.proofs.Entry.{value-is}
-use Rattle.card_lines.specs.Classified.{Classified}
-use Rattle.card_lines.proofs.Lines.{LineOf, line-of, count-is, no-more}
+use Rattle.from_card_lines.specs.Classified.{Classified}
+use Rattle.from_card_lines.proofs.Lines.{LineOf, line-of, no-more}
 use Rattle.home.proofs.Classes.{Fact}
 use Rattle.convert_put.specs.Pieces.{after}
 use Rattle.to_json_head.specs.Head.{uidOf, kindBytes}

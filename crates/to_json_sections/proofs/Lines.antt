@@ -1,21 +1,19 @@
 -- What lines give to a section, by the numbers of their classes.
 use mathlib.Core.Path.{_≡_, refl, sym, ap, subst, _∙_}
-use mathlib.Core.Bool.{Bool, true, false, not}
-use mathlib.Core.List.{List, [], _∷_, _++_, map}
-use mathlib.Core.Option.{Option, none, some}
-use Prim.Native.Nat.{ℕ, zero, suc, _+_, _-_, _≤_, _<_}
+use mathlib.Core.Bool.{Bool, true, false}
+use mathlib.Core.List.{List, [], _∷_, _++_}
+use Prim.Native.Nat.{ℕ, _+_, _-_, _≤_, _<_}
 use native.Mathlib.Nat.{le-refl}
 use native.Mathlib.Omega.{arith}
 use lib.Dec.{eqb}
-use lib.ListN.{length, take, drop, getD}
+use lib.ListN.{length, drop, getD}
 use borrow.Author.Tests.{eqb-true, eqb-false}
 use borrow.Rule.Slice.PartMut.{midOf, putMid}
-use Rattle.text.specs.Bytes.{Bytes, empty, flat, lowered}
+use Rattle.text.specs.Bytes.{Bytes, flat, lowered}
 use Rattle.text.proofs.Cases.{byBool}
-use Rattle.text.proofs.Choices.{some-same, none-some}
+use Rattle.text.proofs.Choices.{some-same}
 use Rattle.json.specs.Compact.{written}
 use Rattle.line.specs.Grammar.{Line, readLine}
-use Rattle.line.specs.Text.{readText}
 use Rattle.line_table.specs.Table.{lineIn, Holds}
 use Rattle.line_unfold.specs.Table.{lineAt}
 use Rattle.output.specs.declared.Wrote.{Wrote}
@@ -23,19 +21,18 @@ use Rattle.output.specs.declared.Wrote.the-variants.{Bytes as Wrote-Bytes, Full
 use Rattle.output.specs.Put.{Puts, Rest}
 use Rattle.output.proofs.Laws.{puts-as}
 use Rattle.output.proofs.Rests.{rest-all, rest-as, rest-next, rest-stop}
-use Rattle.convert.specs.Value.{readName}
 use Rattle.convert.specs.Model.{Entry, Kept}
 use Rattle.convert.specs.Classify.{Seen, Class, as-version, as-uid, as-kind, as-dropped, as-full, as-parts, as-entry, as-member, as-kept, Classed}
-use Rattle.convert.specs.FromCard.{Gives, gives, gathered, keptLine, firstOf}
+use Rattle.convert.specs.FromCard.{Gives, gives, gathered, keptLine}
 use Rattle.convert.specs.ToJson.{keptJson}
 use Rattle.convert_entry.specs.Rows.{codeOf}
-use Rattle.card_lines.specs.Classified.{Classified}
-use Rattle.card_lines.proofs.Lines.{LineOf, line-of, count-is, no-more}
+use Rattle.from_card_lines.specs.Classified.{Classified}
+use Rattle.from_card_lines.proofs.Lines.{LineOf, line-of, no-more}
 use Rattle.home.proofs.Classes.{Fact, class-fact}
 use Rattle.table_entry.proofs.Spread.{kept-held}
 use Rattle.to_json_maps.proofs.Rows.{slot-low}
 use Rattle.to_json_sections.specs.Sections.{keptOf, propPiece, propsFrom, propsBytes, IsKept, HasKept, PutsProp, FirstOf}
-use Rattle.to_json_sections.proofs.Props.{props-whole, from-cons, from-nil}
+use Rattle.to_json_sections.proofs.Props.{props-whole, from-cons}
 
 -- ---- the class of a number
 

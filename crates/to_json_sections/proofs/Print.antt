@@ -1,10 +1,8 @@
 -- The JSON of a card's classified lines is its sections, one after the other.
-use mathlib.Core.Path.{_≡_, refl, sym, ap, _∙_}
-use mathlib.Core.Bool.{not, _||_}
-use mathlib.Core.List.{List, [], _∷_, _++_, map, append-assoc}
+use mathlib.Core.Path.{_≡_, sym, ap, _∙_}
+use mathlib.Core.List.{List, [], _∷_, append-assoc}
 use Prim.Native.Nat.{ℕ}
-use Rattle.text.specs.Choice.{is-some}
-use Rattle.text.specs.Bytes.{Bytes, ascii, empty, flat}
+use Rattle.text.specs.Bytes.{Bytes, ascii, flat}
 use Rattle.json.specs.Tree.{member, jstr}
 use Rattle.convert.specs.Classify.{Classed}
 use Rattle.convert.specs.FromCard.{cardOfClassed}

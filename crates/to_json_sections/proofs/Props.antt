@@ -1,13 +1,12 @@
 -- vCardProps as pieces.
 use mathlib.Core.Path.{_≡_, refl, sym, ap, _∙_}
-use mathlib.Core.Bool.{Bool, true, false, not}
+use mathlib.Core.Bool.{Bool, true, false}
 use mathlib.Core.List.{List, [], _∷_, _++_, map, append-assoc, append-nil}
-use Rattle.text.specs.Choice.{pick}
-use Rattle.text.specs.Bytes.{Bytes, ascii, empty, flat}
-use Rattle.json.specs.Tree.{Json, Elems, enil, econs, fromElems, array, member}
+use Rattle.text.specs.Bytes.{Bytes, ascii, flat}
+use Rattle.json.specs.Tree.{Json, fromElems, array}
 use Rattle.json.specs.Compact.{spelled, spelledAll, quoted, written, writtenElems, elemsAfter}
 use Rattle.convert.specs.Model.{Kept}
-use Rattle.convert.specs.ToJson.{where′, keptJson}
+use Rattle.convert.specs.ToJson.{keptJson}
 use Rattle.convert_put.specs.Pieces.{memberBytes, after}
 use Rattle.convert_put.proofs.Compact.{quoted-append, written-append}
 use Rattle.to_json_sections.specs.Sections.{propHead, propPiece, propsEnd, propsFrom, propsBytes}

@@ -21,7 +21,7 @@ use Rattle.convert.specs.Classify.{Classed}
 use Rattle.convert.specs.FromCard.{Gives, gathered, keptLine, firstOf, orElse, madeUid, mapsFrom}
 use Rattle.convert.specs.ToJson.{where′, keptJson, nameJson, mapsJson}
 use Rattle.convert_put.specs.Pieces.{after}
-use Rattle.card_lines.specs.Classified.{Classified}
+use Rattle.from_card_lines.specs.Classified.{Classified}
 
 -- ---- vCardProps
 

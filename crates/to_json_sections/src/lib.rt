@@ -4,8 +4,12 @@ ghost use Prim.Native.Nat.{_≤_};
 ghost use lib.ListN.{length};
 ghost use Rattle.output.specs.Put.{Puts};
 ghost use Rattle.to_json_maps.specs.Maps.{HasLines};
+ghost use Rattle.line_table.specs.Table.{tableLength};
 ghost use Rattle.to_json_sections.specs.Sections.{propHead, HasKept, PutsProp, PutsProps, FirstOf, PutsStart, PutsKind};
+use card_table::classes;
+use card_table::members;
 use line_table::fill;
+use line_table::table;
 use line_unfold::line_at;
 use output::Wrote;
 use output::put_byte;
@@ -21,12 +25,12 @@ fn put_prop_head(out: &mut [u8], begun: bool) -> Wrote
     if begun {
         return put_byte(out, b',');
     }
-    put_text(out, b",\"vCardProps\":[")
+    put_text(out, &members::KEPT_HEAD)
 }
 
 // A kept line, after the member's name or a comma.
 fn put_prop(out: &mut [u8], t: &mut [usize], s: &[u8], begun: bool) -> Wrote
-    requires { ⌜ (264 ≤ length (now t)) × HasKept (now s) ⌝ }
+    requires { ⌜ (tableLength ≤ length (now t)) × HasKept (now s) ⌝ }
     ensures { λ r. ⌜ PutsProp (now (out .entry)) (now (s .entry)) begun r (now (out .exit)) ⌝ }
 {
     if !fill(t, s) {
@@ -51,14 +55,14 @@ pub fn put_props(
     codes: &[u8],
     n: usize,
 ) -> Wrote
-    requires { ⌜ (264 ≤ length (now t)) × HasLines (now scratch) (now starts) (now codes) n ⌝ }
+    requires { ⌜ (tableLength ≤ length (now t)) × HasLines (now scratch) (now starts) (now codes) n ⌝ }
     ensures { λ r. ⌜ PutsProps (now (out .entry)) (now (scratch .entry)) (now (starts .entry)) (now (codes .entry)) n r (now (out .exit)) ⌝ }
 {
     let mut at = 0;
     let mut k = 0;
     let mut begun = false;
     while k < n {
-        if !is_of(codes[k], 16) {
+        if !is_of(codes[k], classes::KEPT) {
             k += 1;
             continue;
         }
@@ -106,10 +110,10 @@ pub fn put_start_of(
     codes: &[u8],
     n: usize,
 ) -> Wrote
-    requires { ⌜ (264 ≤ length (now t)) × HasLines (now scratch) (now starts) (now codes) n ⌝ }
+    requires { ⌜ (tableLength ≤ length (now t)) × HasLines (now scratch) (now starts) (now codes) n ⌝ }
     ensures { λ r. ⌜ PutsStart (now (out .entry)) (now (stem .entry)) number (now (scratch .entry)) (now (starts .entry)) (now (codes .entry)) n r (now (out .exit)) ⌝ }
 {
-    let k = first_of(codes, n, 19);
+    let k = first_of(codes, n, classes::UID);
     if k >= n {
         return put_start(out, false, stem, stem, number);
     }
@@ -117,8 +121,8 @@ pub fn put_start_of(
     if !fill(t, s) {
         return Wrote::Full;
     }
-    let a = t[4];
-    let b = t[5];
+    let a = t[table::VALUE];
+    let b = t[table::VALUE_END];
     put_start(out, true, &s[a..b], stem, number)
 }
 
@@ -131,10 +135,10 @@ pub fn put_kind_of(
     codes: &[u8],
     n: usize,
 ) -> Wrote
-    requires { ⌜ (264 ≤ length (now t)) × HasLines (now scratch) (now starts) (now codes) n ⌝ }
+    requires { ⌜ (tableLength ≤ length (now t)) × HasLines (now scratch) (now starts) (now codes) n ⌝ }
     ensures { λ r. ⌜ PutsKind (now (out .entry)) (now (scratch .entry)) (now (starts .entry)) (now (codes .entry)) n r (now (out .exit)) ⌝ }
 {
-    let k = first_of(codes, n, 20);
+    let k = first_of(codes, n, classes::KIND);
     if k >= n {
         return Wrote::Bytes(0);
     }
@@ -142,7 +146,7 @@ pub fn put_kind_of(
     if !fill(t, s) {
         return Wrote::Full;
     }
-    let a = t[4];
-    let b = t[5];
+    let a = t[table::VALUE];
+    let b = t[table::VALUE_END];
     put_kind(out, &s[a..b])
 }

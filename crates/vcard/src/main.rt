@@ -19,9 +19,9 @@ fn say_refusal(number: u8, place: usize) {
 
 fn main() {
     // one byte more than the room, so that a longer text is seen to be longer
-    let mut json = [0u8; 65537];
+    let mut json = [0u8; json_limits::OVER];
     let n = io::read_full(STDIN_FILENO, &mut json);
-    let mut out = [0u8; 32768];
+    let mut out = [0u8; line_limits::CARD];
     match json_to_card(&json[..n], &mut out) {
         Outcome::Written(k) => {
             say_card(&out, k);

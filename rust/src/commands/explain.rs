@@ -7,10 +7,10 @@ use thymebarrel::{PlaceOf, Reason};
 
 pub const COMMAND: Command = Command {
     name: "explain",
-    usage: "NUMBER [PLACE]",
+    words: "NUMBER [PLACE]",
     help: "what a refusal means, and what to do",
+    about: "Says what the refusal of that number means, what its place counts, and what to do about it.",
     options: &[],
-    flags: &[],
     run,
 };
 
@@ -23,7 +23,8 @@ fn run(mut arguments: Arguments) -> Result<(), Failure> {
     let word = word.to_string_lossy();
     let Some(reason) = word.parse().ok().and_then(Reason::of) else {
         return Err(Failure::usage(format!(
-            "no refusal {word}: they are 1 to 16"
+            "no refusal {word}: they are 1 to {}",
+            Reason::ALL.len()
         )));
     };
     let place = match place {
@@ -38,7 +39,7 @@ fn place_in_general(reason: Reason) -> &'static str {
     match reason.place_of() {
         PlaceOf::Whole => "Place: 0, as it is of the whole.",
         PlaceOf::Line => "Place: the line. The one after BEGIN is 1; folded lines count once.",
-        PlaceOf::Byte => "Place: how many bytes of the JSON are sound.",
+        _ => "Place: how many bytes of the JSON are sound.",
     }
 }
 

@@ -1,39 +1,45 @@
 //! What the command can do. A new one is a file here and a row of `ALL`.
 
+mod batch;
 mod card;
 mod explain;
+mod generate;
+mod help;
 mod json;
 mod member;
+mod place;
 mod stream;
 
 use crate::arguments::Arguments;
 use crate::files;
+use crate::options::Opt;
 use std::ffi::OsString;
 use std::process::ExitCode;
+use thymebarrel::printable;
 
 pub struct Command {
     pub name: &'static str,
-    /// What may follow the name.
-    pub usage: &'static str,
+    /// What follows the options.
+    pub words: &'static str,
     /// What it does, in a line.
     pub help: &'static str,
-    /// The options with a value that it takes.
-    pub options: &'static [&'static str],
-    /// The options without one.
-    pub flags: &'static [&'static str],
+    /// The same at length.
+    pub about: &'static str,
+    pub options: &'static [&'static Opt],
     pub run: fn(Arguments) -> Result<(), Failure>,
 }
 
-const ALL: [&Command; 5] = [
+const ALL: [&Command; 7] = [
     &json::COMMAND,
     &card::COMMAND,
     &stream::COMMAND,
     &member::COMMAND,
     &explain::COMMAND,
+    &generate::COMMAND,
+    &help::COMMAND,
 ];
 
-/// Why nothing was written to standard output: what to say on standard error, and
-/// the exit status.
+/// Why it did not all go well: what to say on standard error, and the exit status.
 pub struct Failure {
     lines: Vec<String>,
     status: u8,
@@ -41,8 +47,11 @@ pub struct Failure {
 
 impl Failure {
     /// All was said before.
-    pub fn told() -> Failure {
-        Failure::refused(Vec::new())
+    pub fn told(status: u8) -> Failure {
+        Failure {
+            lines: Vec::new(),
+            status,
+        }
     }
 
     /// The input is refused. The first line goes on the line of the command's name.
@@ -72,12 +81,18 @@ impl Failure {
     }
 }
 
-/// Writes to standard error: the command's name and the first line, then the others.
+/// Writes to standard error: the command's name and the first line, then the others;
+/// no character of a file's name or of a card can move the cursor.
 pub fn say(lines: &[String]) {
     for (k, line) in lines.iter().enumerate() {
         let margin = if k == 0 { "thymebarrel: " } else { "  " };
-        eprintln!("{margin}{line}");
+        eprintln!("{margin}{}", printable(line));
     }
+}
+
+fn find(name: &str) -> Result<&'static Command, Failure> {
+    let found = ALL.into_iter().find(|command| command.name == name);
+    found.ok_or_else(|| Failure::usage(format!("no command {name}")))
 }
 
 /// Does what was typed.
@@ -88,46 +103,13 @@ pub fn run(words: &[OsString]) -> Result<(), Failure> {
     let first = first.to_string_lossy();
     let asks_help = |word: &OsString| word == "--help" || word == "-h";
     match &*first {
-        "--help" | "-h" | "help" => return files::write_line(help().as_bytes()),
-        "--version" | "-V" => return files::write_line(version().as_bytes()),
+        "--help" | "-h" => return files::write_line(help::whole().as_bytes()),
+        "--version" | "-V" => return files::write_line(help::version().as_bytes()),
         _ => {}
     }
-    let Some(command) = ALL.into_iter().find(|c| c.name == first) else {
-        return Err(Failure::usage(format!("no command {first}")));
-    };
+    let command = find(&first)?;
     if rest.iter().take_while(|w| *w != "--").any(asks_help) {
-        return files::write_line(help().as_bytes());
+        return files::write_line(help::of(command).as_bytes());
     }
-    (command.run)(Arguments::read(rest, command.options, command.flags)?)
-}
-
-fn version() -> String {
-    format!("thymebarrel {}", env!("CARGO_PKG_VERSION"))
-}
-
-fn help() -> String {
-    let mut text =
-        String::from("Converts vCard 4.0 to JSContact and back by a proved library.\n\n");
-    for command in ALL {
-        let Command {
-            name, usage, help, ..
-        } = command;
-        text.push_str(&format!("  thymebarrel {name} {usage}\n      {help}\n"));
-    }
-    text.push_str(
-        "
-FILE is standard input where it is - or left out. The result goes to standard
-output, a refusal with its explanation to standard error.
-
-  --stem STEM   with the number, makes the uid of a card without UID: STEM-N
-                (1 to 200 of A-Z a-z 0-9 : - _; reg where it is left out)
-  --number N    1 to 999999; 1 where it is left out; a stream counts from it on
-  --keep-going  do not end a stream at the first card that is refused
-  --help        this text
-  --version     the version
-
-Exit status: 0 done; 1 refused, or no such member; 2 bad usage, or a file that
-cannot be read.",
-    );
-    text
+    (command.run)(Arguments::read(rest, command.options)?)
 }

@@ -59,3 +59,40 @@ pub fn run(program: &mut Command, input: &[u8]) -> Output {
 pub fn text(bytes: &[u8]) -> String {
     String::from_utf8_lossy(bytes).into_owned()
 }
+
+/// Exit status, standard output, standard error of the command, in that folder.
+pub fn typed_in(folder: &Path, words: &[&str], input: &[u8]) -> (i32, String, String) {
+    let mut command = Command::new(env!("CARGO_BIN_EXE_thymebarrel"));
+    let output = run(command.args(words).current_dir(folder), input);
+    let status = output.status.code().expect("it was not killed");
+    (status, text(&output.stdout), text(&output.stderr))
+}
+
+/// The same in examples/.
+pub fn typed(words: &[&str], input: &[u8]) -> (i32, String, String) {
+    typed_in(&path("examples"), words, input)
+}
+
+/// Gives this on standard output, and says nothing but that uids were made.
+pub fn gives(words: &[&str], input: &[u8], stdout: &str) {
+    let (status, got, stderr) = typed(words, input);
+    assert_eq!((status, got.as_str()), (0, stdout), "{words:?}: {stderr}");
+    let made = |line: &str| line.contains("made") || line.starts_with("  another run");
+    assert!(stderr.lines().all(made), "{words:?}: {stderr}");
+}
+
+/// Ends with this status, writes nothing to standard output, and says this.
+pub fn fails(words: &[&str], input: &[u8], status: i32, says: &str) {
+    let (got, stdout, stderr) = typed(words, input);
+    assert_eq!((got, stdout.as_str()), (status, ""), "{words:?}: {stderr}");
+    assert!(stderr.starts_with("thymebarrel: "), "{words:?}: {stderr}");
+    assert!(stderr.contains(says), "{words:?}: {stderr}");
+}
+
+/// An empty folder of that name for a test.
+pub fn scratch(name: &str) -> PathBuf {
+    let folder = PathBuf::from(env!("CARGO_TARGET_TMPDIR")).join(name);
+    let _ = std::fs::remove_dir_all(&folder);
+    std::fs::create_dir_all(&folder).expect("the folder is made");
+    folder
+}

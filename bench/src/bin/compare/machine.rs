@@ -59,7 +59,8 @@ pub fn outside(row: &[usize]) -> Option<&'static str> {
     }
 }
 
-/// A flag is 1 or else not set, and comes back as 1 or 0.
+/// A flag is 1 or else not set, and comes back as 1 or 0 from every call that neither
+/// 15 nor 16 refuses: these leave each number as it was.
 pub fn flags_plain(row: &mut [usize]) {
     if row.len() == 7 {
         for flag in [INSIDE, NO_BEGIN, NO_END, NOT_EMPTY] {

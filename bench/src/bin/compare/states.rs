@@ -88,7 +88,6 @@ impl Both {
 
     /// What the machine gives, counted.
     fn machine(&mut self, case: &mut Case, stem: &[u8], piece: Option<&[u8]>) -> Given {
-        flags_plain(&mut self.row);
         if let Some(why) = self.unfit() {
             case.counts.one(format!("16 refused: {why}"));
             return Given::nothing(16);
@@ -97,6 +96,7 @@ impl Both {
             case.counts.card_answer(15, 0);
             return Given::nothing(15);
         }
+        flags_plain(&mut self.row);
         let row: &mut Row = self.row.as_mut_slice().try_into().expect("a fit state has seven numbers");
         let mut machine = Machine { row, buffer: &mut self.machine_buffer };
         let given = match piece {

@@ -224,6 +224,7 @@ impl<'a> Run<'a> {
             Said::More => What::More,
             Said::Json(length) => What::Json(self.out[..length].to_vec()),
             Said::Refused(Refusal { number, place }) => What::Refused(u32::from(number), place),
+            other => return Err(format!("{other:?} is unknown here")),
         };
         if got != want {
             return Err(format!("{want:?} against {got:?}"));

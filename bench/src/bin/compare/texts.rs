@@ -116,8 +116,8 @@ pub fn compare_home(case: &mut Case) -> Compared {
 }
 
 /// The normal form, or 3 where it is longer than the room.
-fn comes(got: Result<Vec<u8>, thymebarrel::Refusal>, normal: Vec<u8>, most: usize) -> Result<(), String> {
-    let got = got.map_err(|refusal| (refusal.number, refusal.place));
+fn comes(got: Result<String, thymebarrel::Refusal>, normal: Vec<u8>, most: usize) -> Result<(), String> {
+    let got = got.map(String::into_bytes).map_err(|refusal| (refusal.number, refusal.place));
     let want = if normal.len() > most { Err((3, 0)) } else { Ok(normal) };
     match got == want {
         true => Ok(()),

@@ -49,18 +49,4 @@ returns-4 c = search needs
 pub number-of-spec : {M : Type 1} → statement M
 number-of-spec =
     tie.close
-    (tie.spec
-    Inv-loop
-    μ-loop
-    loop-holds
-    shared-slice-read-c
-    returns
-    returns-2
-    returns-3
-    mul-n
-    cast-n
-    add-n
-    add-i
-    loop-less
-    loop-again
-    returns-4)
+    (tie.spec Inv-loop μ-loop loop-holds shared-slice-read-c returns returns-2 returns-3 mul-n cast-n add-n add-i loop-less loop-again returns-4)

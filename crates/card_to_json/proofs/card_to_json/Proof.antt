@@ -8,24 +8,15 @@ use Rattle.card_to_json.proofs.Serving.{no-stem, no-number, too-long, t
 use Rattle.card_to_json.proofs.card_to_json.Statement.{statement}
 use Rattle.card_to_json.proofs.card_to_json.Tie as tie
 
-is-stem-requires : tie.Need-is-stem-requires
-is-stem-requires c κs = search needs
-
 returns : tie.Need-returns
 returns c =
     let start = c .before .before .before .before .before in
     seen-refused (now (start .args .out)) _ 15 0 (no-stem (now (start .args .stem)) (start .args .number) (length (now (start .args .out))) (now (start .args .card)) (sym (c .before .is-stem .ensures) ∙ not-true _ (c .if1 .taken)))
 
-is-card-number-requires : tie.Need-is-card-number-requires
-is-card-number-requires c κs = search needs
-
 returns-2 : tie.Need-returns-2
 returns-2 c =
     let start = c .before .before .before .before .before .before .before in
     seen-refused (now (start .args .out)) _ 15 0 (no-number (now (start .args .stem)) (start .args .number) (length (now (start .args .out))) (now (start .args .card)) (sym (c .before .is-card-number .ensures) ∙ not-true _ (c .if2 .taken)))
-
-size-of-requires : tie.Need-size-of-requires
-size-of-requires c κs = search needs
 
 returns-3 : tie.Need-returns-3
 returns-3 c =
@@ -39,9 +30,6 @@ returns-3 c =
 
 small-requires : tie.Need-small-requires
 small-requires c κs = omega (arith, c .before .if4 .taken)
-
-same-length : tie.Need-same-length
-same-length c = search needs
 
 returns-4 : tie.Need-returns-4
 returns-4 c =
@@ -58,9 +46,6 @@ returns-4 c =
 
 medium-requires : tie.Need-medium-requires
 medium-requires c κs = omega (arith, c .before .if5 .taken)
-
-same-length-2 : tie.Need-same-length-2
-same-length-2 c = search needs
 
 returns-5 : tie.Need-returns-5
 returns-5 c =
@@ -81,9 +66,6 @@ large-requires c κs =
     let start = at-size-of .before .before .before .before .before .before .before .before in
     size-length (now (start .args .card)) (omega (arith, at-size-of .size-of .ensures, c .before .before .before .if3 .left))
 
-same-length-3 : tie.Need-same-length-3
-same-length-3 c = search needs
-
 returns-6 : tie.Need-returns-6
 returns-6 c =
     let at-if3 = c .before .before .before .before .before .before in
@@ -100,19 +82,5 @@ returns-6 c =
 pub card-to-json-spec : {M : Type 1} → statement M
 card-to-json-spec =
     tie.close
-    (tie.spec
-    is-stem-requires
-    returns
-    is-card-number-requires
-    returns-2
-    size-of-requires
-    returns-3
-    small-requires
-    same-length
-    returns-4
-    medium-requires
-    same-length-2
-    returns-5
-    large-requires
-    same-length-3
-    returns-6)
+    (tie.spec (λ c κs. search needs) returns (λ c κs. search needs) returns-2 (λ c κs. search needs) returns-3 small-requires (λ c. search needs)
+    returns-4 medium-requires (λ c. search needs) returns-5 large-requires (λ c. search needs) returns-6)

@@ -5,15 +5,6 @@ use Rattle.card_to_json.proofs.Steps.{inner-1, body, lays, lays-many, p
 use Rattle.card_to_json.proofs.lines_of.Statement.{statement}
 use Rattle.card_to_json.proofs.lines_of.Tie as tie
 
-frame-of-requires : tie.Need-frame-of-requires
-frame-of-requires c κs = search needs
-
-enum-known-a : tie.Need-enum-known-a
-enum-known-a c = search needs
-
-enum-told : tie.Need-enum-told
-enum-told c = search needs
-
 returns : tie.Need-returns
 returns c = inner-1 (now (c .before .before .before .before .before .before .args .card)) (c .before .before .frame-of .result) (c .enum-told .given .1) (c .before .before .frame-of .ensures)
 
@@ -44,18 +35,6 @@ unfold-requires c κs =
     let start = at-a .before .before .before .before .before .before in
     (omega (arith, part-length (now (start .args .card)) (at-a .a .given .0 .0) (at-a .a .given .0 .1 .0), start .pre .0), start .pre .1, start .pre .2)
 
-enum-known-n : tie.Need-enum-known-n
-enum-known-n c = search needs
-
-enum-told-2 : tie.Need-enum-told-2
-enum-told-2 c = search needs
-
-same-length : tie.Need-same-length
-same-length c = search needs
-
-same-length-2 : tie.Need-same-length-2
-same-length-2 c = search needs
-
 returns-2 : tie.Need-returns-2
 returns-2 c =
     let at-unfold = c .before .before .before .before .before .before in
@@ -64,12 +43,6 @@ returns-2 c =
     let start = at-frame-of .before .before .before .before in
     let f = body (now (start .args .card)) (at-frame-of .frame-of .result) (at-a .a .given .0 .0) (at-a .a .given .0 .1 .0) (at-a .a .given .1) (at-frame-of .frame-of .ensures) in
     lays-many (start .args .most) (now (start .args .card)) _ (at-unfold .«unfold» .result) (at-unfold .«unfold» .last .0) (at-unfold .«unfold» .last .1 .0) (f .2) (at-unfold .«unfold» .ensures) (c .enum-told2 .given .1)
-
-same-length-3 : tie.Need-same-length-3
-same-length-3 c = search needs
-
-same-length-4 : tie.Need-same-length-4
-same-length-4 c = search needs
 
 returns-3 : tie.Need-returns-3
 returns-3 c =
@@ -83,20 +56,5 @@ returns-3 c =
 pub lines-of-spec : {M : Type 1} → statement M
 lines-of-spec =
     tie.close
-    (tie.spec
-    frame-of-requires
-    enum-known-a
-    enum-told
-    returns
-    sub-unfold
-    part-unfold-start
-    part-unfold-end
-    unfold-requires
-    enum-known-n
-    enum-told-2
-    same-length
-    same-length-2
-    returns-2
-    same-length-3
-    same-length-4
-    returns-3)
+    (tie.spec (λ c κs. search needs) (λ c. search needs) (λ c. search needs) returns sub-unfold part-unfold-start part-unfold-end unfold-requires
+    (λ c. search needs) (λ c. search needs) (λ c. search needs) (λ c. search needs) returns-2 (λ c. search needs) (λ c. search needs) returns-3)

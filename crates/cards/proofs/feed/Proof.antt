@@ -87,21 +87,5 @@ returns-2 c = search needs
 pub feed-spec : {M : Type 1} → statement M
 feed-spec =
     tie.close
-    (tie.spec
-    Inv-loop
-    μ-loop
-    loop-holds
-    sub-step
-    part-step-start
-    part-step-end
-    step-requires
-    say-requires
-    same-length
-    same-length-2
-    returns
-    add-at
-    loop-less
-    loop-again
-    same-length-3
-    same-length-4
-    returns-2)
+    (tie.spec Inv-loop μ-loop loop-holds sub-step part-step-start part-step-end step-requires say-requires same-length same-length-2 returns add-at
+    loop-less loop-again same-length-3 same-length-4 returns-2)

@@ -67,24 +67,6 @@ returns-3 c = search needs
 pub serve-spec : {M : Type 1} → statement M
 serve-spec =
     tie.close
-    (tie.spec
-    Inv-loop
-    μ-loop
-    fresh-requires
-    loop-holds
-    slice-aggregate-read-full
-    read-full-requires
-    slice-aggregate-finish
-    slice-aggregate-finish-2
-    finish-requires
-    returns
-    array-share-prefix-piece
-    slice-aggregate-feed
-    slice-aggregate-feed-2
-    slice-aggregate-feed-3
-    feed-requires
-    returns-2
-    sub-left
-    loop-less
-    loop-again
-    returns-3)
+    (tie.spec Inv-loop μ-loop fresh-requires loop-holds slice-aggregate-read-full read-full-requires slice-aggregate-finish slice-aggregate-finish-2
+    finish-requires returns array-share-prefix-piece slice-aggregate-feed slice-aggregate-feed-2 slice-aggregate-feed-3 feed-requires returns-2
+    sub-left loop-less loop-again returns-3)

@@ -4,28 +4,6 @@ use Rattle.class_line.proofs.Lines.{numbered}
 use borrow.Author.Needs.{needs}
 use Rattle.class_line.proofs.class_line.Statement.{statement}
 use Rattle.class_line.proofs.class_line.Tie as tie
-use Rattle.class_line.proofs.class_line.Reads as reads
-use Rattle.class_line.proofs.class_line.Lts as lts
-use Rattle.class_line.proofs.class_numbered.Reads as class-numbered-reads
-use Rattle.class_names.proofs.name_code.Reads as name-code-reads
-
-shared-slice-read-a : tie.Need-shared-slice-read-a
-shared-slice-read-a c = search needs
-
-shared-slice-read-b : tie.Need-shared-slice-read-b
-shared-slice-read-b c = search needs
-
-sub-name-code : tie.Need-sub-name-code
-sub-name-code c = search needs
-
-part-name-code-start : tie.Need-part-name-code-start
-part-name-code-start c = search needs
-
-part-name-code-end : tie.Need-part-name-code-end
-part-name-code-end c = search needs
-
-name-code-requires : tie.Need-name-code-requires
-name-code-requires c κs = search needs
 
 class-numbered-requires : tie.Need-class-numbered-requires
 class-numbered-requires c κs = (
@@ -36,22 +14,8 @@ class-numbered-requires c κs = (
       (c .before .name-code .ensures) refl,
 )
 
-same-length : tie.Need-same-length
-same-length c = search needs
-
-returns : tie.Need-returns
-returns c = search needs
-
 pub class-line-spec : {M : Type 1} → statement M
 class-line-spec =
     tie.close
-    (tie.spec
-    shared-slice-read-a
-    shared-slice-read-b
-    sub-name-code
-    part-name-code-start
-    part-name-code-end
-    name-code-requires
-    class-numbered-requires
-    same-length
-    returns)
+    (tie.spec (λ c. search needs) (λ c. search needs) (λ c. search needs) (λ c. search needs) (λ c. search needs) (λ c κs. search needs)
+    class-numbered-requires (λ c. search needs) (λ c. search needs))

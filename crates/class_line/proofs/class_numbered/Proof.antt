@@ -7,12 +7,6 @@ use Rattle.class_line.proofs.Lines.{third}
 use borrow.Author.Needs.{needs}
 use Rattle.class_line.proofs.class_numbered.Statement.{statement}
 use Rattle.class_line.proofs.class_numbered.Tie as tie
-use Rattle.class_line.proofs.class_numbered.Reads as reads
-use Rattle.class_line.proofs.class_numbered.Lts as lts
-use Rattle.class_line.proofs.fn_class.Reads as fn-class-reads
-use Rattle.class_line.proofs.jsprop_class.Reads as jsprop-class-reads
-use Rattle.class_line.proofs.map_class.Reads as map-class-reads
-use Rattle.class_line.proofs.n_class.Reads as n-class-reads
 
 above : (k : ℕ) → 16 ≤ k → k ≡ 16 + (k - 16)
 above k h = omega arith
@@ -50,9 +44,6 @@ jsprop-class-requires c κs = (
   c .before .before .before .before .before .before .before .before .before .before .before .before .pre .2 ∙ (c .before .if5 .taken),
 )
 
-same-length : tie.Need-same-length
-same-length c = search needs
-
 returns-5 : tie.Need-returns-5
 returns-5 c =
     c .before .before .jsprop-class .ensures
@@ -88,17 +79,5 @@ returns-8 c =
 pub class-numbered-spec : {M : Type 1} → statement M
 class-numbered-spec =
     tie.close
-    (tie.spec
-    map-class-requires
-    returns
-    returns-2
-    fn-class-requires
-    returns-3
-    n-class-requires
-    returns-4
-    jsprop-class-requires
-    same-length
-    returns-5
-    returns-6
-    returns-7
-    returns-8)
+    (tie.spec map-class-requires returns returns-2 fn-class-requires returns-3 n-class-requires returns-4 jsprop-class-requires (λ c. search needs)
+    returns-5 returns-6 returns-7 returns-8)

@@ -3,9 +3,6 @@ use Rattle.class_line.proofs.Answers.{of-full, of-dropped, of-kept-full
 use borrow.Author.Needs.{needs}
 use Rattle.class_line.proofs.fn_class.Statement.{statement}
 use Rattle.class_line.proofs.fn_class.Tie as tie
-use Rattle.class_line.proofs.fn_class.Reads as reads
-use Rattle.class_line.proofs.fn_class.Lts as lts
-use Rattle.class_name.proofs.full_class.Reads as full-class-reads
 
 full-class-requires : tie.Need-full-class-requires
 full-class-requires c κs = search needs

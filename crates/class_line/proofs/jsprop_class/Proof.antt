@@ -5,18 +5,6 @@ use Rattle.class_line.proofs.Answers.{of-no-member, of-member}
 use borrow.Author.Needs.{needs}
 use Rattle.class_line.proofs.jsprop_class.Statement.{statement}
 use Rattle.class_line.proofs.jsprop_class.Tie as tie
-use Rattle.class_line.proofs.jsprop_class.Reads as reads
-use Rattle.class_line.proofs.jsprop_class.Lts as lts
-use Rattle.class_member.proofs.member_class.Reads as member-class-reads
-
-member-class-requires : tie.Need-member-class-requires
-member-class-requires c κs = search needs
-
-enum-told : tie.Need-enum-told
-enum-told c = search needs
-
-same-length : tie.Need-same-length
-same-length c = search needs
 
 returns : tie.Need-returns
 returns c =
@@ -26,12 +14,6 @@ returns c =
     (now (c .before .before .before .before .before .before .before .before .before .before .before .before .args .s))
     (now (c .before .before .before .before .before .before .before .before .before .before .before .before .args .t))) (c .enum-told .given .1)
     (c .before .before .before .before .member-class .ensures))
-
-enum-known-a : tie.Need-enum-known-a
-enum-known-a c = search needs
-
-same-length-2 : tie.Need-same-length-2
-same-length-2 c = search needs
 
 returns-2 : tie.Need-returns-2
 returns-2 c =
@@ -45,11 +27,4 @@ returns-2 c =
 pub jsprop-class-spec : {M : Type 1} → statement M
 jsprop-class-spec =
     tie.close
-    (tie.spec
-    member-class-requires
-    enum-told
-    same-length
-    returns
-    enum-known-a
-    same-length-2
-    returns-2)
+    (tie.spec (λ c κs. search needs) (λ c. search needs) (λ c. search needs) returns (λ c. search needs) (λ c. search needs) returns-2)

@@ -5,23 +5,6 @@ use Rattle.class_line.proofs.Answers.{of-bad, of-free, of-keyed}
 use borrow.Author.Needs.{needs}
 use Rattle.class_line.proofs.map_class.Statement.{statement}
 use Rattle.class_line.proofs.map_class.Tie as tie
-use Rattle.class_line.proofs.map_class.Reads as reads
-use Rattle.class_line.proofs.map_class.Lts as lts
-use Rattle.class_names.proofs.form_of.Reads as form-of-reads
-use Rattle.class_names.proofs.types_of.Reads as types-of-reads
-use Rattle.table_entry.proofs.entry_key.Reads as entry-key-reads
-
-types-of-requires : tie.Need-types-of-requires
-types-of-requires c κs = search needs
-
-form-of-requires : tie.Need-form-of-requires
-form-of-requires c κs = search needs
-
-entry-key-requires : tie.Need-entry-key-requires
-entry-key-requires c κs = search needs
-
-enum-told : tie.Need-enum-told
-enum-told c = search needs
 
 returns : tie.Need-returns
 returns c =
@@ -34,9 +17,6 @@ returns c =
     (now (c .before .before .before .before .before .before .before .before .before .before .args .t)) (c .before .before .before .before .types-of .result)
     (c .before .before .before .form-of .result)) (c .enum-told .given .1) (c .before .before .entry-key .ensures))
 
-enum-told-2 : tie.Need-enum-told-2
-enum-told-2 c = search needs
-
 returns-2 : tie.Need-returns-2
 returns-2 c =
     of-free (now (c .before .before .before .before .before .before .before .before .before .before .args .s)) (now
@@ -47,9 +27,6 @@ returns-2 c =
     (now (c .before .before .before .before .before .before .before .before .before .before .args .s))
     (now (c .before .before .before .before .before .before .before .before .before .before .args .t)) (c .before .before .before .before .types-of .result)
     (c .before .before .before .form-of .result)) (c .enum-told2 .given .1) (c .before .before .entry-key .ensures))
-
-enum-known-a : tie.Need-enum-known-a
-enum-known-a c = search needs
 
 returns-3 : tie.Need-returns-3
 returns-3 c =
@@ -66,13 +43,5 @@ returns-3 c =
 pub map-class-spec : {M : Type 1} → statement M
 map-class-spec =
     tie.close
-    (tie.spec
-    types-of-requires
-    form-of-requires
-    entry-key-requires
-    enum-told
-    returns
-    enum-told-2
-    returns-2
-    enum-known-a
-    returns-3)
+    (tie.spec (λ c κs. search needs) (λ c κs. search needs) (λ c κs. search needs) (λ c. search needs) returns (λ c. search needs) returns-2
+    (λ c. search needs) returns-3)

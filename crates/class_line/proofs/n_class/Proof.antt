@@ -3,9 +3,6 @@ use Rattle.class_line.proofs.Answers.{of-parts, of-kept-parts}
 use borrow.Author.Needs.{needs}
 use Rattle.class_line.proofs.n_class.Statement.{statement}
 use Rattle.class_line.proofs.n_class.Tie as tie
-use Rattle.class_line.proofs.n_class.Reads as reads
-use Rattle.class_line.proofs.n_class.Lts as lts
-use Rattle.class_name.proofs.parts_class.Reads as parts-class-reads
 
 parts-class-requires : tie.Need-parts-class-requires
 parts-class-requires c κs = search needs

@@ -4,22 +4,6 @@ use Rattle.class_member.proofs.Values.{never-full, written, soundly, ju
 use borrow.Author.Needs.{needs}
 use Rattle.class_member.proofs.is_json.Statement.{statement}
 use Rattle.class_member.proofs.is_json.Tie as tie
-use Rattle.class_member.proofs.is_json.Reads as reads
-use Rattle.class_member.proofs.is_json.Lts as lts
-use Rattle.json_read.proofs.read.Reads as read-reads
-use Rattle.line_text.proofs.read_text.Reads as read-text-reads
-
-read-text-requires : tie.Need-read-text-requires
-read-text-requires c κs = search needs
-
-enum-known-n : tie.Need-enum-known-n
-enum-known-n c = search needs
-
-enum-told : tie.Need-enum-told
-enum-told c = search needs
-
-same-length : tie.Need-same-length
-same-length c = search needs
 
 returns : tie.Need-returns
 returns c =
@@ -27,23 +11,8 @@ returns c =
     (now (c .before .before .before .before .before .before .before .before .args .scratch)) (c .before .before .before .before .before .before .before .before .pre .fits)
     (sym (c .before .before .before .before .read-text .ensures .said) ∙ (c .enum-told .given .1)))
 
-sub-read : tie.Need-sub-read
-sub-read c = search needs
-
-part-read-start : tie.Need-part-read-start
-part-read-start c = search needs
-
 part-read-end : tie.Need-part-read-end
 part-read-end c = (written (c .before .before .n .given .0 .0) (c .before .before .before .before .before .before .read-text .ensures) (c .before .before .n .given .1)) .0
-
-read-requires : tie.Need-read-requires
-read-requires c κs = search needs
-
-enum-told-2 : tie.Need-enum-told-2
-enum-told-2 c = search needs
-
-same-length-2 : tie.Need-same-length-2
-same-length-2 c = search needs
 
 returns-2 : tie.Need-returns-2
 returns-2 c =
@@ -54,12 +23,6 @@ returns-2 c =
     (c .before .before .before .before .before .before .before .before .before .before .read-text .ensures)
     (c .before .before .before .before .before .before .n .given .1)) .1) (c .before .before .read .ensures .0)
 
-enum-told-3 : tie.Need-enum-told-3
-enum-told-3 c = search needs
-
-same-length-3 : tie.Need-same-length-3
-same-length-3 c = search needs
-
 returns-3 : tie.Need-returns-3
 returns-3 c =
     sym (ap soundly (c .enum-told3 .given .1)) ∙ judged-text (now
@@ -68,12 +31,6 @@ returns-3 c =
     (c .before .before .before .before .before .before .n .given .0 .0)
     (c .before .before .before .before .before .before .before .before .before .before .read-text .ensures)
     (c .before .before .before .before .before .before .n .given .1)) .1) (c .before .before .read .ensures .0)
-
-enum-told-4 : tie.Need-enum-told-4
-enum-told-4 c = search needs
-
-same-length-4 : tie.Need-same-length-4
-same-length-4 c = search needs
 
 returns-4 : tie.Need-returns-4
 returns-4 c =
@@ -87,22 +44,6 @@ returns-4 c =
 pub is-json-spec : {M : Type 1} → statement M
 is-json-spec =
     tie.close
-    (tie.spec
-    read-text-requires
-    enum-known-n
-    enum-told
-    same-length
-    returns
-    sub-read
-    part-read-start
-    part-read-end
-    read-requires
-    enum-told-2
-    same-length-2
-    returns-2
-    enum-told-3
-    same-length-3
-    returns-3
-    enum-told-4
-    same-length-4
-    returns-4)
+    (tie.spec (λ c κs. search needs) (λ c. search needs) (λ c. search needs) (λ c. search needs) returns (λ c. search needs) (λ c. search needs)
+    part-read-end (λ c κs. search needs) (λ c. search needs) (λ c. search needs) returns-2 (λ c. search needs) (λ c. search needs) returns-3
+    (λ c. search needs) (λ c. search needs) returns-4)

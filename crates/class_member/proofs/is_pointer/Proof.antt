@@ -9,9 +9,6 @@ use Rattle.convert.specs.Pointer.{pointed, pointedFrom}
 use Rattle.class_member.proofs.Pointing.{point-on, point-off, point-end, point-none, point-some}
 use Rattle.class_member.proofs.is_pointer.Statement.{statement}
 use Rattle.class_member.proofs.is_pointer.Tie as tie
-use Rattle.class_member.proofs.is_pointer.Reads as reads
-use Rattle.class_member.proofs.is_pointer.Lts as lts
-use Rattle.class_member.proofs.points_on.Reads as points-on-reads
 
 abbrev Inv-loop : tie.InvT-loop
 Inv-loop p tilde₀ i₀ tilde i = (i ≤ length p) × (is-some (pointedFrom tilde (drop i p)) ≡ is-some (pointed p))
@@ -57,15 +54,4 @@ returns-3 c = sym (point-end (now (c .before .before .before .before .args .p)) 
 pub is-pointer-spec : {M : Type 1} → statement M
 is-pointer-spec =
     tie.close
-    (tie.spec
-    Inv-loop
-    μ-loop
-    returns
-    loop-holds
-    shared-slice-read-c
-    points-on-requires
-    returns-2
-    add-i
-    loop-less
-    loop-again
-    returns-3)
+    (tie.spec Inv-loop μ-loop returns loop-holds shared-slice-read-c points-on-requires returns-2 add-i loop-less loop-again returns-3)

@@ -1,5 +1,5 @@
 use mathlib.Core.Path.{sym, _∙_}
-use lib.ListN.{take, drop}
+use lib.ListN.{drop}
 use denote.Ref.{now}
 use Rattle.text.specs.Bytes.{ascii}
 use Rattle.convert.specs.Table.{reserved}
@@ -7,68 +7,29 @@ use Rattle.class_member.proofs.Pointing.{is-word, last-section, word-ni
 use borrow.Author.Needs.{needs}
 use Rattle.class_member.proofs.is_section.Statement.{statement}
 use Rattle.class_member.proofs.is_section.Tie as tie
-use Rattle.class_member.proofs.is_section.Reads as reads
-use Rattle.class_member.proofs.is_section.Lts as lts
-use Rattle.convert_tests.proofs.same_bytes.Reads as same-bytes-reads
-
-slice-aggregate-same-bytes : tie.Need-slice-aggregate-same-bytes
-slice-aggregate-same-bytes c = search needs
-
-same-bytes-requires : tie.Need-same-bytes-requires
-same-bytes-requires c κs = search needs
 
 returns : tie.Need-returns
 returns c = is-word (now (c .before .before .before .before .args .p)) (ascii "nicknames") (drop 5 reserved) (word-nicknames) (sym (c .before .same-bytes .ensures) ∙ (c .if1 .taken))
-
-slice-aggregate-same-bytes-2 : tie.Need-slice-aggregate-same-bytes-2
-slice-aggregate-same-bytes-2 c = search needs
-
-same-bytes-requires-2 : tie.Need-same-bytes-requires-2
-same-bytes-requires-2 c κs = search needs
 
 returns-2 : tie.Need-returns-2
 returns-2 c =
     is-word (now (c .before .before .before .before .before .before .before .args .p)) (ascii "emails") (drop 5 reserved) (word-emails)
     (sym (c .before .same-bytes2 .ensures) ∙ (c .if2 .taken))
 
-slice-aggregate-same-bytes-3 : tie.Need-slice-aggregate-same-bytes-3
-slice-aggregate-same-bytes-3 c = search needs
-
-same-bytes-requires-3 : tie.Need-same-bytes-requires-3
-same-bytes-requires-3 c κs = search needs
-
 returns-3 : tie.Need-returns-3
 returns-3 c =
     is-word (now (c .before .before .before .before .before .before .before .before .before .before .args .p)) (ascii "phones") (drop 5 reserved) (word-phones)
     (sym (c .before .same-bytes3 .ensures) ∙ (c .if3 .taken))
-
-slice-aggregate-same-bytes-4 : tie.Need-slice-aggregate-same-bytes-4
-slice-aggregate-same-bytes-4 c = search needs
-
-same-bytes-requires-4 : tie.Need-same-bytes-requires-4
-same-bytes-requires-4 c κs = search needs
 
 returns-4 : tie.Need-returns-4
 returns-4 c =
     is-word (now (c .before .before .before .before .before .before .before .before .before .before .before .before .before .args .p)) (ascii "links") (drop 5 reserved)
     (word-links) (sym (c .before .same-bytes4 .ensures) ∙ (c .if4 .taken))
 
-slice-aggregate-same-bytes-5 : tie.Need-slice-aggregate-same-bytes-5
-slice-aggregate-same-bytes-5 c = search needs
-
-same-bytes-requires-5 : tie.Need-same-bytes-requires-5
-same-bytes-requires-5 c κs = search needs
-
 returns-5 : tie.Need-returns-5
 returns-5 c =
     is-word (now (c .before .before .before .before .before .before .before .before .before .before .before .before .before .before .before .before .args .p)) (ascii "notes")
     (drop 5 reserved) (word-notes) (sym (c .before .same-bytes5 .ensures) ∙ (c .if5 .taken))
-
-slice-aggregate-same-bytes-6 : tie.Need-slice-aggregate-same-bytes-6
-slice-aggregate-same-bytes-6 c = search needs
-
-same-bytes-requires-6 : tie.Need-same-bytes-requires-6
-same-bytes-requires-6 c κs = search needs
 
 returns-6 : tie.Need-returns-6
 returns-6 c =
@@ -76,23 +37,11 @@ returns-6 c =
     (now (c .before .before .before .before .before .before .before .before .before .before .before .before .before .before .before .before .before .before .before .args .p))
     (ascii "titles") (drop 5 reserved) (word-titles) (sym (c .before .same-bytes6 .ensures) ∙ (c .if6 .taken))
 
-slice-aggregate-same-bytes-7 : tie.Need-slice-aggregate-same-bytes-7
-slice-aggregate-same-bytes-7 c = search needs
-
-same-bytes-requires-7 : tie.Need-same-bytes-requires-7
-same-bytes-requires-7 c κs = search needs
-
 returns-7 : tie.Need-returns-7
 returns-7 c =
     is-word (now
     (c .before .before .before .before .before .before .before .before .before .before .before .before .before .before .before .before .before .before .before .before .before .before .args .p))
     (ascii "organizations") (drop 5 reserved) (word-organizations) (sym (c .before .same-bytes7 .ensures) ∙ (c .if7 .taken))
-
-slice-aggregate-same-bytes-8 : tie.Need-slice-aggregate-same-bytes-8
-slice-aggregate-same-bytes-8 c = search needs
-
-same-bytes-requires-8 : tie.Need-same-bytes-requires-8
-same-bytes-requires-8 c κs = search needs
 
 returns-8 : tie.Need-returns-8
 returns-8 c =
@@ -116,28 +65,7 @@ returns-8 c =
 pub is-section-spec : {M : Type 1} → statement M
 is-section-spec =
     tie.close
-    (tie.spec
-    slice-aggregate-same-bytes
-    same-bytes-requires
-    returns
-    slice-aggregate-same-bytes-2
-    same-bytes-requires-2
-    returns-2
-    slice-aggregate-same-bytes-3
-    same-bytes-requires-3
-    returns-3
-    slice-aggregate-same-bytes-4
-    same-bytes-requires-4
-    returns-4
-    slice-aggregate-same-bytes-5
-    same-bytes-requires-5
-    returns-5
-    slice-aggregate-same-bytes-6
-    same-bytes-requires-6
-    returns-6
-    slice-aggregate-same-bytes-7
-    same-bytes-requires-7
-    returns-7
-    slice-aggregate-same-bytes-8
-    same-bytes-requires-8
-    returns-8)
+    (tie.spec (λ c. search needs) (λ c κs. search needs) returns (λ c. search needs) (λ c κs. search needs) returns-2 (λ c. search needs)
+    (λ c κs. search needs) returns-3 (λ c. search needs) (λ c κs. search needs) returns-4 (λ c. search needs) (λ c κs. search needs) returns-5
+    (λ c. search needs) (λ c κs. search needs) returns-6 (λ c. search needs) (λ c κs. search needs) returns-7 (λ c. search needs)
+    (λ c κs. search needs) returns-8)

@@ -11,17 +11,6 @@ use Rattle.class_member.proofs.Members.{member-many, member-others, mem
 use borrow.Author.Needs.{needs}
 use Rattle.class_member.proofs.member_class.Statement.{statement}
 use Rattle.class_member.proofs.member_class.Tie as tie
-use Rattle.class_member.proofs.member_class.Reads as reads
-use Rattle.class_member.proofs.member_class.Lts as lts
-use Rattle.class_member.proofs.is_head.Reads as is-head-reads
-use Rattle.class_member.proofs.is_json.Reads as is-json-reads
-use Rattle.class_member.proofs.is_pointer.Reads as is-pointer-reads
-use Rattle.class_member.proofs.is_section.Reads as is-section-reads
-use Rattle.class_member.proofs.none_but_pointer.Reads as none-but-pointer-reads
-use Rattle.class_name.proofs.is_bare.Reads as is-bare-reads
-
-shared-slice-read-if1 : tie.Need-shared-slice-read-if1
-shared-slice-read-if1 c = search needs
 
 returns : tie.Need-returns
 returns c =
@@ -29,17 +18,11 @@ returns c =
     (now (c .before .before .before .before .before .before .before .before .args .t)) (c .before .before .before .before .before .before .before .before .pre .0 .row)
     (c .if1 .taken)
 
-none-but-pointer-requires : tie.Need-none-but-pointer-requires
-none-but-pointer-requires c κs = search needs
-
 returns-2 : tie.Need-returns-2
 returns-2 c =
     member-others (now (c .before .before .before .before .before .before .before .before .before .before .args .s))
     (now (c .before .before .before .before .before .before .before .before .before .before .args .t))
     (c .before .before .before .before .before .before .before .before .before .before .pre .0 .row) (sym (c .before .none-but-pointer .ensures) ∙ not-true _ (c .if2 .taken))
-
-is-bare-requires : tie.Need-is-bare-requires
-is-bare-requires c κs = search needs
 
 returns-3 : tie.Need-returns-3
 returns-3 c =
@@ -47,12 +30,6 @@ returns-3 c =
     (now (c .before .before .before .before .before .before .before .before .before .before .before .before .args .t))
     (c .before .before .before .before .before .before .before .before .before .before .before .before .pre .0 .row)
     (c .before .is-bare .ensures ∙ not-true _ (c .if3 .taken))
-
-shared-slice-read-a : tie.Need-shared-slice-read-a
-shared-slice-read-a c = search needs
-
-shared-slice-read-b : tie.Need-shared-slice-read-b
-shared-slice-read-b c = search needs
 
 sub-is-pointer : tie.Need-sub-is-pointer
 sub-is-pointer c =
@@ -68,9 +45,6 @@ part-is-pointer-end : tie.Need-part-is-pointer-end
 part-is-pointer-end c =
     let v = held-first (c .before .before .before .before .before .before .before .before .before .before .before .before .before .before .pre .0 .row .held 4 (omega arith))
     (λ e. omega (arith, c .before .before .before .before .before .before .if1 .left)) in omega (arith, v .ordered, v .within)
-
-is-pointer-requires : tie.Need-is-pointer-requires
-is-pointer-requires c κs = search needs
 
 returns-4 : tie.Need-returns-4
 returns-4 c =
@@ -99,9 +73,6 @@ part-is-head-end c =
     let v = held-first
     (c .before .before .before .before .before .before .before .before .before .before .before .before .before .before .before .before .before .pre .0 .row .held 4 (omega arith))
     (λ e. omega (arith, c .before .before .before .before .before .before .before .before .before .if1 .left)) in omega (arith, v .ordered, v .within)
-
-is-head-requires : tie.Need-is-head-requires
-is-head-requires c κs = search needs
 
 returns-5 : tie.Need-returns-5
 returns-5 c =
@@ -145,9 +116,6 @@ part-is-section-end c =
       v .within,
     )
 
-is-section-requires : tie.Need-is-section-requires
-is-section-requires c κs = search needs
-
 returns-6 : tie.Need-returns-6
 returns-6 c =
     member-section (now
@@ -161,27 +129,6 @@ returns-6 c =
     (c .before .before .before .before .before .before .before .is-pointer .ensures) ∙ not-false _ (c .before .before .before .before .before .before .if4 .left))
     (c .before .before .before .before .is-head .result) (c .before .is-section .result) (c .before .before .before .before .is-head .ensures)
     (c .before .before .before .if5 .left) (c .before .is-section .ensures) (c .if6 .taken)
-
-shared-slice-read-c : tie.Need-shared-slice-read-c
-shared-slice-read-c c = search needs
-
-shared-slice-read-d : tie.Need-shared-slice-read-d
-shared-slice-read-d c = search needs
-
-sub-is-json : tie.Need-sub-is-json
-sub-is-json c = search needs
-
-part-is-json-start : tie.Need-part-is-json-start
-part-is-json-start c = search needs
-
-part-is-json-end : tie.Need-part-is-json-end
-part-is-json-end c = search needs
-
-is-json-requires : tie.Need-is-json-requires
-is-json-requires c κs = search needs
-
-same-length : tie.Need-same-length
-same-length c = search needs
 
 returns-7 : tie.Need-returns-7
 returns-7 c =
@@ -206,9 +153,6 @@ returns-7 c =
     (now
     (c .before .before .before .before .before .before .before .before .before .before .before .before .before .before .before .before .before .before .before .before .before .before .before .before .before .before .before .before .before .before .before .args .t)))
     ∙ sym (c .before .before .before .is-json .ensures) ∙ not-true _ (c .if7 .taken))
-
-same-length-2 : tie.Need-same-length-2
-same-length-2 c = search needs
 
 returns-8 : tie.Need-returns-8
 returns-8 c =
@@ -248,37 +192,8 @@ returns-8 c =
 pub member-class-spec : {M : Type 1} → statement M
 member-class-spec =
     tie.close
-    (tie.spec
-    shared-slice-read-if1
-    returns
-    none-but-pointer-requires
-    returns-2
-    is-bare-requires
-    returns-3
-    shared-slice-read-a
-    shared-slice-read-b
-    sub-is-pointer
-    part-is-pointer-start
-    part-is-pointer-end
-    is-pointer-requires
-    returns-4
-    sub-is-head
-    part-is-head-start
-    part-is-head-end
-    is-head-requires
-    returns-5
-    sub-is-section
-    part-is-section-start
-    part-is-section-end
-    is-section-requires
-    returns-6
-    shared-slice-read-c
-    shared-slice-read-d
-    sub-is-json
-    part-is-json-start
-    part-is-json-end
-    is-json-requires
-    same-length
-    returns-7
-    same-length-2
-    returns-8)
+    (tie.spec (λ c. search needs) returns (λ c κs. search needs) returns-2 (λ c κs. search needs) returns-3 (λ c. search needs) (λ c. search needs)
+    sub-is-pointer part-is-pointer-start part-is-pointer-end (λ c κs. search needs) returns-4 sub-is-head part-is-head-start part-is-head-end
+    (λ c κs. search needs) returns-5 sub-is-section part-is-section-start part-is-section-end (λ c κs. search needs) returns-6 (λ c. search needs)
+    (λ c. search needs) (λ c. search needs) (λ c. search needs) (λ c. search needs) (λ c κs. search needs) (λ c. search needs) returns-7
+    (λ c. search needs) returns-8)

@@ -2,8 +2,6 @@ use mathlib.Core.Path.{sym, ap}
 use Rattle.class_member.specs.Member.{pointsOn}
 use Rattle.class_member.proofs.points_on.Statement.{statement}
 use Rattle.class_member.proofs.points_on.Tie as tie
-use Rattle.class_member.proofs.points_on.Reads as reads
-use Rattle.class_member.proofs.points_on.Lts as lts
 
 returns : tie.Need-returns
 returns c = sym (ap (λ b. pointsOn b (c .before .args .c)) (c .if1 .taken))

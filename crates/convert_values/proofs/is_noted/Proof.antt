@@ -107,23 +107,6 @@ returns-2 c = found-none (c .before .before .before .before .before .before .bef
 pub is-noted-spec : {M : Type 1} → statement M
 is-noted-spec =
     tie.close
-    (tie.spec
-    Inv-loop
-    μ-loop
-    print-text-requires
-    next-print-requires
-    loop-holds
-    mul-wide
-    shared-slice-read-wide
-    wide-requires
-    part-end-requires
-    sub-same-text
-    part-same-text-start
-    part-same-text-end
-    same-text-requires
-    returns
-    add-next-print
-    next-print-requires-2
-    loop-less
-    loop-again
+    (tie.spec Inv-loop μ-loop print-text-requires next-print-requires loop-holds mul-wide shared-slice-read-wide wide-requires part-end-requires
+    sub-same-text part-same-text-start part-same-text-end same-text-requires returns add-next-print next-print-requires-2 loop-less loop-again
     returns-2)

@@ -1,5 +1,3 @@
-use borrow.Author.Needs.{needs}
-use denote.Ref.{now}
 use Rattle.convert_values.proofs.Texts.{picked-on, picked-off}
 use Rattle.convert_values.proofs.next_if.Statement.{statement}
 use Rattle.convert_values.proofs.next_if.Tie as tie

@@ -7,17 +7,8 @@ use Rattle.convert_values.proofs.next_is.Tie as tie
 next-char-requires : tie.Need-next-char-requires
 next-char-requires c κs = tt
 
-enum-known-d : tie.Need-enum-known-d
-enum-known-d c = search needs
-
 next-if-requires : tie.Need-next-if-requires
 next-if-requires c κs = tt
-
-enum-told : tie.Need-enum-told
-enum-told c = search needs
-
-enum-told-2 : tie.Need-enum-told-2
-enum-told-2 c = search needs
 
 returns : tie.Need-returns
 returns c =
@@ -35,4 +26,4 @@ returns-3 c = next-end (now (c .before .before .before .before .args .s)) (c .be
 pub next-is-spec : {M : Type 1} → statement M
 next-is-spec =
     tie.close
-    (tie.spec next-char-requires enum-known-d next-if-requires enum-told enum-told-2 returns returns-2 returns-3)
+    (tie.spec next-char-requires (λ c. search needs) next-if-requires (λ c. search needs) (λ c. search needs) returns returns-2 returns-3)

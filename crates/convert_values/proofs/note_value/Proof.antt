@@ -15,23 +15,11 @@ returns c =
       noted-not (now (args .o)) (args .i) (args .e) (pre .0 .1) (now (args .places)) (now (args .prints)) (args .n) (pre .1 .1) (c .if1 .taken),
     )
 
-sub-print-text : tie.Need-sub-print-text
-sub-print-text c = search needs
-
-part-print-text-start : tie.Need-part-print-text-start
-part-print-text-start c = search needs
-
-part-print-text-end : tie.Need-part-print-text-end
-part-print-text-end c = search needs
-
 print-text-requires : tie.Need-print-text-requires
 print-text-requires c κs =
     let pre = c .before .before .before .before .before .pre in
     let args = c .before .before .before .before .before .args in
     part-good 44 (now (args .o)) (args .i) (args .e) (pre .0 .1) (pre .0 .0)
-
-cast-places : tie.Need-cast-places
-cast-places c = search needs
 
 mul-places : tie.Need-mul-places
 mul-places c = let l = c .before .before .before .before .before .before .pre .1 .0 (c .before .before .if1 .left) .0 in search needs
@@ -48,12 +36,6 @@ slice-write-prints c = c .before .before .before .before .before .before .pre .1
 add-result : tie.Need-add-result
 add-result c = let l = c .before .before .before .before .before .before .pre .1 .0 (c .before .before .if1 .left) .0 in search needs
 
-same-length : tie.Need-same-length
-same-length c = search needs
-
-same-length-2 : tie.Need-same-length-2
-same-length-2 c = search needs
-
 returns-2 : tie.Need-returns-2
 returns-2 c =
     let pre = c .before .before .before .before .before .before .pre in
@@ -68,18 +50,5 @@ returns-2 c =
 pub note-value-spec : {M : Type 1} → statement M
 note-value-spec =
     tie.close
-    (tie.spec
-    returns
-    sub-print-text
-    part-print-text-start
-    part-print-text-end
-    print-text-requires
-    cast-places
-    mul-places
-    slice-write-places
-    mul-prints
-    slice-write-prints
-    add-result
-    same-length
-    same-length-2
-    returns-2)
+    (tie.spec returns (λ c. search needs) (λ c. search needs) (λ c. search needs) print-text-requires (λ c. search needs) mul-places
+    slice-write-places mul-prints slice-write-prints add-result (λ c. search needs) (λ c. search needs) returns-2)

@@ -68,15 +68,4 @@ loop-again c =
 pub note-values-spec : {M : Type 1} → statement M
 note-values-spec =
     tie.close
-    (tie.spec
-    Inv-loop
-    μ-loop
-    loop-holds
-    part-end-requires
-    note-value-requires
-    same-length
-    same-length-2
-    returns
-    add-i
-    loop-less
-    loop-again)
+    (tie.spec Inv-loop μ-loop loop-holds part-end-requires note-value-requires same-length same-length-2 returns add-i loop-less loop-again)

@@ -50,17 +50,5 @@ returns-2 c = print-end (c .before .before .before .loop .inv) _ (c .before .bef
 pub print-text-spec : {M : Type 1} → statement M
 print-text-spec =
     tie.close
-    (tie.spec
-    Inv-loop
-    μ-loop
-    loop-holds
-    next-char-requires
-    enum-known-c
-    stirred-requires
-    loop-less
-    loop-again
-    enum-told
-    returns
-    enum-told-2
-    cast-result
-    returns-2)
+    (tie.spec Inv-loop μ-loop loop-holds next-char-requires enum-known-c stirred-requires loop-less loop-again enum-told returns enum-told-2
+    cast-result returns-2)

@@ -9,20 +9,11 @@ use Rattle.json_access.proofs.head_at.Tie as tie
 returns : tie.Need-returns
 returns c = (omega arith, (((λ l. absurd (omega (arith, c .if1 .taken))), omega arith), head-past (now (c .before .before .args .s)) (c .before .before .args .at) (c .if1 .taken) (record { name = 0; start = 0 })))
 
-mark-requires : tie.Need-mark-requires
-mark-requires c κs = search needs
-
-place-requires : tie.Need-place-requires
-place-requires c κs = search needs
-
 string-stop-requires : tie.Need-string-stop-requires
 string-stop-requires c κs = let p = place-in (now (c .before .before .before .before .args .s)) (c .before .before .before .before .args .at) _ _ (c .before .mark .ensures) in omega (arith, p .1, c .place .ensures)
 
 mark-requires-2 : tie.Need-mark-requires-2
 mark-requires-2 c κs = (c .string-stop .ensures .to, omega arith)
-
-place-requires-2 : tie.Need-place-requires-2
-place-requires-2 c κs = search needs
 
 skip-space-requires : tie.Need-skip-space-requires
 skip-space-requires c κs = let q = place-in (now (c .before .before .before .before .before .before .before .args .s)) (c .before .before .string-stop .result) _ _ (c .before .mark2 .ensures) in omega (arith, q .1, c .place2 .ensures)
@@ -43,12 +34,5 @@ returns-2 c =
 pub head-at-spec : {M : Type 1} → statement M
 head-at-spec =
     tie.close
-    (tie.spec
-    returns
-    mark-requires
-    place-requires
-    string-stop-requires
-    mark-requires-2
-    place-requires-2
-    skip-space-requires
+    (tie.spec returns (λ c κs. search needs) (λ c κs. search needs) string-stop-requires mark-requires-2 (λ c κs. search needs) skip-space-requires
     returns-2)

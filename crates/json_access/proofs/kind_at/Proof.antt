@@ -8,12 +8,6 @@ use Rattle.json_access.proofs.kind_at.Tie as tie
 returns : tie.Need-returns
 returns c = kind-past (now (c .before .before .args .s)) (c .before .before .args .at) (c .if1 .taken) _
 
-skip-space-requires : tie.Need-skip-space-requires
-skip-space-requires c κs = search needs
-
-look-requires : tie.Need-look-requires
-look-requires c κs = search needs
-
 returns-2 : tie.Need-returns-2
 returns-2 c = is-array (now (c .before .before .before .before .before .args .s)) (c .before .before .before .before .before .args .at) (c .before .before .skip-space .result) (c .before .look .result) (c .before .before .skip-space .ensures) (c .before .look .ensures .0) (c .if2 .taken)
 
@@ -77,14 +71,4 @@ returns-8 c =
 pub kind-at-spec : {M : Type 1} → statement M
 kind-at-spec =
     tie.close
-    (tie.spec
-    returns
-    skip-space-requires
-    look-requires
-    returns-2
-    returns-3
-    returns-4
-    returns-5
-    returns-6
-    returns-7
-    returns-8)
+    (tie.spec returns (λ c κs. search needs) (λ c κs. search needs) returns-2 returns-3 returns-4 returns-5 returns-6 returns-7 returns-8)

@@ -24,26 +24,8 @@ use Rattle.json_chars.proofs.next_character.Tie as tie
 abbrev Read-as : tie.Start → Turn → Type 0
 Read-as c w = GivesT (now (c .args .s)) (c .args .at) (character (drop (c .args .at) (now (c .args .s)))) w
 
-look-requires : tie.Need-look-requires
-look-requires c κs = search needs
-
-add-t12 : tie.Need-add-t12
-add-t12 c = search needs
-
 returns : tie.Need-returns
 returns c = char-end _ _ (c .before .look .result) (c .before .look .ensures .0) (c .if1 .taken) (omega arith)
-
-add-escape-at : tie.Need-add-escape-at
-add-escape-at c = search needs
-
-escape-at-requires : tie.Need-escape-at-requires
-escape-at-requires c κs = search needs
-
-enum-known-e : tie.Need-enum-known-e
-enum-known-e c = search needs
-
-enum-known-x : tie.Need-enum-known-x
-enum-known-x c = search needs
 
 -- what stood after a backslash
 escaped : (c : tie.After-escape-at) {r : Value} → c .escape-at .result ≡ r → Read-as (c .before .before .before .before .before) (turnOf (placeOf r))
@@ -54,12 +36,6 @@ returns-2 c = escaped (c .before .before .before) (c .before .e .given .1)
 
 returns-3 : tie.Need-returns-3
 returns-3 c = escaped (c .before .before .before) (c .before .x .given .1)
-
-in-range-requires : tie.Need-in-range-requires
-in-range-requires c κs = search needs
-
-add-t19 : tie.Need-add-t19
-add-t19 c = search needs
 
 returns-4 : tie.Need-returns-4
 returns-4 c =
@@ -73,33 +49,6 @@ none c h = char-none _ _ (c .before .before .before .before .look .result) (c .b
 
 returns-5 : tie.Need-returns-5
 returns-5 c = none (c .before) (by-lead _ (sym (lead-high _ (le-ltb _ 256 (c .if4 .taken)))))
-
-cast-due-after : tie.Need-cast-due-after
-cast-due-after c = search needs
-
-due-after-requires : tie.Need-due-after-requires
-due-after-requires c κs = search needs
-
-enum-known-low : tie.Need-enum-known-low
-enum-known-low c = search needs
-
-add-wide-end : tie.Need-add-wide-end
-add-wide-end c = search needs
-
-wide-end-requires : tie.Need-wide-end-requires
-wide-end-requires c κs = search needs
-
-enum-known-e-2 : tie.Need-enum-known-e-2
-enum-known-e-2 c = search needs
-
-enum-known-x-2 : tie.Need-enum-known-x-2
-enum-known-x-2 c = search needs
-
-enum-told : tie.Need-enum-told
-enum-told c = search needs
-
-enum-told-2 : tie.Need-enum-told-2
-enum-told-2 c = search needs
 
 -- what stood after the first byte of a character of several
 wide : (c : tie.After-wide-end) {r : Read} → c .wide-end .result ≡ r → Read-as (c .before .before .before .before .before .before .before .before .before .before .before .before) (turnOf r)
@@ -125,30 +74,7 @@ returns-9 c = none (c .before .before .before .before) (by-lead _ (sym (ap dueOf
 pub next-character-spec : {M : Type 1} → statement M
 next-character-spec =
     tie.close
-    (tie.spec
-    look-requires
-    add-t12
-    returns
-    add-escape-at
-    escape-at-requires
-    enum-known-e
-    enum-known-x
-    returns-2
-    returns-3
-    in-range-requires
-    add-t19
-    returns-4
-    returns-5
-    cast-due-after
-    due-after-requires
-    enum-known-low
-    add-wide-end
-    wide-end-requires
-    enum-known-e-2
-    enum-known-x-2
-    enum-told
-    enum-told-2
-    returns-6
-    returns-7
-    returns-8
-    returns-9)
+    (tie.spec (λ c κs. search needs) (λ c. search needs) returns (λ c. search needs) (λ c κs. search needs) (λ c. search needs) (λ c. search needs)
+    returns-2 returns-3 (λ c κs. search needs) (λ c. search needs) returns-4 returns-5 (λ c. search needs) (λ c κs. search needs) (λ c. search needs)
+    (λ c. search needs) (λ c κs. search needs) (λ c. search needs) (λ c. search needs) (λ c. search needs) (λ c. search needs) returns-6 returns-7
+    returns-8 returns-9)

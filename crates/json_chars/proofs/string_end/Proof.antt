@@ -3,7 +3,7 @@ use native.Mathlib.Omega.{arith}
 use denote.Ref.{now}
 use Prim.Native.Nat.{_-_, _≤_}
 use lib.ListN.{length}
-use Rattle.text.proofs.Places.{turn-as, up}
+use Rattle.text.proofs.Places.{turn-as}
 use Rattle.json_chars.specs.Strings.{ToEnd}
 use Rattle.json_chars.proofs.Laws.{string-on, string-stop}
 use Rattle.json_chars.proofs.string_end.Statement.{statement}
@@ -46,14 +46,4 @@ returns c = c .before .before .before .before .before .loop .inv .1 _ (c .before
 pub string-end-spec : {M : Type 1} → statement M
 string-end-spec =
     tie.close
-    (tie.spec
-    Inv-loop
-    μ-loop
-    loop-holds
-    plain-end-requires
-    next-character-requires
-    enum-known-j
-    loop-less
-    loop-again
-    enum-known-r
-    returns)
+    (tie.spec Inv-loop μ-loop loop-holds plain-end-requires next-character-requires enum-known-j loop-less loop-again enum-known-r returns)

@@ -67,15 +67,4 @@ returns-2 c = c .before .loop .inv .1 _ (tails-none (now (c .before .before .bef
 pub tails-end-spec : {M : Type 1} → statement M
 tails-end-spec =
     tie.close
-    (tie.spec
-    Inv-loop
-    μ-loop
-    loop-holds
-    look-requires
-    in-range-requires
-    returns
-    add-i
-    sub-left
-    loop-less
-    loop-again
-    returns-2)
+    (tie.spec Inv-loop μ-loop loop-holds look-requires in-range-requires returns add-i sub-left loop-less loop-again returns-2)

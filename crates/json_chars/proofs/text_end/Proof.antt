@@ -72,16 +72,5 @@ returns-2 c =
 pub text-end-spec : {M : Type 1} → statement M
 text-end-spec =
     tie.close
-    (tie.spec
-    Inv-loop
-    μ-loop
-    loop-holds
-    plain-end-requires
-    look-requires
-    returns
-    next-character-requires
-    enum-known-j
-    loop-less
-    loop-again
-    enum-told
+    (tie.spec Inv-loop μ-loop loop-holds plain-end-requires look-requires returns next-character-requires enum-known-j loop-less loop-again enum-told
     returns-2)

@@ -8,15 +8,6 @@ use borrow.Author.Needs.{needs}
 use Rattle.json_chars.proofs.wide_end.Statement.{statement}
 use Rattle.json_chars.proofs.wide_end.Tie as tie
 
-look-requires : tie.Need-look-requires
-look-requires c κs = search needs
-
-in-range-requires : tie.Need-in-range-requires
-in-range-requires c κs = search needs
-
-add-tails-end : tie.Need-add-tails-end
-add-tails-end c = search needs
-
 tails-end-requires : tie.Need-tails-end-requires
 tails-end-requires c κs = let l = between-in (c .before .before .before .before .args .low) (c .before .before .before .before .args .high) (c .before .before .look .result) (sym (c .before .in-range .ensures) ∙ (c .if1 .taken)) in omega arith
 
@@ -31,4 +22,4 @@ returns-2 c = not-on (between (c .before .before .before .before .args .low) (c 
 pub wide-end-spec : {M : Type 1} → statement M
 wide-end-spec =
     tie.close
-    (tie.spec look-requires in-range-requires add-tails-end tails-end-requires returns returns-2)
+    (tie.spec (λ c κs. search needs) (λ c κs. search needs) (λ c. search needs) tails-end-requires returns returns-2)

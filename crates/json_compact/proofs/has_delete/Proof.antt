@@ -41,12 +41,4 @@ returns c =
 pub has-delete-spec : {M : Type 1} → statement M
 has-delete-spec =
     tie.close
-    (tie.spec
-    Inv-loop
-    μ-loop
-    loop-holds
-    shared-slice-read-found
-    add-k
-    loop-less
-    loop-again
-    returns)
+    (tie.spec Inv-loop μ-loop loop-holds shared-slice-read-found add-k loop-less loop-again returns)

@@ -9,24 +9,9 @@ use borrow.Author.Needs.{needs}
 use Rattle.json_compact.proofs.piece_end.Statement.{statement}
 use Rattle.json_compact.proofs.piece_end.Tie as tie
 
-look-requires : tie.Need-look-requires
-look-requires c κs = search needs
-
-is-space-requires : tie.Need-is-space-requires
-is-space-requires c κs = search needs
-
-add-t5 : tie.Need-add-t5
-add-t5 c = search needs
-
 returns : tie.Need-returns
 unfolding piece
 returns c = by-on isSpace _ _ (c .before .before .look .ensures .0) (sym (c .before .is-space .ensures) ∙ (c .if1 .taken)) (here _ _ (omega (arith, c .before .before .before .before .pre)))
-
-add-string-end : tie.Need-add-string-end
-add-string-end c = search needs
-
-string-end-requires : tie.Need-string-end-requires
-string-end-requires c κs = search needs
 
 returns-2 : tie.Need-returns-2
 unfolding piece
@@ -35,12 +20,6 @@ returns-2 c =
     let is-space = c .before .before .before .is-space in
     not-on isSpace _ _ (look .ensures .0) (sym (is-space .ensures) ∙ (c .before .before .if1 .left))
     (by-on (is 34) _ _ (look .ensures .0) (eq-eqb _ _ (c .before .if2 .taken)) (by-under _ (c .string-end .ensures)))
-
-in-range-requires : tie.Need-in-range-requires
-in-range-requires c κs = search needs
-
-add-t9 : tie.Need-add-t9
-add-t9 c = search needs
 
 returns-3 : tie.Need-returns-3
 unfolding piece
@@ -68,15 +47,5 @@ returns-4 c =
 pub piece-end-spec : {M : Type 1} → statement M
 piece-end-spec =
     tie.close
-    (tie.spec
-    look-requires
-    is-space-requires
-    add-t5
-    returns
-    add-string-end
-    string-end-requires
-    returns-2
-    in-range-requires
-    add-t9
-    returns-3
-    returns-4)
+    (tie.spec (λ c κs. search needs) (λ c κs. search needs) (λ c. search needs) returns (λ c. search needs) (λ c κs. search needs) returns-2
+    (λ c κs. search needs) (λ c. search needs) returns-3 returns-4)

@@ -159,38 +159,7 @@ loop-again c =
 pub put-compact-spec : {M : Type 1} → statement M
 put-compact-spec =
     tie.close
-    (tie.spec
-    Inv-loop
-    μ-loop
-    loop-holds
-    run-end-requires
-    sub-put-text
-    part-put-text-start
-    part-put-text-end
-    sub-put-text-2
-    part-put-text-start-2
-    part-put-text-end-2
-    put-text-requires
-    enum-known-m
-    enum-told
-    same-length
-    returns
-    add-at
-    same-length-2
-    returns-2
-    piece-end-requires
-    enum-known-e
-    enum-told-2
-    same-length-3
-    returns-3
-    sub-put-piece
-    part-put-piece-start
-    part-put-piece-end
-    put-piece-requires
-    enum-known-n
-    enum-told-3
-    same-length-4
-    returns-4
-    add-at-2
-    loop-less
-    loop-again)
+    (tie.spec Inv-loop μ-loop loop-holds run-end-requires sub-put-text part-put-text-start part-put-text-end sub-put-text-2 part-put-text-start-2
+    part-put-text-end-2 put-text-requires enum-known-m enum-told same-length returns add-at same-length-2 returns-2 piece-end-requires enum-known-e
+    enum-told-2 same-length-3 returns-3 sub-put-piece part-put-piece-start part-put-piece-end put-piece-requires enum-known-n enum-told-3
+    same-length-4 returns-4 add-at-2 loop-less loop-again)

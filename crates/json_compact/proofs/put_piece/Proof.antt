@@ -9,23 +9,11 @@ use borrow.Author.Needs.{needs}
 use Rattle.json_compact.proofs.put_piece.Statement.{statement}
 use Rattle.json_compact.proofs.put_piece.Tie as tie
 
-look-requires : tie.Need-look-requires
-look-requires c κs = search needs
-
-is-space-requires : tie.Need-is-space-requires
-is-space-requires c κs = search needs
-
 returns : tie.Need-returns
 returns c = λ w t p. puts-as (piece-space (now (c .before .before .before .before .before .args .s)) (c .before .before .before .before .before .args .at) _ (c .before .before .look .ensures .0) w t p (sym (c .before .is-space .ensures) ∙ (c .if1 .taken))) (done (start _))
 
-add-put-requoted : tie.Need-add-put-requoted
-add-put-requoted c = search needs
-
 put-requoted-requires : tie.Need-put-requoted-requires
 put-requoted-requires c κs = tt
-
-same-length : tie.Need-same-length
-same-length c = search needs
 
 returns-2 : tie.Need-returns-2
 returns-2 c =
@@ -37,15 +25,6 @@ returns-2 c =
     λ w t p. puts-as
     (piece-string (now (args .s)) (args .at) _ (look .ensures .0) w t p (sym (is-space .ensures) ∙ (if1 .left)) (eq-eqb _ _ (if2 .taken)))
     (c .before .before .put-requoted .ensures)
-
-shared-slice-read-put-byte : tie.Need-shared-slice-read-put-byte
-shared-slice-read-put-byte c = search needs
-
-put-byte-requires : tie.Need-put-byte-requires
-put-byte-requires c κs = search needs
-
-same-length-2 : tie.Need-same-length-2
-same-length-2 c = search needs
 
 returns-3 : tie.Need-returns-3
 returns-3 c =
@@ -63,15 +42,5 @@ returns-3 c =
 pub put-piece-spec : {M : Type 1} → statement M
 put-piece-spec =
     tie.close
-    (tie.spec
-    look-requires
-    is-space-requires
-    returns
-    add-put-requoted
-    put-requoted-requires
-    same-length
-    returns-2
-    shared-slice-read-put-byte
-    put-byte-requires
-    same-length-2
-    returns-3)
+    (tie.spec (λ c κs. search needs) (λ c κs. search needs) returns (λ c. search needs) put-requoted-requires (λ c. search needs) returns-2
+    (λ c. search needs) (λ c κs. search needs) (λ c. search needs) returns-3)

@@ -59,18 +59,5 @@ loop-again-2 c = stands-then (now (c .before .before .before .before .before .be
 pub run-end-spec : {M : Type 1} → statement M
 run-end-spec =
     tie.close
-    (tie.spec
-    Inv-loop
-    μ-loop
-    loop-holds
-    look-requires
-    is-space-requires
-    returns
-    returns-2
-    add-i
-    loop-less
-    loop-again
-    string-run-requires
-    returns-3
-    loop-less-2
-    loop-again-2)
+    (tie.spec Inv-loop μ-loop loop-holds look-requires is-space-requires returns returns-2 add-i loop-less loop-again string-run-requires returns-3
+    loop-less-2 loop-again-2)

@@ -8,26 +8,11 @@ use Rattle.json_compact.proofs.Stands.{deletes-as, stands-none, stands-
 use Rattle.json_compact.proofs.string_run.Statement.{statement}
 use Rattle.json_compact.proofs.string_run.Tie as tie
 
-add-from : tie.Need-add-from
-add-from c = search needs
-
-text-end-requires : tie.Need-text-end-requires
-text-end-requires c κs = search needs
-
-look-requires : tie.Need-look-requires
-look-requires c κs = search needs
-
 returns : tie.Need-returns
 returns c = stands-none (now (c .before .before .before .before .args .s)) (c .before .before .before .before .args .at) (omega (arith, c .before .before .before .before .pre .0))
 
-has-delete-requires : tie.Need-has-delete-requires
-has-delete-requires c κs = search needs
-
 returns-2 : tie.Need-returns-2
 returns-2 c = stands-none (now (c .before .before .before .before .before .before .args .s)) (c .before .before .before .before .before .before .args .at) (omega (arith, c .before .before .before .before .before .before .pre .0))
-
-add-result : tie.Need-add-result
-add-result c = search needs
 
 returns-3 : tie.Need-returns-3
 returns-3 c =
@@ -44,12 +29,5 @@ returns-3 c =
 pub string-run-spec : {M : Type 1} → statement M
 string-run-spec =
     tie.close
-    (tie.spec
-    add-from
-    text-end-requires
-    look-requires
-    returns
-    has-delete-requires
-    returns-2
-    add-result
+    (tie.spec (λ c. search needs) (λ c κs. search needs) (λ c κs. search needs) returns (λ c κs. search needs) returns-2 (λ c. search needs)
     returns-3)

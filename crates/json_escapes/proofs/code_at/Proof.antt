@@ -5,41 +5,14 @@ use borrow.Author.Needs.{needs}
 use Rattle.json_escapes.proofs.code_at.Statement.{statement}
 use Rattle.json_escapes.proofs.code_at.Tie as tie
 
-digit-at-requires : tie.Need-digit-at-requires
-digit-at-requires c κs = search needs
-
-enum-known-x : tie.Need-enum-known-x
-enum-known-x c = search needs
-
-enum-known-a : tie.Need-enum-known-a
-enum-known-a c = search needs
-
 digit-at-requires-2 : tie.Need-digit-at-requires-2
 digit-at-requires-2 c κs = tells-as (c .before .before .before .digit-at .ensures) (c .before .a .given .1) .within .1
-
-enum-known-x-2 : tie.Need-enum-known-x-2
-enum-known-x-2 c = search needs
-
-enum-known-b : tie.Need-enum-known-b
-enum-known-b c = search needs
 
 digit-at-requires-3 : tie.Need-digit-at-requires-3
 digit-at-requires-3 c κs = tells-as (c .before .before .before .digit-at2 .ensures) (c .before .b .given .1) .within .1
 
-enum-known-x-3 : tie.Need-enum-known-x-3
-enum-known-x-3 c = search needs
-
-enum-known-c : tie.Need-enum-known-c
-enum-known-c c = search needs
-
 digit-at-requires-4 : tie.Need-digit-at-requires-4
 digit-at-requires-4 c κs = tells-as (c .before .before .before .digit-at3 .ensures) (c .before .c .given .1) .within .1
-
-enum-known-x-4 : tie.Need-enum-known-x-4
-enum-known-x-4 c = search needs
-
-enum-known-d : tie.Need-enum-known-d
-enum-known-d c = search needs
 
 mul-t23 : tie.Need-mul-t23
 mul-t23 c =
@@ -154,27 +127,6 @@ returns-5 c =
 pub code-at-spec : {M : Type 1} → statement M
 code-at-spec =
     tie.close
-    (tie.spec
-    digit-at-requires
-    enum-known-x
-    enum-known-a
-    digit-at-requires-2
-    enum-known-x-2
-    enum-known-b
-    digit-at-requires-3
-    enum-known-x-3
-    enum-known-c
-    digit-at-requires-4
-    enum-known-x-4
-    enum-known-d
-    mul-t23
-    mul-t24
-    add-t25
-    mul-t26
-    add-t27
-    add-t28
-    returns
-    returns-2
-    returns-3
-    returns-4
-    returns-5)
+    (tie.spec (λ c κs. search needs) (λ c. search needs) (λ c. search needs) digit-at-requires-2 (λ c. search needs) (λ c. search needs)
+    digit-at-requires-3 (λ c. search needs) (λ c. search needs) digit-at-requires-4 (λ c. search needs) (λ c. search needs) mul-t23 mul-t24 add-t25
+    mul-t26 add-t27 add-t28 returns returns-2 returns-3 returns-4 returns-5)

@@ -11,21 +11,6 @@ use borrow.Author.Needs.{needs}
 use Rattle.json_escapes.proofs.escape_at.Statement.{statement}
 use Rattle.json_escapes.proofs.escape_at.Tie as tie
 
-look-requires : tie.Need-look-requires
-look-requires c κs = search needs
-
-add-code-at : tie.Need-add-code-at
-add-code-at c = search needs
-
-code-at-requires : tie.Need-code-at-requires
-code-at-requires c κs = search needs
-
-enum-known-x : tie.Need-enum-known-x
-enum-known-x c = search needs
-
-enum-known-v : tie.Need-enum-known-v
-enum-known-v c = search needs
-
 add-t11 : tie.Need-add-t11
 add-t11 c = let w = tells-as (c .before .before .before .code-at .ensures) (c .before .v .given .1) in omega (arith, w .within .2)
 
@@ -53,14 +38,8 @@ returns-2 c =
           (arith, w .within);
     }
 
-is-short-requires : tie.Need-is-short-requires
-is-short-requires c κs = search needs
-
 short-of-requires : tie.Need-short-of-requires
 short-of-requires c κs = short-in _ (sym (c .before .is-short .ensures) ∙ (c .if2 .taken))
-
-add-t14 : tie.Need-add-t14
-add-t14 c = search needs
 
 returns-3 : tie.Need-returns-3
 returns-3 c =
@@ -88,17 +67,5 @@ returns-4 c =
 pub escape-at-spec : {M : Type 1} → statement M
 escape-at-spec =
     tie.close
-    (tie.spec
-    look-requires
-    add-code-at
-    code-at-requires
-    enum-known-x
-    enum-known-v
-    add-t11
-    returns
-    returns-2
-    is-short-requires
-    short-of-requires
-    add-t14
-    returns-3
-    returns-4)
+    (tie.spec (λ c κs. search needs) (λ c. search needs) (λ c κs. search needs) (λ c. search needs) (λ c. search needs) add-t11 returns returns-2
+    (λ c κs. search needs) short-of-requires (λ c. search needs) returns-3 returns-4)

@@ -4,22 +4,13 @@ use borrow.Author.Needs.{needs}
 use Rattle.json_escapes.proofs.is_hex.Statement.{statement}
 use Rattle.json_escapes.proofs.is_hex.Tie as tie
 
-in-range-requires : tie.Need-in-range-requires
-in-range-requires c κs = search needs
-
 returns : tie.Need-returns
 unfolding isHex
 returns c = rw (sym (c .before .in-range .ensures) ∙ (c .if1 .taken))
 
-in-range-requires-2 : tie.Need-in-range-requires-2
-in-range-requires-2 c κs = search needs
-
 returns-2 : tie.Need-returns-2
 unfolding isHex
 returns-2 c = rw (sym (c .before .before .before .in-range .ensures) ∙ (c .before .before .if1 .left), sym (c .before .in-range2 .ensures) ∙ (c .if2 .taken))
-
-in-range-requires-3 : tie.Need-in-range-requires-3
-in-range-requires-3 c κs = search needs
 
 returns-3 : tie.Need-returns-3
 unfolding isHex
@@ -28,10 +19,4 @@ returns-3 c = rw (sym (c .before .before .before .before .in-range .ensures) ∙
 pub is-hex-spec : {M : Type 1} → statement M
 is-hex-spec =
     tie.close
-    (tie.spec
-    in-range-requires
-    returns
-    in-range-requires-2
-    returns-2
-    in-range-requires-3
-    returns-3)
+    (tie.spec (λ c κs. search needs) returns (λ c κs. search needs) returns-2 (λ c κs. search needs) returns-3)

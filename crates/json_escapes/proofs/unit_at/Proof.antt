@@ -10,26 +10,8 @@ use borrow.Author.Needs.{needs}
 use Rattle.json_escapes.proofs.unit_at.Statement.{statement}
 use Rattle.json_escapes.proofs.unit_at.Tie as tie
 
-look-requires : tie.Need-look-requires
-look-requires c κs = search needs
-
-add-t8 : tie.Need-add-t8
-add-t8 c = search needs
-
 returns : tie.Need-returns
 returns c = (unit-end (now (c .before .before .before .args .s)) (c .before .before .before .args .at) (c .before .look .result) (c .before .look .ensures .0) (c .if1 .taken), omega arith)
-
-add-escape-at : tie.Need-add-escape-at
-add-escape-at c = search needs
-
-escape-at-requires : tie.Need-escape-at-requires
-escape-at-requires c κs = search needs
-
-enum-known-x : tie.Need-enum-known-x
-enum-known-x c = search needs
-
-enum-known-u : tie.Need-enum-known-u
-enum-known-u c = search needs
 
 returns-2 : tie.Need-returns-2
 returns-2 c =
@@ -55,15 +37,6 @@ returns-3 c =
       omega (arith, w .within),
     )
 
-in-range-requires : tie.Need-in-range-requires
-in-range-requires c κs = search needs
-
-cast-t13 : tie.Need-cast-t13
-cast-t13 c = search needs
-
-add-t14 : tie.Need-add-t14
-add-t14 c = search needs
-
 returns-4 : tie.Need-returns-4
 returns-4 c =
     let args = c .before .before .before .before .before .before .args in
@@ -87,18 +60,5 @@ returns-5 c =
 pub unit-at-spec : {M : Type 1} → statement M
 unit-at-spec =
     tie.close
-    (tie.spec
-    look-requires
-    add-t8
-    returns
-    add-escape-at
-    escape-at-requires
-    enum-known-x
-    enum-known-u
-    returns-2
-    returns-3
-    in-range-requires
-    cast-t13
-    add-t14
-    returns-4
-    returns-5)
+    (tie.spec (λ c κs. search needs) (λ c. search needs) returns (λ c. search needs) (λ c κs. search needs) (λ c. search needs) (λ c. search needs)
+    returns-2 returns-3 (λ c κs. search needs) (λ c. search needs) (λ c. search needs) returns-4 returns-5)

@@ -56,17 +56,5 @@ loop-again c = (c .before .before .before .before .skip-value .result, c .next-e
 pub say-elements-spec : {M : Type 1} → statement M
 say-elements-spec =
     tie.close
-    (tie.spec
-    Inv-loop
-    μ-loop
-    first-element-requires
-    loop-holds
-    enum-known-m
-    returns
-    skip-value-requires
-    slice-aggregate-say
-    say-requires
-    say-value-requires
-    next-element-requires
-    loop-less
-    loop-again)
+    (tie.spec Inv-loop μ-loop first-element-requires loop-holds enum-known-m returns skip-value-requires slice-aggregate-say say-requires
+    say-value-requires next-element-requires loop-less loop-again)

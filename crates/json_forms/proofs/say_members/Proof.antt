@@ -65,20 +65,5 @@ loop-again c = (c .before .before .before .before .before .before .before .skip-
 pub say-members-spec : {M : Type 1} → statement M
 say-members-spec =
     tie.close
-    (tie.spec
-    Inv-loop
-    μ-loop
-    first-member-requires
-    loop-holds
-    enum-known-m
-    returns
-    skip-value-requires
-    slice-aggregate-say
-    say-requires
-    say-string-requires
-    slice-aggregate-say-2
-    say-requires-2
-    say-value-requires
-    next-member-requires
-    loop-less
-    loop-again)
+    (tie.spec Inv-loop μ-loop first-member-requires loop-holds enum-known-m returns skip-value-requires slice-aggregate-say say-requires
+    say-string-requires slice-aggregate-say-2 say-requires-2 say-value-requires next-member-requires loop-less loop-again)

@@ -1,4 +1,3 @@
-use native.Mathlib.Omega.{arith}
 use denote.Ref.{now}
 use borrow.Author.Needs.{needs}
 use lib.ListN.{length}
@@ -67,16 +66,5 @@ loop-again c =
 pub has-member-spec : {M : Type 1} → statement M
 has-member-spec =
     tie.close
-    (tie.spec
-    Inv-loop
-    μ-loop
-    first-member-requires
-    loop-holds
-    enum-known-m
-    returns
-    equals-requires
-    returns-2
-    skip-value-requires
-    next-member-requires
-    loop-less
-    loop-again)
+    (tie.spec Inv-loop μ-loop first-member-requires loop-holds enum-known-m returns equals-requires returns-2 skip-value-requires next-member-requires
+    loop-less loop-again)

@@ -1,5 +1,5 @@
-use mathlib.Core.Path.{_≡_, refl, sym, ap, subst, _∙_}
-use Prim.Native.Nat.{ℕ, _+_, _-_, _≤_}
+use mathlib.Core.Path.{_≡_, refl, subst}
+use Prim.Native.Nat.{_+_, _-_, _≤_}
 use native.Mathlib.Omega.{arith}
 use denote.Ref.{now}
 use lib.ListN.{length}
@@ -9,9 +9,6 @@ use Rattle.json_index.specs.Index.{Together, Skims}
 use Rattle.json_index.proofs.Together.{raw-as, byte-same, together-first, together-on, skims-first, skims-on}
 use Rattle.json_index.proofs.alike.Statement.{statement}
 use Rattle.json_index.proofs.alike.Tie as tie
-use Rattle.json_index.proofs.alike.Reads as reads
-use Rattle.json_index.proofs.alike.Lts as lts
-use Rattle.json_index.proofs.is_raw.Reads as is-raw-reads
 
 abbrev Inv-loop : tie.InvT-loop
 Inv-loop s at names a i₀ k₀ i k = (at ≤ i) × (k ≡ a + (i - at)) × Together s at names a i k × Skims s at i
@@ -90,19 +87,5 @@ returns-5 c =
 pub alike-spec : {M : Type 1} → statement M
 alike-spec =
     tie.close
-    (tie.spec
-    Inv-loop
-    μ-loop
-    loop-holds
-    shared-slice-read-c
-    returns
-    returns-2
-    shared-slice-read-if3
-    returns-3
-    is-raw-requires
-    returns-4
-    add-i
-    add-k
-    loop-less
-    loop-again
-    returns-5)
+    (tie.spec Inv-loop μ-loop loop-holds shared-slice-read-c returns returns-2 shared-slice-read-if3 returns-3 is-raw-requires returns-4 add-i add-k
+    loop-less loop-again returns-5)

@@ -11,21 +11,6 @@ returns c =
     let a = c .before .args in
     λ e h. part-past (now (a .s)) (a .at) (now (a .names)) (a .a) e (c .if1 .taken)
 
-returns-2 : tie.Need-returns-2
-returns-2 c = search needs
-
-shared-slice-read-b : tie.Need-shared-slice-read-b
-shared-slice-read-b c = search needs
-
-shared-slice-read-c : tie.Need-shared-slice-read-c
-shared-slice-read-c c = search needs
-
-returns-3 : tie.Need-returns-3
-returns-3 c = search needs
-
-returns-4 : tie.Need-returns-4
-returns-4 c = search needs
-
 returns-5 : tie.Need-returns-5
 returns-5 c =
     let a = c .before .before .before .before .before .before .args in
@@ -37,11 +22,4 @@ returns-5 c =
 pub differs-spec : {M : Type 1} → statement M
 differs-spec =
     tie.close
-    (tie.spec
-    returns
-    returns-2
-    shared-slice-read-b
-    shared-slice-read-c
-    returns-3
-    returns-4
-    returns-5)
+    (tie.spec returns (λ c. search needs) (λ c. search needs) (λ c. search needs) (λ c. search needs) (λ c. search needs) returns-5)

@@ -7,17 +7,6 @@ use Rattle.json_index.proofs.Objects.{no-object, empty-ends, no-member,
 use borrow.Author.Needs.{needs}
 use Rattle.json_index.proofs.index_to_end.Statement.{statement}
 use Rattle.json_index.proofs.index_to_end.Tie as tie
-use Rattle.json_index.proofs.index_to_end.Reads as reads
-use Rattle.json_index.proofs.index_to_end.Lts as lts
-use Rattle.json_index.proofs.index_from.Reads as index-from-reads
-use Rattle.json_marks.proofs.skip_space.Reads as skip-space-reads
-use Rattle.text.proofs.look.Reads as look-reads
-
-skip-space-requires : tie.Need-skip-space-requires
-skip-space-requires c κs = search needs
-
-look-requires : tie.Need-look-requires
-look-requires c κs = search needs
 
 returns : tie.Need-returns
 returns c =
@@ -25,15 +14,6 @@ returns c =
     let i = c .before .before .skip-space in
     let b = c .before .look in
     ((λ n. absurd (n refl)), no-object (a .depth) (now (a .s)) (a .at) (now (a .names)) _ (i .result) (b .result) (i .ensures) (b .ensures .0) (c .if1 .taken))
-
-add-skip-space : tie.Need-add-skip-space
-add-skip-space c = search needs
-
-skip-space-requires-2 : tie.Need-skip-space-requires-2
-skip-space-requires-2 c κs = search needs
-
-look-requires-2 : tie.Need-look-requires-2
-look-requires-2 c κs = search needs
 
 add-result : tie.Need-add-result
 add-result c = omega (arith, c .before .look2 .ensures .1, c .if2 .taken)
@@ -57,9 +37,6 @@ index-from-requires c κs =
     let j = c .before .before .before .skip-space2 .ensures in
     (j .to, (omega (arith, j .from), (c .before .before .before .before .before .before .before .before .before .before .pre .1 .0, c .before .before .before .before .before .before .before .before .before .before .pre .1 .1)))
 
-same-length : tie.Need-same-length
-same-length c = search needs
-
 returns-3 : tie.Need-returns-3
 returns-3 c =
     let a = c .before .before .before .before .before .before .before .before .before .before .before .before .before .args in
@@ -78,15 +55,5 @@ returns-3 c =
 pub index-to-end-spec : {M : Type 1} → statement M
 index-to-end-spec =
     tie.close
-    (tie.spec
-    skip-space-requires
-    look-requires
-    returns
-    add-skip-space
-    skip-space-requires-2
-    look-requires-2
-    add-result
-    returns-2
-    index-from-requires
-    same-length
-    returns-3)
+    (tie.spec (λ c κs. search needs) (λ c κs. search needs) returns (λ c. search needs) (λ c κs. search needs) (λ c κs. search needs) add-result
+    returns-2 index-from-requires (λ c. search needs) returns-3)

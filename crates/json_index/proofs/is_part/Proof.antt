@@ -5,9 +5,6 @@ use borrow.Author.Needs.{needs}
 use Rattle.json_index.proofs.is_part.Statement.{statement}
 use Rattle.json_index.proofs.is_part.Tie as tie
 
-differs-requires : tie.Need-differs-requires
-differs-requires c κs = search needs
-
 returns : tie.Need-returns
 returns c =
     let a = c .before .before .before .before .args in
@@ -28,31 +25,8 @@ returns-2 c =
     let l = differs-as (now (a .s)) (a .at) (now (a .names)) (a .a) {r = d .result} (d .ensures) (c .before .before .if1 .left) in
     part-quote (now (a .s)) (a .at) (now (a .names)) (a .a) (a .e) _ (byte-same (now (a .s)) (a .at) l) (c .if2 .taken) (p .0 .from) (p .1)
 
-sub-equals : tie.Need-sub-equals
-sub-equals c = search needs
-
-part-equals-start : tie.Need-part-equals-start
-part-equals-start c = search needs
-
-part-equals-end : tie.Need-part-equals-end
-part-equals-end c = search needs
-
-equals-requires : tie.Need-equals-requires
-equals-requires c κs = search needs
-
-returns-3 : tie.Need-returns-3
-returns-3 c = search needs
-
 pub is-part-spec : {M : Type 1} → statement M
 is-part-spec =
     tie.close
-    (tie.spec
-    differs-requires
-    returns
-    shared-slice-read-if2
-    returns-2
-    sub-equals
-    part-equals-start
-    part-equals-end
-    equals-requires
-    returns-3)
+    (tie.spec (λ c κs. search needs) returns shared-slice-read-if2 returns-2 (λ c. search needs) (λ c. search needs) (λ c. search needs)
+    (λ c κs. search needs) (λ c. search needs))

@@ -3,22 +3,16 @@ use Rattle.json_index.proofs.Together.{raw-low}
 use borrow.Author.Needs.{needs}
 use Rattle.json_index.proofs.is_raw.Statement.{statement}
 use Rattle.json_index.proofs.is_raw.Tie as tie
-use Rattle.json_index.proofs.is_raw.Reads as reads
-use Rattle.json_index.proofs.is_raw.Lts as lts
 
--- src/lib.rt:38:9
 returns : tie.Need-returns
 returns c = search needs
 
--- src/lib.rt:41:9
 returns-2 : tie.Need-returns-2
 returns-2 c = search needs
 
--- src/lib.rt:44:9
 returns-3 : tie.Need-returns-3
 returns-3 c = search needs
 
--- src/lib.rt:33:1
 returns-4 : tie.Need-returns-4
 returns-4 c = raw-low _ (c .before .if2 .left) (c .before .before .if1 .left) (c .if3 .left) refl
 

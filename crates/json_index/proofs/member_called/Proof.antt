@@ -10,34 +10,16 @@ use borrow.Author.Needs.{needs}
 use Rattle.json_index.proofs.member_called.Statement.{statement}
 use Rattle.json_index.proofs.member_called.Tie as tie
 
-mark-requires : tie.Need-mark-requires
-mark-requires c κs = search needs
-
-place-requires : tie.Need-place-requires
-place-requires c κs = search needs
-
-called-requires : tie.Need-called-requires
-called-requires c κs = search needs
-
 string-stop-requires : tie.Need-string-stop-requires
 string-stop-requires c κs =
     let a = c .before .before .before .before .before .args in
     let p = place-in (now (a .s)) (a .at) _ _ (c .before .before .mark .ensures) in
     c .called .ensures .1 .within (omega (arith, p .1, c .before .place .ensures))
 
-mark-requires-2 : tie.Need-mark-requires-2
-mark-requires-2 c κs = search needs
-
-place-requires-2 : tie.Need-place-requires-2
-place-requires-2 c κs = search needs
-
 skip-space-requires : tie.Need-skip-space-requires
 skip-space-requires c κs =
     let q = place-in (now (c .before .before .before .before .before .before .before .before .args .s)) (c .before .before .string-stop .result) _ _ (c .before .mark2 .ensures) in
     omega (arith, q .1, c .place2 .ensures)
-
-skip-value-requires : tie.Need-skip-value-requires
-skip-value-requires c κs = search needs
 
 returns : tie.Need-returns
 returns c =
@@ -77,13 +59,5 @@ returns c =
 pub member-called-spec : {M : Type 1} → statement M
 member-called-spec =
     tie.close
-    (tie.spec
-    mark-requires
-    place-requires
-    called-requires
-    string-stop-requires
-    mark-requires-2
-    place-requires-2
-    skip-space-requires
-    skip-value-requires
-    returns)
+    (tie.spec (λ c κs. search needs) (λ c κs. search needs) (λ c κs. search needs) string-stop-requires (λ c κs. search needs) (λ c κs. search needs)
+    skip-space-requires (λ c κs. search needs) returns)

@@ -6,12 +6,6 @@ use Rattle.json_index.proofs.Together.{differs-as}
 use Rattle.json_index.proofs.try_name.Statement.{statement}
 use Rattle.json_index.proofs.try_name.Tie as tie
 
-differs-requires : tie.Need-differs-requires
-differs-requires c κs = search needs
-
-name-stop-requires : tie.Need-name-stop-requires
-name-stop-requires c κs = search needs
-
 returns : tie.Need-returns
 returns c =
     let a = c .before .before .before .before .before .args in
@@ -19,17 +13,8 @@ returns c =
     let n = c .name-stop in
     (n .ensures, differs-as (now (a .s)) (a .at) (now (a .names)) (a .a) {r = d .result} (d .ensures) (c .before .if1 .taken) (n .result) (n .ensures))
 
-alike-requires : tie.Need-alike-requires
-alike-requires c κs = search needs
-
-sub-m : tie.Need-sub-m
-sub-m c = search needs
-
 add-m : tie.Need-add-m
 add-m c = omega (arith, c .alike .ensures .so-far .within (c .before .before .before .before .before .pre))
-
-name-stop-requires-2 : tie.Need-name-stop-requires-2
-name-stop-requires-2 c κs = search needs
 
 is-part-requires : tie.Need-is-part-requires
 is-part-requires c κs =
@@ -51,14 +36,5 @@ returns-3 c =
 pub try-name-spec : {M : Type 1} → statement M
 try-name-spec =
     tie.close
-    (tie.spec
-    differs-requires
-    name-stop-requires
-    returns
-    alike-requires
-    sub-m
-    add-m
-    name-stop-requires-2
-    is-part-requires
-    returns-2
-    returns-3)
+    (tie.spec (λ c κs. search needs) (λ c κs. search needs) returns (λ c κs. search needs) (λ c. search needs) add-m (λ c κs. search needs)
+    is-part-requires returns-2 returns-3)

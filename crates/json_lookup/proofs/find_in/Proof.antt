@@ -73,16 +73,5 @@ loop-again c =
 pub find-in-spec : {M : Type 1} → statement M
 find-in-spec =
     tie.close
-    (tie.spec
-    Inv-loop
-    μ-loop
-    first-member-requires
-    loop-holds
-    enum-known-m
-    returns
-    skip-value-requires
-    equals-requires
-    returns-2
-    next-member-requires
-    loop-less
-    loop-again)
+    (tie.spec Inv-loop μ-loop first-member-requires loop-holds enum-known-m returns skip-value-requires equals-requires returns-2 next-member-requires
+    loop-less loop-again)

@@ -5,21 +5,6 @@ use borrow.Author.Needs.{needs}
 use Rattle.json_lookup.proofs.locate.Statement.{statement}
 use Rattle.json_lookup.proofs.locate.Tie as tie
 
-read-requires : tie.Need-read-requires
-read-requires c κs = search needs
-
-enum-told : tie.Need-enum-told
-enum-told c = search needs
-
-find-in-requires : tie.Need-find-in-requires
-find-in-requires c κs = search needs
-
-enum-told-2 : tie.Need-enum-told-2
-enum-told-2 c = search needs
-
-enum-known-b : tie.Need-enum-known-b
-enum-known-b c = search needs
-
 returns : tie.Need-returns
 returns c = (c .find-in .ensures .0, is-sound (now (c .before .before .before .before .before .before .args .s)) (now (c .before .before .before .before .before .before .args .name)) (c .before .before .before .read .result) (c .before .before .before .read .ensures .0) (c .before .enum-told .given .1) (c .find-in .result) (c .find-in .ensures .1))
 
@@ -32,12 +17,4 @@ returns-3 c = (record { ordered = omega arith; inside = omega arith }, not-sound
 pub locate-spec : {M : Type 1} → statement M
 locate-spec =
     tie.close
-    (tie.spec
-    read-requires
-    enum-told
-    find-in-requires
-    enum-told-2
-    enum-known-b
-    returns
-    returns-2
-    returns-3)
+    (tie.spec (λ c κs. search needs) (λ c. search needs) (λ c κs. search needs) (λ c. search needs) (λ c. search needs) returns returns-2 returns-3)

@@ -5,20 +5,8 @@ use borrow.Author.Needs.{needs}
 use Rattle.json_marks.proofs.separator.Statement.{statement}
 use Rattle.json_marks.proofs.separator.Tie as tie
 
-skip-space-requires : tie.Need-skip-space-requires
-skip-space-requires c κs = search needs
-
-look-requires : tie.Need-look-requires
-look-requires c κs = search needs
-
-add-t7 : tie.Need-add-t7
-add-t7 c = search needs
-
 returns : tie.Need-returns
 returns c = sep-close zero suc (c .before .before .skip-space .ensures) (c .before .look .ensures .0) (c .if1 .taken) (omega arith)
-
-add-t9 : tie.Need-add-t9
-add-t9 c = search needs
 
 returns-2 : tie.Need-returns-2
 returns-2 c = sep-comma zero suc (c .before .before .before .skip-space .ensures) (c .before .before .look .ensures .0) (c .before .if1 .left) (c .if2 .taken) (omega arith)
@@ -29,4 +17,4 @@ returns-3 c = sep-none zero suc (c .before .before .before .skip-space .ensures)
 pub separator-spec : {M : Type 1} → statement M
 separator-spec =
     tie.close
-    (tie.spec skip-space-requires look-requires add-t7 returns add-t9 returns-2 returns-3)
+    (tie.spec (λ c κs. search needs) (λ c κs. search needs) (λ c. search needs) returns (λ c. search needs) returns-2 returns-3)

@@ -40,13 +40,4 @@ returns c = passing-end (c .before .before .before .loop .inv) (c .before .befor
 pub skip-space-spec : {M : Type 1} → statement M
 skip-space-spec =
     tie.close
-    (tie.spec
-    Inv-loop
-    μ-loop
-    loop-holds
-    look-requires
-    is-space-requires
-    add-i
-    loop-less
-    loop-again
-    returns)
+    (tie.spec Inv-loop μ-loop loop-holds look-requires is-space-requires add-i loop-less loop-again returns)

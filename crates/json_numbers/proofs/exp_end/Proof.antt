@@ -3,23 +3,8 @@ use borrow.Author.Needs.{needs}
 use Rattle.json_numbers.proofs.exp_end.Statement.{statement}
 use Rattle.json_numbers.proofs.exp_end.Tie as tie
 
-look-requires : tie.Need-look-requires
-look-requires c κs = search needs
-
-add-power-end : tie.Need-add-power-end
-add-power-end c = search needs
-
-power-end-requires : tie.Need-power-end-requires
-power-end-requires c κs = search needs
-
 returns : tie.Need-returns
 returns c = exp-power _ _ (c .before .before .look .result) (c .before .before .look .ensures .0) (e-is _ (c .before .if1 .taken)) (c .power-end .ensures)
-
-add-power-end-2 : tie.Need-add-power-end-2
-add-power-end-2 c = search needs
-
-power-end-requires-2 : tie.Need-power-end-requires-2
-power-end-requires-2 c κs = search needs
 
 returns-2 : tie.Need-returns-2
 returns-2 c = exp-power _ _ (c .before .before .before .look .result) (c .before .before .before .look .ensures .0) (E-is _ (c .before .if2 .taken)) (c .power-end2 .ensures)
@@ -30,12 +15,5 @@ returns-3 c = exp-none _ _ (c .before .before .look .result) (c .before .before 
 pub exp-end-spec : {M : Type 1} → statement M
 exp-end-spec =
     tie.close
-    (tie.spec
-    look-requires
-    add-power-end
-    power-end-requires
-    returns
-    add-power-end-2
-    power-end-requires-2
-    returns-2
+    (tie.spec (λ c κs. search needs) (λ c. search needs) (λ c κs. search needs) returns (λ c. search needs) (λ c κs. search needs) returns-2
     returns-3)

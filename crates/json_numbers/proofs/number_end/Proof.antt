@@ -4,32 +4,11 @@ use borrow.Author.Needs.{needs}
 use Rattle.json_numbers.proofs.number_end.Statement.{statement}
 use Rattle.json_numbers.proofs.number_end.Tie as tie
 
-opt-end-requires : tie.Need-opt-end-requires
-opt-end-requires c κs = search needs
-
-enum-known-b : tie.Need-enum-known-b
-enum-known-b c = search needs
-
-enum-known-k : tie.Need-enum-known-k
-enum-known-k c = search needs
-
 int-end-requires : tie.Need-int-end-requires
 int-end-requires c κs = gives-as (c .before .before .before .opt-end .ensures) (c .before .k .given .1) .within .1
 
-enum-known-b-2 : tie.Need-enum-known-b-2
-enum-known-b-2 c = search needs
-
-enum-known-j : tie.Need-enum-known-j
-enum-known-j c = search needs
-
 frac-end-requires : tie.Need-frac-end-requires
 frac-end-requires c κs = gives-as (c .before .before .before .int-end .ensures) (c .before .j .given .1) .within .1
-
-enum-known-b-3 : tie.Need-enum-known-b-3
-enum-known-b-3 c = search needs
-
-enum-known-i : tie.Need-enum-known-i
-enum-known-i c = search needs
 
 exp-end-requires : tie.Need-exp-end-requires
 exp-end-requires c κs = gives-as (c .before .before .before .frac-end .ensures) (c .before .i .given .1) .within .1
@@ -67,18 +46,5 @@ returns-4 c =
 pub number-end-spec : {M : Type 1} → statement M
 number-end-spec =
     tie.close
-    (tie.spec
-    opt-end-requires
-    enum-known-b
-    enum-known-k
-    int-end-requires
-    enum-known-b-2
-    enum-known-j
-    frac-end-requires
-    enum-known-b-3
-    enum-known-i
-    exp-end-requires
-    returns
-    returns-2
-    returns-3
-    returns-4)
+    (tie.spec (λ c κs. search needs) (λ c. search needs) (λ c. search needs) int-end-requires (λ c. search needs) (λ c. search needs)
+    frac-end-requires (λ c. search needs) (λ c. search needs) exp-end-requires returns returns-2 returns-3 returns-4)

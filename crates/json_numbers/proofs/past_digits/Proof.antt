@@ -40,13 +40,4 @@ returns c = passing-end (c .before .before .before .loop .inv) (c .before .befor
 pub past-digits-spec : {M : Type 1} → statement M
 past-digits-spec =
     tie.close
-    (tie.spec
-    Inv-loop
-    μ-loop
-    loop-holds
-    look-requires
-    is-digit-requires
-    add-i
-    loop-less
-    loop-again
-    returns)
+    (tie.spec Inv-loop μ-loop loop-holds look-requires is-digit-requires add-i loop-less loop-again returns)

@@ -4,15 +4,6 @@ use borrow.Author.Needs.{needs}
 use Rattle.json_numbers.proofs.power_end.Statement.{statement}
 use Rattle.json_numbers.proofs.power_end.Tie as tie
 
-sign-end-requires : tie.Need-sign-end-requires
-sign-end-requires c κs = search needs
-
-enum-known-b : tie.Need-enum-known-b
-enum-known-b c = search needs
-
-enum-known-i : tie.Need-enum-known-i
-enum-known-i c = search needs
-
 digits-end-requires : tie.Need-digits-end-requires
 digits-end-requires c κs = gives-as (c .before .before .before .sign-end .ensures) (c .before .i .given .1) .within .1
 
@@ -27,4 +18,4 @@ returns-2 c = then-next _ (gives-as (c .before .before .before .before .sign-end
 pub power-end-spec : {M : Type 1} → statement M
 power-end-spec =
     tie.close
-    (tie.spec sign-end-requires enum-known-b enum-known-i digits-end-requires returns returns-2)
+    (tie.spec (λ c κs. search needs) (λ c. search needs) (λ c. search needs) digits-end-requires returns returns-2)

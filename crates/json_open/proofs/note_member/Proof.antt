@@ -10,9 +10,6 @@ use borrow.Author.Needs.{needs}
 use Rattle.json_open.proofs.note_member.Statement.{statement}
 use Rattle.json_open.proofs.note_member.Tie as tie
 
-which-name-requires : tie.Need-which-name-requires
-which-name-requires c κs = search needs
-
 mul-if1 : tie.Need-mul-if1
 mul-if1 c =
     omega (arith, placed-le (decodedAt (now (c .before .before .before .before .args .s)) (c .before .before .before .before .args .name)) (parts 44 (now (c .before .before .before .before .args .names))), c .which-name .ensures, c .before .before .before .before .pre)
@@ -29,9 +26,6 @@ slice-write-slots : tie.Need-slice-write-slots
 slice-write-slots c =
     omega (arith, placed-le (decodedAt (now (c .before .before .before .before .before .before .args .s)) (c .before .before .before .before .before .before .args .name)) (parts 44 (now (c .before .before .before .before .before .before .args .names))), c .before .before .which-name .ensures, c .before .before .before .before .before .before .pre)
 
-same-length : tie.Need-same-length
-same-length c = search needs
-
 returns : tie.Need-returns
 returns c = noted-free _ _ _ (c .if1 .taken) ∙ ap (λ k. noted (now (c .before .before .before .before .before .before .args .slots)) k (c .before .before .before .before .before .before .args .value)) (c .before .before .which-name .ensures)
 
@@ -41,12 +35,4 @@ returns-2 c = noted-taken _ _ _ (c .if1 .left) ∙ ap (λ k. noted (now (c .befo
 pub note-member-spec : {M : Type 1} → statement M
 note-member-spec =
     tie.close
-    (tie.spec
-    which-name-requires
-    mul-if1
-    slice-read-if1
-    mul-slots
-    slice-write-slots
-    same-length
-    returns
-    returns-2)
+    (tie.spec (λ c κs. search needs) mul-if1 slice-read-if1 mul-slots slice-write-slots (λ c. search needs) returns returns-2)

@@ -8,15 +8,6 @@ use borrow.Author.Needs.{needs}
 use Rattle.json_open.proofs.read_in.Statement.{statement}
 use Rattle.json_open.proofs.read_in.Tie as tie
 
-skip-space-requires : tie.Need-skip-space-requires
-skip-space-requires c κs = search needs
-
-look-requires : tie.Need-look-requires
-look-requires c κs = search needs
-
-add-sound-members : tie.Need-add-sound-members
-add-sound-members c = search needs
-
 sound-members-requires : tie.Need-sound-members-requires
 sound-members-requires c κs =
     let pre = c .before .before .before .before .before .before .before .before .before .before .before .pre in
@@ -30,18 +21,6 @@ verdict-on-requires c κs =
     let m = c .before .before .before .before .before .before .sound-members in
     onward-up 0 (sp .result + 1) (length (now (a .s))) (m .result) (omega arith) (m .ensures .1 .0)
 
-answer-requires : tie.Need-answer-requires
-answer-requires c κs = search needs
-
-same-length : tie.Need-same-length
-same-length c = search needs
-
-same-length-2 : tie.Need-same-length-2
-same-length-2 c = search needs
-
-same-length-3 : tie.Need-same-length-3
-same-length-3 c = search needs
-
 returns : tie.Need-returns
 returns c =
     let a = c .before .before .before .before .before .before .before .before .before .before .before .before .before .before .before .before .before .before .before .before .args in
@@ -52,20 +31,8 @@ returns c =
     let r = c .answer in
     read-object (now (a .s)) (now (a .names)) (m .last .0) (k .result) (l .result) (k .ensures) (l .ensures .0) (v .result) (r .result) (c .before .before .before .before .before .before .before .before .before .before .before .before .if1 .taken) (m .result) (m .ensures .0) (m .ensures .1 .0) (m .ensures .1 .1) (v .ensures) (r .ensures)
 
-sound-value-requires : tie.Need-sound-value-requires
-sound-value-requires c κs = search needs
-
 verdict-on-requires-2 : tie.Need-verdict-on-requires-2
 verdict-on-requires-2 c κs = c .before .before .before .before .sound-value .ensures .1
-
-answer-requires-2 : tie.Need-answer-requires-2
-answer-requires-2 c κs = search needs
-
-same-length-4 : tie.Need-same-length-4
-same-length-4 c = search needs
-
-same-length-5 : tie.Need-same-length-5
-same-length-5 c = search needs
 
 returns-2 : tie.Need-returns-2
 returns-2 c =
@@ -79,20 +46,6 @@ returns-2 c =
 pub read-in-spec : {M : Type 1} → statement M
 read-in-spec =
     tie.close
-    (tie.spec
-    skip-space-requires
-    look-requires
-    add-sound-members
-    sound-members-requires
-    verdict-on-requires
-    answer-requires
-    same-length
-    same-length-2
-    same-length-3
-    returns
-    sound-value-requires
-    verdict-on-requires-2
-    answer-requires-2
-    same-length-4
-    same-length-5
-    returns-2)
+    (tie.spec (λ c κs. search needs) (λ c κs. search needs) (λ c. search needs) sound-members-requires verdict-on-requires (λ c κs. search needs)
+    (λ c. search needs) (λ c. search needs) (λ c. search needs) returns (λ c κs. search needs) verdict-on-requires-2 (λ c κs. search needs)
+    (λ c. search needs) (λ c. search needs) returns-2)

@@ -435,62 +435,9 @@ returns-6 c =
 pub sound-members-spec : {M : Type 1} → statement M
 sound-members-spec =
     tie.close
-    (tie.spec
-    Inv-loop
-    μ-loop
-    skip-space-requires
-    look-requires
-    add-t22
-    returns
-    loop-holds
-    note-name-requires
-    enum-known-v
-    mul-q
-    slice-read-q
-    cast-q
-    note-member-requires
-    add-k
-    mul-sound-value
-    sub-sound-value
-    part-sound-value-start
-    part-sound-value-end
-    mul-sound-value-2
-    sub-sound-value-2
-    part-sound-value-start-2
-    part-sound-value-end-2
-    sound-value-requires
-    enum-known-e
-    separator-requires
-    enum-known-j
-    loop-less
-    loop-again
-    enum-known-r
-    sound-requires
-    same-length
-    same-length-2
-    same-length-3
-    returns-2
-    enum-known-e-2
-    members-after-requires
-    unsound-requires
-    same-length-4
-    same-length-5
-    same-length-6
-    returns-3
-    enum-known-b
-    same-length-7
-    same-length-8
-    same-length-9
-    returns-4
-    enum-known-v-2
-    members-after-name-requires
-    unsound-requires-2
-    same-length-10
-    same-length-11
-    same-length-12
-    returns-5
-    enum-known-b-2
-    same-length-13
-    same-length-14
-    same-length-15
-    returns-6)
+    (tie.spec Inv-loop μ-loop skip-space-requires look-requires add-t22 returns loop-holds note-name-requires enum-known-v mul-q slice-read-q cast-q
+    note-member-requires add-k mul-sound-value sub-sound-value part-sound-value-start part-sound-value-end mul-sound-value-2 sub-sound-value-2
+    part-sound-value-start-2 part-sound-value-end-2 sound-value-requires enum-known-e separator-requires enum-known-j loop-less loop-again
+    enum-known-r sound-requires same-length same-length-2 same-length-3 returns-2 enum-known-e-2 members-after-requires unsound-requires same-length-4
+    same-length-5 same-length-6 returns-3 enum-known-b same-length-7 same-length-8 same-length-9 returns-4 enum-known-v-2 members-after-name-requires
+    unsound-requires-2 same-length-10 same-length-11 same-length-12 returns-5 enum-known-b-2 same-length-13 same-length-14 same-length-15 returns-6)

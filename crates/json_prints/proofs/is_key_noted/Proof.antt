@@ -90,19 +90,5 @@ returns-2 c =
 pub is-key-noted-spec : {M : Type 1} → statement M
 is-key-noted-spec =
     tie.close
-    (tie.spec
-    Inv-loop
-    μ-loop
-    print-of-requires
-    next-print-requires
-    loop-holds
-    mul-wide
-    shared-slice-read-wide
-    wide-requires
-    equals-requires
-    returns
-    add-next-print
-    next-print-requires-2
-    loop-less
-    loop-again
-    returns-2)
+    (tie.spec Inv-loop μ-loop print-of-requires next-print-requires loop-holds mul-wide shared-slice-read-wide wide-requires equals-requires returns
+    add-next-print next-print-requires-2 loop-less loop-again returns-2)

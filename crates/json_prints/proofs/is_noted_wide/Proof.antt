@@ -75,17 +75,5 @@ returns-2 c =
 pub is-noted-wide-spec : {M : Type 1} → statement M
 is-noted-wide-spec =
     tie.close
-    (tie.spec
-    Inv-loop
-    μ-loop
-    next-print-requires
-    loop-holds
-    mul-same-text
-    shared-slice-read-same-text
-    same-text-requires
-    returns
-    add-next-print
-    next-print-requires-2
-    loop-less
-    loop-again
-    returns-2)
+    (tie.spec Inv-loop μ-loop next-print-requires loop-holds mul-same-text shared-slice-read-same-text same-text-requires returns add-next-print
+    next-print-requires-2 loop-less loop-again returns-2)

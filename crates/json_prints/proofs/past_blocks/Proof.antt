@@ -49,14 +49,4 @@ returns-2 c = c .before .loop .inv
 pub past-blocks-spec : {M : Type 1} → statement M
 past-blocks-spec =
     tie.close
-    (tie.spec
-    Inv-loop
-    μ-loop
-    loop-holds
-    sub-loop
-    add-e
-    any-print-requires
-    returns
-    loop-less
-    loop-again
-    returns-2)
+    (tie.spec Inv-loop μ-loop loop-holds sub-loop add-e any-print-requires returns loop-less loop-again returns-2)

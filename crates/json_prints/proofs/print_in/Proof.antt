@@ -47,14 +47,4 @@ returns-2 c = c .before .loop .inv
 pub print-in-spec : {M : Type 1} → statement M
 print-in-spec =
     tie.close
-    (tie.spec
-    Inv-loop
-    μ-loop
-    loop-holds
-    mul-if1
-    shared-slice-read-if1
-    returns
-    add-k
-    loop-less
-    loop-again
-    returns-2)
+    (tie.spec Inv-loop μ-loop loop-holds mul-if1 shared-slice-read-if1 returns add-k loop-less loop-again returns-2)

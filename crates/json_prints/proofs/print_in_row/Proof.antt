@@ -7,24 +7,6 @@ use Rattle.json_prints.proofs.Prints.{Reached, reach-on, absent-as, abs
 use Rattle.json_prints.proofs.print_in_row.Statement.{statement}
 use Rattle.json_prints.proofs.print_in_row.Tie as tie
 
-past-blocks-requires : tie.Need-past-blocks-requires
-past-blocks-requires c κs = search needs
-
-past-blocks-requires-2 : tie.Need-past-blocks-requires-2
-past-blocks-requires-2 c κs = search needs
-
-past-blocks-requires-3 : tie.Need-past-blocks-requires-3
-past-blocks-requires-3 c κs = search needs
-
-sub-if1 : tie.Need-sub-if1
-sub-if1 c = search needs
-
-sub-any-print : tie.Need-sub-any-print
-sub-any-print c = search needs
-
-any-print-requires : tie.Need-any-print-requires
-any-print-requires c κs = search needs
-
 -- where no block has the print, up to the last one
 past-all : (c : tie.After-past-blocks3) → Reached (now (c .before .before .before .before .args .prints)) (c .before .before .before .before .args .p) (c .before .before .before .before .args .from) (c .before .before .before .before .args .to) (c .past-blocks3 .result)
 past-all c =
@@ -45,9 +27,6 @@ returns c =
           (absent-as fs (args .p) (args .to - 16) (args .to) (c .before .any-print .ensures) (not-true (c .before .any-print .result) (c .if2 .taken))),
     )
 
-print-in-requires : tie.Need-print-in-requires
-print-in-requires c κs = search needs
-
 returns-2 : tie.Need-returns-2
 returns-2 c =
     let args = c .before .before .before .before .before .before .args in
@@ -57,13 +36,5 @@ returns-2 c =
 pub print-in-row-spec : {M : Type 1} → statement M
 print-in-row-spec =
     tie.close
-    (tie.spec
-    past-blocks-requires
-    past-blocks-requires-2
-    past-blocks-requires-3
-    sub-if1
-    sub-any-print
-    any-print-requires
-    returns
-    print-in-requires
-    returns-2)
+    (tie.spec (λ c κs. search needs) (λ c κs. search needs) (λ c κs. search needs) (λ c. search needs) (λ c. search needs) (λ c κs. search needs)
+    returns (λ c κs. search needs) returns-2)

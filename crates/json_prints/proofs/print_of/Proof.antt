@@ -52,15 +52,4 @@ returns c = sym (printed-end (now (c .before .before .before .args .key)) (c .be
 pub print-of-spec : {M : Type 1} → statement M
 print-of-spec =
     tie.close
-    (tie.spec
-    Inv-loop
-    μ-loop
-    cast-p
-    loop-holds
-    shared-slice-read-stirred
-    stirred-requires
-    add-k
-    loop-less
-    loop-again
-    cast-result
-    returns)
+    (tie.spec Inv-loop μ-loop cast-p loop-holds shared-slice-read-stirred stirred-requires add-k loop-less loop-again cast-result returns)

@@ -9,17 +9,8 @@ use borrow.Author.Needs.{needs}
 use Rattle.json_read.proofs.verdict_on.Statement.{statement}
 use Rattle.json_read.proofs.verdict_on.Tie as tie
 
-enum-known-r : tie.Need-enum-known-r
-enum-known-r c = search needs
-
-enum-known-r-2 : tie.Need-enum-known-r-2
-enum-known-r-2 c = search needs
-
 ended-requires : tie.Need-ended-requires
 ended-requires c κs = onward-as 0 (length (now (c .before .before .before .before .args .s))) (c .before .before .before .before .pre) (c .before .r2 .given .1) .1
-
-enum-known-r-3 : tie.Need-enum-known-r-3
-enum-known-r-3 c = search needs
 
 ended-requires-2 : tie.Need-ended-requires-2
 ended-requires-2 c κs = onward-as 0 (length (now (c .before .before .before .before .args .s))) (c .before .before .before .before .pre) (c .before .r3 .given .1) .1
@@ -42,12 +33,4 @@ returns-3 c d judged =
 pub verdict-on-spec : {M : Type 1} → statement M
 verdict-on-spec =
     tie.close
-    (tie.spec
-    enum-known-r
-    enum-known-r-2
-    ended-requires
-    enum-known-r-3
-    ended-requires-2
-    returns
-    returns-2
-    returns-3)
+    (tie.spec (λ c. search needs) (λ c. search needs) ended-requires (λ c. search needs) ended-requires-2 returns returns-2 returns-3)

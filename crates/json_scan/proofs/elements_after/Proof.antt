@@ -8,15 +8,6 @@ use borrow.Author.Needs.{needs}
 use Rattle.json_scan.proofs.elements_after.Statement.{statement}
 use Rattle.json_scan.proofs.elements_after.Tie as tie
 
-separator-requires : tie.Need-separator-requires
-separator-requires c κs = search needs
-
-enum-known-r : tie.Need-enum-known-r
-enum-known-r c = search needs
-
-enum-known-j : tie.Need-enum-known-j
-enum-known-j c = search needs
-
 elements-from-requires : tie.Need-elements-from-requires
 elements-from-requires c κs = turn-as (c .before .before .before .separator .ensures) (c .before .j .given .1) .within .1
 
@@ -29,10 +20,4 @@ returns-2 c = later-go enil (loop (item (value (c .before .before .before .befor
 pub elements-after-spec : {M : Type 1} → statement M
 elements-after-spec =
     tie.close
-    (tie.spec
-    separator-requires
-    enum-known-r
-    enum-known-j
-    elements-from-requires
-    returns
-    returns-2)
+    (tie.spec (λ c κs. search needs) (λ c. search needs) (λ c. search needs) elements-from-requires returns returns-2)

@@ -4,32 +4,11 @@ use borrow.Author.Needs.{needs}
 use Rattle.json_scan.proofs.four_end.Statement.{statement}
 use Rattle.json_scan.proofs.four_end.Tie as tie
 
-byte-requires : tie.Need-byte-requires
-byte-requires c κs = search needs
-
-enum-known-x : tie.Need-enum-known-x
-enum-known-x c = search needs
-
-enum-known-k : tie.Need-enum-known-k
-enum-known-k c = search needs
-
 byte-requires-2 : tie.Need-byte-requires-2
 byte-requires-2 c κs = (gives-as (c .before .before .before .byte .ensures) (c .before .k .given .1) .within .1, c .before .before .before .before .before .pre .1 .1 .0)
 
-enum-known-x-2 : tie.Need-enum-known-x-2
-enum-known-x-2 c = search needs
-
-enum-known-j : tie.Need-enum-known-j
-enum-known-j c = search needs
-
 byte-requires-3 : tie.Need-byte-requires-3
 byte-requires-3 c κs = (gives-as (c .before .before .before .byte2 .ensures) (c .before .j .given .1) .within .1, c .before .before .before .before .before .before .before .before .before .pre .1 .1 .1 .0)
-
-enum-known-x-3 : tie.Need-enum-known-x-3
-enum-known-x-3 c = search needs
-
-enum-known-i : tie.Need-enum-known-i
-enum-known-i c = search needs
 
 byte-requires-4 : tie.Need-byte-requires-4
 byte-requires-4 c κs = (gives-as (c .before .before .before .byte3 .ensures) (c .before .i .given .1) .within .1, c .before .before .before .before .before .before .before .before .before .before .before .before .before .pre .1 .1 .1 .1)
@@ -67,18 +46,5 @@ returns-4 c =
 pub four-end-spec : {M : Type 1} → statement M
 four-end-spec =
     tie.close
-    (tie.spec
-    byte-requires
-    enum-known-x
-    enum-known-k
-    byte-requires-2
-    enum-known-x-2
-    enum-known-j
-    byte-requires-3
-    enum-known-x-3
-    enum-known-i
-    byte-requires-4
-    returns
-    returns-2
-    returns-3
-    returns-4)
+    (tie.spec (λ c κs. search needs) (λ c. search needs) (λ c. search needs) byte-requires-2 (λ c. search needs) (λ c. search needs) byte-requires-3
+    (λ c. search needs) (λ c. search needs) byte-requires-4 returns returns-2 returns-3 returns-4)

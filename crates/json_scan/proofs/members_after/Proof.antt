@@ -8,15 +8,6 @@ use borrow.Author.Needs.{needs}
 use Rattle.json_scan.proofs.members_after.Statement.{statement}
 use Rattle.json_scan.proofs.members_after.Tie as tie
 
-separator-requires : tie.Need-separator-requires
-separator-requires c κs = search needs
-
-enum-known-r : tie.Need-enum-known-r
-enum-known-r c = search needs
-
-enum-known-j : tie.Need-enum-known-j
-enum-known-j c = search needs
-
 members-from-requires : tie.Need-members-from-requires
 members-from-requires c κs = turn-as (c .before .before .before .separator .ensures) (c .before .j .given .1) .within .1
 
@@ -29,4 +20,4 @@ returns-2 c = later-go mnil (loop (pair (value (c .before .before .before .befor
 pub members-after-spec : {M : Type 1} → statement M
 members-after-spec =
     tie.close
-    (tie.spec separator-requires enum-known-r enum-known-j members-from-requires returns returns-2)
+    (tie.spec (λ c κs. search needs) (λ c. search needs) (λ c. search needs) members-from-requires returns returns-2)

@@ -4,15 +4,6 @@ use borrow.Author.Needs.{needs}
 use Rattle.json_scan.proofs.members_after_name.Statement.{statement}
 use Rattle.json_scan.proofs.members_after_name.Tie as tie
 
-value-end-requires : tie.Need-value-end-requires
-value-end-requires c κs = search needs
-
-enum-known-b : tie.Need-enum-known-b
-enum-known-b c = search needs
-
-enum-known-e : tie.Need-enum-known-e
-enum-known-e c = search needs
-
 members-after-requires : tie.Need-members-after-requires
 members-after-requires c κs = gives-as (c .before .before .before .value-end .ensures) (c .before .e .given .1) .within .1
 
@@ -25,10 +16,4 @@ returns-2 c = λ us. then-next _ (gives-as (c .before .before .before .before .v
 pub members-after-name-spec : {M : Type 1} → statement M
 members-after-name-spec =
     tie.close
-    (tie.spec
-    value-end-requires
-    enum-known-b
-    enum-known-e
-    members-after-requires
-    returns
-    returns-2)
+    (tie.spec (λ c κs. search needs) (λ c. search needs) (λ c. search needs) members-after-requires returns returns-2)

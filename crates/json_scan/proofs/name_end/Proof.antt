@@ -4,23 +4,8 @@ use borrow.Author.Needs.{needs}
 use Rattle.json_scan.proofs.name_end.Statement.{statement}
 use Rattle.json_scan.proofs.name_end.Tie as tie
 
-mark-requires : tie.Need-mark-requires
-mark-requires c κs = search needs
-
-enum-known-b : tie.Need-enum-known-b
-enum-known-b c = search needs
-
-enum-known-j : tie.Need-enum-known-j
-enum-known-j c = search needs
-
 string-end-requires : tie.Need-string-end-requires
 string-end-requires c κs = gives-as (c .before .before .before .mark .ensures) (c .before .j .given .1) .within .1
-
-enum-known-b-2 : tie.Need-enum-known-b-2
-enum-known-b-2 c = search needs
-
-enum-known-i : tie.Need-enum-known-i
-enum-known-i c = search needs
 
 mark-requires-2 : tie.Need-mark-requires-2
 mark-requires-2 c κs = (gives-as (c .before .before .before .string-end .ensures) (c .before .i .given .1) .within .1, search needs)
@@ -40,14 +25,5 @@ returns-3 c = then-next _ (gives-as (c .before .before .before .before .before .
 pub name-end-spec : {M : Type 1} → statement M
 name-end-spec =
     tie.close
-    (tie.spec
-    mark-requires
-    enum-known-b
-    enum-known-j
-    string-end-requires
-    enum-known-b-2
-    enum-known-i
-    mark-requires-2
-    returns
-    returns-2
-    returns-3)
+    (tie.spec (λ c κs. search needs) (λ c. search needs) (λ c. search needs) string-end-requires (λ c. search needs) (λ c. search needs)
+    mark-requires-2 returns returns-2 returns-3)

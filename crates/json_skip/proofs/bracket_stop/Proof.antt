@@ -133,31 +133,6 @@ returns-2 c = record {
 pub bracket-stop-spec : {M : Type 1} → statement M
 bracket-stop-spec =
     tie.close
-    (tie.spec
-    Inv-loop
-    μ-loop
-    loop-holds
-    shared-slice-read-b
-    add-string-stop
-    string-stop-requires
-    loop-less
-    loop-again
-    add-i
-    loop-less-2
-    loop-again-2
-    is-opening-requires
-    add-open
-    add-i-2
-    loop-less-3
-    loop-again-3
-    is-closing-requires
-    add-result
-    returns
-    sub-open
-    add-i-3
-    loop-less-4
-    loop-again-4
-    add-i-4
-    loop-less-5
-    loop-again-5
-    returns-2)
+    (tie.spec Inv-loop μ-loop loop-holds shared-slice-read-b add-string-stop string-stop-requires loop-less loop-again add-i loop-less-2 loop-again-2
+    is-opening-requires add-open add-i-2 loop-less-3 loop-again-3 is-closing-requires add-result returns sub-open add-i-3 loop-less-4 loop-again-4
+    add-i-4 loop-less-5 loop-again-5 returns-2)

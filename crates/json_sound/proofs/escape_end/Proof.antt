@@ -6,24 +6,6 @@ use Rattle.json_sound.proofs.Escapes.{follows-below, follows-above, fol
 use Rattle.json_sound.proofs.escape_end.Statement.{statement}
 use Rattle.json_sound.proofs.escape_end.Tie as tie
 
-look-requires : tie.Need-look-requires
-look-requires c κs = search needs
-
-returns : tie.Need-returns
-returns c = search needs
-
-add-escape-at : tie.Need-add-escape-at
-add-escape-at c = search needs
-
-escape-at-requires : tie.Need-escape-at-requires
-escape-at-requires c κs = search needs
-
-enum-told : tie.Need-enum-told
-enum-told c = search needs
-
-enum-known-u : tie.Need-enum-known-u
-enum-known-u c = search needs
-
 returns-2 : tie.Need-returns-2
 returns-2 c =
     let args = c .before .before .before .before .before .before .before .before .args in
@@ -44,17 +26,8 @@ returns-3 c =
       follows-above (now (args .s)) (args .at) (look .result) (look .ensures .0) (c .before .before .before .before .before .before .if1 .left) (c .before .before .before .before .before .escape-at .ensures) _ _ (u .given .1) (omega (arith, c .if3 .taken)),
     )
 
-returns-4 : tie.Need-returns-4
-returns-4 c = search needs
-
 low-end-requires : tie.Need-low-end-requires
 low-end-requires c κs = tells-as (c .before .before .before .before .before .before .escape-at .ensures) (c .before .before .before .before .u .given .1) .within .1
-
-returns-5 : tie.Need-returns-5
-returns-5 c = search needs
-
-returns-6 : tie.Need-returns-6
-returns-6 c = search needs
 
 returns-7 : tie.Need-returns-7
 returns-7 c =
@@ -71,17 +44,5 @@ returns-7 c =
 pub escape-end-spec : {M : Type 1} → statement M
 escape-end-spec =
     tie.close
-    (tie.spec
-    look-requires
-    returns
-    add-escape-at
-    escape-at-requires
-    enum-told
-    enum-known-u
-    returns-2
-    returns-3
-    returns-4
-    low-end-requires
-    returns-5
-    returns-6
-    returns-7)
+    (tie.spec (λ c κs. search needs) (λ c. search needs) (λ c. search needs) (λ c κs. search needs) (λ c. search needs) (λ c. search needs) returns-2
+    returns-3 (λ c. search needs) low-end-requires (λ c. search needs) (λ c. search needs) returns-7)

@@ -6,23 +6,8 @@ use Rattle.json_sound.proofs.Escapes.{low-none, low-here}
 use Rattle.json_sound.proofs.low_end.Statement.{statement}
 use Rattle.json_sound.proofs.low_end.Tie as tie
 
-look-requires : tie.Need-look-requires
-look-requires c κs = search needs
-
 returns : tie.Need-returns
 returns c = ((omega arith, c .before .before .before .pre), low-none (now (c .before .before .before .args .s)) (c .before .before .before .args .at))
-
-add-escape-at : tie.Need-add-escape-at
-add-escape-at c = search needs
-
-escape-at-requires : tie.Need-escape-at-requires
-escape-at-requires c κs = search needs
-
-enum-told : tie.Need-enum-told
-enum-told c = search needs
-
-enum-known-u : tie.Need-enum-known-u
-enum-known-u c = search needs
 
 returns-2 : tie.Need-returns-2
 returns-2 c = ((omega arith, c .before .before .before .before .before .before .before .before .pre), low-none (now (c .before .before .before .before .before .before .before .before .args .s)) (c .before .before .before .before .before .before .before .before .args .at))
@@ -46,14 +31,5 @@ returns-5 c =
 pub low-end-spec : {M : Type 1} → statement M
 low-end-spec =
     tie.close
-    (tie.spec
-    look-requires
-    returns
-    add-escape-at
-    escape-at-requires
-    enum-told
-    enum-known-u
-    returns-2
-    returns-3
-    returns-4
-    returns-5)
+    (tie.spec (λ c κs. search needs) returns (λ c. search needs) (λ c κs. search needs) (λ c. search needs) (λ c. search needs) returns-2 returns-3
+    returns-4 returns-5)

@@ -9,15 +9,6 @@ use borrow.Author.Needs.{needs}
 use Rattle.json_sound.proofs.name_rest.Statement.{statement}
 use Rattle.json_sound.proofs.name_rest.Tie as tie
 
-look-requires : tie.Need-look-requires
-look-requires c κs = search needs
-
-add-mark : tie.Need-add-mark
-add-mark c = search needs
-
-mark-requires : tie.Need-mark-requires
-mark-requires c κs = search needs
-
 -- at the quote
 returns : tie.Need-returns
 unfolding name
@@ -29,15 +20,6 @@ returns c =
     (string-stop (now (args .s)) (args .at) (Next (args .at + 1))
     (char-end (now (args .s)) (args .at) (look .result) (look .ensures .0) (c .before .if1 .taken) (omega (arith, look .ensures .1, c .before .if1 .taken)))))
     λ k. then-end _ (c .mark .ensures)
-
-string-end-requires : tie.Need-string-end-requires
-string-end-requires c κs = search needs
-
-enum-known-b : tie.Need-enum-known-b
-enum-known-b c = search needs
-
-enum-known-i : tie.Need-enum-known-i
-enum-known-i c = search needs
 
 mark-requires-2 : tie.Need-mark-requires-2
 mark-requires-2 c κs = (gives-as (c .before .before .before .string-end .ensures) (c .before .i .given .1) .within .1, search needs)
@@ -53,4 +35,5 @@ returns-3 c = λ at q g t. then-next _ g λ a. then-next _ (t _ (gives-as (c .be
 pub name-rest-spec : {M : Type 1} → statement M
 name-rest-spec =
     tie.close
-    (tie.spec look-requires add-mark mark-requires returns string-end-requires enum-known-b enum-known-i mark-requires-2 returns-2 returns-3)
+    (tie.spec (λ c κs. search needs) (λ c. search needs) (λ c κs. search needs) returns (λ c κs. search needs) (λ c. search needs) (λ c. search needs)
+    mark-requires-2 returns-2 returns-3)

@@ -82,25 +82,5 @@ loop-again c = starts-twice _ _ _ _ _ _ _ (c .before .before .before .before .be
 pub name-start-spec : {M : Type 1} → statement M
 name-start-spec =
     tie.close
-    (tie.spec
-    Inv-loop
-    μ-loop
-    loop-holds
-    look-requires
-    is-raw-requires
-    cast-t10
-    returns
-    add-look
-    look-requires-2
-    is-raw-requires-2
-    cast-stirred
-    cast-stirred-2
-    stirred-requires
-    add-t14
-    returns-2
-    cast-stirred-twice
-    cast-stirred-twice-2
-    stirred-twice-requires
-    add-i
-    loop-less
-    loop-again)
+    (tie.spec Inv-loop μ-loop loop-holds look-requires is-raw-requires cast-t10 returns add-look look-requires-2 is-raw-requires-2 cast-stirred
+    cast-stirred-2 stirred-requires add-t14 returns-2 cast-stirred-twice cast-stirred-twice-2 stirred-twice-requires add-i loop-less loop-again)

@@ -18,15 +18,6 @@ use borrow.Author.Needs.{needs}
 use Rattle.json_sound.proofs.note_name.Statement.{statement}
 use Rattle.json_sound.proofs.note_name.Tie as tie
 
-mark-requires : tie.Need-mark-requires
-mark-requires c κs = search needs
-
-enum-known-b : tie.Need-enum-known-b
-enum-known-b c = search needs
-
-enum-known-q : tie.Need-enum-known-q
-enum-known-q c = search needs
-
 name-start-requires : tie.Need-name-start-requires
 name-start-requires c κs =
     let mark = c .before .before .before .mark in
@@ -34,12 +25,6 @@ name-start-requires c κs =
 
 name-rest-requires : tie.Need-name-rest-requires
 name-rest-requires c κs = c .name-start .ensures .1
-
-enum-known-b-2 : tie.Need-enum-known-b-2
-enum-known-b-2 c = search needs
-
-enum-known-v : tie.Need-enum-known-v
-enum-known-v c = search needs
 
 print-rest-requires : tie.Need-print-rest-requires
 print-rest-requires c κs =
@@ -77,12 +62,6 @@ is-noted-requires c κs =
     let name-start = c .before .before .before .before .before .before .before .before .name-start in
     let print-rest = c .before .before .before .print-rest in
     (omega (arith, pre .1 .1 .0), (omega (arith, pre .1 .1 .1), print-rest .ensures .0 ∙ sym (name-start .ensures .3)))
-
-same-length : tie.Need-same-length
-same-length c = search needs
-
-same-length-2 : tie.Need-same-length-2
-same-length-2 c = search needs
 
 returns-2 : tie.Need-returns-2
 returns-2 c =
@@ -125,18 +104,6 @@ cast-places c =
     let h = gives-as (name-rest .ensures at from g (name-start .ensures .4)) (v .given .1) in
     omega (arith, name-takes s at (pre .0) _ _ g h .1, h .within .1, pre .1)
 
-mul-places : tie.Need-mul-places
-mul-places c = search needs
-
-slice-write-places : tie.Need-slice-write-places
-slice-write-places c = search needs
-
-mul-prints : tie.Need-mul-prints
-mul-prints c = search needs
-
-slice-write-prints : tie.Need-slice-write-prints
-slice-write-prints c = search needs
-
 returns-3 : tie.Need-returns-3
 unfolding name
 returns-3 c =
@@ -157,12 +124,6 @@ returns-4 c =
     let g = gives-as (mark .ensures) (q .given .1) in
     let h = gives-as (name-rest .ensures at from g (name-start .ensures .4)) (c .before .b2 .given .1) in
     (λ ns k. at-bad _ h, h .within)
-
-same-length-3 : tie.Need-same-length-3
-same-length-3 c = search needs
-
-same-length-4 : tie.Need-same-length-4
-same-length-4 c = search needs
 
 returns-5 : tie.Need-returns-5
 returns-5 c =
@@ -197,28 +158,7 @@ returns-5 c =
 pub note-name-spec : {M : Type 1} → statement M
 note-name-spec =
     tie.close
-    (tie.spec
-    mark-requires
-    enum-known-b
-    enum-known-q
-    name-start-requires
-    name-rest-requires
-    enum-known-b-2
-    enum-known-v
-    print-rest-requires
-    returns
-    cast-p
-    is-noted-requires
-    same-length
-    same-length-2
-    returns-2
-    cast-places
-    mul-places
-    slice-write-places
-    mul-prints
-    slice-write-prints
-    returns-3
-    returns-4
-    same-length-3
-    same-length-4
+    (tie.spec (λ c κs. search needs) (λ c. search needs) (λ c. search needs) name-start-requires name-rest-requires (λ c. search needs)
+    (λ c. search needs) print-rest-requires returns cast-p is-noted-requires (λ c. search needs) (λ c. search needs) returns-2 cast-places
+    (λ c. search needs) (λ c. search needs) (λ c. search needs) (λ c. search needs) returns-3 returns-4 (λ c. search needs) (λ c. search needs)
     returns-5)

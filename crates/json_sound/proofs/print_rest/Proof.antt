@@ -8,9 +8,6 @@ use Rattle.json_prints.proofs.Prints.{print-end}
 use Rattle.json_sound.proofs.print_rest.Statement.{statement}
 use Rattle.json_sound.proofs.print_rest.Tie as tie
 
-look-requires : tie.Need-look-requires
-look-requires c κs = search needs
-
 returns : tie.Need-returns
 returns c =
     let args = c .before .before .before .args in
@@ -19,13 +16,10 @@ returns c =
       omega arith,
     )
 
-print-from-requires : tie.Need-print-from-requires
-print-from-requires c κs = search needs
-
 returns-2 : tie.Need-returns-2
 returns-2 c = c .print-from .ensures
 
 pub print-rest-spec : {M : Type 1} → statement M
 print-rest-spec =
     tie.close
-    (tie.spec look-requires returns print-from-requires returns-2)
+    (tie.spec (λ c κs. search needs) returns (λ c κs. search needs) returns-2)

@@ -80,16 +80,5 @@ loop-again c =
 pub sound-rest-spec : {M : Type 1} → statement M
 sound-rest-spec =
     tie.close
-    (tie.spec
-    Inv-loop
-    μ-loop
-    loop-holds
-    text-end-requires
-    look-requires
-    add-t8
-    returns
-    escape-end-requires
-    sound-twice-requires
-    returns-2
-    loop-less
+    (tie.spec Inv-loop μ-loop loop-holds text-end-requires look-requires add-t8 returns escape-end-requires sound-twice-requires returns-2 loop-less
     loop-again)

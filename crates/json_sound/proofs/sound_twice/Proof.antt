@@ -12,18 +12,6 @@ use Rattle.json_sound.proofs.Plain.{chars-alone, chars-paired}
 use Rattle.json_sound.proofs.sound_twice.Statement.{statement}
 use Rattle.json_sound.proofs.sound_twice.Tie as tie
 
-string-end-requires : tie.Need-string-end-requires
-string-end-requires c κs = search needs
-
-enum-known-b : tie.Need-enum-known-b
-enum-known-b c = search needs
-
-enum-known-e : tie.Need-enum-known-e
-enum-known-e c = search needs
-
-is-paired-requires : tie.Need-is-paired-requires
-is-paired-requires c κs = search needs
-
 returns : tie.Need-returns
 returns c =
     let args = c .before .before .before .before .before .before .before .args in
@@ -48,11 +36,4 @@ returns-3 c =
 pub sound-twice-spec : {M : Type 1} → statement M
 sound-twice-spec =
     tie.close
-    (tie.spec
-    string-end-requires
-    enum-known-b
-    enum-known-e
-    is-paired-requires
-    returns
-    returns-2
-    returns-3)
+    (tie.spec (λ c κs. search needs) (λ c. search needs) (λ c. search needs) (λ c κs. search needs) returns returns-2 returns-3)

@@ -84,24 +84,5 @@ returns-2 c =
 pub copy-bare-spec : {M : Type 1} → statement M
 copy-bare-spec =
     tie.close
-    (tie.spec
-    Inv-loop
-    μ-loop
-    returns
-    loop-holds
-    sub-has-run
-    add-has-run
-    has-run-requires
-    add-copy-sixteen
-    copy-sixteen-requires
-    add-n
-    loop-less
-    loop-again
-    sub-copy-from
-    part-copy-from-start
-    part-copy-from-end
-    add-copy-from
-    copy-from-requires
-    add-result
-    same-length
-    returns-2)
+    (tie.spec Inv-loop μ-loop returns loop-holds sub-has-run add-has-run has-run-requires add-copy-sixteen copy-sixteen-requires add-n loop-less
+    loop-again sub-copy-from part-copy-from-start part-copy-from-end add-copy-from copy-from-requires add-result same-length returns-2)

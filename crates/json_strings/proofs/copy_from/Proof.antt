@@ -60,19 +60,5 @@ loop-again c =
 pub copy-from-spec : {M : Type 1} → statement M
 copy-from-spec =
     tie.close
-    (tie.spec
-    Inv-loop
-    μ-loop
-    loop-holds
-    same-length
-    returns
-    add-look
-    look-requires
-    is-bare-requires
-    same-length-2
-    returns-2
-    cast-out
-    slice-write-out
-    add-n
-    loop-less
-    loop-again)
+    (tie.spec Inv-loop μ-loop loop-holds same-length returns add-look look-requires is-bare-requires same-length-2 returns-2 cast-out slice-write-out
+    add-n loop-less loop-again)

@@ -149,29 +149,6 @@ loop-again c =
 pub decode-into-spec : {M : Type 1} → statement M
 decode-into-spec =
     tie.close
-    (tie.spec
-    Inv-loop
-    μ-loop
-    is-paired-requires
-    returns
-    loop-holds
-    sub-copy-bare
-    part-copy-bare-start
-    part-copy-bare-end
-    copy-bare-requires
-    add-k
-    add-i
-    next-byte-requires
-    enum-told
-    same-length
-    returns-2
-    enum-told-2
-    same-length-2
-    returns-3
-    enum-known-b
-    same-length-3
-    returns-4
-    slice-write-out
-    add-k-2
-    loop-less
-    loop-again)
+    (tie.spec Inv-loop μ-loop is-paired-requires returns loop-holds sub-copy-bare part-copy-bare-start part-copy-bare-end copy-bare-requires add-k
+    add-i next-byte-requires enum-told same-length returns-2 enum-told-2 same-length-2 returns-3 enum-known-b same-length-3 returns-4 slice-write-out
+    add-k-2 loop-less loop-again)

@@ -10,18 +10,6 @@ use borrow.Author.Needs.{needs}
 use Rattle.json_strings.proofs.ends.Statement.{statement}
 use Rattle.json_strings.proofs.ends.Tie as tie
 
-next-byte-requires : tie.Need-next-byte-requires
-next-byte-requires c κs = search needs
-
-enum-told : tie.Need-enum-told
-enum-told c = search needs
-
-enum-told-2 : tie.Need-enum-told-2
-enum-told-2 c = search needs
-
-enum-known-b : tie.Need-enum-known-b
-enum-known-b c = search needs
-
 returns : tie.Need-returns
 returns c = sym (ap (agree (some [])) (is-alone (now (c .before .before .before .before .args .s)) (c .before .before .next-byte .ensures .0) (c .enum-told .given .1)))
 
@@ -35,4 +23,4 @@ returns-3 c = sym (ends-one (now (c .before .before .before .before .before .arg
 pub ends-spec : {M : Type 1} → statement M
 ends-spec =
     tie.close
-    (tie.spec next-byte-requires enum-told enum-told-2 enum-known-b returns returns-2 returns-3)
+    (tie.spec (λ c κs. search needs) (λ c. search needs) (λ c. search needs) (λ c. search needs) returns returns-2 returns-3)

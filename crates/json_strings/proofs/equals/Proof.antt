@@ -93,21 +93,5 @@ loop-again c =
 pub equals-spec : {M : Type 1} → statement M
 equals-spec =
     tie.close
-    (tie.spec
-    Inv-loop
-    μ-loop
-    returns
-    loop-holds
-    look-requires
-    equals-from-requires
-    returns-2
-    returns-3
-    shared-slice-read-if4
-    cast-if4
-    returns-4
-    returns-5
-    returns-6
-    add-k
-    add-i
-    loop-less
-    loop-again)
+    (tie.spec Inv-loop μ-loop returns loop-holds look-requires equals-from-requires returns-2 returns-3 shared-slice-read-if4 cast-if4 returns-4
+    returns-5 returns-6 add-k add-i loop-less loop-again)

@@ -7,7 +7,7 @@ use Prim.Native.Nat.{_≤_}
 use lib.ListN.{length, drop}
 use Rattle.text.specs.Bytes.{Bytes}
 use Rattle.json_strings.specs.Decoded.{decodedAt, left, weight, spells}
-use Rattle.json_strings.proofs.Laws.{left-none, decoded-past}
+use Rattle.json_strings.proofs.Laws.{left-none}
 use Rattle.json_strings.proofs.NextByte.{byte-in, is-alone, is-end}
 use Rattle.json_strings.proofs.Equal.{spells-end, one-short, one-other, one-same}
 use Rattle.json_strings.proofs.equals_from.Statement.{statement}
@@ -81,19 +81,5 @@ loop-again c =
 pub equals-from-spec : {M : Type 1} → statement M
 equals-from-spec =
     tie.close
-    (tie.spec
-    Inv-loop
-    μ-loop
-    loop-holds
-    next-byte-requires
-    enum-told
-    returns
-    enum-told-2
-    returns-2
-    enum-known-b
-    returns-3
-    shared-slice-read-if2
-    returns-4
-    add-k
-    loop-less
-    loop-again)
+    (tie.spec Inv-loop μ-loop loop-holds next-byte-requires enum-told returns enum-told-2 returns-2 enum-known-b returns-3 shared-slice-read-if2
+    returns-4 add-k loop-less loop-again)

@@ -74,20 +74,5 @@ loop-again-2 c =
 pub is-paired-spec : {M : Type 1} → statement M
 is-paired-spec =
     tie.close
-    (tie.spec
-    Inv-loop
-    μ-loop
-    returns
-    loop-holds
-    bare-end-requires
-    letter-at-requires
-    enum-told
-    returns-2
-    enum-told-2
-    returns-3
-    enum-known-b
-    loop-less
-    loop-again
-    enum-known-v
-    loop-less-2
-    loop-again-2)
+    (tie.spec Inv-loop μ-loop returns loop-holds bare-end-requires letter-at-requires enum-told returns-2 enum-told-2 returns-3 enum-known-b loop-less
+    loop-again enum-known-v loop-less-2 loop-again-2)

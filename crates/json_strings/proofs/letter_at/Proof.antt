@@ -7,21 +7,6 @@ use borrow.Author.Needs.{needs}
 use Rattle.json_strings.proofs.letter_at.Statement.{statement}
 use Rattle.json_strings.proofs.letter_at.Tie as tie
 
-unit-at-requires : tie.Need-unit-at-requires
-unit-at-requires c κs = search needs
-
-enum-known-b : tie.Need-enum-known-b
-enum-known-b c = search needs
-
-enum-known-e : tie.Need-enum-known-e
-enum-known-e c = search needs
-
-enum-known-u : tie.Need-enum-known-u
-enum-known-u c = search needs
-
-cast-t11 : tie.Need-cast-t11
-cast-t11 c = search needs
-
 returns : tie.Need-returns
 returns c =
     let args = c .before .before .before .before .before .before .args in
@@ -29,9 +14,6 @@ returns c =
     let u = c .before .before .u in
     let w = unit-in (args .at) (length (now (args .s))) (unit-at .ensures .1) (u .given .1) in
     (raw-is (now (args .s)) (args .at) (unit-at .ensures .0) _ _ (u .given .1) (c .if1 .taken), (w .0, w .1))
-
-within-requires : tie.Need-within-requires
-within-requires c κs = search needs
 
 pair-at-requires : tie.Need-pair-at-requires
 pair-at-requires c κs =
@@ -51,9 +33,6 @@ returns-2 c =
       high-is (now (args .s)) (args .at) (unit-at .ensures .0) _ _ (u .given .1) (if1 .left) (sym (c .before .before .within .ensures) ∙ (c .before .if2 .taken)) ∙ (c .pair-at .ensures .0),
       letter-up _ _ (length (now (args .s))) (c .pair-at .result) (w .0) (c .pair-at .ensures .1),
     )
-
-within-requires-2 : tie.Need-within-requires-2
-within-requires-2 c κs = search needs
 
 returns-3 : tie.Need-returns-3
 returns-3 c =
@@ -92,18 +71,5 @@ returns-6 c =
 pub letter-at-spec : {M : Type 1} → statement M
 letter-at-spec =
     tie.close
-    (tie.spec
-    unit-at-requires
-    enum-known-b
-    enum-known-e
-    enum-known-u
-    cast-t11
-    returns
-    within-requires
-    pair-at-requires
-    returns-2
-    within-requires-2
-    returns-3
-    returns-4
-    returns-5
-    returns-6)
+    (tie.spec (λ c κs. search needs) (λ c. search needs) (λ c. search needs) (λ c. search needs) (λ c. search needs) returns (λ c κs. search needs)
+    pair-at-requires returns-2 (λ c κs. search needs) returns-3 returns-4 returns-5 returns-6)

@@ -9,26 +9,8 @@ use borrow.Author.Needs.{needs}
 use Rattle.json_strings.proofs.next_byte.Statement.{statement}
 use Rattle.json_strings.proofs.next_byte.Tie as tie
 
-cast-t10 : tie.Need-cast-t10
-cast-t10 c = search needs
-
 returns : tie.Need-returns
 returns c = let h = left-held (now (c .before .before .args .s)) (c .before .before .args .at) (c .before .before .args .hold) (omega arith) (c .if1 .taken) in (h .0, (c .before .before .pre, h .1))
-
-letter-at-requires : tie.Need-letter-at-requires
-letter-at-requires c κs = search needs
-
-enum-told : tie.Need-enum-told
-enum-told c = search needs
-
-enum-told-2 : tie.Need-enum-told-2
-enum-told-2 c = search needs
-
-enum-known-b : tie.Need-enum-known-b
-enum-known-b c = search needs
-
-enum-known-v : tie.Need-enum-known-v
-enum-known-v c = search needs
 
 lead-of-requires : tie.Need-lead-of-requires
 lead-of-requires c κs = letter-in (c .before .before .before .before .before .before .args .at) (length (now (c .before .before .before .before .before .before .args .s))) (c .before .before .before .letter-at .ensures .1) (c .before .v .given .1) .2
@@ -77,17 +59,5 @@ returns-5 c =
 pub next-byte-spec : {M : Type 1} → statement M
 next-byte-spec =
     tie.close
-    (tie.spec
-    cast-t10
-    returns
-    letter-at-requires
-    enum-told
-    enum-told-2
-    enum-known-b
-    enum-known-v
-    lead-of-requires
-    rest-of-requires
-    returns-2
-    returns-3
-    returns-4
-    returns-5)
+    (tie.spec (λ c. search needs) returns (λ c κs. search needs) (λ c. search needs) (λ c. search needs) (λ c. search needs) (λ c. search needs)
+    lead-of-requires rest-of-requires returns-2 returns-3 returns-4 returns-5)

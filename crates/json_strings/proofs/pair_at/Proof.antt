@@ -8,18 +8,6 @@ use borrow.Author.Needs.{needs}
 use Rattle.json_strings.proofs.pair_at.Statement.{statement}
 use Rattle.json_strings.proofs.pair_at.Tie as tie
 
-unit-at-requires : tie.Need-unit-at-requires
-unit-at-requires c κs = search needs
-
-enum-known-b : tie.Need-enum-known-b
-enum-known-b c = search needs
-
-enum-known-e : tie.Need-enum-known-e
-enum-known-e c = search needs
-
-enum-known-u : tie.Need-enum-known-u
-enum-known-u c = search needs
-
 returns : tie.Need-returns
 returns c =
     let args = c .before .before .before .before .before .before .args in
@@ -28,9 +16,6 @@ returns c =
       pair-raw (now (args .s)) (args .at) (unit-at .ensures .0) (args .high) (λ e. let h = between-in 0xd800 0xdbff (args .high) (pre .1) in omega arith) _ _ (c .before .before .u .given .1) (c .if1 .taken),
       tt,
     )
-
-within-requires : tie.Need-within-requires
-within-requires c κs = search needs
 
 sub-t13 : tie.Need-sub-t13
 sub-t13 c = let h = between-in 0xd800 0xdbff (c .before .before .before .before .before .before .before .before .args .high) (c .before .before .before .before .before .before .before .before .pre .1) in h .0
@@ -95,19 +80,5 @@ returns-5 c =
 pub pair-at-spec : {M : Type 1} → statement M
 pair-at-spec =
     tie.close
-    (tie.spec
-    unit-at-requires
-    enum-known-b
-    enum-known-e
-    enum-known-u
-    returns
-    within-requires
-    sub-t13
-    mul-t14
-    add-t15
-    sub-t16
-    add-t17
-    returns-2
-    returns-3
-    returns-4
-    returns-5)
+    (tie.spec (λ c κs. search needs) (λ c. search needs) (λ c. search needs) (λ c. search needs) returns (λ c κs. search needs) sub-t13 mul-t14
+    add-t15 sub-t16 add-t17 returns-2 returns-3 returns-4 returns-5)

@@ -131,25 +131,5 @@ loop-again c =
 pub same-text-spec : {M : Type 1} → statement M
 same-text-spec =
     tie.close
-    (tie.spec
-    Inv-loop
-    μ-loop
-    returns
-    returns-2
-    loop-holds
-    next-byte-requires
-    enum-told
-    returns-3
-    enum-told-2
-    ends-requires
-    returns-4
-    enum-known-x
-    next-byte-requires-2
-    enum-told-3
-    returns-5
-    enum-told-4
-    returns-6
-    enum-known-y
-    returns-7
-    loop-less
-    loop-again)
+    (tie.spec Inv-loop μ-loop returns returns-2 loop-holds next-byte-requires enum-told returns-3 enum-told-2 ends-requires returns-4 enum-known-x
+    next-byte-requires-2 enum-told-3 returns-5 enum-told-4 returns-6 enum-known-y returns-7 loop-less loop-again)

@@ -1,4 +1,3 @@
-use native.Mathlib.Omega.{arith}
 use denote.Ref.{now}
 use Rattle.json_to_card.proofs.Inner.{too-long}
 use Rattle.json_to_card.proofs.Serving.{served-no, seen}
@@ -6,22 +5,10 @@ use borrow.Author.Needs.{needs}
 use Rattle.json_to_card.proofs.json_to_card.Statement.{statement}
 use Rattle.json_to_card.proofs.json_to_card.Tie as tie
 
-tiny-requires : tie.Need-tiny-requires
-tiny-requires c κs = search needs
-
-same-length : tie.Need-same-length
-same-length c = search needs
-
 returns : tie.Need-returns
 returns c =
     let a = c .before .before .before .before .before .before .before .args in
     seen (now (a .json)) (now (a .out)) _ _ (c .before .before .tiny .ensures)
-
-small-requires : tie.Need-small-requires
-small-requires c κs = search needs
-
-same-length-2 : tie.Need-same-length-2
-same-length-2 c = search needs
 
 returns-2 : tie.Need-returns-2
 returns-2 c =
@@ -33,12 +20,6 @@ returns-3 c =
     let a = c .before .before .before .before .before .args in
     seen (now (a .json)) (now (a .out)) _ _ (served-no (now (a .out)) (now (a .json)) 3 0 (too-long (now (a .json)) (c .if3 .taken)))
 
-large-requires : tie.Need-large-requires
-large-requires c κs = search needs
-
-same-length-3 : tie.Need-same-length-3
-same-length-3 c = search needs
-
 returns-4 : tie.Need-returns-4
 returns-4 c =
     let a = c .before .before .before .before .before .before .before .before .before .args in
@@ -47,14 +28,5 @@ returns-4 c =
 pub json-to-card-spec : {M : Type 1} → statement M
 json-to-card-spec =
     tie.close
-    (tie.spec
-    tiny-requires
-    same-length
-    returns
-    small-requires
-    same-length-2
-    returns-2
-    returns-3
-    large-requires
-    same-length-3
-    returns-4)
+    (tie.spec (λ c κs. search needs) (λ c. search needs) returns (λ c κs. search needs) (λ c. search needs) returns-2 returns-3 (λ c κs. search needs)
+    (λ c. search needs) returns-4)

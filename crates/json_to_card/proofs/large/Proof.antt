@@ -1,28 +1,16 @@
 use native.Mathlib.Omega.{arith}
 use denote.Ref.{now}
-use mathlib.Core.Path.{refl, ap, sym, subst}
+use mathlib.Core.Path.{refl, ap, subst}
 use Rattle.json_open.specs.Opened.{asVerdict, Opens}
 use Rattle.to_card_card.specs.Whole.{cardNames}
 use Rattle.to_card_card.proofs.Names.{clear-fourteen}
-use Rattle.json_to_card.proofs.Serving.{read-large, read-not-json, read-not-object, read-short, read-sound, read-object, served-no, served-as}
+use Rattle.json_to_card.proofs.Serving.{read-large, read-not-json, read-not-object, read-sound, read-object, served-no, served-as}
 use borrow.Author.Needs.{needs}
 use Rattle.json_to_card.proofs.large.Statement.{statement}
 use Rattle.json_to_card.proofs.large.Tie as tie
 
-slice-aggregate-read-members : tie.Need-slice-aggregate-read-members
-slice-aggregate-read-members c = search needs
-
-slice-aggregate-read-members-2 : tie.Need-slice-aggregate-read-members-2
-slice-aggregate-read-members-2 c = search needs
-
-slice-aggregate-read-members-3 : tie.Need-slice-aggregate-read-members-3
-slice-aggregate-read-members-3 c = search needs
-
 read-members-requires : tie.Need-read-members-requires
 read-members-requires c κs = (refl, (clear-fourteen, (omega (arith, c .before .before .before .before .before .pre), search needs)))
-
-enum-told : tie.Need-enum-told
-enum-told c = search needs
 
 returns : tie.Need-returns
 returns c =
@@ -33,9 +21,6 @@ returns c =
     let told = c .enum-told .given .1 in
     served-no (now (a .out)) s 3 0 (read-large s v (read .ensures .0) (read .ensures .1 .0) (ap asVerdict told))
 
-enum-known-p : tie.Need-enum-known-p
-enum-known-p c = search needs
-
 returns-2 : tie.Need-returns-2
 returns-2 c =
     let a = c .before .before .before .before .before .before .before .before .before .before .before .before .args in
@@ -44,9 +29,6 @@ returns-2 c =
     let v = asVerdict (read .result) in
     let told = c .before .p .given .1 in
     served-no (now (a .out)) s 11 _ (read-not-json s v (read .ensures .0) (read .ensures .1 .0) _ (ap asVerdict told))
-
-enum-told-2 : tie.Need-enum-told-2
-enum-told-2 c = search needs
 
 returns-3 : tie.Need-returns-3
 returns-3 c =
@@ -58,12 +40,6 @@ returns-3 c =
     let index = subst (Opens s cardNames (read .last .0)) told (read .ensures .1 .1) in
     served-no (now (a .out)) s 12 0 (read-not-object s v (read .ensures .0) (read .ensures .1 .0) (ap asVerdict told) (read .last .0) index)
 
-enum-told-3 : tie.Need-enum-told-3
-enum-told-3 c = search needs
-
-slice-aggregate-convert-long : tie.Need-slice-aggregate-convert-long
-slice-aggregate-convert-long c = search needs
-
 convert-long-requires : tie.Need-convert-long-requires
 convert-long-requires c κs =
     let a = c .before .before .before .before .before .before .before .before .before .before .before .before .before .args in
@@ -73,9 +49,6 @@ convert-long-requires c κs =
     let told = c .before .before .enum-told3 .given .1 in
     let index = subst (Opens s cardNames (read .last .0)) told (read .ensures .1 .1) in
     (read-sound s v (read .ensures .0) (read .ensures .1 .0) (ap asVerdict told), (c .before .before .before .before .before .before .before .before .before .before .before .before .before .pre, (search needs, index)))
-
-same-length : tie.Need-same-length
-same-length c = search needs
 
 returns-4 : tie.Need-returns-4
 returns-4 c =
@@ -91,19 +64,5 @@ returns-4 c =
 pub large-spec : {M : Type 1} → statement M
 large-spec =
     tie.close
-    (tie.spec
-    slice-aggregate-read-members
-    slice-aggregate-read-members-2
-    slice-aggregate-read-members-3
-    read-members-requires
-    enum-told
-    returns
-    enum-known-p
-    returns-2
-    enum-told-2
-    returns-3
-    enum-told-3
-    slice-aggregate-convert-long
-    convert-long-requires
-    same-length
-    returns-4)
+    (tie.spec (λ c. search needs) (λ c. search needs) (λ c. search needs) read-members-requires (λ c. search needs) returns (λ c. search needs)
+    returns-2 (λ c. search needs) returns-3 (λ c. search needs) (λ c. search needs) convert-long-requires (λ c. search needs) returns-4)

@@ -6,33 +6,14 @@ use Rattle.json_walk.proofs.Steps.{element-first, element-none, no-arra
 use borrow.Author.Needs.{needs}
 use Rattle.json_walk.proofs.first_element.Statement.{statement}
 use Rattle.json_walk.proofs.first_element.Tie as tie
-use Rattle.text.proofs.look.Reads as look-reads
 
 returns : tie.Need-returns
 returns c = (tt, no-array (now (c .before .before .args .s)) (c .before .before .args .at) (none-past (now (c .before .before .args .s)) (c .before .before .args .at) (c .if1 .taken) 91 (λ z. omega arith)))
-
-skip-space-requires : tie.Need-skip-space-requires
-skip-space-requires c κs = search needs
-
-look-requires : tie.Need-look-requires
-look-requires c κs = search needs
 
 returns-2 : tie.Need-returns-2
 returns-2 c =
     let n = none-here (now (c .before .before .before .before .before .args .s)) (c .before .before .before .before .before .args .at) (c .before .before .skip-space .result) (c .before .look .result) (c .before .before .skip-space .ensures) (c .before .look .ensures .0) 91 (c .if2 .taken) in
     (tt, no-array (now (c .before .before .before .before .before .args .s)) (c .before .before .before .before .before .args .at) n)
-
-add-skip-space : tie.Need-add-skip-space
-add-skip-space c = search needs
-
-skip-space-requires-2 : tie.Need-skip-space-requires-2
-skip-space-requires-2 c κs = search needs
-
-look-requires-2 : tie.Need-look-requires-2
-look-requires-2 c κs = search needs
-
-add-t8 : tie.Need-add-t8
-add-t8 c = search needs
 
 returns-3 : tie.Need-returns-3
 returns-3 c =
@@ -56,14 +37,5 @@ returns-4 c =
 pub first-element-spec : {M : Type 1} → statement M
 first-element-spec =
     tie.close
-    (tie.spec
-    returns
-    skip-space-requires
-    look-requires
-    returns-2
-    add-skip-space
-    skip-space-requires-2
-    look-requires-2
-    add-t8
-    returns-3
-    returns-4)
+    (tie.spec returns (λ c κs. search needs) (λ c κs. search needs) returns-2 (λ c. search needs) (λ c κs. search needs) (λ c κs. search needs)
+    (λ c. search needs) returns-3 returns-4)

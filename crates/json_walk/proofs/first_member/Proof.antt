@@ -9,35 +9,16 @@ use Rattle.json_walk.proofs.Steps.{first-told}
 use borrow.Author.Needs.{needs}
 use Rattle.json_walk.proofs.first_member.Statement.{statement}
 use Rattle.json_walk.proofs.first_member.Tie as tie
-use Rattle.text.proofs.look.Reads as look-reads
 
 returns : tie.Need-returns
 returns c =
     let n = none-past (now (c .before .before .args .s)) (c .before .before .args .at) (c .if1 .taken) 123 (λ z. omega arith) in
     (tt, (first-told (now (c .before .before .args .s)) (c .before .before .args .at) NoObject n, n))
 
-skip-space-requires : tie.Need-skip-space-requires
-skip-space-requires c κs = search needs
-
-look-requires : tie.Need-look-requires
-look-requires c κs = search needs
-
 returns-2 : tie.Need-returns-2
 returns-2 c =
     let n = none-here (now (c .before .before .before .before .before .args .s)) (c .before .before .before .before .before .args .at) (c .before .before .skip-space .result) (c .before .look .result) (c .before .before .skip-space .ensures) (c .before .look .ensures .0) 123 (c .if2 .taken) in
     (tt, (first-told (now (c .before .before .before .before .before .args .s)) (c .before .before .before .before .before .args .at) NoObject n, n))
-
-add-skip-space : tie.Need-add-skip-space
-add-skip-space c = search needs
-
-skip-space-requires-2 : tie.Need-skip-space-requires-2
-skip-space-requires-2 c κs = search needs
-
-look-requires-2 : tie.Need-look-requires-2
-look-requires-2 c κs = search needs
-
-add-t11 : tie.Need-add-t11
-add-t11 c = search needs
 
 returns-3 : tie.Need-returns-3
 returns-3 c =
@@ -49,9 +30,6 @@ returns-3 c =
     let o = opens-here (now (args .s)) (args .at) (i .result) (look .result) (i .ensures) (look .ensures .0) 123 (c .before .before .before .if2 .left) (j .result) (j .ensures) in
     let z : FirstReads (now (args .s)) (args .at) (End (j .result + 1)) = (j .result, o, sym (look2 .ensures .0) ∙ (c .if3 .taken), refl) in
     (((λ l. omega (arith, i .ensures .from, j .ensures .from)), omega (arith, look2 .ensures .1, c .if3 .taken)), (first-told (now (args .s)) (args .at) (End _) z, z))
-
-head-at-requires : tie.Need-head-at-requires
-head-at-requires c κs = search needs
 
 returns-4 : tie.Need-returns-4
 returns-4 c =
@@ -67,15 +45,5 @@ returns-4 c =
 pub first-member-spec : {M : Type 1} → statement M
 first-member-spec =
     tie.close
-    (tie.spec
-    returns
-    skip-space-requires
-    look-requires
-    returns-2
-    add-skip-space
-    skip-space-requires-2
-    look-requires-2
-    add-t11
-    returns-3
-    head-at-requires
-    returns-4)
+    (tie.spec returns (λ c κs. search needs) (λ c κs. search needs) returns-2 (λ c. search needs) (λ c κs. search needs) (λ c κs. search needs)
+    (λ c. search needs) returns-3 (λ c κs. search needs) returns-4)

@@ -15,20 +15,8 @@ returns c =
     let a = c .before .before .args in
     (((λ l. absurd (omega (arith, c .if1 .taken))), omega arith), element-past (now (a .s)) (a .at) (c .if1 .taken) (End (length (now (a .s)))))
 
-separator-requires : tie.Need-separator-requires
-separator-requires c κs = search needs
-
-enum-known-j : tie.Need-enum-known-j
-enum-known-j c = search needs
-
 skip-space-requires : tie.Need-skip-space-requires
 skip-space-requires c κs = turn-as (c .before .before .before .separator .ensures) (c .before .j .given .1) .within .1
-
-enum-known-r : tie.Need-enum-known-r
-enum-known-r c = search needs
-
-place-requires : tie.Need-place-requires
-place-requires c κs = search needs
 
 returns-2 : tie.Need-returns-2
 returns-2 c =
@@ -46,12 +34,4 @@ returns-3 c =
 pub next-element-spec : {M : Type 1} → statement M
 next-element-spec =
     tie.close
-    (tie.spec
-    returns
-    separator-requires
-    enum-known-j
-    skip-space-requires
-    enum-known-r
-    place-requires
-    returns-2
-    returns-3)
+    (tie.spec returns (λ c κs. search needs) (λ c. search needs) skip-space-requires (λ c. search needs) (λ c κs. search needs) returns-2 returns-3)

@@ -16,21 +16,6 @@ returns c =
     let a = c .before .before .args in
     (((λ l. absurd (omega (arith, c .if1 .taken))), omega arith), (next-past (now (a .s)) (a .at) (End (length (now (a .s)))) (c .if1 .taken), λ l. absurd (omega (arith, c .if1 .taken))))
 
-separator-requires : tie.Need-separator-requires
-separator-requires c κs = search needs
-
-enum-known-j : tie.Need-enum-known-j
-enum-known-j c = search needs
-
-head-at-requires : tie.Need-head-at-requires
-head-at-requires c κs = search needs
-
-enum-known-r : tie.Need-enum-known-r
-enum-known-r c = search needs
-
-place-requires : tie.Need-place-requires
-place-requires c κs = search needs
-
 returns-2 : tie.Need-returns-2
 returns-2 c =
     let a = c .before .before .before .before .before .before .before .args in
@@ -51,12 +36,5 @@ returns-3 c =
 pub next-member-spec : {M : Type 1} → statement M
 next-member-spec =
     tie.close
-    (tie.spec
-    returns
-    separator-requires
-    enum-known-j
-    head-at-requires
-    enum-known-r
-    place-requires
-    returns-2
+    (tie.spec returns (λ c κs. search needs) (λ c. search needs) (λ c κs. search needs) (λ c. search needs) (λ c κs. search needs) returns-2
     returns-3)

@@ -68,20 +68,5 @@ returns-3 c = rest-done (bare-out (now (c .before .before .before .before .args 
 pub bare-from-spec : {M : Type 1} → statement M
 bare-from-spec =
     tie.close
-    (tie.spec
-    Inv-loop
-    μ-loop
-    loop-holds
-    shared-slice-read-c
-    is-bare-requires
-    same-length
-    returns
-    same-length-2
-    returns-2
-    slice-write-out
-    add-k
-    add-i
-    loop-less
-    loop-again
-    same-length-3
-    returns-3)
+    (tie.spec Inv-loop μ-loop loop-holds shared-slice-read-c is-bare-requires same-length returns same-length-2 returns-2 slice-write-out add-k add-i
+    loop-less loop-again same-length-3 returns-3)

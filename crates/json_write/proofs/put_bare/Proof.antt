@@ -86,25 +86,5 @@ returns-2 c = rest-done refl (wrote c .left)
 pub put-bare-spec : {M : Type 1} → statement M
 put-bare-spec =
     tie.close
-    (tie.spec
-    Inv-loop
-    μ-loop
-    loop-holds
-    sub-has-run
-    has-run-requires
-    copy-sixteen-requires
-    add-k
-    add-i
-    loop-less
-    loop-again
-    sub-bare-from
-    part-bare-from-start
-    part-bare-from-end
-    bare-from-requires
-    enum-known-n
-    enum-told
-    same-length
-    returns
-    add-kn
-    same-length-2
-    returns-2)
+    (tie.spec Inv-loop μ-loop loop-holds sub-has-run has-run-requires copy-sixteen-requires add-k add-i loop-less loop-again sub-bare-from
+    part-bare-from-start part-bare-from-end bare-from-requires enum-known-n enum-told same-length returns add-kn same-length-2 returns-2)

@@ -20,19 +20,10 @@ returns-2 c =
     let s = now (args .s) in
     puts-as (sym (run-bare s (args .at) (args .hold) (eq-eqb _ _ (c .before .if1 .left)) ∙ bare-out s (args .at) (c .if2 .taken))) (done (start _))
 
-shared-slice-read-if3 : tie.Need-shared-slice-read-if3
-shared-slice-read-if3 c = search needs
-
 returns-3 : tie.Need-returns-3
 returns-3 c =
     let args = c .before .before .before .before .before .before .args in
     puts-as (sym (run-escape (now (args .s)) (args .at) (args .hold) (eq-eqb _ _ (c .before .before .before .if1 .left)) (omega (arith, c .before .before .if2 .left)) (c .if3 .taken))) (done (start _))
-
-put-bare-requires : tie.Need-put-bare-requires
-put-bare-requires c κs = search needs
-
-same-length : tie.Need-same-length
-same-length c = search needs
 
 returns-4 : tie.Need-returns-4
 returns-4 c =
@@ -42,11 +33,4 @@ returns-4 c =
 pub put-run-spec : {M : Type 1} → statement M
 put-run-spec =
     tie.close
-    (tie.spec
-    returns
-    returns-2
-    shared-slice-read-if3
-    returns-3
-    put-bare-requires
-    same-length
-    returns-4)
+    (tie.spec returns returns-2 (λ c. search needs) returns-3 (λ c κs. search needs) (λ c. search needs) returns-4)

@@ -63,16 +63,5 @@ returns-2 c =
 pub all-of-spec : {M : Type 1} → statement M
 all-of-spec =
     tie.close
-    (tie.spec
-    Inv-loop
-    μ-loop
-    classes-requires
-    bit-requires
-    loop-holds
-    shared-slice-read-marked
-    marked-requires
-    returns
-    add-i
-    loop-less
-    loop-again
+    (tie.spec Inv-loop μ-loop classes-requires bit-requires loop-holds shared-slice-read-marked marked-requires returns add-i loop-less loop-again
     returns-2)

@@ -41,13 +41,4 @@ returns c = sym (c .before .loop .inv ∙ any-end isControl (now (c .before .bef
 pub has-control-spec : {M : Type 1} → statement M
 has-control-spec =
     tie.close
-    (tie.spec
-    Inv-loop
-    μ-loop
-    loop-holds
-    shared-slice-read-is-control
-    is-control-requires
-    add-i
-    loop-less
-    loop-again
-    returns)
+    (tie.spec Inv-loop μ-loop loop-holds shared-slice-read-is-control is-control-requires add-i loop-less loop-again returns)

@@ -41,13 +41,4 @@ returns c = sym (c .before .loop .inv ∙ any-end isOdd (now (c .before .before 
 pub has-odd-spec : {M : Type 1} → statement M
 has-odd-spec =
     tie.close
-    (tie.spec
-    Inv-loop
-    μ-loop
-    loop-holds
-    shared-slice-read-is-odd
-    is-odd-requires
-    add-i
-    loop-less
-    loop-again
-    returns)
+    (tie.spec Inv-loop μ-loop loop-holds shared-slice-read-is-odd is-odd-requires add-i loop-less loop-again returns)

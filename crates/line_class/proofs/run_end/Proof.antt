@@ -44,14 +44,4 @@ returns-2 c = sym (run-out _ (now (c .before .before .before .args .s)) (c .befo
 pub run-end-spec : {M : Type 1} → statement M
 run-end-spec =
     tie.close
-    (tie.spec
-    Inv-loop
-    μ-loop
-    loop-holds
-    shared-slice-read-in-run
-    in-run-requires
-    returns
-    add-i
-    loop-less
-    loop-again
-    returns-2)
+    (tie.spec Inv-loop μ-loop loop-holds shared-slice-read-in-run in-run-requires returns add-i loop-less loop-again returns-2)

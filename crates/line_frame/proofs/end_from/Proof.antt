@@ -96,22 +96,5 @@ returns-4 c = c .before .loop .inv Missing (ends-out (now (c .before .before .be
 pub end-from-spec : {M : Type 1} → statement M
 end-from-spec =
     tie.close
-    (tie.spec
-    Inv-loop
-    μ-loop
-    loop-holds
-    next-line-requires
-    sub-is-end
-    part-is-end-start
-    part-is-end-end
-    is-end-requires
-    returns
-    returns-2
-    sub-is-begin
-    part-is-begin-start
-    part-is-begin-end
-    is-begin-requires
-    returns-3
-    loop-less
-    loop-again
-    returns-4)
+    (tie.spec Inv-loop μ-loop loop-holds next-line-requires sub-is-end part-is-end-start part-is-end-end is-end-requires returns returns-2
+    sub-is-begin part-is-begin-start part-is-begin-end is-begin-requires returns-3 loop-less loop-again returns-4)

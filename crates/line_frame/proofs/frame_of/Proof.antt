@@ -1,4 +1,3 @@
-use Prim.Native.Nat.{_-_}
 use mathlib.Core.Path.{sym, _∙_}
 use borrow.Author.Needs.{needs}
 use borrow.Author.Tests.{not-true, not-false}
@@ -10,32 +9,8 @@ use Rattle.line_frame.proofs.frame_of.Tie as tie
 returns : tie.Need-returns
 returns c = no-card (now (c .before .before .args .s)) (c .if1 .taken)
 
-next-line-requires : tie.Need-next-line-requires
-next-line-requires c κs = search needs
-
-sub-is-begin : tie.Need-sub-is-begin
-sub-is-begin c = search needs
-
-part-is-begin-start : tie.Need-part-is-begin-start
-part-is-begin-start c = search needs
-
-part-is-begin-end : tie.Need-part-is-begin-end
-part-is-begin-end c = search needs
-
-is-begin-requires : tie.Need-is-begin-requires
-is-begin-requires c κs = search needs
-
 returns-2 : tie.Need-returns-2
 returns-2 c = not-begun (now (c .before .before .before .before .before .before .args .s)) _ (c .before .before .before .next-line .ensures) (sym (c .before .is-begin .ensures) ∙ not-true _ (c .if2 .taken))
-
-end-from-requires : tie.Need-end-from-requires
-end-from-requires c κs = search needs
-
-enum-known-stop : tie.Need-enum-known-stop
-enum-known-stop c = search needs
-
-enum-told : tie.Need-enum-told
-enum-told c = search needs
 
 returns-3 : tie.Need-returns-3
 returns-3 c =
@@ -59,16 +34,5 @@ returns-4 c =
 pub frame-of-spec : {M : Type 1} → statement M
 frame-of-spec =
     tie.close
-    (tie.spec
-    returns
-    next-line-requires
-    sub-is-begin
-    part-is-begin-start
-    part-is-begin-end
-    is-begin-requires
-    returns-2
-    end-from-requires
-    enum-known-stop
-    enum-told
-    returns-3
-    returns-4)
+    (tie.spec returns (λ c κs. search needs) (λ c. search needs) (λ c. search needs) (λ c. search needs) (λ c κs. search needs) returns-2
+    (λ c κs. search needs) (λ c. search needs) (λ c. search needs) returns-3 returns-4)

@@ -1,4 +1,3 @@
-use Prim.Native.Nat.{_-_}
 use borrow.Author.Needs.{needs}
 use Rattle.line.specs.Physical.{isBegin}
 use Rattle.line_frame.proofs.is_begin.Statement.{statement}

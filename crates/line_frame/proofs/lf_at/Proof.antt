@@ -1,5 +1,5 @@
-use Prim.Native.Nat.{_+_, _-_}
-use mathlib.Core.Path.{_≡_, refl, _∙_}
+use Prim.Native.Nat.{_-_}
+use mathlib.Core.Path.{refl, _∙_}
 use native.Mathlib.Omega.{arith}
 use borrow.Author.Needs.{needs}
 use lib.ListN.{length}
@@ -37,13 +37,4 @@ returns c = c .lf-from .ensures ∙ (c .before .before .before .loop .inv)
 pub lf-at-spec : {M : Type 1} → statement M
 lf-at-spec =
     tie.close
-    (tie.spec
-    Inv-loop
-    μ-loop
-    loop-holds
-    skips-requires
-    add-i
-    loop-less
-    loop-again
-    lf-from-requires
-    returns)
+    (tie.spec Inv-loop μ-loop loop-holds skips-requires add-i loop-less loop-again lf-from-requires returns)

@@ -40,13 +40,4 @@ returns-2 c = sym (run-out notLf (now (c .before .before .args .s)) (c .before .
 pub lf-from-spec : {M : Type 1} → statement M
 lf-from-spec =
     tie.close
-    (tie.spec
-    Inv-loop
-    μ-loop
-    loop-holds
-    shared-slice-read-if1
-    returns
-    add-i
-    loop-less
-    loop-again
-    returns-2)
+    (tie.spec Inv-loop μ-loop loop-holds shared-slice-read-if1 returns add-i loop-less loop-again returns-2)

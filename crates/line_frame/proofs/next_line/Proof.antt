@@ -1,4 +1,3 @@
-use Prim.Native.Nat.{_-_}
 use borrow.Author.Needs.{needs}
 use denote.Ref.{now}
 use Rattle.line_frame.proofs.Physical.{cr-ends, lf-from, lf-within, line-lf, line-last, CrEnds}

@@ -72,16 +72,5 @@ returns-3 c =
 pub is-named-spec : {M : Type 1} → statement M
 is-named-spec =
     tie.close
-    (tie.spec
-    Inv-loop
-    μ-loop
-    returns
-    loop-holds
-    shared-slice-read-lower-of
-    lower-of-requires
-    shared-slice-read-if2
-    returns-2
-    add-i
-    loop-less
-    loop-again
-    returns-3)
+    (tie.spec Inv-loop μ-loop returns loop-holds shared-slice-read-lower-of lower-of-requires shared-slice-read-if2 returns-2 add-i loop-less
+    loop-again returns-3)

@@ -84,17 +84,5 @@ returns-3 c =
 pub same-name-spec : {M : Type 1} → statement M
 same-name-spec =
     tie.close
-    (tie.spec
-    Inv-loop
-    μ-loop
-    returns
-    loop-holds
-    shared-slice-read-lower-of
-    lower-of-requires
-    shared-slice-read-lower-of-2
-    lower-of-requires-2
-    returns-2
-    add-i
-    loop-less
-    loop-again
-    returns-3)
+    (tie.spec Inv-loop μ-loop returns loop-holds shared-slice-read-lower-of lower-of-requires shared-slice-read-lower-of-2 lower-of-requires-2
+    returns-2 add-i loop-less loop-again returns-3)

@@ -1,5 +1,5 @@
 use denote.Ref.{now}
-use mathlib.Core.Path.{_≡_, refl, sym}
+use mathlib.Core.Path.{_≡_, sym}
 use Prim.Native.Nat.{_+_, _-_, _≤_}
 use native.Mathlib.Omega.{arith}
 use lib.ListN.{length, drop}
@@ -9,9 +9,6 @@ use Rattle.line.specs.Text.{splitText}
 use Rattle.line_parts.proofs.Counts.{parts-some, part-last, part-more}
 use Rattle.line_parts.proofs.few_parts.Statement.{statement}
 use Rattle.line_parts.proofs.few_parts.Tie as tie
-use Rattle.line_parts.proofs.few_parts.Reads as reads
-use Rattle.line_parts.proofs.few_parts.Lts as lts
-use Rattle.line_text.proofs.part_end.Reads as part-end-reads
 
 abbrev Inv-loop : tie.InvT-loop
 Inv-loop s d n at₀ k₀ at k = (at ≤ length s) × (length (splitText d s) ≡ k + length (splitText d (drop at s))) × (k ≤ n)
@@ -19,33 +16,26 @@ Inv-loop s d n at₀ k₀ at k = (at ≤ length s) × (length (splitText d s) �
 abbrev μ-loop : tie.MeasureT-loop
 μ-loop s d n at₀ k₀ at k = n - k
 
--- src/lib.rt:32:5
 loop-holds : tie.Need-loop-holds Inv-loop μ-loop
 loop-holds c = (search needs, omega arith, search needs)
 
--- src/lib.rt:33:13
 part-end-requires : tie.Need-part-end-requires Inv-loop μ-loop
 part-end-requires c κs = search needs
 
--- src/lib.rt:35:13
 returns : tie.Need-returns Inv-loop μ-loop
 returns c =
     sym (le-leb (length (splitText (c .before .before .before .before .before .args .d) (now (c .before .before .before .before .before .args .s))))
     (c .before .before .before .before .before .args .n) (omega (arith, c .before .before .before .loop .inv .1, part-last (c .before .part-end .ensures) (c .if1 .taken))))
 
--- src/lib.rt:37:14
 add-at : tie.Need-add-at Inv-loop μ-loop
 add-at c = search needs
 
--- src/lib.rt:38:9
 add-k : tie.Need-add-k Inv-loop μ-loop
 add-k c = omega (arith, c .before .before .loop-test .taken)
 
--- src/lib.rt:32:5
 loop-less : tie.Need-loop-less Inv-loop μ-loop
 loop-less c = omega (arith, c .before .before .loop-test .taken)
 
--- src/lib.rt:32:5
 loop-again : tie.Need-loop-again Inv-loop μ-loop
 loop-again c = (
   omega (arith, c .if1 .left),
@@ -54,7 +44,6 @@ loop-again c = (
       (arith, c .before .before .loop-test .taken),
 )
 
--- src/lib.rt:27:1
 returns-2 : tie.Need-returns-2 Inv-loop μ-loop
 returns-2 c =
     sym (lt-leb (length (splitText (c .before .before .before .args .d) (now (c .before .before .before .args .s)))) (c .before .before .before .args .n)
@@ -63,14 +52,4 @@ returns-2 c =
 pub few-parts-spec : {M : Type 1} → statement M
 few-parts-spec =
     tie.close
-    (tie.spec
-    Inv-loop
-    μ-loop
-    loop-holds
-    part-end-requires
-    returns
-    add-at
-    add-k
-    loop-less
-    loop-again
-    returns-2)
+    (tie.spec Inv-loop μ-loop loop-holds part-end-requires returns add-at add-k loop-less loop-again returns-2)

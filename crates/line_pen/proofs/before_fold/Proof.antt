@@ -8,10 +8,6 @@ use Rattle.line_pen.specs.Pen.{Stands}
 use Rattle.line_pen.proofs.Laws.{stands-early, stands-more}
 use Rattle.line_pen.proofs.before_fold.Statement.{statement}
 use Rattle.line_pen.proofs.before_fold.Tie as tie
-use Rattle.line_pen.proofs.before_fold.Reads as reads
-use Rattle.line_pen.proofs.before_fold.Lts as lts
-use Rattle.line_pen.proofs.before_wide.Reads as before-wide-reads
-use Rattle.line_write.proofs.folds_before.Reads as folds-before-reads
 
 abbrev Inv-loop : tie.InvT-loop
 Inv-loop column s n₀ n = Stands column s n
@@ -61,18 +57,5 @@ returns-3 c = c .before .loop .inv
 pub before-fold-spec : {M : Type 1} → statement M
 before-fold-spec =
     tie.close
-    (tie.spec
-    Inv-loop
-    μ-loop
-    before-wide-requires
-    loop-holds
-    add-if1
-    returns
-    add-folds-before
-    shared-slice-read-folds-before
-    folds-before-requires
-    returns-2
-    add-n
-    loop-less
-    loop-again
-    returns-3)
+    (tie.spec Inv-loop μ-loop before-wide-requires loop-holds add-if1 returns add-folds-before shared-slice-read-folds-before folds-before-requires
+    returns-2 add-n loop-less loop-again returns-3)

@@ -1,8 +1,6 @@
 use native.Mathlib.Omega.{arith}
 use Rattle.line_pen.proofs.before_wide.Statement.{statement}
 use Rattle.line_pen.proofs.before_wide.Tie as tie
-use Rattle.line_pen.proofs.before_wide.Reads as reads
-use Rattle.line_pen.proofs.before_wide.Lts as lts
 
 returns : tie.Need-returns
 returns c = omega (arith, c .if1 .taken)

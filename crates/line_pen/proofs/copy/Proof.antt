@@ -8,9 +8,6 @@ use Rattle.output.proofs.Laws.{start}
 use Rattle.line_pen.proofs.Copying.{byte-more, bytes-done}
 use Rattle.line_pen.proofs.copy.Statement.{statement}
 use Rattle.line_pen.proofs.copy.Tie as tie
-use Rattle.line_pen.proofs.copy.Reads as reads
-use Rattle.line_pen.proofs.copy.Lts as lts
-use Rattle.line_pen.proofs.copy_blocks.Reads as copy-blocks-reads
 
 abbrev Inv-loop : tie.InvT-loop
 Inv-loop out₀ s i₀ out i = (i ≤ length s) × Sofar out₀ (take i s) i out
@@ -57,17 +54,5 @@ returns-2 c = bytes-done (now (c .before .before .before .before .before .args .
 pub copy-spec : {M : Type 1} → statement M
 copy-spec =
     tie.close
-    (tie.spec
-    Inv-loop
-    μ-loop
-    copy-blocks-requires
-    same-length
-    returns
-    loop-holds
-    shared-slice-read-out
-    slice-write-out
-    add-i
-    loop-less
-    loop-again
-    same-length-2
-    returns-2)
+    (tie.spec Inv-loop μ-loop copy-blocks-requires same-length returns loop-holds shared-slice-read-out slice-write-out add-i loop-less loop-again
+    same-length-2 returns-2)

@@ -8,8 +8,6 @@ use Rattle.output.proofs.Laws.{start}
 use Rattle.line_pen.proofs.Copying.{byte-more, block-done}
 use Rattle.line_pen.proofs.copy_block.Statement.{statement}
 use Rattle.line_pen.proofs.copy_block.Tie as tie
-use Rattle.line_pen.proofs.copy_block.Reads as reads
-use Rattle.line_pen.proofs.copy_block.Lts as lts
 
 abbrev Inv-loop : tie.InvT-loop
 Inv-loop out s block₀ j₀ block j = (j ≤ 16) × Sofar block₀ (take j s) j block
@@ -78,22 +76,5 @@ returns c =
 pub copy-block-spec : {M : Type 1} → statement M
 copy-block-spec =
     tie.close
-    (tie.spec
-    Inv-loop
-    μ-loop
-    Inv-loop2
-    μ-loop2
-    loop-holds
-    shared-slice-read-block
-    array-write-block
-    add-j
-    loop-less
-    loop-again
-    loop2-holds
-    array-read-out
-    slice-write-out
-    add-k
-    loop2-less
-    loop2-again
-    same-length
-    returns)
+    (tie.spec Inv-loop μ-loop Inv-loop2 μ-loop2 loop-holds shared-slice-read-block array-write-block add-j loop-less loop-again loop2-holds
+    array-read-out slice-write-out add-k loop2-less loop2-again same-length returns)

@@ -9,9 +9,6 @@ use Rattle.line_pen.specs.Pen.{Fills}
 use Rattle.line_pen.proofs.Copying.{fills-length, fills-none, block-more, block-last}
 use Rattle.line_pen.proofs.copy_blocks.Statement.{statement}
 use Rattle.line_pen.proofs.copy_blocks.Tie as tie
-use Rattle.line_pen.proofs.copy_blocks.Reads as reads
-use Rattle.line_pen.proofs.copy_blocks.Lts as lts
-use Rattle.line_pen.proofs.copy_block.Reads as copy-block-reads
 
 abbrev Inv-loop : tie.InvT-loop
 Inv-loop out₀ s last i₀ out i = (i ≤ length s) × Fills out₀ (take i s) i out
@@ -100,27 +97,6 @@ same-length c = ap length (returns c) ∙ length-put _ _
 pub copy-blocks-spec : {M : Type 1} → statement M
 copy-blocks-spec =
     tie.close
-    (tie.spec
-    Inv-loop
-    μ-loop
-    sub-last
-    loop-holds
-    sub-copy-block
-    part-copy-block-start
-    part-copy-block-end
-    sub-copy-block-2
-    part-copy-block-start-2
-    part-copy-block-end-2
-    copy-block-requires
-    add-i
-    loop-less
-    loop-again
-    sub-copy-block-3
-    part-copy-block-start-3
-    part-copy-block-end-3
-    sub-copy-block-4
-    part-copy-block-start-4
-    part-copy-block-end-4
-    copy-block-requires-2
-    same-length
-    returns)
+    (tie.spec Inv-loop μ-loop sub-last loop-holds sub-copy-block part-copy-block-start part-copy-block-end sub-copy-block-2 part-copy-block-start-2
+    part-copy-block-end-2 copy-block-requires add-i loop-less loop-again sub-copy-block-3 part-copy-block-start-3 part-copy-block-end-3
+    sub-copy-block-4 part-copy-block-start-4 part-copy-block-end-4 copy-block-requires-2 same-length returns)

@@ -9,11 +9,6 @@ use Rattle.line_pen.specs.Pen.{Pens}
 use Rattle.line_pen.proofs.Laws.{pens-none, pens-in, pens-length, pens-then, pens-as, one-more, stands-in, copied, Here, first! }
 use Rattle.line_pen.proofs.pen_long.Statement.{statement}
 use Rattle.line_pen.proofs.pen_long.Tie as tie
-use Rattle.line_pen.proofs.pen_long.Reads as reads
-use Rattle.line_pen.proofs.pen_long.Lts as lts
-use Rattle.line_pen.proofs.before_fold.Reads as before-fold-reads
-use Rattle.line_pen.proofs.fill.Reads as fill-reads
-use Rattle.line_pen.proofs.pen_byte.Reads as pen-byte-reads
 
 abbrev Inv-loop : tie.InvT-loop
 Inv-loop out₀ column s at₀ k₀ i₀ out at k i = (i ≤ length s) × Pens out₀ column (take i s) (record { bytes = at; column = k }) out
@@ -126,34 +121,6 @@ returns c = pens-as (take-all (c .before .loop .i) (now (c .before .before .befo
 pub pen-long-spec : {M : Type 1} → statement M
 pen-long-spec =
     tie.close
-    (tie.spec
-    Inv-loop
-    μ-loop
-    loop-holds
-    sub-before-fold
-    part-before-fold-start
-    part-before-fold-end
-    before-fold-requires
-    add-e
-    sub-fill
-    part-fill-start
-    part-fill-end
-    sub-fill-2
-    part-fill-start-2
-    part-fill-end-2
-    fill-requires
-    add-at
-    add-k
-    loop-less
-    loop-again
-    sub-pen-byte
-    part-pen-byte-start
-    part-pen-byte-end
-    shared-slice-read-pen-byte
-    pen-byte-requires
-    add-at-2
-    add-i
-    loop-less-2
-    loop-again-2
-    same-length
-    returns)
+    (tie.spec Inv-loop μ-loop loop-holds sub-before-fold part-before-fold-start part-before-fold-end before-fold-requires add-e sub-fill
+    part-fill-start part-fill-end sub-fill-2 part-fill-start-2 part-fill-end-2 fill-requires add-at add-k loop-less loop-again sub-pen-byte
+    part-pen-byte-start part-pen-byte-end shared-slice-read-pen-byte pen-byte-requires add-at-2 add-i loop-less-2 loop-again-2 same-length returns)

@@ -1,4 +1,4 @@
-use Prim.Native.Nat.{_+_, _-_}
+use Prim.Native.Nat.{_+_}
 use native.Mathlib.Omega.{arith}
 use borrow.Author.Needs.{needs}
 use denote.Ref.{now}
@@ -8,20 +8,8 @@ use Rattle.line_scan.proofs.ValueTurns.{quoted, unclosed, bare}
 use Rattle.line_scan.proofs.value_at.Statement.{statement}
 use Rattle.line_scan.proofs.value_at.Tie as tie
 
-look-requires : tie.Need-look-requires
-look-requires c κs = search needs
-
-add-a : tie.Need-add-a
-add-a c = search needs
-
-run-end-requires : tie.Need-run-end-requires
-run-end-requires c κs = search needs
-
 look-requires-2 : tie.Need-look-requires-2
 look-requires-2 c κs = run-within isQuotable (now (c .before .before .before .before .args .s)) (c .before .before .before .before .args .at + 1) _ (c .run-end .ensures) (omega (arith, c .before .before .look .ensures .1))
-
-add-t11 : tie.Need-add-t11
-add-t11 c = search needs
 
 returns : tie.Need-returns
 returns c =
@@ -40,22 +28,11 @@ returns-2 c =
     unclosed (now (args .s)) (args .at) _ (look .ensures .0) _ _ (c .before .before .run-end .ensures) (c .before .look2 .ensures .0) (if1 .taken)
     (c .if2 .left)
 
-run-end-requires-2 : tie.Need-run-end-requires-2
-run-end-requires-2 c κs = search needs
-
 returns-3 : tie.Need-returns-3
 returns-3 c = bare (now (c .before .before .before .before .args .s)) (c .before .before .before .before .args .at) _ (c .before .before .look .ensures .0) _ (c .run-end2 .ensures) (c .before .if1 .left) (c .before .before .before .before .pre)
 
 pub value-at-spec : {M : Type 1} → statement M
 value-at-spec =
     tie.close
-    (tie.spec
-    look-requires
-    add-a
-    run-end-requires
-    look-requires-2
-    add-t11
-    returns
-    returns-2
-    run-end-requires-2
-    returns-3)
+    (tie.spec (λ c κs. search needs) (λ c. search needs) (λ c κs. search needs) look-requires-2 (λ c. search needs) returns returns-2
+    (λ c κs. search needs) returns-3)

@@ -5,14 +5,6 @@ use Rattle.line_table.proofs.Filling.{param-unnamed, param-other, param
 use borrow.Author.Needs.{needs}
 use Rattle.line_table.proofs.fill_param.Statement.{statement}
 use Rattle.line_table.proofs.fill_param.Tie as tie
-use Rattle.line_table.proofs.fill_param.Reads as reads
-use Rattle.line_table.proofs.fill_param.Lts as lts
-use Rattle.line_class.proofs.run_end.Reads as run-end-reads
-use Rattle.line_table.proofs.fill_values.Reads as fill-values-reads
-use Rattle.text.proofs.look.Reads as look-reads
-
-run-end-requires : tie.Need-run-end-requires
-run-end-requires c κs = search needs
 
 returns : tie.Need-returns
 returns c =
@@ -29,15 +21,6 @@ returns-2 c =
     let args = c .before .before .before .before .before .before .args in
     param-other (now (args .s)) (args .at) _ (c .before .before .before .run-end .ensures) (c .before .before .if1 .left) (c .before .look .ensures .0) (args .n) (c .if2 .taken)
 
-add-fill-values : tie.Need-add-fill-values
-add-fill-values c = search needs
-
-fill-values-requires : tie.Need-fill-values-requires
-fill-values-requires c κs = search needs
-
-same-length : tie.Need-same-length
-same-length c = search needs
-
 returns-3 : tie.Need-returns-3
 returns-3 c =
     let args = c .before .before .before .before .before .before .before .before .before .before .args in
@@ -52,12 +35,4 @@ returns-3 c =
 pub fill-param-spec : {M : Type 1} → statement M
 fill-param-spec =
     tie.close
-    (tie.spec
-    run-end-requires
-    returns
-    look-requires
-    returns-2
-    add-fill-values
-    fill-values-requires
-    same-length
-    returns-3)
+    (tie.spec (λ c κs. search needs) returns look-requires returns-2 (λ c. search needs) (λ c κs. search needs) (λ c. search needs) returns-3)

@@ -4,23 +4,6 @@ use Rattle.line_table.proofs.Filling.{frame-refused, params-refused, li
 use borrow.Author.Needs.{needs}
 use Rattle.line_table.proofs.fill_rest.Statement.{statement}
 use Rattle.line_table.proofs.fill_rest.Tie as tie
-use Rattle.line_table.proofs.fill_rest.Reads as reads
-use Rattle.line_table.proofs.fill_rest.Lts as lts
-use Rattle.line_scan.proofs.is_frame_name.Reads as is-frame-name-reads
-use Rattle.line_table.proofs.fill_params.Reads as fill-params-reads
-use Rattle.line_table.proofs.put_head.Reads as put-head-reads
-
-sub-is-frame-name : tie.Need-sub-is-frame-name
-sub-is-frame-name c = search needs
-
-part-is-frame-name-start : tie.Need-part-is-frame-name-start
-part-is-frame-name-start c = search needs
-
-part-is-frame-name-end : tie.Need-part-is-frame-name-end
-part-is-frame-name-end c = search needs
-
-is-frame-name-requires : tie.Need-is-frame-name-requires
-is-frame-name-requires c κs = search needs
 
 returns : tie.Need-returns
 returns c =
@@ -28,30 +11,12 @@ returns c =
     let pre = c .before .before .before .before .before .pre in
     frame-refused (now (args .s)) (args .group) (args .name) (args .end) (pre .1) (sym (c .before .is-frame-name .ensures) ∙ (c .if1 .taken))
 
-fill-params-requires : tie.Need-fill-params-requires
-fill-params-requires c κs = search needs
-
-enum-known-value : tie.Need-enum-known-value
-enum-known-value c = search needs
-
-enum-told : tie.Need-enum-told
-enum-told c = search needs
-
-same-length : tie.Need-same-length
-same-length c = search needs
-
 returns-2 : tie.Need-returns-2
 returns-2 c =
     let args = c .before .before .before .before .before .before .before .before .before .before .before .args in
     let pre = c .before .before .before .before .before .before .before .before .before .before .before .pre in
     let fill-params = c .before .before .before .before .fill-params in
     params-refused (now (args .s)) (args .group) (args .name) (args .end) (pre .1) (now (args .t)) _ _ (fill-params .ensures) (c .enum-told .given .1)
-
-put-head-requires : tie.Need-put-head-requires
-put-head-requires c κs = search needs
-
-same-length-2 : tie.Need-same-length-2
-same-length-2 c = search needs
 
 returns-3 : tie.Need-returns-3
 returns-3 c =
@@ -67,17 +32,5 @@ returns-3 c =
 pub fill-rest-spec : {M : Type 1} → statement M
 fill-rest-spec =
     tie.close
-    (tie.spec
-    sub-is-frame-name
-    part-is-frame-name-start
-    part-is-frame-name-end
-    is-frame-name-requires
-    returns
-    fill-params-requires
-    enum-known-value
-    enum-told
-    same-length
-    returns-2
-    put-head-requires
-    same-length-2
-    returns-3)
+    (tie.spec (λ c. search needs) (λ c. search needs) (λ c. search needs) (λ c κs. search needs) returns (λ c κs. search needs) (λ c. search needs)
+    (λ c. search needs) (λ c. search needs) returns-2 (λ c κs. search needs) (λ c. search needs) returns-3)

@@ -1,4 +1,3 @@
-use Prim.Native.Nat.{_-_}
 use borrow.Author.Needs.{needs}
 use denote.Ref.{now}
 use Rattle.line.specs.Text.{escaped}
@@ -8,12 +7,6 @@ use Rattle.line_text.proofs.escaped_char.Tie as tie
 
 returns : tie.Need-returns
 returns c = escape-missing (now (c .before .args .s)) (c .before .args .at) (c .if1 .taken)
-
-shared-slice-read-c : tie.Need-shared-slice-read-c
-shared-slice-read-c c = search needs
-
-add-e : tie.Need-add-e
-add-e c = search needs
 
 returns-2 : tie.Need-returns-2
 unfolding escaped
@@ -47,13 +40,4 @@ returns-7 c =
 pub escaped-char-spec : {M : Type 1} → statement M
 escaped-char-spec =
     tie.close
-    (tie.spec
-    returns
-    shared-slice-read-c
-    add-e
-    returns-2
-    returns-3
-    returns-4
-    returns-5
-    returns-6
-    returns-7)
+    (tie.spec returns (λ c. search needs) (λ c. search needs) returns-2 returns-3 returns-4 returns-5 returns-6 returns-7)

@@ -40,13 +40,4 @@ returns c = λ e. let n : (c .before .loop .k) ≡ 16 = omega arith in subst (λ
 pub has-backslash-spec : {M : Type 1} → statement M
 has-backslash-spec =
     tie.close
-    (tie.spec
-    Inv-loop
-    μ-loop
-    loop-holds
-    add-found
-    shared-slice-read-found
-    add-k
-    loop-less
-    loop-again
-    returns)
+    (tie.spec Inv-loop μ-loop loop-holds add-found shared-slice-read-found add-k loop-less loop-again returns)

@@ -78,19 +78,5 @@ returns-2 c = sym (end-good _ _ _ (c .before .before .next-char .ensures) (c .en
 pub is-text-spec : {M : Type 1} → statement M
 is-text-spec =
     tie.close
-    (tie.spec
-    Inv-loop
-    μ-loop
-    loop-holds
-    sub-plain-end
-    part-plain-end-start
-    part-plain-end-end
-    plain-end-requires
-    next-char-requires
-    enum-known-e
-    loop-less
-    loop-again
-    enum-told
-    returns
-    enum-told-2
-    returns-2)
+    (tie.spec Inv-loop μ-loop loop-holds sub-plain-end part-plain-end-start part-plain-end-end plain-end-requires next-char-requires enum-known-e
+    loop-less loop-again enum-told returns enum-told-2 returns-2)

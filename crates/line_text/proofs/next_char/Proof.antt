@@ -1,4 +1,3 @@
-use Prim.Native.Nat.{_-_}
 use borrow.Author.Needs.{needs}
 use denote.Ref.{now}
 use Rattle.line_text.proofs.Reading.{at-end, at-plain, at-backslash}
@@ -7,15 +6,6 @@ use Rattle.line_text.proofs.next_char.Tie as tie
 
 returns : tie.Need-returns
 returns c = at-end (now (c .before .before .args .s)) (c .before .before .args .at) (c .if1 .taken)
-
-shared-slice-read-c : tie.Need-shared-slice-read-c
-shared-slice-read-c c = search needs
-
-add-e : tie.Need-add-e
-add-e c = search needs
-
-escaped-char-requires : tie.Need-escaped-char-requires
-escaped-char-requires c κs = search needs
 
 returns-2 : tie.Need-returns-2
 returns-2 c = at-backslash (now (c .before .before .before .before .before .args .s)) (c .before .before .before .before .before .args .at) _ (c .before .before .before .if1 .left) (c .before .if2 .taken) (c .escaped-char .ensures)
@@ -26,4 +16,4 @@ returns-3 c = at-plain (now (c .before .before .before .before .args .s)) (c .be
 pub next-char-spec : {M : Type 1} → statement M
 next-char-spec =
     tie.close
-    (tie.spec returns shared-slice-read-c add-e escaped-char-requires returns-2 returns-3)
+    (tie.spec returns (λ c. search needs) (λ c. search needs) (λ c κs. search needs) returns-2 returns-3)

@@ -45,15 +45,5 @@ returns-2 c = c .before .loop .inv _ (part-out _ (now (c .before .before .before
 pub part-end-spec : {M : Type 1} → statement M
 part-end-spec =
     tie.close
-    (tie.spec
-    Inv-loop
-    μ-loop
-    joined-end-requires
-    loop-holds
-    shared-slice-read-c
-    returns
-    char-end-requires
-    joined-end-requires-2
-    loop-less
-    loop-again
+    (tie.spec Inv-loop μ-loop joined-end-requires loop-holds shared-slice-read-c returns char-end-requires joined-end-requires-2 loop-less loop-again
     returns-2)

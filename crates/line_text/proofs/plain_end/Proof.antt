@@ -43,13 +43,4 @@ returns c =
 pub plain-end-spec : {M : Type 1} → statement M
 plain-end-spec =
     tie.close
-    (tie.spec
-    Inv-loop
-    μ-loop
-    loop-holds
-    skips-requires
-    add-i
-    loop-less
-    loop-again
-    plain-from-requires
-    returns)
+    (tie.spec Inv-loop μ-loop loop-holds skips-requires add-i loop-less loop-again plain-from-requires returns)

@@ -40,13 +40,4 @@ returns-2 c = c .before .loop .inv
 pub plain-from-spec : {M : Type 1} → statement M
 plain-from-spec =
     tie.close
-    (tie.spec
-    Inv-loop
-    μ-loop
-    loop-holds
-    shared-slice-read-c
-    returns
-    add-i
-    loop-less
-    loop-again
-    returns-2)
+    (tie.spec Inv-loop μ-loop loop-holds shared-slice-read-c returns add-i loop-less loop-again returns-2)

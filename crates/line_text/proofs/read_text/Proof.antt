@@ -170,43 +170,7 @@ returns-6 c = rest-done (end-plain _ _ _ (c .before .before .next-char .ensures)
 pub read-text-spec : {M : Type 1} → statement M
 read-text-spec =
     tie.close
-    (tie.spec
-    Inv-loop
-    μ-loop
-    plain-end-requires
-    put-text-requires
-    same-length
-    returns
-    sub-is-text
-    part-is-text-start
-    part-is-text-end
-    is-text-requires
-    returns-2
-    loop-holds
-    plain-end-requires-2
-    sub-put-text
-    part-put-text-start
-    part-put-text-end
-    sub-put-text-2
-    part-put-text-start-2
-    part-put-text-end-2
-    put-text-requires-2
-    enum-known-n
-    enum-told
-    same-length-2
-    returns-3
-    add-at
-    next-char-requires
-    enum-known-c
-    same-length-3
-    returns-4
-    slice-write-out
-    add-at-2
-    loop-less
-    loop-again
-    enum-told-2
-    same-length-4
-    returns-5
-    enum-told-3
-    same-length-5
-    returns-6)
+    (tie.spec Inv-loop μ-loop plain-end-requires put-text-requires same-length returns sub-is-text part-is-text-start part-is-text-end
+    is-text-requires returns-2 loop-holds plain-end-requires-2 sub-put-text part-put-text-start part-put-text-end sub-put-text-2 part-put-text-start-2
+    part-put-text-end-2 put-text-requires-2 enum-known-n enum-told same-length-2 returns-3 add-at next-char-requires enum-known-c same-length-3
+    returns-4 slice-write-out add-at-2 loop-less loop-again enum-told-2 same-length-4 returns-5 enum-told-3 same-length-5 returns-6)

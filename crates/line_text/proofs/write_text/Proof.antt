@@ -82,22 +82,5 @@ returns-2 c = rest-done (write-out _ (now (c .before .before .before .before .ar
 pub write-text-spec : {M : Type 1} → statement M
 write-text-spec =
     tie.close
-    (tie.spec
-    Inv-loop
-    μ-loop
-    loop-holds
-    sub-put-escape
-    part-put-escape-start
-    part-put-escape-end
-    shared-slice-read-put-escape
-    put-escape-requires
-    enum-known-n
-    enum-told
-    same-length
-    returns
-    add-at
-    add-i
-    loop-less
-    loop-again
-    same-length-2
-    returns-2)
+    (tie.spec Inv-loop μ-loop loop-holds sub-put-escape part-put-escape-start part-put-escape-end shared-slice-read-put-escape put-escape-requires
+    enum-known-n enum-told same-length returns add-at add-i loop-less loop-again same-length-2 returns-2)

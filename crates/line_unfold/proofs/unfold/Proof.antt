@@ -234,36 +234,7 @@ returns-2 c =
 pub unfold-spec : {M : Type 1} → statement M
 unfold-spec =
     tie.close
-    (tie.spec
-    Inv-loop
-    μ-loop
-    loop-holds
-    next-line-requires
-    sub-folds
-    part-folds-start
-    part-folds-end
-    folds-requires
-    add-from
-    sub-append
-    part-append-start
-    part-append-end
-    append-requires
-    loop-less
-    loop-again
-    same-length
-    same-length-2
-    returns
-    mul-table
-    slice-write-table
-    add-k
-    sub-append-2
-    part-append-start-2
-    part-append-end-2
-    append-requires-2
-    loop-less-2
-    loop-again-2
-    mul-table-2
-    slice-write-table-2
-    same-length-3
-    same-length-4
-    returns-2)
+    (tie.spec Inv-loop μ-loop loop-holds next-line-requires sub-folds part-folds-start part-folds-end folds-requires add-from sub-append
+    part-append-start part-append-end append-requires loop-less loop-again same-length same-length-2 returns mul-table slice-write-table add-k
+    sub-append-2 part-append-start-2 part-append-end-2 append-requires-2 loop-less-2 loop-again-2 mul-table-2 slice-write-table-2 same-length-3
+    same-length-4 returns-2)

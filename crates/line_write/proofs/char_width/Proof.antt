@@ -1,4 +1,3 @@
-use Prim.Native.Nat.{_-_}
 use mathlib.Core.Path.{sym}
 use Rattle.line_write.proofs.Folding.{width-0, width-1, width-2, width-3, width-4}
 use Rattle.line_write.proofs.char_width.Statement.{statement}

@@ -4,59 +4,25 @@ use borrow.Author.Needs.{needs}
 use Rattle.stream_cards.proofs.say.Statement.{statement}
 use Rattle.stream_cards.proofs.say.Tie as tie
 
-enum-told : tie.Need-enum-told
-enum-told c = search needs
-
-enum-known-event : tie.Need-enum-known-event
-enum-known-event c = search needs
-
-enum-known-event-2 : tie.Need-enum-known-event-2
-enum-known-event-2 c = search needs
-
-sub-card-to-json : tie.Need-sub-card-to-json
-sub-card-to-json c = search needs
-
-part-card-to-json-start : tie.Need-part-card-to-json-start
-part-card-to-json-start c = search needs
-
 part-card-to-json-end : tie.Need-part-card-to-json-end
 part-card-to-json-end c =
     card-in (c .before .before .before .before .before .before .args .event) _ _ _ (c .before .event2 .given .1) (c .before .before .before .before .before .before .pre)
 
-card-to-json-requires : tie.Need-card-to-json-requires
-card-to-json-requires c κs = search needs
-
-returns : tie.Need-returns
-returns c = search needs
-
 returns-2 : tie.Need-returns-2
 returns-2 c =
     (rw (c .before .event .given .1), rw (c .before .event .given .1))
-
-same-length : tie.Need-same-length
-same-length c = search needs
 
 returns-3 : tie.Need-returns-3
 returns-3 c =
     let a = c .before .before .before .before .before .before .before .before .before .before .before .args in
     let card = c .before .before .before .before .before .before .event2 .given .1 in
     let json = c .before .before .card-to-json in (
-      card-said (now (a .stem)) (now (a .buffer)) (now (a .out)) (a .event) _ _ card _ (json .ensures .0),
-      card-left (now (a .stem)) (now (a .buffer)) (now (a .out)) (a .event) _ _ card _ (json .ensures .1),
+      card-said (now (a .stem)) (now (a .buffer)) (now (a .out)) (a .event) _ _ card _ (json .ensures .said),
+      card-left (now (a .stem)) (now (a .buffer)) (now (a .out)) (a .event) _ _ card _ (json .ensures .left),
     )
 
 pub say-spec : {M : Type 1} → statement M
 say-spec =
     tie.close
-    (tie.spec
-    enum-told
-    enum-known-event
-    enum-known-event-2
-    sub-card-to-json
-    part-card-to-json-start
-    part-card-to-json-end
-    card-to-json-requires
-    returns
-    returns-2
-    same-length
-    returns-3)
+    (tie.spec (λ c. search needs) (λ c. search needs) (λ c. search needs) (λ c. search needs) (λ c. search needs) part-card-to-json-end
+    (λ c κs. search needs) (λ c. search needs) returns-2 (λ c. search needs) returns-3)

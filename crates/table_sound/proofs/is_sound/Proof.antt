@@ -121,26 +121,5 @@ returns-7 c =
 pub is-sound-spec : {M : Type 1} → statement M
 is-sound-spec =
     tie.close
-    (tie.spec
-    Inv-loop
-    μ-loop
-    shared-slice-read-n
-    returns
-    has-span-requires
-    returns-2
-    has-span-requires-2
-    returns-3
-    has-span-requires-3
-    returns-4
-    loop-holds
-    mul-i
-    add-i
-    add-j
-    has-span-requires-4
-    returns-5
-    has-span-requires-5
-    returns-6
-    add-k
-    loop-less
-    loop-again
-    returns-7)
+    (tie.spec Inv-loop μ-loop shared-slice-read-n returns has-span-requires returns-2 has-span-requires-2 returns-3 has-span-requires-3 returns-4
+    loop-holds mul-i add-i add-j has-span-requires-4 returns-5 has-span-requires-5 returns-6 add-k loop-less loop-again returns-7)

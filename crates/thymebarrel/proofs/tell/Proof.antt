@@ -1,5 +1,5 @@
 use mathlib.Core.Path.{sym, ap, _∙_}
-use Rattle.thymebarrel.specs.Streamed.{toldBy}
+use Rattle.thymebarrel.specs.Given.{toldBy}
 use borrow.Author.Needs.{needs}
 use Rattle.thymebarrel.proofs.tell.Statement.{statement}
 use Rattle.thymebarrel.proofs.tell.Tie as tie

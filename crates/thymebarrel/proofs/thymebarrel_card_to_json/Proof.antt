@@ -1,7 +1,7 @@
 use denote.Ref.{now}
 use lib.ListN.{length}
 use Rattle.convert.specs.Answers.{cardToJson}
-use Rattle.thymebarrel.specs.Given.{told}
+use Rattle.c_calls.specs.Promise.{told}
 use Rattle.thymebarrel.proofs.Serving.{shown-served}
 use borrow.Author.Needs.{needs}
 use Rattle.thymebarrel.proofs.thymebarrel_card_to_json.Statement.{statement}
@@ -20,7 +20,7 @@ returns : tie.Need-returns
 returns c =
     let a = c .before .before .before .before .before .before .before .before .before .before .args in
     let json = c .before .before .before .before .before .card-to-json in
-    shown-served (now (a .out)) _ (cardToJson (now (a .stem)) (a .number) (length (now (a .out))) (now (a .card))) _ (told _ _ _) (c .tell-outcome .ensures) (json .ensures .0) (json .ensures .1)
+    shown-served (now (a .out)) _ (cardToJson (now (a .stem)) (a .number) (length (now (a .out))) (now (a .card))) _ (told _ _ _) (c .tell-outcome .ensures) (json .ensures .said) (json .ensures .left)
 
 pub thymebarrel-card-to-json-spec : {M : Type 1} → statement M
 thymebarrel-card-to-json-spec =

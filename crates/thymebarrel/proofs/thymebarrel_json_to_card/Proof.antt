@@ -1,7 +1,7 @@
 use denote.Ref.{now}
 use lib.ListN.{length}
 use Rattle.convert.specs.Answers.{jsonToCard}
-use Rattle.thymebarrel.specs.Given.{told}
+use Rattle.c_calls.specs.Promise.{told}
 use Rattle.thymebarrel.proofs.Serving.{shown-served}
 use borrow.Author.Needs.{needs}
 use Rattle.thymebarrel.proofs.thymebarrel_json_to_card.Statement.{statement}
@@ -20,7 +20,7 @@ returns : tie.Need-returns
 returns c =
     let a = c .before .before .before .before .before .before .before .before .before .args in
     let card = c .before .before .before .before .before .json-to-card in
-    shown-served (now (a .out)) _ (jsonToCard (length (now (a .out))) (now (a .json))) _ (told _ _ _) (c .tell-outcome .ensures) (card .ensures .0) (card .ensures .1)
+    shown-served (now (a .out)) _ (jsonToCard (length (now (a .out))) (now (a .json))) _ (told _ _ _) (c .tell-outcome .ensures) (card .ensures .said) (card .ensures .left)
 
 pub thymebarrel-json-to-card-spec : {M : Type 1} → statement M
 thymebarrel-json-to-card-spec =

@@ -3,9 +3,6 @@ use borrow.Author.Needs.{needs}
 use Rattle.thymebarrel.proofs.Parts.{part-whole}
 use Rattle.thymebarrel.proofs.thymebarrel_member.Statement.{statement}
 use Rattle.thymebarrel.proofs.thymebarrel_member.Tie as tie
-use Rattle.thymebarrel.proofs.thymebarrel_member.Reads as reads
-use Rattle.thymebarrel.proofs.thymebarrel_member.Lts as lts
-use Rattle.json_lookup.proofs.locate.Reads as locate-reads
 
 locate-requires : tie.Need-locate-requires
 locate-requires c κs = search needs

@@ -5,45 +5,16 @@ use borrow.Author.Needs.{needs}
 use Rattle.thymebarrel.proofs.thymebarrel_stream_step.Statement.{statement}
 use Rattle.thymebarrel.proofs.thymebarrel_stream_step.Tie as tie
 
-state-in-requires : tie.Need-state-in-requires
-state-in-requires c κs = search needs
-
-step-requires : tie.Need-step-requires
-step-requires c κs = search needs
-
-put-state-requires : tie.Need-put-state-requires
-put-state-requires c κs = search needs
-
-tell-requires : tie.Need-tell-requires
-tell-requires c κs = search needs
-
-same-length : tie.Need-same-length
-same-length c = search needs
-
-same-length-2 : tie.Need-same-length-2
-same-length-2 c = search needs
-
-same-length-3 : tie.Need-same-length-3
-same-length-3 c = search needs
-
 returns : tie.Need-returns
 returns c =
-    let args = c .before .before .before .before .before .before .before .before .before .before .before .before .before .before .before .before .before .before .before .before .before .before .args in
-    let state-in = c .before .before .before .before .before .before .before .before .before .before .before .before .before .before .before .state-in in
-    let step = c .before .before .before .before .before .before .before .before .before .before .before .before .step in
-    let put-state = c .before .before .before .before .before .put-state in
-    let a = args in call-told (piece (now (a .stem)) (now (a .piece))) (now (a .state)) (now (a .buffer)) (now (a .out)) _ (state-in .ensures)
-    (step .result) _ _ (step .ensures) _ (c .tell .ensures) _ (put-state .ensures)
+    let a = c .before .before .before .before .before .before .before .before .before .before .before .before .before .before .before .before .before .before .before .before .before .args in
+    let state-in = c .before .before .before .before .before .before .before .before .before .before .before .before .before .before .state-in in
+    let step = c .before .before .before .before .before .before .before .before .before .before .before .step in
+    let told = c .before .before .tell-call in
+    call-told (piece (now (a .stem)) (now (a .piece))) (now (a .state)) (now (a .buffer)) (now (a .out)) _ (state-in .ensures) (step .result) _ _ (step .ensures) _ _ _ (told .ensures)
 
 pub thymebarrel-stream-step-spec : {M : Type 1} → statement M
 thymebarrel-stream-step-spec =
     tie.close
-    (tie.spec
-    state-in-requires
-    step-requires
-    put-state-requires
-    tell-requires
-    same-length
-    same-length-2
-    same-length-3
+    (tie.spec (λ c κs. search needs) (λ c κs. search needs) (λ c κs. search needs) (λ c. search needs) (λ c. search needs) (λ c. search needs)
     returns)

@@ -14,26 +14,6 @@ use Rattle.to_card_card.proofs.Joining.{few-at}
 use Rattle.to_card_card.proofs.Steps.{body-first, body-second, body-all}
 use Rattle.to_card_card.proofs.put_body.Statement.{statement}
 use Rattle.to_card_card.proofs.put_body.Tie as tie
-use Rattle.to_card_card.proofs.put_body.Reads as reads
-use Rattle.to_card_card.proofs.put_body.Lts as lts
-use Rattle.to_card_card.proofs.put_rest.Reads as put-rest-reads
-use Rattle.to_card_card.proofs.up_to.Reads as up-to-reads
-use Rattle.to_card_name.proofs.put_name.Reads as put-name-reads
-
-shared-slice-read-name : tie.Need-shared-slice-read-name
-shared-slice-read-name c = search needs
-
-put-name-requires : tie.Need-put-name-requires
-put-name-requires c κs = search needs
-
-enum-known-n : tie.Need-enum-known-n
-enum-known-n c = search needs
-
-enum-told : tie.Need-enum-told
-enum-told c = search needs
-
-same-length : tie.Need-same-length
-same-length c = search needs
 
 returns : tie.Need-returns
 returns c =
@@ -52,33 +32,6 @@ part-put-rest-start : tie.Need-part-put-rest-start
 part-put-rest-start c =
     let put-name = c .before .before .before .before .before .put-name in
     omega (arith, lines-in (put-name .ensures .0) (ap asLines (c .before .n .given .1)), put-name .ensures .1 .0)
-
-part-put-rest-end : tie.Need-part-put-rest-end
-part-put-rest-end c = search needs
-
-put-rest-requires : tie.Need-put-rest-requires
-put-rest-requires c κs = search needs
-
-enum-known-m : tie.Need-enum-known-m
-enum-known-m c = search needs
-
-enum-told-2 : tie.Need-enum-told-2
-enum-told-2 c = search needs
-
-same-length-2 : tie.Need-same-length-2
-same-length-2 c = search needs
-
-same-length-3 : tie.Need-same-length-3
-same-length-3 c = search needs
-
-same-length-4 : tie.Need-same-length-4
-same-length-4 c = search needs
-
-same-length-5 : tie.Need-same-length-5
-same-length-5 c = search needs
-
-same-length-6 : tie.Need-same-length-6
-same-length-6 c = search needs
 
 returns-2 : tie.Need-returns-2
 returns-2 c =
@@ -117,31 +70,10 @@ add-bytes c =
       );
     }
 
-up-to-requires : tie.Need-up-to-requires
-up-to-requires c κs = search needs
-
 add-up-to : tie.Need-add-up-to
 add-up-to c =
     let put-rest = c .before .before .before .before .before .before .before .before .before .before .before .before .before .before .put-rest in
     record { fits = omega (arith, c .up-to .ensures, (few-at (put-rest .ensures .0) (c .before .before .m .given .1)) .1) }
-
-up-to-requires-2 : tie.Need-up-to-requires-2
-up-to-requires-2 c κs = search needs
-
-same-length-7 : tie.Need-same-length-7
-same-length-7 c = search needs
-
-same-length-8 : tie.Need-same-length-8
-same-length-8 c = search needs
-
-same-length-9 : tie.Need-same-length-9
-same-length-9 c = search needs
-
-same-length-10 : tie.Need-same-length-10
-same-length-10 c = search needs
-
-same-length-11 : tie.Need-same-length-11
-same-length-11 c = search needs
 
 returns-3 : tie.Need-returns-3
 returns-3 c =
@@ -173,32 +105,7 @@ returns-3 c =
 pub put-body-spec : {M : Type 1} → statement M
 put-body-spec =
     tie.close
-    (tie.spec
-    shared-slice-read-name
-    put-name-requires
-    enum-known-n
-    enum-told
-    same-length
-    returns
-    sub-put-rest
-    part-put-rest-start
-    part-put-rest-end
-    put-rest-requires
-    enum-known-m
-    enum-told-2
-    same-length-2
-    same-length-3
-    same-length-4
-    same-length-5
-    same-length-6
-    returns-2
-    add-bytes
-    up-to-requires
-    add-up-to
-    up-to-requires-2
-    same-length-7
-    same-length-8
-    same-length-9
-    same-length-10
-    same-length-11
-    returns-3)
+    (tie.spec (λ c. search needs) (λ c κs. search needs) (λ c. search needs) (λ c. search needs) (λ c. search needs) returns sub-put-rest
+    part-put-rest-start (λ c. search needs) (λ c κs. search needs) (λ c. search needs) (λ c. search needs) (λ c. search needs) (λ c. search needs)
+    (λ c. search needs) (λ c. search needs) (λ c. search needs) returns-2 add-bytes (λ c κs. search needs) add-up-to (λ c κs. search needs)
+    (λ c. search needs) (λ c. search needs) (λ c. search needs) (λ c. search needs) (λ c. search needs) returns-3)

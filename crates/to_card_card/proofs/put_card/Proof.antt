@@ -15,30 +15,6 @@ use Rattle.to_card_card.proofs.Whole.{whole-first, whole-second, whole-
 use Rattle.to_card_card.proofs.put_card.Statement.{statement}
 use Rattle.to_card_card.proofs.put_card.Tie as tie
 
-shared-slice-read-card : tie.Need-shared-slice-read-card
-shared-slice-read-card c = search needs
-
-shared-slice-read-version : tie.Need-shared-slice-read-version
-shared-slice-read-version c = search needs
-
-shared-slice-read-uid : tie.Need-shared-slice-read-uid
-shared-slice-read-uid c = search needs
-
-shared-slice-read-kind : tie.Need-shared-slice-read-kind
-shared-slice-read-kind c = search needs
-
-put-head-requires : tie.Need-put-head-requires
-put-head-requires c κs = search needs
-
-enum-known-n : tie.Need-enum-known-n
-enum-known-n c = search needs
-
-enum-told : tie.Need-enum-told
-enum-told c = search needs
-
-same-length : tie.Need-same-length
-same-length c = search needs
-
 returns : tie.Need-returns
 returns c =
     let index = c .before .before .before .before .before .before .before .before .before .before .before .before .before .before .before .before .before .pre .1 .1 in
@@ -61,33 +37,6 @@ part-put-body-start : tie.Need-part-put-body-start
 part-put-body-start c =
     let put-head = c .before .before .before .before .before .put-head in
     omega (arith, lines-in (put-head .ensures .0) (c .before .n .given .1), put-head .ensures .1 .0)
-
-part-put-body-end : tie.Need-part-put-body-end
-part-put-body-end c = search needs
-
-put-body-requires : tie.Need-put-body-requires
-put-body-requires c κs = search needs
-
-enum-known-m : tie.Need-enum-known-m
-enum-known-m c = search needs
-
-enum-told-2 : tie.Need-enum-told-2
-enum-told-2 c = search needs
-
-same-length-2 : tie.Need-same-length-2
-same-length-2 c = search needs
-
-same-length-3 : tie.Need-same-length-3
-same-length-3 c = search needs
-
-same-length-4 : tie.Need-same-length-4
-same-length-4 c = search needs
-
-same-length-5 : tie.Need-same-length-5
-same-length-5 c = search needs
-
-same-length-6 : tie.Need-same-length-6
-same-length-6 c = search needs
 
 returns-2 : tie.Need-returns-2
 returns-2 c =
@@ -144,15 +93,6 @@ part-fill-start c =
     let both-in = part-in (k .0) (put-head .last .0) inside ((few-at (put-body .ensures .0) (c .before .m .given .1)) .0) in
     omega (arith, both-in, as-long)
 
-part-fill-end : tie.Need-part-fill-end
-part-fill-end c = search needs
-
-slice-aggregate-fill : tie.Need-slice-aggregate-fill
-slice-aggregate-fill c = search needs
-
-fill-requires : tie.Need-fill-requires
-fill-requires c κs = search needs
-
 add-bytes : tie.Need-add-bytes
 add-bytes c =
     let good = c .before .before .before .before .before .before .before .before .before .before .before .before .before .before .before .before .before .before .before .before .before .before .before .before .before .before .before .before .before .before .before .before .before .before .before .before .before .before .before .before .before .before .good in
@@ -169,32 +109,11 @@ add-bytes c =
     let room : k .0 + j .0 ≤ length written = omega (arith, both-in, as-long) in
     record { fits = omega (arith, part-in (k .0 + j .0) written room (fills-in (c .before .before .fill .ensures)), as-long, put-head .ensures .1 .0, good .0 .0) }
 
-up-to-requires : tie.Need-up-to-requires
-up-to-requires c κs = search needs
-
 add-up-to : tie.Need-add-up-to
 add-up-to c =
     let put-body = c .before .before .before .before .before .before .before .before .before .before .before .before .before .before .before .before .before .before .before .put-body in
     let m = c .before .before .before .before .before .before .before .m in
     record { fits = omega (arith, c .up-to .ensures, (few-at (put-body .ensures .0) (m .given .1)) .1) }
-
-up-to-requires-2 : tie.Need-up-to-requires-2
-up-to-requires-2 c κs = search needs
-
-same-length-7 : tie.Need-same-length-7
-same-length-7 c = search needs
-
-same-length-8 : tie.Need-same-length-8
-same-length-8 c = search needs
-
-same-length-9 : tie.Need-same-length-9
-same-length-9 c = search needs
-
-same-length-10 : tie.Need-same-length-10
-same-length-10 c = search needs
-
-same-length-11 : tie.Need-same-length-11
-same-length-11 c = search needs
 
 returns-3 : tie.Need-returns-3
 returns-3 c =
@@ -231,41 +150,8 @@ returns-3 c =
 pub put-card-spec : {M : Type 1} → statement M
 put-card-spec =
     tie.close
-    (tie.spec
-    shared-slice-read-card
-    shared-slice-read-version
-    shared-slice-read-uid
-    shared-slice-read-kind
-    put-head-requires
-    enum-known-n
-    enum-told
-    same-length
-    returns
-    sub-put-body
-    part-put-body-start
-    part-put-body-end
-    put-body-requires
-    enum-known-m
-    enum-told-2
-    same-length-2
-    same-length-3
-    same-length-4
-    same-length-5
-    same-length-6
-    returns-2
-    add-e
-    sub-fill
-    part-fill-start
-    part-fill-end
-    slice-aggregate-fill
-    fill-requires
-    add-bytes
-    up-to-requires
-    add-up-to
-    up-to-requires-2
-    same-length-7
-    same-length-8
-    same-length-9
-    same-length-10
-    same-length-11
-    returns-3)
+    (tie.spec (λ c. search needs) (λ c. search needs) (λ c. search needs) (λ c. search needs) (λ c κs. search needs) (λ c. search needs)
+    (λ c. search needs) (λ c. search needs) returns sub-put-body part-put-body-start (λ c. search needs) (λ c κs. search needs) (λ c. search needs)
+    (λ c. search needs) (λ c. search needs) (λ c. search needs) (λ c. search needs) (λ c. search needs) (λ c. search needs) returns-2 add-e sub-fill
+    part-fill-start (λ c. search needs) (λ c. search needs) (λ c κs. search needs) add-bytes (λ c κs. search needs) add-up-to (λ c κs. search needs)
+    (λ c. search needs) (λ c. search needs) (λ c. search needs) (λ c. search needs) (λ c. search needs) returns-3)

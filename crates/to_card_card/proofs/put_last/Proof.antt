@@ -12,33 +12,7 @@ use Rattle.to_card_card.specs.Whole.{few, PutsLast}
 use Rattle.to_card_card.proofs.Steps.{last-first, last-second, last-all}
 use Rattle.to_card_card.proofs.put_last.Statement.{statement}
 use Rattle.to_card_card.proofs.put_last.Tie as tie
-use Rattle.to_card_card.proofs.put_last.Reads as reads
-use Rattle.to_card_card.proofs.put_last.Lts as lts
-use Rattle.to_card_card.proofs.up_to.Reads as up-to-reads
-use Rattle.to_card_kept.proofs.put_kept.Reads as put-kept-reads
-use Rattle.to_card_card.proofs.put_others.Reads as put-others-reads
 
--- src/lib.rt:61:31
-put-others-requires : tie.Need-put-others-requires
-put-others-requires c κs = search needs
-
--- src/lib.rt:61:20
-enum-known-n : tie.Need-enum-known-n
-enum-known-n c = search needs
-
--- src/lib.rt:62:9
-enum-told : tie.Need-enum-told
-enum-told c = search needs
-
--- src/lib.rt:62:9
-same-length : tie.Need-same-length
-same-length c = search needs
-
--- src/lib.rt:62:9
-same-length-2 : tie.Need-same-length-2
-same-length-2 c = search needs
-
--- src/lib.rt:62:9
 returns : tie.Need-returns
 returns c =
     let args = c .before .before .before .before .before .before .before .before .before .before .before .before .before .before .before .before .args in
@@ -47,55 +21,16 @@ returns c =
       (put-others .ensures .1 .0, last-first (now (args .s)) (now (args .slots)) (args .full) (args .parts) (now (args .out)) (put-others .result) (put-others .last .0) (put-others .ensures .1 .1) (c .enum-told .given .1) (put-others .last .0)),
     )
 
--- src/lib.rt:64:40
 sub-put-kept : tie.Need-sub-put-kept
 sub-put-kept c =
     let put-others = c .before .before .before .before .before .before .before .put-others in
     omega (arith, lines-in (put-others .ensures .0) (c .before .n .given .1), put-others .ensures .1 .0)
 
--- src/lib.rt:64:40
 part-put-kept-start : tie.Need-part-put-kept-start
 part-put-kept-start c =
     let put-others = c .before .before .before .before .before .before .before .put-others in
     omega (arith, lines-in (put-others .ensures .0) (c .before .n .given .1), put-others .ensures .1 .0)
 
--- src/lib.rt:64:40
-part-put-kept-end : tie.Need-part-put-kept-end
-part-put-kept-end c = search needs
-
--- src/lib.rt:64:31
-put-kept-requires : tie.Need-put-kept-requires
-put-kept-requires c κs = search needs
-
--- src/lib.rt:64:20
-enum-known-m : tie.Need-enum-known-m
-enum-known-m c = search needs
-
--- src/lib.rt:65:9
-enum-told-2 : tie.Need-enum-told-2
-enum-told-2 c = search needs
-
--- src/lib.rt:65:9
-same-length-3 : tie.Need-same-length-3
-same-length-3 c = search needs
-
--- src/lib.rt:65:9
-same-length-4 : tie.Need-same-length-4
-same-length-4 c = search needs
-
--- src/lib.rt:65:9
-same-length-5 : tie.Need-same-length-5
-same-length-5 c = search needs
-
--- src/lib.rt:65:9
-same-length-6 : tie.Need-same-length-6
-same-length-6 c = search needs
-
--- src/lib.rt:65:9
-same-length-7 : tie.Need-same-length-7
-same-length-7 c = search needs
-
--- src/lib.rt:65:9
 returns-2 : tie.Need-returns-2
 returns-2 c =
     let args = c .before .before .before .before .before .before .before .before .before .before .before .before .before .before .before .before .before .before .before .before .before .before .before .before .before .before .before .before .before .before .before .before .args in
@@ -117,7 +52,6 @@ returns-2 c =
       ),
     )
 
--- src/lib.rt:67:17
 add-bytes : tie.Need-add-bytes
 add-bytes c =
     let good = c .before .before .before .before .before .before .before .before .before .before .before .before .before .before .before .before .before .before .before .before .before .before .before .before .before .before .before .before .before .before .before .before .before .good in
@@ -133,43 +67,6 @@ add-bytes c =
       );
     }
 
--- src/lib.rt:68:23
-up-to-requires : tie.Need-up-to-requires
-up-to-requires c κs = search needs
-
--- src/lib.rt:68:34
-up-to-requires-2 : tie.Need-up-to-requires-2
-up-to-requires-2 c κs = search needs
-
--- src/lib.rt:68:23
-add-up-to : tie.Need-add-up-to
-add-up-to c = search needs
-
--- src/lib.rt:68:9
-up-to-requires-3 : tie.Need-up-to-requires-3
-up-to-requires-3 c κs = search needs
-
--- src/lib.rt:44:1
-same-length-8 : tie.Need-same-length-8
-same-length-8 c = search needs
-
--- src/lib.rt:44:1
-same-length-9 : tie.Need-same-length-9
-same-length-9 c = search needs
-
--- src/lib.rt:44:1
-same-length-10 : tie.Need-same-length-10
-same-length-10 c = search needs
-
--- src/lib.rt:44:1
-same-length-11 : tie.Need-same-length-11
-same-length-11 c = search needs
-
--- src/lib.rt:44:1
-same-length-12 : tie.Need-same-length-12
-same-length-12 c = search needs
-
--- src/lib.rt:44:1
 returns-3 : tie.Need-returns-3
 returns-3 c =
     let args = c .before .before .before .before .before .before .before .before .before .before .before .before .before .before .before .before .before .before .before .before .before .before .before .before .before .before .before .before .before .before .before .before .before .before .before .before .args in
@@ -201,33 +98,7 @@ returns-3 c =
 pub put-last-spec : {M : Type 1} → statement M
 put-last-spec =
     tie.close
-    (tie.spec
-    put-others-requires
-    enum-known-n
-    enum-told
-    same-length
-    same-length-2
-    returns
-    sub-put-kept
-    part-put-kept-start
-    part-put-kept-end
-    put-kept-requires
-    enum-known-m
-    enum-told-2
-    same-length-3
-    same-length-4
-    same-length-5
-    same-length-6
-    same-length-7
-    returns-2
-    add-bytes
-    up-to-requires
-    up-to-requires-2
-    add-up-to
-    up-to-requires-3
-    same-length-8
-    same-length-9
-    same-length-10
-    same-length-11
-    same-length-12
-    returns-3)
+    (tie.spec (λ c κs. search needs) (λ c. search needs) (λ c. search needs) (λ c. search needs) (λ c. search needs) returns sub-put-kept
+    part-put-kept-start (λ c. search needs) (λ c κs. search needs) (λ c. search needs) (λ c. search needs) (λ c. search needs) (λ c. search needs)
+    (λ c. search needs) (λ c. search needs) (λ c. search needs) returns-2 add-bytes (λ c κs. search needs) (λ c κs. search needs) (λ c. search needs)
+    (λ c κs. search needs) (λ c. search needs) (λ c. search needs) (λ c. search needs) (λ c. search needs) (λ c. search needs) returns-3)

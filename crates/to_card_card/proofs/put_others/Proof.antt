@@ -5,31 +5,10 @@ use mathlib.Core.Path.{refl}
 use Rattle.to_card_card.proofs.Others.{others-none, others-some}
 use Rattle.to_card_card.proofs.put_others.Statement.{statement}
 use Rattle.to_card_card.proofs.put_others.Tie as tie
-use Rattle.to_card_card.proofs.put_others.Reads as reads
-use Rattle.to_card_card.proofs.put_others.Lts as lts
-use Rattle.to_card_members.proofs.put_members.Reads as put-members-reads
 
--- src/lib.rt:57:8
-shared-slice-read-if1 : tie.Need-shared-slice-read-if1
-shared-slice-read-if1 c = search needs
-
--- src/lib.rt:58:9
 returns : tie.Need-returns
 returns c = (omega arith, (refl, others-none (now (c .before .before .before .before .before .before .args .s)) (now (c .before .before .before .before .before .before .args .slots)) (now (c .before .before .before .before .before .before .args .out)) (c .if1 .taken)))
 
--- src/lib.rt:60:5
-put-members-requires : tie.Need-put-members-requires
-put-members-requires c κs = search needs
-
--- src/lib.rt:45:1
-same-length : tie.Need-same-length
-same-length c = search needs
-
--- src/lib.rt:45:1
-same-length-2 : tie.Need-same-length-2
-same-length-2 c = search needs
-
--- src/lib.rt:45:1
 returns-2 : tie.Need-returns-2
 returns-2 c =
     let args = c .before .before .before .before .before .before .before .before .before .before .before .before .before .args in
@@ -44,10 +23,4 @@ returns-2 c =
 pub put-others-spec : {M : Type 1} → statement M
 put-others-spec =
     tie.close
-    (tie.spec
-    shared-slice-read-if1
-    returns
-    put-members-requires
-    same-length
-    same-length-2
-    returns-2)
+    (tie.spec (λ c. search needs) returns (λ c κs. search needs) (λ c. search needs) (λ c. search needs) returns-2)

@@ -13,29 +13,7 @@ use Rattle.to_card_card.proofs.Joining.{few-at, maps-at}
 use Rattle.to_card_card.proofs.Steps.{rest-first, rest-second, rest-all}
 use Rattle.to_card_card.proofs.put_rest.Statement.{statement}
 use Rattle.to_card_card.proofs.put_rest.Tie as tie
-use Rattle.to_card_card.proofs.put_rest.Reads as reads
-use Rattle.to_card_card.proofs.put_rest.Lts as lts
-use Rattle.card_maps.proofs.put_maps.Reads as put-maps-reads
-use Rattle.to_card_card.proofs.put_last.Reads as put-last-reads
-use Rattle.to_card_card.proofs.up_to.Reads as up-to-reads
 
--- src/lib.rt:91:31
-put-maps-requires : tie.Need-put-maps-requires
-put-maps-requires c κs = search needs
-
--- src/lib.rt:91:20
-enum-known-n : tie.Need-enum-known-n
-enum-known-n c = search needs
-
--- src/lib.rt:92:9
-enum-told : tie.Need-enum-told
-enum-told c = search needs
-
--- src/lib.rt:92:9
-same-length : tie.Need-same-length
-same-length c = search needs
-
--- src/lib.rt:92:9
 returns : tie.Need-returns
 returns c =
     let args = c .before .before .before .before .before .before .before .before .before .before .before .before .before .args in
@@ -44,55 +22,16 @@ returns c =
       (put-maps .ensures .1 .0, rest-first (now (args .s)) (now (args .slots)) (args .full) (args .parts) (now (args .out)) (put-maps .result) (put-maps .last .0) (put-maps .ensures .1 .1) (c .enum-told .given .1) (put-maps .last .0)),
     )
 
--- src/lib.rt:94:40
 sub-put-last : tie.Need-sub-put-last
 sub-put-last c =
     let put-maps = c .before .before .before .before .before .put-maps in
     omega (arith, (maps-at 458758 (put-maps .ensures .0) (c .before .n .given .1)) .0, put-maps .ensures .1 .0)
 
--- src/lib.rt:94:40
 part-put-last-start : tie.Need-part-put-last-start
 part-put-last-start c =
     let put-maps = c .before .before .before .before .before .put-maps in
     omega (arith, (maps-at 458758 (put-maps .ensures .0) (c .before .n .given .1)) .0, put-maps .ensures .1 .0)
 
--- src/lib.rt:94:40
-part-put-last-end : tie.Need-part-put-last-end
-part-put-last-end c = search needs
-
--- src/lib.rt:94:31
-put-last-requires : tie.Need-put-last-requires
-put-last-requires c κs = search needs
-
--- src/lib.rt:94:20
-enum-known-m : tie.Need-enum-known-m
-enum-known-m c = search needs
-
--- src/lib.rt:96:9
-enum-told-2 : tie.Need-enum-told-2
-enum-told-2 c = search needs
-
--- src/lib.rt:96:9
-same-length-2 : tie.Need-same-length-2
-same-length-2 c = search needs
-
--- src/lib.rt:96:9
-same-length-3 : tie.Need-same-length-3
-same-length-3 c = search needs
-
--- src/lib.rt:96:9
-same-length-4 : tie.Need-same-length-4
-same-length-4 c = search needs
-
--- src/lib.rt:96:9
-same-length-5 : tie.Need-same-length-5
-same-length-5 c = search needs
-
--- src/lib.rt:96:9
-same-length-6 : tie.Need-same-length-6
-same-length-6 c = search needs
-
--- src/lib.rt:96:9
 returns-2 : tie.Need-returns-2
 returns-2 c =
     let args = c .before .before .before .before .before .before .before .before .before .before .before .before .before .before .before .before .before .before .before .before .before .before .before .before .before .before .before .before .before .before .before .before .args in
@@ -114,7 +53,6 @@ returns-2 c =
       ),
     )
 
--- src/lib.rt:98:17
 add-bytes : tie.Need-add-bytes
 add-bytes c =
     let good = c .before .before .before .before .before .before .before .before .before .before .before .before .before .before .before .before .before .before .before .before .before .before .before .before .before .before .before .before .before .before .before .before .before .good in
@@ -130,41 +68,11 @@ add-bytes c =
       );
     }
 
--- src/lib.rt:99:23
-up-to-requires : tie.Need-up-to-requires
-up-to-requires c κs = search needs
-
--- src/lib.rt:99:23
 add-up-to : tie.Need-add-up-to
 add-up-to c =
     let put-last = c .before .before .before .before .before .before .before .before .before .before .before .before .before .before .put-last in
     record { fits = omega (arith, c .up-to .ensures, (few-at (put-last .ensures .0) (c .before .before .m .given .1)) .1) }
 
--- src/lib.rt:99:9
-up-to-requires-2 : tie.Need-up-to-requires-2
-up-to-requires-2 c κs = search needs
-
--- src/lib.rt:74:1
-same-length-7 : tie.Need-same-length-7
-same-length-7 c = search needs
-
--- src/lib.rt:74:1
-same-length-8 : tie.Need-same-length-8
-same-length-8 c = search needs
-
--- src/lib.rt:74:1
-same-length-9 : tie.Need-same-length-9
-same-length-9 c = search needs
-
--- src/lib.rt:74:1
-same-length-10 : tie.Need-same-length-10
-same-length-10 c = search needs
-
--- src/lib.rt:74:1
-same-length-11 : tie.Need-same-length-11
-same-length-11 c = search needs
-
--- src/lib.rt:74:1
 returns-3 : tie.Need-returns-3
 returns-3 c =
     let args = c .before .before .before .before .before .before .before .before .before .before .before .before .before .before .before .before .before .before .before .before .before .before .before .before .before .before .before .before .before .before .before .before .before .before .before .args in
@@ -194,31 +102,7 @@ returns-3 c =
 pub put-rest-spec : {M : Type 1} → statement M
 put-rest-spec =
     tie.close
-    (tie.spec
-    put-maps-requires
-    enum-known-n
-    enum-told
-    same-length
-    returns
-    sub-put-last
-    part-put-last-start
-    part-put-last-end
-    put-last-requires
-    enum-known-m
-    enum-told-2
-    same-length-2
-    same-length-3
-    same-length-4
-    same-length-5
-    same-length-6
-    returns-2
-    add-bytes
-    up-to-requires
-    add-up-to
-    up-to-requires-2
-    same-length-7
-    same-length-8
-    same-length-9
-    same-length-10
-    same-length-11
-    returns-3)
+    (tie.spec (λ c κs. search needs) (λ c. search needs) (λ c. search needs) (λ c. search needs) returns sub-put-last part-put-last-start
+    (λ c. search needs) (λ c κs. search needs) (λ c. search needs) (λ c. search needs) (λ c. search needs) (λ c. search needs) (λ c. search needs)
+    (λ c. search needs) (λ c. search needs) returns-2 add-bytes (λ c κs. search needs) add-up-to (λ c κs. search needs) (λ c. search needs)
+    (λ c. search needs) (λ c. search needs) (λ c. search needs) (λ c. search needs) returns-3)

@@ -5,16 +5,9 @@ use Rattle.to_card_head.proofs.Slots.{filled-absent, filled-there, test
 use borrow.Author.Needs.{needs}
 use Rattle.to_card_head.proofs.filled_in.Statement.{statement}
 use Rattle.to_card_head.proofs.filled_in.Tie as tie
-use Rattle.to_card_head.proofs.filled_in.Reads as reads
-use Rattle.to_card_head.proofs.filled_in.Lts as lts
-use Rattle.card_value.proofs.string_in.Reads as string-in-reads
-use Rattle.to_card_head.proofs.is_filled.Reads as is-filled-reads
 
 returns : tie.Need-returns
 returns c = filled-absent (now (c .before .before .args .s)) (c .before .before .args .slot) (c .if1 .taken)
-
-string-in-requires : tie.Need-string-in-requires
-string-in-requires c κs = search needs
 
 returns-2 : tie.Need-returns-2
 returns-2 c =
@@ -22,9 +15,6 @@ returns-2 c =
     let string-in = c .before .string-in in
     filled-there (now (args .s)) (args .slot) (c .before .before .if1 .left) 0
     (λ v w. test-none filled (now (args .s)) (args .slot) (string-in .result) (string-in .ensures) 15 v w (c .if2 .taken))
-
-is-filled-requires : tie.Need-is-filled-requires
-is-filled-requires c κs = search needs
 
 returns-3 : tie.Need-returns-3
 returns-3 c =
@@ -49,4 +39,4 @@ returns-4 c =
 pub filled-in-spec : {M : Type 1} → statement M
 filled-in-spec =
     tie.close
-    (tie.spec returns string-in-requires returns-2 is-filled-requires returns-3 returns-4)
+    (tie.spec returns (λ c κs. search needs) returns-2 (λ c κs. search needs) returns-3 returns-4)

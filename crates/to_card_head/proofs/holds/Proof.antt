@@ -3,10 +3,6 @@ use Rattle.to_card_head.proofs.Slots.{same-absent, same-no, same-is}
 use borrow.Author.Needs.{needs}
 use Rattle.to_card_head.proofs.holds.Statement.{statement}
 use Rattle.to_card_head.proofs.holds.Tie as tie
-use Rattle.to_card_head.proofs.holds.Reads as reads
-use Rattle.to_card_head.proofs.holds.Lts as lts
-use Rattle.card_value.proofs.string_in.Reads as string-in-reads
-use Rattle.json_strings.proofs.equals.Reads as equals-reads
 
 returns : tie.Need-returns
 returns c = same-absent (now (c .before .before .before .args .s)) (c .before .before .before .args .slot) (now (c .before .before .before .args .bytes)) (c .if1 .taken)

@@ -3,24 +3,9 @@ use Rattle.to_card_head.proofs.Words.{filled-past, filled-alone, filled
 use borrow.Author.Needs.{needs}
 use Rattle.to_card_head.proofs.is_filled.Statement.{statement}
 use Rattle.to_card_head.proofs.is_filled.Tie as tie
-use Rattle.to_card_head.proofs.is_filled.Reads as reads
-use Rattle.to_card_head.proofs.is_filled.Lts as lts
-use Rattle.card_pen.proofs.byte_at.Reads as byte-at-reads
 
 returns : tie.Need-returns
 returns c = filled-past (now (c .before .before .args .s)) (c .before .before .args .at) (c .if1 .taken)
-
-byte-at-requires : tie.Need-byte-at-requires
-byte-at-requires c κs = search needs
-
-enum-told : tie.Need-enum-told
-enum-told c = search needs
-
-enum-told-2 : tie.Need-enum-told-2
-enum-told-2 c = search needs
-
-enum-known-b : tie.Need-enum-known-b
-enum-known-b c = search needs
 
 returns-2 : tie.Need-returns-2
 returns-2 c = filled-alone (now (c .before .before .before .before .before .args .s)) (c .before .before .before .before .before .args .at) (c .before .before .byte-at .result) (c .before .before .byte-at .ensures .0) (c .enum-told .given .1)
@@ -34,12 +19,4 @@ returns-4 c = filled-one (now (c .before .before .before .before .before .before
 pub is-filled-spec : {M : Type 1} → statement M
 is-filled-spec =
     tie.close
-    (tie.spec
-    returns
-    byte-at-requires
-    enum-told
-    enum-told-2
-    enum-known-b
-    returns-2
-    returns-3
-    returns-4)
+    (tie.spec returns (λ c κs. search needs) (λ c. search needs) (λ c. search needs) (λ c. search needs) returns-2 returns-3 returns-4)

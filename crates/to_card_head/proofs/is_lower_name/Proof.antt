@@ -2,8 +2,6 @@ use native.Mathlib.Omega.{arith}
 use Rattle.to_card_head.proofs.Words.{low-high, low-letter, low-mid, low-digit, low-dash}
 use Rattle.to_card_head.proofs.is_lower_name.Statement.{statement}
 use Rattle.to_card_head.proofs.is_lower_name.Tie as tie
-use Rattle.to_card_head.proofs.is_lower_name.Reads as reads
-use Rattle.to_card_head.proofs.is_lower_name.Lts as lts
 
 returns : tie.Need-returns
 returns c = low-high (c .before .args .c) (omega (arith, c .if1 .taken))

@@ -1,4 +1,3 @@
-use native.Mathlib.Omega.{arith}
 use borrow.Author.Needs.{needs}
 use denote.Ref.{now}
 use mathlib.Core.Path.{_≡_, sym, ap, _∙_}
@@ -12,10 +11,6 @@ use Rattle.to_card_head.specs.Head.{wordOf, wordFrom}
 use Rattle.to_card_head.proofs.Words.{word-first, word-end, word-bad, word-on}
 use Rattle.to_card_head.proofs.is_word.Statement.{statement}
 use Rattle.to_card_head.proofs.is_word.Tie as tie
-use Rattle.to_card_head.proofs.is_word.Reads as reads
-use Rattle.to_card_head.proofs.is_word.Lts as lts
-use Rattle.card_pen.proofs.byte_at.Reads as byte-at-reads
-use Rattle.to_card_head.proofs.is_lower_name.Reads as is-lower-name-reads
 
 abbrev Inv-loop : tie.InvT-loop
 Inv-loop s at i₀ h₀ begun₀ i h begun = (i ≤ length s) × (wordOf (decodedAt s at) ≡ wordFrom begun (left s i h))
@@ -85,18 +80,5 @@ loop-again c =
 pub is-word-spec : {M : Type 1} → statement M
 is-word-spec =
     tie.close
-    (tie.spec
-    Inv-loop
-    μ-loop
-    returns
-    loop-holds
-    byte-at-requires
-    enum-told
-    returns-2
-    enum-told-2
-    returns-3
-    enum-known-b
-    is-lower-name-requires
-    returns-4
-    loop-less
-    loop-again)
+    (tie.spec Inv-loop μ-loop returns loop-holds byte-at-requires enum-told returns-2 enum-told-2 returns-3 enum-known-b is-lower-name-requires
+    returns-4 loop-less loop-again)

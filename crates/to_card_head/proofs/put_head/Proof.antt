@@ -1,26 +1,13 @@
 use denote.Ref.{now}
-use mathlib.Core.Path.{refl, subst, _≡_}
+use mathlib.Core.Path.{refl, subst}
 use Prim.Native.Nat.{ℕ}
 use Rattle.text.proofs.Cases.{not-true, not-false}
-use Rattle.to_card_lines.proofs.Laws.{fills-in, fills-length, begun, onto, row-fits, row-in}
+use Rattle.to_card_lines.proofs.Laws.{fills-in, fills-length, begun, onto, row-fits}
 use Rattle.to_card_head.specs.Head.{FilledIn, WordIn}
 use Rattle.to_card_head.proofs.Head.{no-card, no-version, no-uid, no-kind, head-plain, kind-row, head-kind}
 use borrow.Author.Needs.{needs}
 use Rattle.to_card_head.proofs.put_head.Statement.{statement}
 use Rattle.to_card_head.proofs.put_head.Tie as tie
-use Rattle.to_card_head.proofs.put_head.Reads as reads
-use Rattle.to_card_head.proofs.put_head.Lts as lts
-use Rattle.to_card_head.proofs.filled_in.Reads as filled-in-reads
-use Rattle.to_card_head.proofs.holds.Reads as holds-reads
-use Rattle.to_card_head.proofs.put_start.Reads as put-start-reads
-use Rattle.to_card_head.proofs.word_in.Reads as word-in-reads
-use Rattle.to_card_lines.proofs.put_string_line.Reads as put-string-line-reads
-
-slice-aggregate-holds : tie.Need-slice-aggregate-holds
-slice-aggregate-holds c = search needs
-
-holds-requires : tie.Need-holds-requires
-holds-requires c κs = search needs
 
 returns : tie.Need-returns
 returns c =
@@ -30,12 +17,6 @@ returns c =
       (refl, no-card (now (args .s)) (args .card) (args .version) (args .uid) (args .kind) (now (args .out)) (holds .result) (holds .ensures) (not-true _ (c .if1 .taken)) _),
     )
 
-slice-aggregate-holds-2 : tie.Need-slice-aggregate-holds-2
-slice-aggregate-holds-2 c = search needs
-
-holds-requires-2 : tie.Need-holds-requires-2
-holds-requires-2 c κs = search needs
-
 returns-2 : tie.Need-returns-2
 returns-2 c =
     let args = c .before .before .before .before .before .before .before .before .args in
@@ -44,21 +25,12 @@ returns-2 c =
       (refl, no-version (now (args .s)) (args .card) (args .version) (args .uid) (args .kind) (now (args .out)) (holds2 .result) (holds2 .ensures) (not-true _ (c .if2 .taken)) _),
     )
 
-filled-in-requires : tie.Need-filled-in-requires
-filled-in-requires c κs = search needs
-
 returns-3 : tie.Need-returns-3
 returns-3 c =
     let args = c .before .before .before .before .before .before .before .before .before .before .args in (
       tt,
       (refl, no-uid (now (args .s)) (args .card) (args .version) (args .uid) (args .kind) (now (args .out)) (subst (λ (q : ℕ). FilledIn (now (args .s)) (args .uid) q) (c .if3 .taken) (c .before .filled-in .ensures)) _),
     )
-
-put-start-requires : tie.Need-put-start-requires
-put-start-requires c κs = search needs
-
-same-length : tie.Need-same-length
-same-length c = search needs
 
 returns-4 : tie.Need-returns-4
 returns-4 c =
@@ -81,9 +53,6 @@ returns-4 c =
       ),
     )
 
-word-in-requires : tie.Need-word-in-requires
-word-in-requires c κs = search needs
-
 returns-5 : tie.Need-returns-5
 returns-5 c =
     let args = c .before .before .before .before .before .before .before .before .before .before .before .before .before .args in (
@@ -91,33 +60,12 @@ returns-5 c =
       (refl, no-kind (now (args .s)) (args .card) (args .version) (args .uid) (args .kind) (now (args .out)) (c .before .before .if4 .left) (subst (λ (q : ℕ). WordIn (now (args .s)) (args .kind) q) (c .if5 .taken) (c .before .word-in .ensures)) _),
     )
 
-put-start-requires-2 : tie.Need-put-start-requires-2
-put-start-requires-2 c κs = search needs
-
-sub-put-string-line : tie.Need-sub-put-string-line
-sub-put-string-line c = search needs
-
-part-put-string-line-start : tie.Need-part-put-string-line-start
-part-put-string-line-start c = search needs
-
-part-put-string-line-end : tie.Need-part-put-string-line-end
-part-put-string-line-end c = search needs
-
-slice-aggregate-put-string-line : tie.Need-slice-aggregate-put-string-line
-slice-aggregate-put-string-line c = search needs
-
-put-string-line-requires : tie.Need-put-string-line-requires
-put-string-line-requires c κs = search needs
-
 add-m : tie.Need-add-m
 add-m c =
     let good = c .before .before .before .before .before .before .before .before .before .before .before .before .before .before .before .before .before .before .before .before .before .before .before .good in
     let put-start2 = c .before .before .before .before .before .before .before .before .put-start2 in
     let put-string-line = c .before .before .before .put-string-line in
     row-fits (onto (begun (put-start2 .ensures .fills)) (put-string-line .ensures .fills)) (good .0 .0)
-
-same-length-2 : tie.Need-same-length-2
-same-length-2 c = search needs
 
 returns-6 : tie.Need-returns-6
 returns-6 c =
@@ -149,26 +97,6 @@ returns-6 c =
 pub put-head-spec : {M : Type 1} → statement M
 put-head-spec =
     tie.close
-    (tie.spec
-    slice-aggregate-holds
-    holds-requires
-    returns
-    slice-aggregate-holds-2
-    holds-requires-2
-    returns-2
-    filled-in-requires
-    returns-3
-    put-start-requires
-    same-length
-    returns-4
-    word-in-requires
-    returns-5
-    put-start-requires-2
-    sub-put-string-line
-    part-put-string-line-start
-    part-put-string-line-end
-    slice-aggregate-put-string-line
-    put-string-line-requires
-    add-m
-    same-length-2
-    returns-6)
+    (tie.spec (λ c. search needs) (λ c κs. search needs) returns (λ c. search needs) (λ c κs. search needs) returns-2 (λ c κs. search needs) returns-3
+    (λ c κs. search needs) (λ c. search needs) returns-4 (λ c κs. search needs) returns-5 (λ c κs. search needs) (λ c. search needs)
+    (λ c. search needs) (λ c. search needs) (λ c. search needs) (λ c κs. search needs) add-m (λ c. search needs) returns-6)

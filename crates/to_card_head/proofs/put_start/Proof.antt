@@ -3,37 +3,6 @@ use Rattle.to_card_head.proofs.Head.{starts}
 use borrow.Author.Needs.{needs}
 use Rattle.to_card_head.proofs.put_start.Statement.{statement}
 use Rattle.to_card_head.proofs.put_start.Tie as tie
-use Rattle.to_card_head.proofs.put_start.Reads as reads
-use Rattle.to_card_head.proofs.put_start.Lts as lts
-use Rattle.line_pen.proofs.fill.Reads as fill-reads
-use Rattle.to_card_lines.proofs.put_string_line.Reads as put-string-line-reads
-
-slice-aggregate-fill : tie.Need-slice-aggregate-fill
-slice-aggregate-fill c = search needs
-
-fill-requires : tie.Need-fill-requires
-fill-requires c κs = search needs
-
-sub-put-string-line : tie.Need-sub-put-string-line
-sub-put-string-line c = search needs
-
-part-put-string-line-start : tie.Need-part-put-string-line-start
-part-put-string-line-start c = search needs
-
-part-put-string-line-end : tie.Need-part-put-string-line-end
-part-put-string-line-end c = search needs
-
-slice-aggregate-put-string-line : tie.Need-slice-aggregate-put-string-line
-slice-aggregate-put-string-line c = search needs
-
-put-string-line-requires : tie.Need-put-string-line-requires
-put-string-line-requires c κs = search needs
-
-add-m : tie.Need-add-m
-add-m c = search needs
-
-same-length : tie.Need-same-length
-same-length c = search needs
 
 returns : tie.Need-returns
 returns c =
@@ -45,14 +14,5 @@ returns c =
 pub put-start-spec : {M : Type 1} → statement M
 put-start-spec =
     tie.close
-    (tie.spec
-    slice-aggregate-fill
-    fill-requires
-    sub-put-string-line
-    part-put-string-line-start
-    part-put-string-line-end
-    slice-aggregate-put-string-line
-    put-string-line-requires
-    add-m
-    same-length
-    returns)
+    (tie.spec (λ c. search needs) (λ c κs. search needs) (λ c. search needs) (λ c. search needs) (λ c. search needs) (λ c. search needs)
+    (λ c κs. search needs) (λ c. search needs) (λ c. search needs) returns)

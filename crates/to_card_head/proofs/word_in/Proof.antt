@@ -7,10 +7,6 @@ use Rattle.to_card_head.proofs.Slots.{test-none, test-fails, test-holds
 use borrow.Author.Needs.{needs}
 use Rattle.to_card_head.proofs.word_in.Statement.{statement}
 use Rattle.to_card_head.proofs.word_in.Tie as tie
-use Rattle.to_card_head.proofs.word_in.Reads as reads
-use Rattle.to_card_head.proofs.word_in.Lts as lts
-use Rattle.card_value.proofs.string_in.Reads as string-in-reads
-use Rattle.to_card_head.proofs.is_word.Reads as is-word-reads
 
 string-in-requires : tie.Need-string-in-requires
 string-in-requires c κs = search needs

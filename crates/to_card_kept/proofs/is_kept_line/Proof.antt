@@ -5,26 +5,8 @@ use borrow.Author.Needs.{needs}
 use Rattle.to_card_kept.proofs.is_kept_line.Statement.{statement}
 use Rattle.to_card_kept.proofs.is_kept_line.Tie as tie
 
-slice-aggregate-scan-rows : tie.Need-slice-aggregate-scan-rows
-slice-aggregate-scan-rows c = search needs
-
-slice-aggregate-scan-rows-2 : tie.Need-slice-aggregate-scan-rows-2
-slice-aggregate-scan-rows-2 c = search needs
-
-slice-aggregate-scan-rows-3 : tie.Need-slice-aggregate-scan-rows-3
-slice-aggregate-scan-rows-3 c = search needs
-
 scan-rows-requires : tie.Need-scan-rows-requires
 scan-rows-requires c κs = (clear-eight, c .before .before .before .before .before .before .before .before .before .before .before .pre .0 .0)
-
-slice-aggregate-class-line : tie.Need-slice-aggregate-class-line
-slice-aggregate-class-line c = search needs
-
-slice-aggregate-class-line-2 : tie.Need-slice-aggregate-class-line-2
-slice-aggregate-class-line-2 c = search needs
-
-slice-aggregate-class-line-3 : tie.Need-slice-aggregate-class-line-3
-slice-aggregate-class-line-3 c = search needs
 
 class-line-requires : tie.Need-class-line-requires
 class-line-requires c κs =
@@ -41,9 +23,6 @@ is-kept-class-requires c κs =
     let class-line = c .before .before .before .before .class-line in
     ((omega (arith, pre .0 .2), omega (arith, pre .0 .1 .fits, class-line .kept .1 .1 .1 .1 .1 .0), class-line .ensures .within), pre .1)
 
-same-length : tie.Need-same-length
-same-length c = search needs
-
 returns : tie.Need-returns
 returns c =
     let class-line = c .before .before .before .before .before .before .before .class-line in
@@ -53,16 +32,5 @@ returns c =
 pub is-kept-line-spec : {M : Type 1} → statement M
 is-kept-line-spec =
     tie.close
-    (tie.spec
-    slice-aggregate-scan-rows
-    slice-aggregate-scan-rows-2
-    slice-aggregate-scan-rows-3
-    scan-rows-requires
-    slice-aggregate-class-line
-    slice-aggregate-class-line-2
-    slice-aggregate-class-line-3
-    class-line-requires
-    questions-requires
-    is-kept-class-requires
-    same-length
-    returns)
+    (tie.spec (λ c. search needs) (λ c. search needs) (λ c. search needs) scan-rows-requires (λ c. search needs) (λ c. search needs)
+    (λ c. search needs) class-line-requires questions-requires is-kept-class-requires (λ c. search needs) returns)

@@ -2,8 +2,8 @@ use denote.Ref.{now}
 use mathlib.Core.Path.{refl, ap}
 use native.Mathlib.Omega.{arith}
 use Rattle.text.proofs.Cases.{not-true, not-false}
-use Rattle.kept_fill.specs.Held.{isEntry}
-use Rattle.kept_fill.proofs.Fill.{held-in}
+use Rattle.to_card_kept_entry.specs.fill.Held.{isEntry}
+use Rattle.to_card_kept_entry.proofs.fill.Fill.{held-in}
 use Rattle.to_card_kept.proofs.Entry.{sound-is, sound-not, lent-room, entry-unfilled, entry-unsound, entry-converts, entry-put}
 use borrow.Author.Needs.{needs}
 use Rattle.to_card_kept.proofs.put_entry.Statement.{statement}
@@ -13,18 +13,6 @@ fill-kept-requires : tie.Need-fill-kept-requires
 fill-kept-requires c κs =
     let pre = c .before .before .before .before .before .before .before .before .before .before .before .pre in
     (pre .0 .all .table, pre .1 .1)
-
-enum-known-end : tie.Need-enum-known-end
-enum-known-end c = search needs
-
-enum-told : tie.Need-enum-told
-enum-told c = search needs
-
-same-length : tie.Need-same-length
-same-length c = search needs
-
-same-length-2 : tie.Need-same-length-2
-same-length-2 c = search needs
 
 returns : tie.Need-returns
 returns c =
@@ -40,12 +28,6 @@ is-sound-requires c κs =
     let pre = c .before .before .before .before .before .before .before .before .before .before .before .before .before .before .before .before .before .before .before .before .before .pre in
     let fill-kept = c .before .before .before .before .before .before .before .before .before .fill-kept in
     omega (arith, pre .0 .all .table, fill-kept .ensures .0 .wide)
-
-same-length-3 : tie.Need-same-length-3
-same-length-3 c = search needs
-
-same-length-4 : tie.Need-same-length-4
-same-length-4 c = search needs
 
 returns-2 : tie.Need-returns-2
 returns-2 c =
@@ -65,15 +47,6 @@ is-kept-line-requires c κs =
     let if1 = c .before .before .before .if1 in
     ((sound-is (is-sound .result) (is-sound .ensures) (not-false _ (if1 .left)), lent-room (pre .0 .all) (fill-kept .ensures .0 .long), pre .0 .index), pre .1 .0)
 
-same-length-5 : tie.Need-same-length-5
-same-length-5 c = search needs
-
-same-length-6 : tie.Need-same-length-6
-same-length-6 c = search needs
-
-same-length-7 : tie.Need-same-length-7
-same-length-7 c = search needs
-
 returns-3 : tie.Need-returns-3
 returns-3 c =
     let args = c .before .before .before .before .before .before .before .before .before .before .before .before .before .before .before .before .before .before .before .before .before .before .before .before .before .before .before .before .before .before .before .args in
@@ -89,18 +62,6 @@ put-kept-line-requires c κs =
     let is-sound = c .before .before .before .before .before .before .before .before .before .before .before .before .is-sound in
     let if1 = c .before .before .before .before .before .before .before .before .before .before .before .if1 in
     sound-is (is-sound .result) (is-sound .ensures) (not-false _ (if1 .left))
-
-same-length-8 : tie.Need-same-length-8
-same-length-8 c = search needs
-
-same-length-9 : tie.Need-same-length-9
-same-length-9 c = search needs
-
-same-length-10 : tie.Need-same-length-10
-same-length-10 c = search needs
-
-same-length-11 : tie.Need-same-length-11
-same-length-11 c = search needs
 
 returns-4 : tie.Need-returns-4
 returns-4 c =
@@ -126,25 +87,6 @@ returns-4 c =
 pub put-entry-spec : {M : Type 1} → statement M
 put-entry-spec =
     tie.close
-    (tie.spec
-    fill-kept-requires
-    enum-known-end
-    enum-told
-    same-length
-    same-length-2
-    returns
-    is-sound-requires
-    same-length-3
-    same-length-4
-    returns-2
-    is-kept-line-requires
-    same-length-5
-    same-length-6
-    same-length-7
-    returns-3
-    put-kept-line-requires
-    same-length-8
-    same-length-9
-    same-length-10
-    same-length-11
-    returns-4)
+    (tie.spec fill-kept-requires (λ c. search needs) (λ c. search needs) (λ c. search needs) (λ c. search needs) returns is-sound-requires
+    (λ c. search needs) (λ c. search needs) returns-2 is-kept-line-requires (λ c. search needs) (λ c. search needs) (λ c. search needs) returns-3
+    put-kept-line-requires (λ c. search needs) (λ c. search needs) (λ c. search needs) (λ c. search needs) returns-4)

@@ -10,31 +10,10 @@ use borrow.Author.Needs.{needs}
 use Rattle.to_card_kept.proofs.put_from.Statement.{statement}
 use Rattle.to_card_kept.proofs.put_from.Tie as tie
 
-slice-aggregate-put-run : tie.Need-slice-aggregate-put-run
-slice-aggregate-put-run c = search needs
-
-slice-aggregate-put-run-2 : tie.Need-slice-aggregate-put-run-2
-slice-aggregate-put-run-2 c = search needs
-
-sub-put-run : tie.Need-sub-put-run
-sub-put-run c = search needs
-
-part-put-run-start : tie.Need-part-put-run-start
-part-put-run-start c = search needs
-
-part-put-run-end : tie.Need-part-put-run-end
-part-put-run-end c = search needs
-
 put-run-requires : tie.Need-put-run-requires
 put-run-requires c κs =
     let pre = c .before .before .before .before .before .before .before .before .before .before .before .before .before .pre in
     (pre .0, (λ l. absurd (omega (arith, l)), pre .1))
-
-enum-known-r : tie.Need-enum-known-r
-enum-known-r c = search needs
-
-enum-known-n : tie.Need-enum-known-n
-enum-known-n c = search needs
 
 sub-put-noted : tie.Need-sub-put-noted
 sub-put-noted c =
@@ -50,9 +29,6 @@ part-put-noted-start c =
     let v = more-within (length (now (args .out))) (length (now (args .s))) 16 (put-run .ensures .0) _ _ _ _ (c .before .n .given .1) in
     omega (arith, v .0, put-run .ensures .1 .0)
 
-part-put-noted-end : tie.Need-part-put-noted-end
-part-put-noted-end c = search needs
-
 put-noted-requires : tie.Need-put-noted-requires
 put-noted-requires c κs =
     let args = c .before .before .before .before .before .before .before .before .before .before .before .before .before .before .before .before .before .before .before .before .before .before .before .before .before .before .before .before .before .args in
@@ -61,24 +37,6 @@ put-noted-requires c κs =
     let n = c .before .before .before .before .before .n in
     let v = more-within (length (now (args .out))) (length (now (args .s))) 16 (put-run .ensures .0) _ _ _ _ (n .given .1) in
     (record { all = lent-as (pre .0 .all) (put-run .kept .1 .0) (put-run .kept .1 .1 .0) (put-run .kept .1 .1 .1 .0); index = pre .0 .index }, v .2)
-
-enum-known-m : tie.Need-enum-known-m
-enum-known-m c = search needs
-
-enum-told : tie.Need-enum-told
-enum-told c = search needs
-
-same-length : tie.Need-same-length
-same-length c = search needs
-
-same-length-2 : tie.Need-same-length-2
-same-length-2 c = search needs
-
-same-length-3 : tie.Need-same-length-3
-same-length-3 c = search needs
-
-same-length-4 : tie.Need-same-length-4
-same-length-4 c = search needs
 
 returns : tie.Need-returns
 returns c =
@@ -120,18 +78,6 @@ add-t48 c =
     let w = all-within _ _ _ _ _ (put-noted .ensures .0) (c .before .m .given .1) in
     record { fits = omega (arith, v .1, v .2, w .1, pre .0 .all .small) }
 
-same-length-5 : tie.Need-same-length-5
-same-length-5 c = search needs
-
-same-length-6 : tie.Need-same-length-6
-same-length-6 c = search needs
-
-same-length-7 : tie.Need-same-length-7
-same-length-7 c = search needs
-
-same-length-8 : tie.Need-same-length-8
-same-length-8 c = search needs
-
 returns-2 : tie.Need-returns-2
 returns-2 c =
     let args = c .before .before .before .before .before .before .before .before .before .before .before .before .before .before .before .before .before .before .before .before .before .before .before .before .before .args in
@@ -143,18 +89,6 @@ returns-2 c =
             (put-run .ensures .1 .1) _ (c .before .r .given .1),
       ),
     )
-
-same-length-9 : tie.Need-same-length-9
-same-length-9 c = search needs
-
-same-length-10 : tie.Need-same-length-10
-same-length-10 c = search needs
-
-same-length-11 : tie.Need-same-length-11
-same-length-11 c = search needs
-
-same-length-12 : tie.Need-same-length-12
-same-length-12 c = search needs
 
 returns-3 : tie.Need-returns-3
 returns-3 c =
@@ -177,35 +111,7 @@ returns-3 c =
 pub put-from-spec : {M : Type 1} → statement M
 put-from-spec =
     tie.close
-    (tie.spec
-    slice-aggregate-put-run
-    slice-aggregate-put-run-2
-    sub-put-run
-    part-put-run-start
-    part-put-run-end
-    put-run-requires
-    enum-known-r
-    enum-known-n
-    sub-put-noted
-    part-put-noted-start
-    part-put-noted-end
-    put-noted-requires
-    enum-known-m
-    enum-told
-    same-length
-    same-length-2
-    same-length-3
-    same-length-4
-    returns
-    add-t39
-    add-t48
-    same-length-5
-    same-length-6
-    same-length-7
-    same-length-8
-    returns-2
-    same-length-9
-    same-length-10
-    same-length-11
-    same-length-12
-    returns-3)
+    (tie.spec (λ c. search needs) (λ c. search needs) (λ c. search needs) (λ c. search needs) (λ c. search needs) put-run-requires (λ c. search needs)
+    (λ c. search needs) sub-put-noted part-put-noted-start (λ c. search needs) put-noted-requires (λ c. search needs) (λ c. search needs)
+    (λ c. search needs) (λ c. search needs) (λ c. search needs) (λ c. search needs) returns add-t39 add-t48 (λ c. search needs) (λ c. search needs)
+    (λ c. search needs) (λ c. search needs) returns-2 (λ c. search needs) (λ c. search needs) (λ c. search needs) (λ c. search needs) returns-3)

@@ -6,9 +6,6 @@ use borrow.Author.Needs.{needs}
 use Rattle.to_card_kept.proofs.put_kept.Statement.{statement}
 use Rattle.to_card_kept.proofs.put_kept.Tie as tie
 
-shared-slice-read-at : tie.Need-shared-slice-read-at
-shared-slice-read-at c = search needs
-
 returns : tie.Need-returns
 returns c =
     let args = c .before .before .before .before .before .before .before .before .args in
@@ -21,12 +18,6 @@ returns-2 c =
       (refl, kept-past (now (args .s)) (now (args .slots)) (args .full) (args .parts) (now (args .out)) _ refl (c .before .if1 .left) (c .if2 .taken) _),
     )
 
-skip-space-requires : tie.Need-skip-space-requires
-skip-space-requires c κs = search needs
-
-look-requires : tie.Need-look-requires
-look-requires c κs = search needs
-
 returns-3 : tie.Need-returns-3
 returns-3 c =
     let args = c .before .before .before .before .before .before .before .before .before .before .before .before .args in
@@ -34,15 +25,6 @@ returns-3 c =
       tt,
       (refl, kept-other (now (args .s)) (now (args .slots)) (args .full) (args .parts) (now (args .out)) _ refl (if1 .left) _ _ (c .before .before .skip-space .ensures) (c .before .look .ensures .0) (c .if3 .taken) _),
     )
-
-add-skip-space : tie.Need-add-skip-space
-add-skip-space c = search needs
-
-skip-space-requires-2 : tie.Need-skip-space-requires-2
-skip-space-requires-2 c κs = search needs
-
-look-requires-2 : tie.Need-look-requires-2
-look-requires-2 c κs = search needs
 
 returns-4 : tie.Need-returns-4
 returns-4 c =
@@ -54,21 +36,6 @@ returns-4 c =
       omega arith,
       (refl, kept-empty (now (args .s)) (now (args .slots)) (args .full) (args .parts) (now (args .out)) _ refl (if1 .left) _ _ (skip-space .ensures) (look .ensures .0) (if3 .left) _ _ (c .before .before .skip-space2 .ensures) (c .before .look2 .ensures .0) (c .if4 .taken)),
     )
-
-put-from-requires : tie.Need-put-from-requires
-put-from-requires c κs = search needs
-
-same-length : tie.Need-same-length
-same-length c = search needs
-
-same-length-2 : tie.Need-same-length-2
-same-length-2 c = search needs
-
-same-length-3 : tie.Need-same-length-3
-same-length-3 c = search needs
-
-same-length-4 : tie.Need-same-length-4
-same-length-4 c = search needs
 
 returns-5 : tie.Need-returns-5
 returns-5 c =
@@ -88,20 +55,5 @@ returns-5 c =
 pub put-kept-spec : {M : Type 1} → statement M
 put-kept-spec =
     tie.close
-    (tie.spec
-    shared-slice-read-at
-    returns
-    returns-2
-    skip-space-requires
-    look-requires
-    returns-3
-    add-skip-space
-    skip-space-requires-2
-    look-requires-2
-    returns-4
-    put-from-requires
-    same-length
-    same-length-2
-    same-length-3
-    same-length-4
-    returns-5)
+    (tie.spec (λ c. search needs) returns returns-2 (λ c κs. search needs) (λ c κs. search needs) returns-3 (λ c. search needs) (λ c κs. search needs)
+    (λ c κs. search needs) returns-4 (λ c κs. search needs) (λ c. search needs) (λ c. search needs) (λ c. search needs) (λ c. search needs) returns-5)

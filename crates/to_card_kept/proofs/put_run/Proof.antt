@@ -7,7 +7,7 @@ use native.Mathlib.Nat.{le-refl}
 use lib.ListN.{length}
 use Rattle.text.proofs.Places.{turn-as}
 use Rattle.to_card_lines.proofs.Laws.{part-length, part-in}
-use Rattle.card_entry.proofs.Putting.{entered-in}
+use Rattle.to_card_entry.proofs.Putting.{entered-in}
 use Rattle.to_card_kept.specs.Kept.{LentText}
 use Rattle.to_card_kept.specs.Puts.{asEntered, asLines}
 use Rattle.to_card_kept.proofs.Entry.{lent-as}
@@ -260,36 +260,6 @@ returns-3 c =
 pub put-run-spec : {M : Type 1} → statement M
 put-run-spec =
     tie.close
-    (tie.spec
-    Inv-loop
-    μ-loop
-    loop-holds
-    sub-put-entry
-    part-put-entry-start
-    part-put-entry-end
-    put-entry-requires
-    enum-known-k
-    enum-told
-    same-length
-    same-length-2
-    same-length-3
-    same-length-4
-    returns
-    add-n
-    add-lines
-    add-asked
-    separator-requires
-    enum-known-j
-    same-length-5
-    same-length-6
-    same-length-7
-    same-length-8
-    returns-2
-    loop-less
-    loop-again
-    enum-known-r
-    same-length-9
-    same-length-10
-    same-length-11
-    same-length-12
-    returns-3)
+    (tie.spec Inv-loop μ-loop loop-holds sub-put-entry part-put-entry-start part-put-entry-end put-entry-requires enum-known-k enum-told same-length
+    same-length-2 same-length-3 same-length-4 returns add-n add-lines add-asked separator-requires enum-known-j same-length-5 same-length-6
+    same-length-7 same-length-8 returns-2 loop-less loop-again enum-known-r same-length-9 same-length-10 same-length-11 same-length-12 returns-3)

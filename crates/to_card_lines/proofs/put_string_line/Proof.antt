@@ -3,65 +3,7 @@ use Rattle.line_pen.proofs.Filling.{then}
 use Rattle.line_pen.proofs.Laws.{filled, first!, next! }
 use Rattle.to_card_lines.proofs.put_string_line.Statement.{statement}
 use Rattle.to_card_lines.proofs.put_string_line.Tie as tie
-use Rattle.to_card_lines.proofs.put_string_line.Reads as reads
-use Rattle.to_card_lines.proofs.put_string_line.Lts as lts
-use Rattle.card_pen.proofs.pen_string.Reads as pen-string-reads
-use Rattle.line_pen.proofs.fill.Reads as fill-reads
-use Rattle.line_pen.proofs.pen_bytes.Reads as pen-bytes-reads
 
--- src/lib.rt:29:9
-pen-bytes-requires : tie.Need-pen-bytes-requires
-pen-bytes-requires c κs = search needs
-
--- src/lib.rt:31:24
-sub-pen-string : tie.Need-sub-pen-string
-sub-pen-string c = search needs
-
--- src/lib.rt:31:24
-part-pen-string-start : tie.Need-part-pen-string-start
-part-pen-string-start c = search needs
-
--- src/lib.rt:31:24
-part-pen-string-end : tie.Need-part-pen-string-end
-part-pen-string-end c = search needs
-
--- src/lib.rt:31:9
-pen-string-requires : tie.Need-pen-string-requires
-pen-string-requires c κs = search needs
-
--- src/lib.rt:32:14
-add-n2 : tie.Need-add-n2
-add-n2 c = search needs
-
--- src/lib.rt:33:18
-sub-fill : tie.Need-sub-fill
-sub-fill c = search needs
-
--- src/lib.rt:33:18
-part-fill-start : tie.Need-part-fill-start
-part-fill-start c = search needs
-
--- src/lib.rt:33:18
-part-fill-end : tie.Need-part-fill-end
-part-fill-end c = search needs
-
--- src/lib.rt:33:34
-slice-aggregate-fill : tie.Need-slice-aggregate-fill
-slice-aggregate-fill c = search needs
-
--- src/lib.rt:33:9
-fill-requires : tie.Need-fill-requires
-fill-requires c κs = search needs
-
--- src/lib.rt:34:14
-add-n3 : tie.Need-add-n3
-add-n3 c = search needs
-
--- src/lib.rt:20:1
-same-length : tie.Need-same-length
-same-length c = search needs
-
--- src/lib.rt:20:1
 returns : tie.Need-returns
 returns c =
     let q = c .before .before .before .before .before .before .before .before .pen-string .ensures in
@@ -70,18 +12,6 @@ returns c =
 pub put-string-line-spec : {M : Type 1} → statement M
 put-string-line-spec =
     tie.close
-    (tie.spec
-    pen-bytes-requires
-    sub-pen-string
-    part-pen-string-start
-    part-pen-string-end
-    pen-string-requires
-    add-n2
-    sub-fill
-    part-fill-start
-    part-fill-end
-    slice-aggregate-fill
-    fill-requires
-    add-n3
-    same-length
+    (tie.spec (λ c κs. search needs) (λ c. search needs) (λ c. search needs) (λ c. search needs) (λ c κs. search needs) (λ c. search needs)
+    (λ c. search needs) (λ c. search needs) (λ c. search needs) (λ c. search needs) (λ c κs. search needs) (λ c. search needs) (λ c. search needs)
     returns)

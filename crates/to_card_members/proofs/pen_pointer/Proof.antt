@@ -11,11 +11,6 @@ use Rattle.line_pen.proofs.Laws.{pens-in, pens-length, pens-then}
 use Rattle.to_card_members.proofs.Pointers.{Far, far-first, points-none, far-alone, far-end, far-one}
 use Rattle.to_card_members.proofs.pen_pointer.Statement.{statement}
 use Rattle.to_card_members.proofs.pen_pointer.Tie as tie
-use Rattle.to_card_members.proofs.pen_pointer.Reads as reads
-use Rattle.to_card_members.proofs.pen_pointer.Lts as lts
-use Rattle.card_pen.proofs.can_stand.Reads as can-stand-reads
-use Rattle.json_strings.proofs.next_byte.Reads as next-byte-reads
-use Rattle.to_card_members.proofs.pen_pointed.Reads as pen-pointed-reads
 
 abbrev Inv-loop : tie.InvT-loop
 Inv-loop out₀ column s at n₀ k₀ ok₀ i₀ h₀ out n k ok i h = (i ≤ length s) × Far s at out₀ column n k ok i h out
@@ -107,24 +102,5 @@ loop-again c =
 pub pen-pointer-spec : {M : Type 1} → statement M
 pen-pointer-spec =
     tie.close
-    (tie.spec
-    Inv-loop
-    μ-loop
-    returns
-    loop-holds
-    next-byte-requires
-    enum-told
-    same-length
-    returns-2
-    enum-told-2
-    same-length-2
-    returns-3
-    enum-known-b
-    sub-pen-pointed
-    part-pen-pointed-start
-    part-pen-pointed-end
-    pen-pointed-requires
-    add-n
-    can-stand-requires
-    loop-less
-    loop-again)
+    (tie.spec Inv-loop μ-loop returns loop-holds next-byte-requires enum-told same-length returns-2 enum-told-2 same-length-2 returns-3 enum-known-b
+    sub-pen-pointed part-pen-pointed-start part-pen-pointed-end pen-pointed-requires add-n can-stand-requires loop-less loop-again)

@@ -2,7 +2,7 @@ use borrow.Author.Needs.{needs}
 use native.Mathlib.Omega.{arith}
 use native.Mathlib.Nat.{le-refl}
 use denote.Ref.{now}
-use mathlib.Core.Path.{sym, ap, _∙_}
+use mathlib.Core.Path.{sym, ap}
 use mathlib.Core.Bool.{false}
 use Prim.Native.Nat.{_≤_, _-_}
 use lib.ListN.{length, take}
@@ -13,9 +13,6 @@ use Rattle.line_pen.proofs.Laws.{pens-none, pens-in, pens-length, pens-as, pens
 use Rattle.to_card_members.proofs.Pointers.{text-none, text-more}
 use Rattle.to_card_members.proofs.pen_text.Statement.{statement}
 use Rattle.to_card_members.proofs.pen_text.Tie as tie
-use Rattle.to_card_members.proofs.pen_text.Reads as reads
-use Rattle.to_card_members.proofs.pen_text.Lts as lts
-use Rattle.card_pen.proofs.pen_escape.Reads as pen-escape-reads
 
 abbrev Inv-loop : tie.InvT-loop
 Inv-loop out₀ column s at₀ k₀ i₀ out at k i = (i ≤ length s) × Pens out₀ column (writeText false (take i s)) (record { bytes = at; column = k }) out
@@ -69,18 +66,5 @@ returns c = pens-as (ap (writeText false) (take-all (c .before .loop .i) (now (c
 pub pen-text-spec : {M : Type 1} → statement M
 pen-text-spec =
     tie.close
-    (tie.spec
-    Inv-loop
-    μ-loop
-    loop-holds
-    sub-pen-escape
-    part-pen-escape-start
-    part-pen-escape-end
-    shared-slice-read-pen-escape
-    pen-escape-requires
-    add-at
-    add-i
-    loop-less
-    loop-again
-    same-length
-    returns)
+    (tie.spec Inv-loop μ-loop loop-holds sub-pen-escape part-pen-escape-start part-pen-escape-end shared-slice-read-pen-escape pen-escape-requires
+    add-at add-i loop-less loop-again same-length returns)

@@ -10,11 +10,6 @@ use Rattle.to_card_lines.proofs.Laws.{part-length, part-in, mid-length}
 use Rattle.to_card_members.proofs.Loop.{Going, going-first, puts-wrong, going-on, puts-all, one-in}
 use Rattle.to_card_members.proofs.put_from.Statement.{statement}
 use Rattle.to_card_members.proofs.put_from.Tie as tie
-use Rattle.to_card_members.proofs.put_from.Reads as reads
-use Rattle.to_card_members.proofs.put_from.Lts as lts
-use Rattle.json_access.proofs.member_at.Reads as member-at-reads
-use Rattle.json_marks.proofs.separator.Reads as separator-reads
-use Rattle.to_card_members.proofs.put_other.Reads as put-other-reads
 
 abbrev Inv-loop : tie.InvT-loop
 Inv-loop out₀ buffer₀ s at i₀ n₀ lines₀ ok₀ out buffer i n lines ok = (i ≤ length s) × (n ≤ length out) × (length out ≡ length out₀) × (lines ≤ i) × (length buffer ≡ length buffer₀) × Going s at out₀ i n lines ok out
@@ -159,27 +154,6 @@ returns-2 c =
 pub put-from-spec : {M : Type 1} → statement M
 put-from-spec =
     tie.close
-    (tie.spec
-    Inv-loop
-    μ-loop
-    loop-holds
-    member-at-requires
-    sub-put-other
-    part-put-other-start
-    part-put-other-end
-    put-other-requires
-    enum-known-k
-    enum-told
-    same-length
-    same-length-2
-    returns
-    add-n
-    add-lines
-    separator-requires
-    enum-known-j
-    loop-less
-    loop-again
-    enum-known-r
-    same-length-3
-    same-length-4
-    returns-2)
+    (tie.spec Inv-loop μ-loop loop-holds member-at-requires sub-put-other part-put-other-start part-put-other-end put-other-requires enum-known-k
+    enum-told same-length same-length-2 returns add-n add-lines separator-requires enum-known-j loop-less loop-again enum-known-r same-length-3
+    same-length-4 returns-2)

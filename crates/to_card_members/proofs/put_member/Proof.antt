@@ -1,23 +1,12 @@
-use native.Mathlib.Omega.{arith}
 use native.Mathlib.Nat.{le-refl}
 use denote.Ref.{now}
 use Rattle.line_pen.proofs.Filling.{then}
-use Rattle.line_pen.proofs.Laws.{filled, first!, next!, in!, fit!, same! }
-use Rattle.to_card_lines.proofs.Laws.{fills-in, fills-length, begun, onto, row-fits, row-in}
+use Rattle.line_pen.proofs.Laws.{filled, first!, next!, in!, fit! }
+use Rattle.to_card_lines.proofs.Laws.{fills-length, begun, row-fits}
 use Rattle.to_card_members.proofs.Values.{member-line}
 use borrow.Author.Needs.{needs}
 use Rattle.to_card_members.proofs.put_member.Statement.{statement}
 use Rattle.to_card_members.proofs.put_member.Tie as tie
-use Rattle.to_card_members.proofs.put_member.Reads as reads
-use Rattle.to_card_members.proofs.put_member.Lts as lts
-use Rattle.line_pen.proofs.fill.Reads as fill-reads
-use Rattle.line_pen.proofs.pen_bytes.Reads as pen-bytes-reads
-use Rattle.to_card_members.proofs.pen_pointer.Reads as pen-pointer-reads
-use Rattle.to_card_members.proofs.pen_text.Reads as pen-text-reads
-use Rattle.to_card_members.proofs.put_value.Reads as put-value-reads
-
-slice-aggregate-pen-bytes : tie.Need-slice-aggregate-pen-bytes
-slice-aggregate-pen-bytes c = search needs
 
 pen-bytes-requires : tie.Need-pen-bytes-requires
 pen-bytes-requires c κs = tt
@@ -46,9 +35,6 @@ part-pen-bytes-start c = in! (next! (first! (c .before .before .before .before .
 part-pen-bytes-end : tie.Need-part-pen-bytes-end
 part-pen-bytes-end c = le-refl _
 
-slice-aggregate-pen-bytes-2 : tie.Need-slice-aggregate-pen-bytes-2
-slice-aggregate-pen-bytes-2 c = search needs
-
 pen-bytes-requires-2 : tie.Need-pen-bytes-requires-2
 pen-bytes-requires-2 c κs = tt
 
@@ -64,24 +50,6 @@ put-value-requires : tie.Need-put-value-requires
 put-value-requires c κs =
     let pre = c .before .before .before .before .before .before .before .before .before .before .before .before .before .before .before .before .before .before .before .before .pre in
     (pre .0, pre .1 .0)
-
-sub-pen-text : tie.Need-sub-pen-text
-sub-pen-text c = search needs
-
-part-pen-text-start : tie.Need-part-pen-text-start
-part-pen-text-start c = search needs
-
-part-pen-text-end : tie.Need-part-pen-text-end
-part-pen-text-end c = search needs
-
-sub-pen-text-2 : tie.Need-sub-pen-text-2
-sub-pen-text-2 c = search needs
-
-part-pen-text-start-2 : tie.Need-part-pen-text-start-2
-part-pen-text-start-2 c = search needs
-
-part-pen-text-end-2 : tie.Need-part-pen-text-end-2
-part-pen-text-end-2 c = search needs
 
 pen-text-requires : tie.Need-pen-text-requires
 pen-text-requires c κs = tt
@@ -113,9 +81,6 @@ part-fill-start c =
 
 part-fill-end : tie.Need-part-fill-end
 part-fill-end c = le-refl _
-
-slice-aggregate-fill : tie.Need-slice-aggregate-fill
-slice-aggregate-fill c = search needs
 
 fill-requires : tie.Need-fill-requires
 fill-requires c κs = tt
@@ -151,9 +116,6 @@ same-length c =
     .so))
     (c .before .before .fill .ensures))
 
-same-length-2 : tie.Need-same-length-2
-same-length-2 c = search needs
-
 returns : tie.Need-returns
 returns c =
     let args = c .before .before .before .before .before .before .before .before .before .before .before .before .before .before .before .before .before .before .before .before .before .before .before .before .before .before .before .before .before .before .before .before .before .before .before .args in
@@ -170,35 +132,7 @@ returns c =
 pub put-member-spec : {M : Type 1} → statement M
 put-member-spec =
     tie.close
-    (tie.spec
-    slice-aggregate-pen-bytes
-    pen-bytes-requires
-    sub-pen-pointer
-    part-pen-pointer-start
-    part-pen-pointer-end
-    pen-pointer-requires
-    add-n2
-    sub-pen-bytes
-    part-pen-bytes-start
-    part-pen-bytes-end
-    slice-aggregate-pen-bytes-2
-    pen-bytes-requires-2
-    add-n3
-    put-value-requires
-    sub-pen-text
-    part-pen-text-start
-    part-pen-text-end
-    sub-pen-text-2
-    part-pen-text-start-2
-    part-pen-text-end-2
-    pen-text-requires
-    add-n4
-    sub-fill
-    part-fill-start
-    part-fill-end
-    slice-aggregate-fill
-    fill-requires
-    add-n5
-    same-length
-    same-length-2
-    returns)
+    (tie.spec (λ c. search needs) pen-bytes-requires sub-pen-pointer part-pen-pointer-start part-pen-pointer-end pen-pointer-requires add-n2
+    sub-pen-bytes part-pen-bytes-start part-pen-bytes-end (λ c. search needs) pen-bytes-requires-2 add-n3 put-value-requires (λ c. search needs)
+    (λ c. search needs) (λ c. search needs) (λ c. search needs) (λ c. search needs) (λ c. search needs) pen-text-requires add-n4 sub-fill
+    part-fill-start part-fill-end (λ c. search needs) fill-requires add-n5 same-length (λ c. search needs) returns)

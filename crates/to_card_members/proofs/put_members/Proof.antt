@@ -5,29 +5,9 @@ use Rattle.to_card_members.proofs.Loop.{members-other, members-empty, m
 use borrow.Author.Needs.{needs}
 use Rattle.to_card_members.proofs.put_members.Statement.{statement}
 use Rattle.to_card_members.proofs.put_members.Tie as tie
-use Rattle.to_card_members.proofs.put_members.Reads as reads
-use Rattle.to_card_members.proofs.put_members.Lts as lts
-use Rattle.json_marks.proofs.skip_space.Reads as skip-space-reads
-use Rattle.text.proofs.look.Reads as look-reads
-use Rattle.to_card_members.proofs.put_from.Reads as put-from-reads
-
-skip-space-requires : tie.Need-skip-space-requires
-skip-space-requires c κs = search needs
-
-look-requires : tie.Need-look-requires
-look-requires c κs = search needs
 
 returns : tie.Need-returns
 returns c = (tt, (refl, members-other (now (c .before .before .before .before .before .before .args .s)) (now (c .before .before .before .before .before .before .args .out)) _ _ (c .before .before .skip-space .ensures) (c .before .look .ensures .0) (c .if1 .taken) _))
-
-add-skip-space : tie.Need-add-skip-space
-add-skip-space c = search needs
-
-skip-space-requires-2 : tie.Need-skip-space-requires-2
-skip-space-requires-2 c κs = search needs
-
-look-requires-2 : tie.Need-look-requires-2
-look-requires-2 c κs = search needs
 
 returns-2 : tie.Need-returns-2
 returns-2 c =
@@ -38,15 +18,6 @@ returns-2 c =
       omega arith,
       (refl, members-empty (now (args .s)) (now (args .out)) _ _ (skip-space .ensures) (look .ensures .0) (if1 .left) _ _ (c .before .before .skip-space2 .ensures) (c .before .look2 .ensures .0) (c .if2 .taken)),
     )
-
-put-from-requires : tie.Need-put-from-requires
-put-from-requires c κs = search needs
-
-same-length : tie.Need-same-length
-same-length c = search needs
-
-same-length-2 : tie.Need-same-length-2
-same-length-2 c = search needs
 
 returns-3 : tie.Need-returns-3
 returns-3 c =
@@ -65,15 +36,5 @@ returns-3 c =
 pub put-members-spec : {M : Type 1} → statement M
 put-members-spec =
     tie.close
-    (tie.spec
-    skip-space-requires
-    look-requires
-    returns
-    add-skip-space
-    skip-space-requires-2
-    look-requires-2
-    returns-2
-    put-from-requires
-    same-length
-    same-length-2
-    returns-3)
+    (tie.spec (λ c κs. search needs) (λ c κs. search needs) returns (λ c. search needs) (λ c κs. search needs) (λ c κs. search needs) returns-2
+    (λ c κs. search needs) (λ c. search needs) (λ c. search needs) returns-3)

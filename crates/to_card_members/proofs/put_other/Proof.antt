@@ -1,6 +1,5 @@
 use denote.Ref.{now}
 use mathlib.Core.Path.{refl}
-use Rattle.text.specs.Bytes.{ascii}
 use native.Mathlib.Omega.{arith}
 use Rattle.text.proofs.Cases.{not-true, not-false}
 use Rattle.to_card_lines.proofs.Laws.{fills-in, fills-length}
@@ -8,14 +7,6 @@ use Rattle.to_card_members.proofs.Others.{is-reserved, other-said, othe
 use borrow.Author.Needs.{needs}
 use Rattle.to_card_members.proofs.put_other.Statement.{statement}
 use Rattle.to_card_members.proofs.put_other.Tie as tie
-use Rattle.to_card_members.proofs.put_other.Reads as reads
-use Rattle.to_card_members.proofs.put_other.Lts as lts
-use Rattle.json_index.proofs.which_name.Reads as which-name-reads
-use Rattle.to_card_head.proofs.is_filled.Reads as is-filled-reads
-use Rattle.to_card_members.proofs.put_member.Reads as put-member-reads
-
-slice-aggregate-which-name : tie.Need-slice-aggregate-which-name
-slice-aggregate-which-name c = search needs
 
 which-name-requires : tie.Need-which-name-requires
 which-name-requires c κs = tt
@@ -66,13 +57,4 @@ returns-3 c =
 pub put-other-spec : {M : Type 1} → statement M
 put-other-spec =
     tie.close
-    (tie.spec
-    slice-aggregate-which-name
-    which-name-requires
-    returns
-    is-filled-requires
-    returns-2
-    put-member-requires
-    same-length
-    same-length-2
-    returns-3)
+    (tie.spec (λ c. search needs) which-name-requires returns is-filled-requires returns-2 put-member-requires same-length same-length-2 returns-3)

@@ -3,27 +3,12 @@ use Rattle.to_card_name.proofs.Members.{apart-no-one, apart-no-other, a
 use borrow.Author.Needs.{needs}
 use Rattle.to_card_name.proofs.apart_in.Statement.{statement}
 use Rattle.to_card_name.proofs.apart_in.Tie as tie
-use Rattle.to_card_name.proofs.apart_in.Reads as reads
-use Rattle.to_card_name.proofs.apart_in.Lts as lts
-use Rattle.to_card_order.proofs.are_apart.Reads as are-apart-reads
-
-mul-if1 : tie.Need-mul-if1
-mul-if1 c = search needs
-
-shared-slice-read-if1 : tie.Need-shared-slice-read-if1
-shared-slice-read-if1 c = search needs
 
 returns : tie.Need-returns
 returns c =
     let pre = c .before .before .before .before .before .before .pre in
     let args = c .before .before .before .before .before .before .args in
     apart-no-one (now (args .s)) (args .at) (now (args .marks)) (args .one) (args .other) (pre .1 .1 .1 .1 .1 .0) (c .if1 .taken)
-
-mul-if2 : tie.Need-mul-if2
-mul-if2 c = search needs
-
-shared-slice-read-if2 : tie.Need-shared-slice-read-if2
-shared-slice-read-if2 c = search needs
 
 returns-2 : tie.Need-returns-2
 returns-2 c =
@@ -44,12 +29,4 @@ returns-3 c =
 pub apart-in-spec : {M : Type 1} → statement M
 apart-in-spec =
     tie.close
-    (tie.spec
-    mul-if1
-    shared-slice-read-if1
-    returns
-    mul-if2
-    shared-slice-read-if2
-    returns-2
-    are-apart-requires
-    returns-3)
+    (tie.spec (λ c. search needs) (λ c. search needs) returns (λ c. search needs) (λ c. search needs) returns-2 are-apart-requires returns-3)

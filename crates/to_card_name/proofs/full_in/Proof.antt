@@ -1,11 +1,7 @@
 use denote.Ref.{now}
 use Rattle.to_card_name.proofs.Members.{full-absent, full-wrong, full-at}
-use borrow.Author.Needs.{needs}
 use Rattle.to_card_name.proofs.full_in.Statement.{statement}
 use Rattle.to_card_name.proofs.full_in.Tie as tie
-use Rattle.to_card_name.proofs.full_in.Reads as reads
-use Rattle.to_card_name.proofs.full_in.Lts as lts
-use Rattle.card_value.proofs.string_in.Reads as string-in-reads
 
 returns : tie.Need-returns
 returns c = full-absent (now (c .before .before .args .s)) (c .before .before .args .slot) (c .if1 .taken)

@@ -3,36 +3,12 @@ use Rattle.to_card_name.proofs.Members.{unordered-absent, unordered-is}
 use borrow.Author.Needs.{needs}
 use Rattle.to_card_name.proofs.is_unordered.Statement.{statement}
 use Rattle.to_card_name.proofs.is_unordered.Tie as tie
-use Rattle.to_card_name.proofs.is_unordered.Reads as reads
-use Rattle.to_card_name.proofs.is_unordered.Lts as lts
-use Rattle.json_access.proofs.kind_at.Reads as kind-at-reads
 
 returns : tie.Need-returns
 returns c = unordered-absent (now (c .before .before .args .s)) (c .before .before .args .slot) (c .if1 .taken)
 
 kind-at-requires : tie.Need-kind-at-requires
 kind-at-requires c κs = tt
-
-enum-told : tie.Need-enum-told
-enum-told c = search needs
-
-enum-told-2 : tie.Need-enum-told-2
-enum-told-2 c = search needs
-
-enum-told-3 : tie.Need-enum-told-3
-enum-told-3 c = search needs
-
-enum-told-4 : tie.Need-enum-told-4
-enum-told-4 c = search needs
-
-enum-told-5 : tie.Need-enum-told-5
-enum-told-5 c = search needs
-
-enum-told-6 : tie.Need-enum-told-6
-enum-told-6 c = search needs
-
-enum-told-7 : tie.Need-enum-told-7
-enum-told-7 c = search needs
 
 returns-2 : tie.Need-returns-2
 returns-2 c =
@@ -86,20 +62,5 @@ returns-8 c =
 pub is-unordered-spec : {M : Type 1} → statement M
 is-unordered-spec =
     tie.close
-    (tie.spec
-    returns
-    kind-at-requires
-    enum-told
-    enum-told-2
-    enum-told-3
-    enum-told-4
-    enum-told-5
-    enum-told-6
-    enum-told-7
-    returns-2
-    returns-3
-    returns-4
-    returns-5
-    returns-6
-    returns-7
-    returns-8)
+    (tie.spec returns kind-at-requires (λ c. search needs) (λ c. search needs) (λ c. search needs) (λ c. search needs) (λ c. search needs)
+    (λ c. search needs) (λ c. search needs) returns-2 returns-3 returns-4 returns-5 returns-6 returns-7 returns-8)

@@ -4,10 +4,6 @@ use Rattle.to_card_name.proofs.Members.{list-absent, list-past, list-wr
 use borrow.Author.Needs.{needs}
 use Rattle.to_card_name.proofs.list_components.Statement.{statement}
 use Rattle.to_card_name.proofs.list_components.Tie as tie
-use Rattle.to_card_name.proofs.list_components.Reads as reads
-use Rattle.to_card_name.proofs.list_components.Lts as lts
-use Rattle.to_card_parts.proofs.list_rows.Reads as list-rows-reads
-use Rattle.to_card_parts.proofs.open_array.Reads as open-array-reads
 
 returns : tie.Need-returns
 returns c =
@@ -22,29 +18,11 @@ returns-2 c =
 open-array-requires : tie.Need-open-array-requires
 open-array-requires c κs = omega (arith, c .if2 .left)
 
-enum-told : tie.Need-enum-told
-enum-told c = search needs
-
-enum-told-2 : tie.Need-enum-told-2
-enum-told-2 c = search needs
-
-enum-known-j : tie.Need-enum-known-j
-enum-known-j c = search needs
-
 list-rows-requires : tie.Need-list-rows-requires
 list-rows-requires c κs =
     let pre = c .before .before .before .before .before .before .before .before .before .before .before .before .before .pre in
     let open-array = c .before .before .before .before .before .before .open-array in
     (array-in (open-array .result) (open-array .ensures .0) (c .before .before .before .before .j .given .1), pre)
-
-same-length : tie.Need-same-length
-same-length c = search needs
-
-same-length-2 : tie.Need-same-length-2
-same-length-2 c = search needs
-
-same-length-3 : tie.Need-same-length-3
-same-length-3 c = search needs
 
 returns-3 : tie.Need-returns-3
 returns-3 c =
@@ -75,15 +53,6 @@ returns-5 c =
       list-empty (now (args .s)) (args .slot) (now (args .marks)) (if1 .left) (open-array .result) (open-array .ensures .1) (c .enum-told2 .given .1),
     )
 
-same-length-4 : tie.Need-same-length-4
-same-length-4 c = search needs
-
-same-length-5 : tie.Need-same-length-5
-same-length-5 c = search needs
-
-same-length-6 : tie.Need-same-length-6
-same-length-6 c = search needs
-
 returns-6 : tie.Need-returns-6
 returns-6 c =
     let args = c .before .before .before .before .before .before .before .before .before .before .before .before .before .before .before .before .before .before .before .before .before .args in
@@ -98,21 +67,5 @@ returns-6 c =
 pub list-components-spec : {M : Type 1} → statement M
 list-components-spec =
     tie.close
-    (tie.spec
-    returns
-    returns-2
-    open-array-requires
-    enum-told
-    enum-told-2
-    enum-known-j
-    list-rows-requires
-    same-length
-    same-length-2
-    same-length-3
-    returns-3
-    returns-4
-    returns-5
-    same-length-4
-    same-length-5
-    same-length-6
-    returns-6)
+    (tie.spec returns returns-2 open-array-requires (λ c. search needs) (λ c. search needs) (λ c. search needs) list-rows-requires (λ c. search needs)
+    (λ c. search needs) (λ c. search needs) returns-3 returns-4 returns-5 (λ c. search needs) (λ c. search needs) (λ c. search needs) returns-6)

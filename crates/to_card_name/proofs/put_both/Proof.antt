@@ -3,13 +3,8 @@ use native.Mathlib.Nat.{le-refl}
 use native.Mathlib.Omega.{arith}
 use Rattle.to_card_lines.proofs.Laws.{fills-in, fills-length, begun, onto, row-in, row-fits, row-length}
 use Rattle.to_card_name.proofs.Rows.{both-row, both-lines}
-use borrow.Author.Needs.{needs}
 use Rattle.to_card_name.proofs.put_both.Statement.{statement}
 use Rattle.to_card_name.proofs.put_both.Tie as tie
-use Rattle.to_card_name.proofs.put_both.Reads as reads
-use Rattle.to_card_name.proofs.put_both.Lts as lts
-use Rattle.to_card_name.proofs.put_fn.Reads as put-fn-reads
-use Rattle.to_card_name.proofs.put_n.Reads as put-n-reads
 
 put-fn-requires : tie.Need-put-fn-requires
 put-fn-requires c κs = c .before .before .before .before .before .before .pre
@@ -58,13 +53,4 @@ returns c =
 pub put-both-spec : {M : Type 1} → statement M
 put-both-spec =
     tie.close
-    (tie.spec
-    put-fn-requires
-    sub-put-n
-    part-put-n-start
-    part-put-n-end
-    put-n-requires
-    add-m
-    add-k
-    same-length
-    returns)
+    (tie.spec put-fn-requires sub-put-n part-put-n-start part-put-n-end put-n-requires add-m add-k same-length returns)

@@ -6,11 +6,6 @@ use Rattle.to_card_name.proofs.Rows.{n-none, n-line}
 use borrow.Author.Needs.{needs}
 use Rattle.to_card_name.proofs.put_n.Statement.{statement}
 use Rattle.to_card_name.proofs.put_n.Tie as tie
-use Rattle.to_card_name.proofs.put_n.Reads as reads
-use Rattle.to_card_name.proofs.put_n.Lts as lts
-use Rattle.to_card_name.proofs.apart_in.Reads as apart-in-reads
-use Rattle.to_card_name.proofs.has_parts.Reads as has-parts-reads
-use Rattle.to_card_name.proofs.put_order_line.Reads as put-order-line-reads
 
 has-parts-requires : tie.Need-has-parts-requires
 has-parts-requires c κs = c .before .before .before .before .before .pre .1 .0
@@ -20,12 +15,6 @@ returns c =
     let args = c .before .before .before .before .before .before .before .args in
     let has-parts = c .before .has-parts in
     n-none (now (args .s)) (args .at) (now (args .marks)) (now (args .out)) (has-parts .result) (has-parts .ensures) (not-true _ (c .if1 .taken))
-
-slice-aggregate-put-order-line : tie.Need-slice-aggregate-put-order-line
-slice-aggregate-put-order-line c = search needs
-
-slice-aggregate-put-order-line-2 : tie.Need-slice-aggregate-put-order-line-2
-slice-aggregate-put-order-line-2 c = search needs
 
 put-order-line-requires : tie.Need-put-order-line-requires
 put-order-line-requires c κs = c .before .before .before .before .before .before .before .before .before .before .pre
@@ -56,13 +45,5 @@ returns-2 c =
 pub put-n-spec : {M : Type 1} → statement M
 put-n-spec =
     tie.close
-    (tie.spec
-    has-parts-requires
-    returns
-    slice-aggregate-put-order-line
-    slice-aggregate-put-order-line-2
-    put-order-line-requires
-    apart-in-requires
-    apart-in-requires-2
-    same-length
-    returns-2)
+    (tie.spec has-parts-requires returns (λ c. search needs) (λ c. search needs) put-order-line-requires apart-in-requires apart-in-requires-2
+    same-length returns-2)

@@ -11,23 +11,6 @@ use Rattle.to_card_name.proofs.Fulls.{full-absent, full-told}
 use borrow.Author.Needs.{needs}
 use Rattle.to_card_name.proofs.put_name.Statement.{statement}
 use Rattle.to_card_name.proofs.put_name.Tie as tie
-use Rattle.to_card_name.proofs.put_name.Reads as reads
-use Rattle.to_card_name.proofs.put_name.Lts as lts
-use Rattle.json_index.proofs.index_object.Reads as index-object-reads
-use Rattle.to_card_name.proofs.put_alone.Reads as put-alone-reads
-use Rattle.to_card_name.proofs.put_slots.Reads as put-slots-reads
-
-put-alone-requires : tie.Need-put-alone-requires
-put-alone-requires c κs = search needs
-
-enum-known-n : tie.Need-enum-known-n
-enum-known-n c = search needs
-
-enum-told : tie.Need-enum-told
-enum-told c = search needs
-
-same-length : tie.Need-same-length
-same-length c = search needs
 
 returns : tie.Need-returns
 returns c =
@@ -36,9 +19,6 @@ returns c =
     let puts = name-absent (now (args .s)) (args .slot) (now (args .out)) (c .before .before .before .before .before .before .if1 .taken) (put-alone .result) (put-alone .last .0) (put-alone .ensures .1 .1) in
     let said = subst (λ (x : Lines). PutsName (now (args .s)) (args .slot) (now (args .out)) x (put-alone .last .0)) (c .enum-told .given .1) puts in
     (tt, (put-alone .ensures .1 .0, (said, tt)))
-
-same-length-2 : tie.Need-same-length-2
-same-length-2 c = search needs
 
 returns-2 : tie.Need-returns-2
 returns-2 c =
@@ -53,12 +33,6 @@ returns-3 c =
     let args = c .before .before .before .before .args in
     (tt, (refl, (name-past (now (args .s)) (args .slot) (now (args .out)) (c .before .if1 .left) (c .if2 .taken) _, tt)))
 
-slice-aggregate-index-object : tie.Need-slice-aggregate-index-object
-slice-aggregate-index-object c = search needs
-
-slice-aggregate-index-object-2 : tie.Need-slice-aggregate-index-object-2
-slice-aggregate-index-object-2 c = search needs
-
 index-object-requires : tie.Need-index-object-requires
 index-object-requires c κs = (omega (arith, c .before .before .if2 .left), (omega (arith, ap length names-are), clear-four))
 
@@ -67,30 +41,6 @@ returns-4 c =
     let args = c .before .before .before .before .before .before .before .before .before .args in
     let index-object = c .before .before .index-object in
     (tt, (refl, (name-object (now (args .s)) (args .slot) (now (args .out)) (c .before .before .before .before .before .before .if1 .left) _ (index-object .result) (index-object .ensures) (not-true _ (c .if3 .taken)) _, tt)))
-
-array-read-a : tie.Need-array-read-a
-array-read-a c = search needs
-
-array-read-b : tie.Need-array-read-b
-array-read-b c = search needs
-
-array-read-c : tie.Need-array-read-c
-array-read-c c = search needs
-
-array-read-d : tie.Need-array-read-d
-array-read-d c = search needs
-
-put-slots-requires : tie.Need-put-slots-requires
-put-slots-requires c κs = search needs
-
-enum-known-n-2 : tie.Need-enum-known-n-2
-enum-known-n-2 c = search needs
-
-enum-told-2 : tie.Need-enum-told-2
-enum-told-2 c = search needs
-
-same-length-3 : tie.Need-same-length-3
-same-length-3 c = search needs
 
 returns-5 : tie.Need-returns-5
 returns-5 c =
@@ -101,9 +51,6 @@ returns-5 c =
     let puts = name-slots (now (args .s)) (args .slot) (now (args .out)) (if1 .left) (index-object .last .0) (index-object .result) (index-object .ensures) (not-false _ (c .before .before .before .before .before .before .if3 .left)) (put-slots .result) (put-slots .last .0) (put-slots .ensures .1 .1) in
     let said = subst (λ (x : Lines). PutsName (now (args .s)) (args .slot) (now (args .out)) x (put-slots .last .0)) (c .enum-told2 .given .1) puts in
     (tt, (put-slots .ensures .1 .0, (said, tt)))
-
-same-length-4 : tie.Need-same-length-4
-same-length-4 c = search needs
 
 returns-6 : tie.Need-returns-6
 returns-6 c =
@@ -119,27 +66,6 @@ returns-6 c =
 pub put-name-spec : {M : Type 1} → statement M
 put-name-spec =
     tie.close
-    (tie.spec
-    put-alone-requires
-    enum-known-n
-    enum-told
-    same-length
-    returns
-    same-length-2
-    returns-2
-    returns-3
-    slice-aggregate-index-object
-    slice-aggregate-index-object-2
-    index-object-requires
-    returns-4
-    array-read-a
-    array-read-b
-    array-read-c
-    array-read-d
-    put-slots-requires
-    enum-known-n-2
-    enum-told-2
-    same-length-3
-    returns-5
-    same-length-4
-    returns-6)
+    (tie.spec (λ c κs. search needs) (λ c. search needs) (λ c. search needs) (λ c. search needs) returns (λ c. search needs) returns-2 returns-3
+    (λ c. search needs) (λ c. search needs) index-object-requires returns-4 (λ c. search needs) (λ c. search needs) (λ c. search needs)
+    (λ c. search needs) (λ c κs. search needs) (λ c. search needs) (λ c. search needs) (λ c. search needs) returns-5 (λ c. search needs) returns-6)

@@ -5,11 +5,6 @@ use Rattle.to_card_lines.proofs.Laws.{fills-length, begun, row-fits}
 use borrow.Author.Needs.{needs}
 use Rattle.to_card_name.proofs.put_order_line.Statement.{statement}
 use Rattle.to_card_name.proofs.put_order_line.Tie as tie
-use Rattle.to_card_name.proofs.put_order_line.Reads as reads
-use Rattle.to_card_name.proofs.put_order_line.Lts as lts
-use Rattle.line_pen.proofs.fill.Reads as fill-reads
-use Rattle.line_pen.proofs.pen_bytes.Reads as pen-bytes-reads
-use Rattle.to_card_order.proofs.pen_order.Reads as pen-order-reads
 
 pen-bytes-requires : tie.Need-pen-bytes-requires
 pen-bytes-requires c κs = tt
@@ -42,9 +37,6 @@ part-fill-start c = in! (next! (first! (c .before .before .before .before .befor
 part-fill-end : tie.Need-part-fill-end
 part-fill-end c = le-refl _
 
-slice-aggregate-fill : tie.Need-slice-aggregate-fill
-slice-aggregate-fill c = search needs
-
 fill-requires : tie.Need-fill-requires
 fill-requires c κs = tt
 
@@ -76,18 +68,5 @@ returns c =
 pub put-order-line-spec : {M : Type 1} → statement M
 put-order-line-spec =
     tie.close
-    (tie.spec
-    pen-bytes-requires
-    sub-pen-order
-    part-pen-order-start
-    part-pen-order-end
-    pen-order-requires
-    add-n2
-    sub-fill
-    part-fill-start
-    part-fill-end
-    slice-aggregate-fill
-    fill-requires
-    add-n3
-    same-length
-    returns)
+    (tie.spec pen-bytes-requires sub-pen-order part-pen-order-start part-pen-order-end pen-order-requires add-n2 sub-fill part-fill-start
+    part-fill-end (λ c. search needs) fill-requires add-n3 same-length returns)

@@ -5,11 +5,6 @@ use Rattle.to_card_name.proofs.Whole.{slots-other, slots-neither, slots
 use borrow.Author.Needs.{needs}
 use Rattle.to_card_name.proofs.put_slots.Statement.{statement}
 use Rattle.to_card_name.proofs.put_slots.Tie as tie
-use Rattle.to_card_name.proofs.put_slots.Reads as reads
-use Rattle.to_card_name.proofs.put_slots.Lts as lts
-use Rattle.to_card_name.proofs.full_in.Reads as full-in-reads
-use Rattle.to_card_name.proofs.is_unordered.Reads as is-unordered-reads
-use Rattle.to_card_name.proofs.put_list.Reads as put-list-reads
 
 returns : tie.Need-returns
 returns c =
@@ -21,9 +16,6 @@ returns-2 c =
     let args = c .before .before .before .before .args in
     (tt, (refl, slots-neither (now (args .s)) (args .full) (args .components) (args .ordered) (args .other) (now (args .out)) (c .if2 .taken) _))
 
-is-unordered-requires : tie.Need-is-unordered-requires
-is-unordered-requires c κs = search needs
-
 returns-3 : tie.Need-returns-3
 returns-3 c =
     let args = c .before .before .before .before .before .before .args in
@@ -32,24 +24,6 @@ returns-3 c =
       (refl, slots-ordered (now (args .s)) (args .full) (args .components) (args .ordered) (args .other) (now (args .out)) (is-unordered .result) (is-unordered .ensures) (not-true _ (c .if3 .taken)) _),
     )
 
-full-in-requires : tie.Need-full-in-requires
-full-in-requires c κs = search needs
-
-enum-told : tie.Need-enum-told
-enum-told c = search needs
-
-enum-told-2 : tie.Need-enum-told-2
-enum-told-2 c = search needs
-
-put-list-requires : tie.Need-put-list-requires
-put-list-requires c κs = search needs
-
-enum-known-q : tie.Need-enum-known-q
-enum-known-q c = search needs
-
-put-list-requires-2 : tie.Need-put-list-requires-2
-put-list-requires-2 c κs = search needs
-
 returns-4 : tie.Need-returns-4
 returns-4 c =
     let args = c .before .before .before .before .before .before .before .before .before .args in
@@ -57,9 +31,6 @@ returns-4 c =
       tt,
       (refl, slots-full (now (args .s)) (args .full) (args .components) (args .ordered) (args .other) (now (args .out)) (full-in .result) (full-in .ensures) (c .enum-told .given .1) _),
     )
-
-same-length : tie.Need-same-length
-same-length c = search needs
 
 returns-5 : tie.Need-returns-5
 returns-5 c =
@@ -78,9 +49,6 @@ returns-5 c =
             (full-in .result) (full-in .ensures) (if1 .left) (if2 .left) (is-unordered .result) (is-unordered .ensures) (not-false _ (if3 .left)) (put-list .result) _ (enum-told2 .given .1) (put-list .ensures .1 .1),
       ),
     )
-
-same-length-2 : tie.Need-same-length-2
-same-length-2 c = search needs
 
 returns-6 : tie.Need-returns-6
 returns-6 c =
@@ -103,19 +71,5 @@ returns-6 c =
 pub put-slots-spec : {M : Type 1} → statement M
 put-slots-spec =
     tie.close
-    (tie.spec
-    returns
-    returns-2
-    is-unordered-requires
-    returns-3
-    full-in-requires
-    enum-told
-    enum-told-2
-    put-list-requires
-    enum-known-q
-    put-list-requires-2
-    returns-4
-    same-length
-    returns-5
-    same-length-2
-    returns-6)
+    (tie.spec returns returns-2 (λ c κs. search needs) returns-3 (λ c κs. search needs) (λ c. search needs) (λ c. search needs) (λ c κs. search needs)
+    (λ c. search needs) (λ c κs. search needs) returns-4 (λ c. search needs) returns-5 (λ c. search needs) returns-6)

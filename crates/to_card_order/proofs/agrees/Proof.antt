@@ -3,7 +3,6 @@ use mathlib.Core.Path.{sym, ap, _∙_}
 use mathlib.Core.Bool.{Bool, _&&_}
 use Rattle.text.proofs.Cases.{not-true, not-false}
 use Rattle.json_strings.specs.Decoded.{decodedAt, agree}
-use borrow.Author.Needs.{needs}
 use Rattle.to_card_order.proofs.agrees.Statement.{statement}
 use Rattle.to_card_order.proofs.agrees.Tie as tie
 

@@ -74,18 +74,5 @@ returns-2 c =
 pub are-apart-spec : {M : Type 1} → statement M
 are-apart-spec =
     tie.close
-    (tie.spec
-    Inv-loop
-    μ-loop
-    walk-apart-requires
-    returns
-    loop-holds
-    mul-clashes
-    shared-slice-read-clashes
-    mul-clashes-2
-    shared-slice-read-clashes-2
-    clashes-requires
-    add-i
-    loop-less
-    loop-again
-    returns-2)
+    (tie.spec Inv-loop μ-loop walk-apart-requires returns loop-holds mul-clashes shared-slice-read-clashes mul-clashes-2 shared-slice-read-clashes-2
+    clashes-requires add-i loop-less loop-again returns-2)

@@ -1,7 +1,6 @@
 use denote.Ref.{now}
 use Rattle.text.proofs.Cases.{not-true, not-false}
 use Rattle.to_card_order.proofs.Apart.{clash-unwanted, clash-empty, clash-is}
-use borrow.Author.Needs.{needs}
 use Rattle.to_card_order.proofs.clashes.Statement.{statement}
 use Rattle.to_card_order.proofs.clashes.Tie as tie
 

@@ -59,16 +59,5 @@ returns c =
 pub is-listed-spec : {M : Type 1} → statement M
 is-listed-spec =
     tie.close
-    (tie.spec
-    Inv-loop
-    μ-loop
-    loop-holds
-    mul-agrees
-    shared-slice-read-agrees
-    mul-agrees-2
-    shared-slice-read-agrees-2
-    agrees-requires
-    add-i
-    loop-less
-    loop-again
-    returns)
+    (tie.spec Inv-loop μ-loop loop-holds mul-agrees shared-slice-read-agrees mul-agrees-2 shared-slice-read-agrees-2 agrees-requires add-i loop-less
+    loop-again returns)

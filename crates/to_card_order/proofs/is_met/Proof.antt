@@ -1,21 +1,14 @@
-use native.Mathlib.Omega.{arith}
 use denote.Ref.{now}
 use Rattle.to_card_order.proofs.Noted.{meets-none, meets-as}
 use borrow.Author.Needs.{needs}
 use Rattle.to_card_order.proofs.is_met.Statement.{statement}
 use Rattle.to_card_order.proofs.is_met.Tie as tie
 
-value-print-requires : tie.Need-value-print-requires
-value-print-requires c κs = search needs
-
 returns : tie.Need-returns
 returns c =
     let args = c .before .before .before .before .before .args in
     meets-none (now (args .s)) (args .wanted) (args .value) (c .before .value-print .result) (c .before .value-print .ensures) (now (args .places)) (now (args .prints))
     (args .count) (c .if1 .taken)
-
-cast-is-noted-wide : tie.Need-cast-is-noted-wide
-cast-is-noted-wide c = search needs
 
 is-noted-wide-requires : tie.Need-is-noted-wide-requires
 is-noted-wide-requires c κs = (c .before .before .before .before .before .pre .0, (c .before .before .before .before .before .pre .1, c .before .value-print .ensures .print-is (c .if1 .left)))
@@ -30,4 +23,4 @@ returns-2 c =
 pub is-met-spec : {M : Type 1} → statement M
 is-met-spec =
     tie.close
-    (tie.spec value-print-requires returns cast-is-noted-wide is-noted-wide-requires returns-2)
+    (tie.spec (λ c κs. search needs) returns (λ c. search needs) is-noted-wide-requires returns-2)

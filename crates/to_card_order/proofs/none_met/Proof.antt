@@ -96,19 +96,5 @@ returns-3 c =
 pub none-met-spec : {M : Type 1} → statement M
 none-met-spec =
     tie.close
-    (tie.spec
-    Inv-loop
-    μ-loop
-    returns
-    loop-holds
-    component-to-end-requires
-    enum-known-k
-    enum-told
-    returns-2
-    is-met-requires
-    separator-requires
-    enum-known-j
-    loop-less
-    loop-again
-    enum-known-r
-    returns-3)
+    (tie.spec Inv-loop μ-loop returns loop-holds component-to-end-requires enum-known-k enum-told returns-2 is-met-requires separator-requires
+    enum-known-j loop-less loop-again enum-known-r returns-3)

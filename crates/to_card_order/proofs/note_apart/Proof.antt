@@ -128,23 +128,5 @@ returns-2 c =
 pub note-apart-spec : {M : Type 1} → statement M
 note-apart-spec =
     tie.close
-    (tie.spec
-    Inv-loop
-    μ-loop
-    loop-holds
-    component-to-end-requires
-    enum-known-k
-    enum-told
-    same-length
-    same-length-2
-    returns
-    note-value-requires
-    separator-requires
-    enum-known-j
-    loop-less
-    loop-again
-    enum-known-r
-    none-met-requires
-    same-length-3
-    same-length-4
-    returns-2)
+    (tie.spec Inv-loop μ-loop loop-holds component-to-end-requires enum-known-k enum-told same-length same-length-2 returns note-value-requires
+    separator-requires enum-known-j loop-less loop-again enum-known-r none-met-requires same-length-3 same-length-4 returns-2)

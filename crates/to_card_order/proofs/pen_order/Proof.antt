@@ -64,18 +64,5 @@ returns c =
 pub pen-order-spec : {M : Type 1} → statement M
 pen-order-spec =
     tie.close
-    (tie.spec
-    Inv-loop
-    μ-loop
-    loop-holds
-    sub-pen-place
-    part-pen-place-start
-    part-pen-place-end
-    shared-slice-read-pen-place
-    pen-place-requires
-    add-n
-    add-i
-    loop-less
-    loop-again
-    same-length
-    returns)
+    (tie.spec Inv-loop μ-loop loop-holds sub-pen-place part-pen-place-start part-pen-place-end shared-slice-read-pen-place pen-place-requires add-n
+    add-i loop-less loop-again same-length returns)

@@ -26,20 +26,11 @@ returns-2 c =
     inks-low (now (args .s)) (args .at) (now (args .marks)) (args .style) (args .mark) (args .place) (args .begun) (now (args .out)) (args .column)
     (c .before .if1 .left) (c .if2 .taken)
 
-cast-kind : tie.Need-cast-kind
-cast-kind c = search needs
-
 returns-3 : tie.Need-returns-3
 returns-3 c =
     let args = c .before .before .before .before .before .before .before .before .args in
     inks-high (now (args .s)) (args .at) (now (args .marks)) (args .style) (args .mark) (args .place) (args .begun) (now (args .out)) (args .column)
     (c .before .before .if1 .left) (c .before .if2 .left) (c .if3 .taken)
-
-mul-if4 : tie.Need-mul-if4
-mul-if4 c = search needs
-
-shared-slice-read-if4 : tie.Need-shared-slice-read-if4
-shared-slice-read-if4 c = search needs
 
 returns-4 : tie.Need-returns-4
 returns-4 c =
@@ -70,16 +61,5 @@ returns-5 c =
 pub pen-place-spec : {M : Type 1} → statement M
 pen-place-spec =
     tie.close
-    (tie.spec
-    pen-byte-requires
-    same-length
-    returns
-    returns-2
-    cast-kind
-    returns-3
-    mul-if4
-    shared-slice-read-if4
-    returns-4
-    pen-listed-requires
-    same-length-2
-    returns-5)
+    (tie.spec pen-byte-requires same-length returns returns-2 (λ c. search needs) returns-3 (λ c. search needs) (λ c. search needs) returns-4
+    pen-listed-requires same-length-2 returns-5)

@@ -4,10 +4,6 @@ use Rattle.to_card_parts.proofs.Components.{kinds-are, slots-kind, slot
 use borrow.Author.Needs.{needs}
 use Rattle.to_card_parts.proofs.component_of.Statement.{statement}
 use Rattle.to_card_parts.proofs.component_of.Tie as tie
-use Rattle.to_card_parts.proofs.component_of.Reads as reads
-use Rattle.to_card_parts.proofs.component_of.Lts as lts
-use Rattle.card_value.proofs.string_in.Reads as string-in-reads
-use Rattle.json_index.proofs.which_name.Reads as which-name-reads
 
 returns : tie.Need-returns
 returns c = (tt, slots-kind (now (c .before .before .args .s)) (c .before .before .args .kind) (c .before .before .args .value) (c .if1 .taken))
@@ -24,9 +20,6 @@ returns-3 c =
     let if1 = c .before .before .before .if1 in
     let string-in = c .before .string-in in
     (tt, slots-no-kind (now (args .s)) (args .kind) (args .value) (if1 .left) (string-in .result) (string-in .ensures) (c .if3 .taken))
-
-slice-aggregate-which-name : tie.Need-slice-aggregate-which-name
-slice-aggregate-which-name c = search needs
 
 which-name-requires : tie.Need-which-name-requires
 which-name-requires c κs = tt
@@ -75,14 +68,5 @@ returns-6 c =
 pub component-of-spec : {M : Type 1} → statement M
 component-of-spec =
     tie.close
-    (tie.spec
-    returns
-    returns-2
-    string-in-requires
-    returns-3
-    slice-aggregate-which-name
-    which-name-requires
-    returns-4
-    string-in-requires-2
-    returns-5
+    (tie.spec returns returns-2 string-in-requires returns-3 (λ c. search needs) which-name-requires returns-4 string-in-requires-2 returns-5
     returns-6)

@@ -9,16 +9,6 @@ use Rattle.to_card_parts.proofs.Components.{clear-three, names-are, obj
 use borrow.Author.Needs.{needs}
 use Rattle.to_card_parts.proofs.component_to_end.Statement.{statement}
 use Rattle.to_card_parts.proofs.component_to_end.Tie as tie
-use Rattle.to_card_parts.proofs.component_to_end.Reads as reads
-use Rattle.to_card_parts.proofs.component_to_end.Lts as lts
-use Rattle.json_index.proofs.index_to_end.Reads as index-to-end-reads
-use Rattle.to_card_parts.proofs.component_of.Reads as component-of-reads
-
-slice-aggregate-index-to-end : tie.Need-slice-aggregate-index-to-end
-slice-aggregate-index-to-end c = search needs
-
-slice-aggregate-index-to-end-2 : tie.Need-slice-aggregate-index-to-end-2
-slice-aggregate-index-to-end-2 c = search needs
 
 index-to-end-requires : tie.Need-index-to-end-requires
 index-to-end-requires c κs = (c .before .before .before .pre, (omega (arith, ap length names-are), clear-three))
@@ -29,29 +19,11 @@ returns c =
     let index-to-end = c .before .before .index-to-end in
     (tt, (object-not (now (args .s)) (args .at) _ _ (index-to-end .ensures .1) (ap not (eq-eqb _ 0 (c .if1 .taken))), tt))
 
-array-read-a : tie.Need-array-read-a
-array-read-a c = search needs
-
-array-read-b : tie.Need-array-read-b
-array-read-b c = search needs
-
-array-read-other : tie.Need-array-read-other
-array-read-other c = search needs
-
 returns-2 : tie.Need-returns-2
 returns-2 c =
     let args = c .before .before .before .before .before .before .before .args in
     let index-to-end = c .before .before .before .index-to-end in
     (tt, (object-strange (now (args .s)) (args .at) _ _ (index-to-end .ensures .1) (ap not (ne-eqb _ 0 (c .before .if1 .left))) (c .if2 .taken), tt))
-
-component-of-requires : tie.Need-component-of-requires
-component-of-requires c κs = search needs
-
-enum-known-k : tie.Need-enum-known-k
-enum-known-k c = search needs
-
-enum-told : tie.Need-enum-told
-enum-told c = search needs
 
 returns-3 : tie.Need-returns-3
 returns-3 c =
@@ -82,17 +54,5 @@ returns-4 c =
 pub component-to-end-spec : {M : Type 1} → statement M
 component-to-end-spec =
     tie.close
-    (tie.spec
-    slice-aggregate-index-to-end
-    slice-aggregate-index-to-end-2
-    index-to-end-requires
-    returns
-    array-read-a
-    array-read-b
-    array-read-other
-    returns-2
-    component-of-requires
-    enum-known-k
-    enum-told
-    returns-3
-    returns-4)
+    (tie.spec (λ c. search needs) (λ c. search needs) index-to-end-requires returns (λ c. search needs) (λ c. search needs) (λ c. search needs)
+    returns-2 (λ c κs. search needs) (λ c. search needs) (λ c. search needs) returns-3 returns-4)

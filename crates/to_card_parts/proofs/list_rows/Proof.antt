@@ -9,11 +9,6 @@ use Rattle.to_card_parts.proofs.Passes.{kind-in, ended-found, ended-in,
 use Rattle.to_card_parts.proofs.Rows.{Listing, listing-first, listing-on, lists-all, no-rows}
 use Rattle.to_card_parts.proofs.list_rows.Statement.{statement}
 use Rattle.to_card_parts.proofs.list_rows.Tie as tie
-use Rattle.to_card_parts.proofs.list_rows.Reads as reads
-use Rattle.to_card_parts.proofs.list_rows.Lts as lts
-use Rattle.json_marks.proofs.separator.Reads as separator-reads
-use Rattle.to_card_parts.proofs.mark_kind.Reads as mark-kind-reads
-use Rattle.to_card_parts.proofs.put_row.Reads as put-row-reads
 
 abbrev Inv-loop : tie.InvT-loop
 Inv-loop marks₀ kinds₀ values₀ s at i₀ n₀ marks kinds values i n =
@@ -170,25 +165,6 @@ returns-2 c =
 pub list-rows-spec : {M : Type 1} → statement M
 list-rows-spec =
     tie.close
-    (tie.spec
-    Inv-loop
-    μ-loop
-    loop-holds
-    component-to-end-requires
-    enum-known-k
-    enum-told
-    same-length
-    same-length-2
-    same-length-3
-    returns
-    mark-kind-requires
-    put-row-requires
-    separator-requires
-    enum-known-j
-    loop-less
-    loop-again
-    enum-known-r
-    same-length-4
-    same-length-5
-    same-length-6
+    (tie.spec Inv-loop μ-loop loop-holds component-to-end-requires enum-known-k enum-told same-length same-length-2 same-length-3 returns
+    mark-kind-requires put-row-requires separator-requires enum-known-j loop-less loop-again enum-known-r same-length-4 same-length-5 same-length-6
     returns-2)

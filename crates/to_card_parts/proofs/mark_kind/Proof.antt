@@ -7,9 +7,6 @@ use Rattle.to_card_parts.proofs.Passes.{marks-none, marks-one}
 use borrow.Author.Needs.{needs}
 use Rattle.to_card_parts.proofs.mark_kind.Statement.{statement}
 use Rattle.to_card_parts.proofs.mark_kind.Tie as tie
-use Rattle.to_card_parts.proofs.mark_kind.Reads as reads
-use Rattle.to_card_parts.proofs.mark_kind.Lts as lts
-use Rattle.to_card_head.proofs.is_filled.Reads as is-filled-reads
 
 is-filled-requires : tie.Need-is-filled-requires
 is-filled-requires c κs = tt
@@ -20,15 +17,6 @@ returns c =
     marks-none (now (args .s)) (args .value) (args .kind) (now (args .marks))
     (subst (λ (b : Bool). TellsFilled (now (args .s)) (args .value) b) (not-true _ (c .if1 .taken)) (c .before .is-filled .ensures))
 
-mul-marks : tie.Need-mul-marks
-mul-marks c = search needs
-
-slice-write-marks : tie.Need-slice-write-marks
-slice-write-marks c = search needs
-
-same-length : tie.Need-same-length
-same-length c = search needs
-
 returns-2 : tie.Need-returns-2
 returns-2 c =
     let args = c .before .before .before .before .args in
@@ -38,4 +26,4 @@ returns-2 c =
 pub mark-kind-spec : {M : Type 1} → statement M
 mark-kind-spec =
     tie.close
-    (tie.spec is-filled-requires returns mul-marks slice-write-marks same-length returns-2)
+    (tie.spec is-filled-requires returns (λ c. search needs) (λ c. search needs) (λ c. search needs) returns-2)

@@ -1,31 +1,11 @@
-use native.Mathlib.Omega.{arith}
 use denote.Ref.{now}
 use Rattle.to_card_parts.proofs.Components.{opens-not, opens-empty, opens-at}
 use borrow.Author.Needs.{needs}
 use Rattle.to_card_parts.proofs.open_array.Statement.{statement}
 use Rattle.to_card_parts.proofs.open_array.Tie as tie
-use Rattle.to_card_parts.proofs.open_array.Reads as reads
-use Rattle.to_card_parts.proofs.open_array.Lts as lts
-use Rattle.json_marks.proofs.skip_space.Reads as skip-space-reads
-use Rattle.text.proofs.look.Reads as look-reads
-
-skip-space-requires : tie.Need-skip-space-requires
-skip-space-requires c κs = search needs
-
-look-requires : tie.Need-look-requires
-look-requires c κs = search needs
 
 returns : tie.Need-returns
 returns c = (tt, opens-not (now (c .before .before .before .before .args .s)) (c .before .before .before .before .args .at) _ _ (c .before .before .skip-space .ensures) (c .before .look .ensures .0) (c .if1 .taken))
-
-add-skip-space : tie.Need-add-skip-space
-add-skip-space c = search needs
-
-skip-space-requires-2 : tie.Need-skip-space-requires-2
-skip-space-requires-2 c κs = search needs
-
-look-requires-2 : tie.Need-look-requires-2
-look-requires-2 c κs = search needs
 
 returns-2 : tie.Need-returns-2
 returns-2 c =
@@ -50,12 +30,5 @@ returns-3 c =
 pub open-array-spec : {M : Type 1} → statement M
 open-array-spec =
     tie.close
-    (tie.spec
-    skip-space-requires
-    look-requires
-    returns
-    add-skip-space
-    skip-space-requires-2
-    look-requires-2
-    returns-2
+    (tie.spec (λ c κs. search needs) (λ c κs. search needs) returns (λ c. search needs) (λ c κs. search needs) (λ c κs. search needs) returns-2
     returns-3)

@@ -9,11 +9,6 @@ use Rattle.line_pen.proofs.Laws.{pens-in, pens-length, pens-then}
 use Rattle.to_card_parts.proofs.Passes.{ended-found, ended-in, Inking, inking-first, inks-wrong, inking-on, inks-all}
 use Rattle.to_card_parts.proofs.pen_kind.Statement.{statement}
 use Rattle.to_card_parts.proofs.pen_kind.Tie as tie
-use Rattle.to_card_parts.proofs.pen_kind.Reads as reads
-use Rattle.to_card_parts.proofs.pen_kind.Lts as lts
-use Rattle.json_marks.proofs.separator.Reads as separator-reads
-use Rattle.to_card_parts.proofs.component_to_end.Reads as component-to-end-reads
-use Rattle.to_card_parts.proofs.pen_value.Reads as pen-value-reads
 
 abbrev Inv-loop : tie.InvT-loop
 Inv-loop out₀ column style mark s at kind begun i₀ n₀ c₀ b₀ ok₀ out i n c b ok = (i ≤ length s) × Inking s at style mark kind begun out₀ column i n c b ok out
@@ -125,24 +120,5 @@ returns-2 c =
 pub pen-kind-spec : {M : Type 1} → statement M
 pen-kind-spec =
     tie.close
-    (tie.spec
-    Inv-loop
-    μ-loop
-    loop-holds
-    component-to-end-requires
-    enum-known-k
-    enum-told
-    same-length
-    returns
-    sub-pen-value
-    part-pen-value-start
-    part-pen-value-end
-    pen-value-requires
-    add-n
-    separator-requires
-    enum-known-j
-    loop-less
-    loop-again
-    enum-known-r
-    same-length-2
-    returns-2)
+    (tie.spec Inv-loop μ-loop loop-holds component-to-end-requires enum-known-k enum-told same-length returns sub-pen-value part-pen-value-start
+    part-pen-value-end pen-value-requires add-n separator-requires enum-known-j loop-less loop-again enum-known-r same-length-2 returns-2)

@@ -6,10 +6,6 @@ use Rattle.line_pen.proofs.Laws.{pens-in, pens-length, pens-then}
 use Rattle.to_card_parts.proofs.Rows.{ByRows, by-rows-first, by-rows-on, by-rows-all}
 use Rattle.to_card_parts.proofs.pen_listed.Statement.{statement}
 use Rattle.to_card_parts.proofs.pen_listed.Tie as tie
-use Rattle.to_card_parts.proofs.pen_listed.Reads as reads
-use Rattle.to_card_parts.proofs.pen_listed.Lts as lts
-use Rattle.to_card_parts.proofs.pen_kind.Reads as pen-kind-reads
-use Rattle.to_card_parts.proofs.pen_value.Reads as pen-value-reads
 
 abbrev Inv-loop : tie.InvT-loop
 Inv-loop out₀ column style mark s at kinds values rows kind begun i₀ n₀ c₀ b₀ ok₀ out i n c b ok = ByRows s at style mark kind begun out₀ column i n c b ok out
@@ -17,52 +13,41 @@ Inv-loop out₀ column style mark s at kinds values rows kind begun i₀ n₀ c�
 abbrev μ-loop : tie.MeasureT-loop
 μ-loop out₀ column style mark s at kinds values rows kind begun i₀ n₀ c₀ b₀ ok₀ out i n c b ok = rows - i
 
--- src/lib.rt:311:9
 pen-kind-requires : tie.Need-pen-kind-requires Inv-loop μ-loop
 pen-kind-requires c κs = c .before .before .before .before .before .before .pre .0
 
--- src/lib.rt:311:9
 same-length : tie.Need-same-length Inv-loop μ-loop
 same-length c = pens-length (c .before .before .pen-kind .ensures .pens)
 
--- src/lib.rt:311:9
 returns : tie.Need-returns Inv-loop μ-loop
 returns c = c .before .before .pen-kind .ensures
 
--- src/lib.rt:318:5
 loop-holds : tie.Need-loop-holds Inv-loop μ-loop
 loop-holds c =
     let args = c .before .before .before .before .before .args in
     by-rows-first (now (args .s)) (args .at) (args .style) (args .mark) (args .kind) (args .begun) (now (args .out)) (args .column)
 
--- src/lib.rt:319:27
 sub-pen-value : tie.Need-sub-pen-value Inv-loop μ-loop
 sub-pen-value c = omega (arith, pens-in (c .before .loop .inv .pens), pens-length (c .before .loop .inv .pens))
 
--- src/lib.rt:319:27
 part-pen-value-start : tie.Need-part-pen-value-start Inv-loop μ-loop
 part-pen-value-start c = omega (arith, pens-in (c .before .loop .inv .pens), pens-length (c .before .loop .inv .pens))
 
--- src/lib.rt:319:27
 part-pen-value-end : tie.Need-part-pen-value-end Inv-loop μ-loop
 part-pen-value-end c = le-refl _
 
--- src/lib.rt:319:61
 mul-pen-value : tie.Need-mul-pen-value Inv-loop μ-loop
 mul-pen-value c = omega (arith, c .before .loop-test .taken, c .before .before .before .if1 .left, c .before .before .before .before .before .before .before .before .pre .1 .0, c .before .before .before .before .before .before .before .before .pre .1 .1 .0)
 
--- src/lib.rt:319:61
 shared-slice-read-pen-value : tie.Need-shared-slice-read-pen-value Inv-loop μ-loop
 shared-slice-read-pen-value c =
     let pre = c .before .before .before .before .before .before .before .before .before .pre in
     let if1 = c .before .before .before .before .if1 in
     omega (arith, c .before .before .loop-test .taken, if1 .left, pre .1 .0, pre .1 .1 .0)
 
--- src/lib.rt:319:80
 mul-pen-value-2 : tie.Need-mul-pen-value-2 Inv-loop μ-loop
 mul-pen-value-2 c = omega (arith, c .before .before .loop-test .taken, c .before .before .before .before .if1 .left, c .before .before .before .before .before .before .before .before .before .pre .1 .0, c .before .before .before .before .before .before .before .before .before .pre .1 .1 .0)
 
--- src/lib.rt:319:80
 shared-slice-read-pen-value-2 : tie.Need-shared-slice-read-pen-value-2 Inv-loop μ-loop
 shared-slice-read-pen-value-2 c =
     let pre = c .before .before .before .before .before .before .before .before .before .before .pre in
@@ -70,11 +55,9 @@ shared-slice-read-pen-value-2 c =
     let loop-test = c .before .before .before .loop-test in
     omega (arith, loop-test .taken, if1 .left, pre .1 .0, pre .1 .1 .0)
 
--- src/lib.rt:319:13
 pen-value-requires : tie.Need-pen-value-requires Inv-loop μ-loop
 pen-value-requires c κs = tt
 
--- src/lib.rt:320:9
 add-n : tie.Need-add-n Inv-loop μ-loop
 add-n c =
     let good = c .before .before .before .before .before .before .before .before .before .before .before .before .before .before .good in
@@ -82,15 +65,12 @@ add-n c =
     let pen-value = c .before .before .before .pen-value in
     record { fits = omega (arith, pens-in (pens-then (loop .inv .pens) (pen-value .ensures .pens)), good .0 .0) }
 
--- src/lib.rt:324:9
 add-i : tie.Need-add-i Inv-loop μ-loop
 add-i c = omega (arith, c .before .before .before .before .before .before .before .before .loop-test .taken, c .before .before .before .before .before .before .before .before .before .before .if1 .left)
 
--- src/lib.rt:318:5
 loop-less : tie.Need-loop-less Inv-loop μ-loop
 loop-less c = omega (arith, c .before .before .before .before .before .before .before .before .loop-test .taken)
 
--- src/lib.rt:318:5
 loop-again : tie.Need-loop-again Inv-loop μ-loop
 loop-again c =
     let args = c .before .before .before .before .before .before .before .before .before .before .before .before .before .before .before .args in
@@ -103,11 +83,9 @@ loop-again c =
     (loop .c) (loop .b) (loop .ok) (loop .out) (loop .inv) (now (args .kinds)) (now (args .values)) (args .rows) (omega (arith, if1 .left))
     (pre .1 .1 .1) (loop-test .taken) (pen-value .result) _ (pen-value .ensures)
 
--- src/lib.rt:291:1
 same-length-2 : tie.Need-same-length-2 Inv-loop μ-loop
 same-length-2 c = pens-length (c .before .loop .inv .pens)
 
--- src/lib.rt:291:1
 returns-2 : tie.Need-returns-2 Inv-loop μ-loop
 returns-2 c =
     let pre = c .before .before .before .before .before .before .before .pre in
@@ -120,24 +98,6 @@ returns-2 c =
 pub pen-listed-spec : {M : Type 1} → statement M
 pen-listed-spec =
     tie.close
-    (tie.spec
-    Inv-loop
-    μ-loop
-    pen-kind-requires
-    same-length
-    returns
-    loop-holds
-    sub-pen-value
-    part-pen-value-start
-    part-pen-value-end
-    mul-pen-value
-    shared-slice-read-pen-value
-    mul-pen-value-2
-    shared-slice-read-pen-value-2
-    pen-value-requires
-    add-n
-    add-i
-    loop-less
-    loop-again
-    same-length-2
+    (tie.spec Inv-loop μ-loop pen-kind-requires same-length returns loop-holds sub-pen-value part-pen-value-start part-pen-value-end mul-pen-value
+    shared-slice-read-pen-value mul-pen-value-2 shared-slice-read-pen-value-2 pen-value-requires add-n add-i loop-less loop-again same-length-2
     returns-2)

@@ -3,9 +3,6 @@ use Rattle.to_card_parts.proofs.Values.{one-unwanted, one-wanted}
 use borrow.Author.Needs.{needs}
 use Rattle.to_card_parts.proofs.pen_value.Statement.{statement}
 use Rattle.to_card_parts.proofs.pen_value.Tie as tie
-use Rattle.to_card_parts.proofs.pen_value.Reads as reads
-use Rattle.to_card_parts.proofs.pen_value.Lts as lts
-use Rattle.to_card_parts.proofs.pen_wanted.Reads as pen-wanted-reads
 
 pen-wanted-requires : tie.Need-pen-wanted-requires
 pen-wanted-requires c κs = search needs

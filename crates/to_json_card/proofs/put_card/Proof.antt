@@ -1,22 +1,16 @@
 use borrow.Author.Needs.{needs}
-use mathlib.Core.Path.{_≡_, refl, sym, ap, _∙_}
 use mathlib.Core.List.{List, [], _∷_}
-use Prim.Native.Nat.{ℕ, _+_, _-_, _≤_, _<_}
-use native.Mathlib.Nat.{le-refl, lt-of-le-of-lt}
-use native.Mathlib.Omega.{arith}
+use native.Mathlib.Nat.{le-refl}
 use denote.Ref.{now}
-use lib.ListN.{length, take, drop, getD}
 use Rattle.output.proofs.Rows.{Here, first!, next!, none, stop!, all, in!, fit!, same!, length-puts}
 use Rattle.convert.specs.Classify.{Classed}
-use Rattle.card_lines.specs.Classified.{Classified}
+use Rattle.from_card_lines.specs.Classified.{Classified}
 use Rattle.text.specs.Bytes.{flat}
 use Rattle.output.proofs.Laws.{puts-as}
 use Rattle.to_json_card.specs.Card.{restPieces}
 use Rattle.to_json_card.proofs.Groups.{groups-print}
 use Rattle.to_json_card.proofs.put_card.Statement.{statement}
 use Rattle.to_json_card.proofs.put_card.Tie as tie
-use Rattle.to_json_card.proofs.put_card.Reads as reads
-use Rattle.to_json_card.proofs.put_card.Lts as lts
 
 -- the card's classified lines, as they came
 abbrev Lines : tie.After-known-told → List Classed → Type 0
@@ -47,9 +41,6 @@ same-length c =
     let pre = c .before .before .before .before .before .before .before .before .before .before .before .before .before .before .before .before .pre in
     let put-top = c .before .before .before .before .before .before .put-top in
     length-puts (none (flat (restPieces (pre .lines .0)) ∷ []) (put-top .ensures (pre .lines .0) (pre .lines .1)) (c .enum-told .given .1))
-
-same-length-2 : tie.Need-same-length-2
-same-length-2 c = search needs
 
 returns : tie.Need-returns
 returns c =
@@ -90,12 +81,6 @@ same-length-3 c =
     (pre .lines .1))
     (put-rest .ensures (pre .lines .0) (pre .lines .1)) (c .enum-told2 .given .1))
 
-same-length-4 : tie.Need-same-length-4
-same-length-4 c = search needs
-
-same-length-5 : tie.Need-same-length-5
-same-length-5 c = search needs
-
 returns-2 : tie.Need-returns-2
 returns-2 c =
     let args = c .before .before .before .before .before .before .before .before .before .before .before .before .before .before .before .before .before .before .before .before .before .before .before .before .before .before .before .before .before .args in
@@ -115,12 +100,6 @@ same-length-6 c =
     let pre = c .before .before .before .before .before .before .before .before .before .before .before .before .before .before .before .before .before .before .before .before .before .before .before .before .before .before .before .before .before .before .pre in
     same! (s₂ c (pre .lines .0) (pre .lines .1))
 
-same-length-7 : tie.Need-same-length-7
-same-length-7 c = search needs
-
-same-length-8 : tie.Need-same-length-8
-same-length-8 c = search needs
-
 returns-3 : tie.Need-returns-3
 returns-3 c =
     let args = c .before .before .before .before .before .before .before .before .before .before .before .before .before .before .before .before .before .before .before .before .before .before .before .before .before .before .before .before .before .before .args in
@@ -129,25 +108,6 @@ returns-3 c =
 pub put-card-spec : {M : Type 1} → statement M
 put-card-spec =
     tie.close
-    (tie.spec
-    put-top-requires
-    enum-known-a1
-    enum-told
-    same-length
-    same-length-2
-    returns
-    sub-put-rest
-    part-put-rest-start
-    part-put-rest-end
-    put-rest-requires
-    enum-known-a2
-    enum-told-2
-    same-length-3
-    same-length-4
-    same-length-5
-    returns-2
-    add-b2
-    same-length-6
-    same-length-7
-    same-length-8
-    returns-3)
+    (tie.spec put-top-requires enum-known-a1 enum-told same-length (λ c. search needs) returns sub-put-rest part-put-rest-start part-put-rest-end
+    put-rest-requires enum-known-a2 enum-told-2 same-length-3 (λ c. search needs) (λ c. search needs) returns-2 add-b2 same-length-6
+    (λ c. search needs) (λ c. search needs) returns-3)

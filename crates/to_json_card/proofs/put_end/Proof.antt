@@ -1,18 +1,12 @@
 use borrow.Author.Needs.{needs}
-use mathlib.Core.Path.{_≡_, refl, sym, ap, _∙_}
 use mathlib.Core.List.{List, [], _∷_}
-use Prim.Native.Nat.{ℕ, _+_, _-_, _≤_, _<_}
-use native.Mathlib.Nat.{le-refl, lt-of-le-of-lt}
-use native.Mathlib.Omega.{arith}
+use native.Mathlib.Nat.{le-refl}
 use denote.Ref.{now}
-use lib.ListN.{length, take, drop, getD}
 use Rattle.output.proofs.Rows.{Here, first!, next!, none, stop!, all, in!, fit!, same!, length-puts}
 use Rattle.convert.specs.Classify.{Classed}
-use Rattle.card_lines.specs.Classified.{Classified}
+use Rattle.from_card_lines.specs.Classified.{Classified}
 use Rattle.to_json_card.proofs.put_end.Statement.{statement}
 use Rattle.to_json_card.proofs.put_end.Tie as tie
-use Rattle.to_json_card.proofs.put_end.Reads as reads
-use Rattle.to_json_card.proofs.put_end.Lts as lts
 
 -- the card's classified lines, as they came
 abbrev Lines : tie.After-known-told → List Classed → Type 0
@@ -44,9 +38,6 @@ same-length c =
     let put-props = c .before .before .before .before .before .before .put-props in
     length-puts (none ((125 ∷ []) ∷ []) (put-props .ensures (pre .1 .0) (pre .1 .1)) (c .enum-told .given .1))
 
-same-length-2 : tie.Need-same-length-2
-same-length-2 c = search needs
-
 returns : tie.Need-returns
 returns c = λ cs h. none ((125 ∷ []) ∷ []) (c .before .before .before .before .before .before .put-props .ensures cs h) (c .enum-told .given .1)
 
@@ -76,9 +67,6 @@ same-length-3 c =
     let put-byte = c .before .before .before .before .put-byte in
     length-puts (stop! (s₁ (c .before .before .before .before .before .before) (pre .1 .0) (pre .1 .1)) (put-byte .ensures) (c .enum-told2 .given .1))
 
-same-length-4 : tie.Need-same-length-4
-same-length-4 c = search needs
-
 returns-2 : tie.Need-returns-2
 returns-2 c = λ cs h. stop! (s₁ (c .before .before .before .before .before .before) cs h) (c .before .before .before .before .put-byte .ensures) (c .enum-told2 .given .1)
 
@@ -93,32 +81,11 @@ same-length-5 c =
     let pre = c .before .before .before .before .before .before .before .before .before .before .before .before .before .before .before .before .before .before .before .before .before .before .pre in
     same! (s₂ c (pre .1 .0) (pre .1 .1))
 
-same-length-6 : tie.Need-same-length-6
-same-length-6 c = search needs
-
 returns-3 : tie.Need-returns-3
 returns-3 c = λ cs h. all (s₂ c cs h .left)
 
 pub put-end-spec : {M : Type 1} → statement M
 put-end-spec =
     tie.close
-    (tie.spec
-    put-props-requires
-    enum-known-a1
-    enum-told
-    same-length
-    same-length-2
-    returns
-    sub-put-byte
-    part-put-byte-start
-    part-put-byte-end
-    put-byte-requires
-    enum-known-a2
-    enum-told-2
-    same-length-3
-    same-length-4
-    returns-2
-    add-b2
-    same-length-5
-    same-length-6
-    returns-3)
+    (tie.spec put-props-requires enum-known-a1 enum-told same-length (λ c. search needs) returns sub-put-byte part-put-byte-start part-put-byte-end
+    put-byte-requires enum-known-a2 enum-told-2 same-length-3 (λ c. search needs) returns-2 add-b2 same-length-5 (λ c. search needs) returns-3)

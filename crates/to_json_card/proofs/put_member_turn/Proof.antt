@@ -1,12 +1,7 @@
 use borrow.Author.Needs.{needs}
-use mathlib.Core.Path.{_≡_, refl, sym, ap, _∙_}
-use mathlib.Core.List.{List, [], _∷_}
-use Prim.Native.Nat.{ℕ, _+_, _-_, _≤_, _<_}
+use mathlib.Core.Path.{sym, ap, _∙_}
 use native.Mathlib.Nat.{le-refl, lt-of-le-of-lt}
-use native.Mathlib.Omega.{arith}
-use denote.Ref.{now}
 use borrow.Author.Tests.{not-true, not-false}
-use lib.ListN.{length, take, drop, getD}
 use Rattle.to_json_maps.proofs.Marking.{filled-holds, filled-none}
 use Rattle.output.proofs.Laws.{first, first-full, next, stop, more, done, within, puts-as}
 use Rattle.output.proofs.Rows.{length-puts}
@@ -16,26 +11,12 @@ use Rattle.convert_put.specs.Pieces.{memberBytes}
 use Rattle.to_json_card.proofs.Members.{held-member}
 use Rattle.to_json_card.proofs.put_member_turn.Statement.{statement}
 use Rattle.to_json_card.proofs.put_member_turn.Tie as tie
-use Rattle.to_json_card.proofs.put_member_turn.Reads as reads
-use Rattle.to_json_card.proofs.put_member_turn.Lts as lts
 
 fill-requires : tie.Need-fill-requires
 fill-requires c κs = c .before .before .before .before .before .pre .0
 
-same-length : tie.Need-same-length
-same-length c = search needs
-
 returns : tie.Need-returns
 returns c = λ m x. none-some (sym (filled-none _ _ (c .before .before .before .fill .result) (c .before .before .before .fill .ensures) (not-true _ (c .if1 .taken))) ∙ x .read)
-
-slice-aggregate-scan-rows : tie.Need-slice-aggregate-scan-rows
-slice-aggregate-scan-rows c = search needs
-
-slice-aggregate-scan-rows-2 : tie.Need-slice-aggregate-scan-rows-2
-slice-aggregate-scan-rows-2 c = search needs
-
-slice-aggregate-scan-rows-3 : tie.Need-slice-aggregate-scan-rows-3
-slice-aggregate-scan-rows-3 c = search needs
 
 scan-rows-requires : tie.Need-scan-rows-requires
 scan-rows-requires c κs = (clear-eight, (filled-holds (c .before .before .before .before .before .before .before .fill .result) (c .before .before .before .before .before .before .before .fill .ensures) (not-false _ (c .before .before .before .before .if1 .left))) .sound)
@@ -49,12 +30,6 @@ enum-known-a c = c .match .keys1
 enum-told : tie.Need-enum-told
 enum-told c = c .match .keys2
 
-same-length-2 : tie.Need-same-length-2
-same-length-2 c = search needs
-
-same-length-3 : tie.Need-same-length-3
-same-length-3 c = search needs
-
 returns-2 : tie.Need-returns-2
 returns-2 c = λ m x. more (memberBytes m) (first-full (c .before .before .before .before .put-byte .ensures) (c .enum-told .given .1))
 
@@ -66,15 +41,6 @@ part-put-member-line-start c = within (first (c .before .before .before .before 
 
 part-put-member-line-end : tie.Need-part-put-member-line-end
 part-put-member-line-end c = le-refl _
-
-slice-aggregate-put-member-line : tie.Need-slice-aggregate-put-member-line
-slice-aggregate-put-member-line c = search needs
-
-slice-aggregate-put-member-line-2 : tie.Need-slice-aggregate-put-member-line-2
-slice-aggregate-put-member-line-2 c = search needs
-
-slice-aggregate-put-member-line-3 : tie.Need-slice-aggregate-put-member-line-3
-slice-aggregate-put-member-line-3 c = search needs
 
 put-member-line-requires : tie.Need-put-member-line-requires
 put-member-line-requires c κs =
@@ -114,12 +80,6 @@ same-length-4 c =
     (put-member-line .ensures ((pre .2 .1) .seen) ((pre .2 .1) .name) ((pre .2 .1) .value)
     (held-member (filled-holds (fill .result) (fill .ensures) (not-false _ (if1 .left))) (pre .2 .1))))
     (c .enum-told2 .given .1))
-
-same-length-5 : tie.Need-same-length-5
-same-length-5 c = search needs
-
-same-length-6 : tie.Need-same-length-6
-same-length-6 c = search needs
 
 returns-3 : tie.Need-returns-3
 returns-3 c =
@@ -167,12 +127,6 @@ same-length-7 c =
     (held-member (filled-holds (fill .result) (fill .ensures) (not-false _ (if1 .left))) (pre .2 .1))))
     (c .before .b .given .1) .same
 
-same-length-8 : tie.Need-same-length-8
-same-length-8 c = search needs
-
-same-length-9 : tie.Need-same-length-9
-same-length-9 c = search needs
-
 returns-4 : tie.Need-returns-4
 returns-4 c =
     let fill = c .before .before .before .before .before .before .before .before .before .before .before .before .before .before .before .before .before .before .before .before .before .before .before .before .before .before .before .before .before .before .before .before .fill in
@@ -190,35 +144,7 @@ returns-4 c =
 pub put-member-turn-spec : {M : Type 1} → statement M
 put-member-turn-spec =
     tie.close
-    (tie.spec
-    fill-requires
-    same-length
-    returns
-    slice-aggregate-scan-rows
-    slice-aggregate-scan-rows-2
-    slice-aggregate-scan-rows-3
-    scan-rows-requires
-    put-byte-requires
-    enum-known-a
-    enum-told
-    same-length-2
-    same-length-3
-    returns-2
-    sub-put-member-line
-    part-put-member-line-start
-    part-put-member-line-end
-    slice-aggregate-put-member-line
-    slice-aggregate-put-member-line-2
-    slice-aggregate-put-member-line-3
-    put-member-line-requires
-    enum-known-b
-    enum-told-2
-    same-length-4
-    same-length-5
-    same-length-6
-    returns-3
-    add-ab
-    same-length-7
-    same-length-8
-    same-length-9
-    returns-4)
+    (tie.spec fill-requires (λ c. search needs) returns (λ c. search needs) (λ c. search needs) (λ c. search needs) scan-rows-requires
+    put-byte-requires enum-known-a enum-told (λ c. search needs) (λ c. search needs) returns-2 sub-put-member-line part-put-member-line-start
+    part-put-member-line-end (λ c. search needs) (λ c. search needs) (λ c. search needs) put-member-line-requires enum-known-b enum-told-2
+    same-length-4 (λ c. search needs) (λ c. search needs) returns-3 add-ab same-length-7 (λ c. search needs) (λ c. search needs) returns-4)

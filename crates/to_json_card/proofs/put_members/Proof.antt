@@ -1,25 +1,22 @@
 use borrow.Author.Needs.{needs}
-use mathlib.Core.Path.{_≡_, refl, sym, ap, _∙_}
-use mathlib.Core.List.{List, [], _∷_}
-use Prim.Native.Nat.{ℕ, _+_, _-_, _≤_, _<_}
-use native.Mathlib.Nat.{le-refl, lt-of-le-of-lt}
+use mathlib.Core.Path.{_≡_, refl, ap}
+use mathlib.Core.List.{List}
+use Prim.Native.Nat.{_-_, _≤_}
+use native.Mathlib.Nat.{le-refl}
 use native.Mathlib.Omega.{arith}
 use denote.Ref.{now}
 use borrow.Author.Tests.{not-true, not-false}
-use lib.ListN.{length, take, drop, getD}
-use Rattle.to_json_maps.proofs.Marking.{filled-holds, filled-none}
+use lib.ListN.{length, drop}
 use Rattle.output.specs.Put.{Rest}
-use Rattle.output.proofs.Rests.{rest-as, rest-next, rest-stop, rest-done, rest-in, rest-fit, rest-same}
+use Rattle.output.proofs.Rests.{rest-done, rest-in, rest-fit, rest-same}
 use Rattle.output.proofs.Rows.{length-puts}
 use Rattle.convert.specs.Classify.{Classed}
 use Rattle.convert_put.specs.Pieces.{after}
-use Rattle.card_lines.specs.Classified.{Classified}
+use Rattle.from_card_lines.specs.Classified.{Classified}
 use Rattle.to_json_sections.specs.Sections.{membersIn}
 use Rattle.to_json_card.proofs.Members.{membersOf, members-start, members-end, members-skip, has-member, members-stop, members-next, line-short}
 use Rattle.to_json_card.proofs.put_members.Statement.{statement}
 use Rattle.to_json_card.proofs.put_members.Tie as tie
-use Rattle.to_json_card.proofs.put_members.Reads as reads
-use Rattle.to_json_card.proofs.put_members.Lts as lts
 
 abbrev Inv-loop : tie.InvT-loop
 Inv-loop out₀ t₀ text₀ scratch starts codes n at₀ k₀ out t text at k = (k ≤ n) × (length t ≡ length t₀) × (length text ≡ length text₀) × ((cs : List Classed) → Classified scratch starts codes n cs → Rest out₀ (membersIn cs) (after (membersOf (drop k cs))) at out)
@@ -171,31 +168,6 @@ returns-2 c = λ cs h. rest-done (members-end h (c .before .loop .k) (c .loop-te
 pub put-members-spec : {M : Type 1} → statement M
 put-members-spec =
     tie.close
-    (tie.spec
-    Inv-loop
-    μ-loop
-    loop-holds
-    shared-slice-read-is-of
-    is-of-requires
-    add-k
-    loop-less
-    loop-again
-    line-at-requires
-    sub-put-member-turn
-    part-put-member-turn-start
-    part-put-member-turn-end
-    put-member-turn-requires
-    enum-known-m
-    enum-told
-    same-length
-    same-length-2
-    same-length-3
-    returns
-    add-at
-    add-k-2
-    loop-less-2
-    loop-again-2
-    same-length-4
-    same-length-5
-    same-length-6
-    returns-2)
+    (tie.spec Inv-loop μ-loop loop-holds shared-slice-read-is-of is-of-requires add-k loop-less loop-again line-at-requires sub-put-member-turn
+    part-put-member-turn-start part-put-member-turn-end put-member-turn-requires enum-known-m enum-told same-length same-length-2 same-length-3
+    returns add-at add-k-2 loop-less-2 loop-again-2 same-length-4 same-length-5 same-length-6 returns-2)

@@ -1,19 +1,13 @@
 use borrow.Author.Needs.{needs}
-use mathlib.Core.Path.{_≡_, refl, sym, ap, _∙_}
 use mathlib.Core.List.{List, [], _∷_}
-use Prim.Native.Nat.{ℕ, _+_, _-_, _≤_, _<_}
-use native.Mathlib.Nat.{le-refl, lt-of-le-of-lt}
-use native.Mathlib.Omega.{arith}
+use native.Mathlib.Nat.{le-refl}
 use denote.Ref.{now}
-use lib.ListN.{length, take, drop, getD}
 use Rattle.output.proofs.Rows.{Here, first!, next!, none, stop!, all, in!, fit!, same!, length-puts}
 use Rattle.convert.specs.Classify.{Classed}
-use Rattle.card_lines.specs.Classified.{Classified}
+use Rattle.from_card_lines.specs.Classified.{Classified}
 use Rattle.to_json_sections.specs.Sections.{membersIn}
 use Rattle.to_json_card.proofs.put_middle.Statement.{statement}
 use Rattle.to_json_card.proofs.put_middle.Tie as tie
-use Rattle.to_json_card.proofs.put_middle.Reads as reads
-use Rattle.to_json_card.proofs.put_middle.Lts as lts
 
 -- the card's classified lines, as they came
 abbrev Lines : tie.After-known-told → List Classed → Type 0
@@ -44,9 +38,6 @@ same-length c =
     let pre = c .before .before .before .before .before .before .before .before .before .before .before .before .before .before .before .pre in
     let put-maps = c .before .before .before .before .before .before .put-maps in
     length-puts (none (membersIn (pre .lines .0) ∷ []) (put-maps .ensures (pre .lines .0) (pre .lines .1)) (c .enum-told .given .1))
-
-same-length-2 : tie.Need-same-length-2
-same-length-2 c = search needs
 
 returns : tie.Need-returns
 returns c = λ cs h. none (membersIn cs ∷ []) (c .before .before .before .before .before .before .put-maps .ensures cs h) (c .enum-told .given .1)
@@ -83,12 +74,6 @@ same-length-3 c =
     (pre .lines .1))
     (put-members .ensures (pre .lines .0) (pre .lines .1)) (c .enum-told2 .given .1))
 
-same-length-4 : tie.Need-same-length-4
-same-length-4 c = search needs
-
-same-length-5 : tie.Need-same-length-5
-same-length-5 c = search needs
-
 returns-2 : tie.Need-returns-2
 returns-2 c = λ cs h. stop! (s₁ (c .before .before .before .before .before .before .before .before .before .before .before .before) cs h) (c .before .before .before .before .before .before .before .before .put-members .ensures cs h) (c .enum-told2 .given .1)
 
@@ -103,37 +88,12 @@ same-length-6 c =
     let pre = c .before .before .before .before .before .before .before .before .before .before .before .before .before .before .before .before .before .before .before .before .before .before .before .before .before .before .before .before .before .pre in
     same! (s₂ c (pre .lines .0) (pre .lines .1))
 
-same-length-7 : tie.Need-same-length-7
-same-length-7 c = search needs
-
-same-length-8 : tie.Need-same-length-8
-same-length-8 c = search needs
-
 returns-3 : tie.Need-returns-3
 returns-3 c = λ cs h. all (s₂ c cs h .left)
 
 pub put-middle-spec : {M : Type 1} → statement M
 put-middle-spec =
     tie.close
-    (tie.spec
-    put-maps-requires
-    enum-known-a1
-    enum-told
-    same-length
-    same-length-2
-    returns
-    sub-put-members
-    part-put-members-start
-    part-put-members-end
-    put-members-requires
-    enum-known-a2
-    enum-told-2
-    same-length-3
-    same-length-4
-    same-length-5
-    returns-2
-    add-b2
-    same-length-6
-    same-length-7
-    same-length-8
-    returns-3)
+    (tie.spec put-maps-requires enum-known-a1 enum-told same-length (λ c. search needs) returns sub-put-members part-put-members-start
+    part-put-members-end put-members-requires enum-known-a2 enum-told-2 same-length-3 (λ c. search needs) (λ c. search needs) returns-2 add-b2
+    same-length-6 (λ c. search needs) (λ c. search needs) returns-3)

@@ -1,19 +1,8 @@
 use borrow.Author.Needs.{needs}
-use mathlib.Core.Path.{_≡_, refl, sym, ap, _∙_}
-use mathlib.Core.List.{List, [], _∷_}
-use Prim.Native.Nat.{ℕ, _+_, _-_, _≤_, _<_}
-use native.Mathlib.Nat.{le-refl, lt-of-le-of-lt}
-use native.Mathlib.Omega.{arith}
-use denote.Ref.{now}
-use borrow.Author.Tests.{not-true, not-false}
-use lib.ListN.{length, take, drop, getD}
-use Rattle.to_json_maps.proofs.Marking.{filled-holds, filled-none}
 use Rattle.output.proofs.Laws.{puts-as}
 use Rattle.to_json_card.proofs.Name.{names-good, name-is}
 use Rattle.to_json_card.proofs.put_name_of.Statement.{statement}
 use Rattle.to_json_card.proofs.put_name_of.Tie as tie
-use Rattle.to_json_card.proofs.put_name_of.Reads as reads
-use Rattle.to_json_card.proofs.put_name_of.Lts as lts
 
 first-of-requires : tie.Need-first-of-requires
 first-of-requires c κs = (c .before .before .before .before .before .pre .1 .1) .wide
@@ -30,9 +19,6 @@ value-of-requires c κs = c .before .before .before .before .before .before .bef
 line-at-requires-2 : tie.Need-line-at-requires-2
 line-at-requires-2 c κs = tt
 
-value-of-requires-2 : tie.Need-value-of-requires-2
-value-of-requires-2 c κs = search needs
-
 put-name-requires : tie.Need-put-name-requires
 put-name-requires c κs =
     let pre = c .before .before .before .before .before .before .before .before .before .before .before .before .before .before .before .before .before .before .pre in
@@ -44,12 +30,6 @@ put-name-requires c κs =
     let value-of2 = c .before .before .before .value-of2 in
     names-good (pre .1 .1) (first-of .ensures) (first-of2 .ensures) _ _ (line-at .ensures) (value-of .ensures) (line-at2 .ensures)
     (value-of2 .ensures)
-
-same-length : tie.Need-same-length
-same-length c = search needs
-
-same-length-2 : tie.Need-same-length-2
-same-length-2 c = search needs
 
 returns : tie.Need-returns
 returns c =
@@ -66,14 +46,5 @@ returns c =
 pub put-name-of-spec : {M : Type 1} → statement M
 put-name-of-spec =
     tie.close
-    (tie.spec
-    first-of-requires
-    first-of-requires-2
-    line-at-requires
-    value-of-requires
-    line-at-requires-2
-    value-of-requires-2
-    put-name-requires
-    same-length
-    same-length-2
-    returns)
+    (tie.spec first-of-requires first-of-requires-2 line-at-requires value-of-requires line-at-requires-2 (λ c κs. search needs) put-name-requires
+    (λ c. search needs) (λ c. search needs) returns)

@@ -1,20 +1,14 @@
 use borrow.Author.Needs.{needs}
-use mathlib.Core.Path.{_≡_, refl, sym, ap, _∙_}
 use mathlib.Core.List.{List, [], _∷_}
-use Prim.Native.Nat.{ℕ, _+_, _-_, _≤_, _<_}
-use native.Mathlib.Nat.{le-refl, lt-of-le-of-lt}
-use native.Mathlib.Omega.{arith}
+use native.Mathlib.Nat.{le-refl}
 use denote.Ref.{now}
-use lib.ListN.{length, take, drop, getD}
 use Rattle.output.proofs.Rows.{Here, first!, next!, none, stop!, all, in!, fit!, same!, length-puts}
 use Rattle.convert.specs.Classify.{Classed}
-use Rattle.card_lines.specs.Classified.{Classified}
+use Rattle.from_card_lines.specs.Classified.{Classified}
 use Rattle.text.specs.Bytes.{flat}
 use Rattle.to_json_card.specs.Card.{endPieces}
 use Rattle.to_json_card.proofs.put_rest.Statement.{statement}
 use Rattle.to_json_card.proofs.put_rest.Tie as tie
-use Rattle.to_json_card.proofs.put_rest.Reads as reads
-use Rattle.to_json_card.proofs.put_rest.Lts as lts
 
 -- the card's classified lines, as they came
 abbrev Lines : tie.After-known-told → List Classed → Type 0
@@ -45,12 +39,6 @@ same-length c =
     let pre = c .before .before .before .before .before .before .before .before .before .before .before .before .before .before .before .before .before .before .pre in
     let put-middle = c .before .before .before .before .before .before .before .before .put-middle in
     length-puts (none (flat (endPieces (pre .lines .0)) ∷ []) (put-middle .ensures (pre .lines .0) (pre .lines .1)) (c .enum-told .given .1))
-
-same-length-2 : tie.Need-same-length-2
-same-length-2 c = search needs
-
-same-length-3 : tie.Need-same-length-3
-same-length-3 c = search needs
 
 returns : tie.Need-returns
 returns c = λ cs h. none (flat (endPieces cs) ∷ []) (c .before .before .before .before .before .before .before .before .put-middle .ensures cs h) (c .enum-told .given .1)
@@ -85,12 +73,6 @@ same-length-4 c =
     (stop! (s₁ (c .before .before .before .before .before .before .before .before .before) (pre .lines .0) (pre .lines .1))
     (put-end .ensures (pre .lines .0) (pre .lines .1)) (c .enum-told2 .given .1))
 
-same-length-5 : tie.Need-same-length-5
-same-length-5 c = search needs
-
-same-length-6 : tie.Need-same-length-6
-same-length-6 c = search needs
-
 returns-2 : tie.Need-returns-2
 returns-2 c = λ cs h. stop! (s₁ (c .before .before .before .before .before .before .before .before .before) cs h) (c .before .before .before .before .before .before .put-end .ensures cs h) (c .enum-told2 .given .1)
 
@@ -105,38 +87,12 @@ same-length-7 c =
     let pre = c .before .before .before .before .before .before .before .before .before .before .before .before .before .before .before .before .before .before .before .before .before .before .before .before .before .before .before .before .before .pre in
     same! (s₂ c (pre .lines .0) (pre .lines .1))
 
-same-length-8 : tie.Need-same-length-8
-same-length-8 c = search needs
-
-same-length-9 : tie.Need-same-length-9
-same-length-9 c = search needs
-
 returns-3 : tie.Need-returns-3
 returns-3 c = λ cs h. all (s₂ c cs h .left)
 
 pub put-rest-spec : {M : Type 1} → statement M
 put-rest-spec =
     tie.close
-    (tie.spec
-    put-middle-requires
-    enum-known-a1
-    enum-told
-    same-length
-    same-length-2
-    same-length-3
-    returns
-    sub-put-end
-    part-put-end-start
-    part-put-end-end
-    put-end-requires
-    enum-known-a2
-    enum-told-2
-    same-length-4
-    same-length-5
-    same-length-6
-    returns-2
-    add-b2
-    same-length-7
-    same-length-8
-    same-length-9
-    returns-3)
+    (tie.spec put-middle-requires enum-known-a1 enum-told same-length (λ c. search needs) (λ c. search needs) returns sub-put-end part-put-end-start
+    part-put-end-end put-end-requires enum-known-a2 enum-told-2 same-length-4 (λ c. search needs) (λ c. search needs) returns-2 add-b2 same-length-7
+    (λ c. search needs) (λ c. search needs) returns-3)

@@ -1,19 +1,13 @@
 use borrow.Author.Needs.{needs}
-use mathlib.Core.Path.{_≡_, refl, sym, ap, _∙_}
 use mathlib.Core.List.{List, [], _∷_}
-use Prim.Native.Nat.{ℕ, _+_, _-_, _≤_, _<_}
-use native.Mathlib.Nat.{le-refl, lt-of-le-of-lt}
-use native.Mathlib.Omega.{arith}
+use native.Mathlib.Nat.{le-refl}
 use denote.Ref.{now}
-use lib.ListN.{length, take, drop, getD}
 use Rattle.output.proofs.Rows.{Here, first!, next!, none, stop!, all, in!, fit!, same!, length-puts}
 use Rattle.convert.specs.Classify.{Classed}
-use Rattle.card_lines.specs.Classified.{Classified}
+use Rattle.from_card_lines.specs.Classified.{Classified}
 use Rattle.to_json_sections.specs.Sections.{kindMember, kindIn, nameIn}
 use Rattle.to_json_card.proofs.put_top.Statement.{statement}
 use Rattle.to_json_card.proofs.put_top.Tie as tie
-use Rattle.to_json_card.proofs.put_top.Reads as reads
-use Rattle.to_json_card.proofs.put_top.Lts as lts
 
 -- the card's classified lines, as they came
 abbrev Lines : tie.After-known-told → List Classed → Type 0
@@ -52,9 +46,6 @@ same-length c =
     length-puts
     (none (kindMember (kindIn (pre .1 .0)) ∷ nameIn (pre .1 .0) ∷ []) (put-start-of .ensures (pre .1 .0) (pre .1 .1)) (c .enum-told .given .1))
 
-same-length-2 : tie.Need-same-length-2
-same-length-2 c = search needs
-
 returns : tie.Need-returns
 returns c = λ cs h. none (kindMember (kindIn cs) ∷ nameIn cs ∷ []) (c .before .before .before .before .before .before .put-start-of .ensures cs h) (c .enum-told .given .1)
 
@@ -87,9 +78,6 @@ same-length-3 c =
     length-puts
     (stop! (s₁ (c .before .before .before .before .before .before .before .before .before) (pre .1 .0) (pre .1 .1))
     (put-kind-of .ensures (pre .1 .0) (pre .1 .1)) (c .enum-told2 .given .1))
-
-same-length-4 : tie.Need-same-length-4
-same-length-4 c = search needs
 
 returns-2 : tie.Need-returns-2
 returns-2 c = λ cs h. stop! (s₁ (c .before .before .before .before .before .before .before .before .before) cs h) (c .before .before .before .before .before .before .put-kind-of .ensures cs h) (c .enum-told2 .given .1)
@@ -130,9 +118,6 @@ same-length-5 c =
     (stop! (s₂ (c .before .before .before .before .before .before .before .before .before) (pre .1 .0) (pre .1 .1))
     (put-name-of .ensures (pre .1 .0) (pre .1 .1)) (c .enum-told3 .given .1))
 
-same-length-6 : tie.Need-same-length-6
-same-length-6 c = search needs
-
 returns-3 : tie.Need-returns-3
 returns-3 c = λ cs h. stop! (s₂ (c .before .before .before .before .before .before .before .before .before) cs h) (c .before .before .before .before .before .before .put-name-of .ensures cs h) (c .enum-told3 .given .1)
 
@@ -147,42 +132,13 @@ same-length-7 c =
     let pre = c .before .before .before .before .before .before .before .before .before .before .before .before .before .before .before .before .before .before .before .before .before .before .before .before .before .before .before .before .before .before .before .before .before .before .before .before .pre in
     same! (s₃ c (pre .1 .0) (pre .1 .1))
 
-same-length-8 : tie.Need-same-length-8
-same-length-8 c = search needs
-
 returns-4 : tie.Need-returns-4
 returns-4 c = λ cs h. all (s₃ c cs h .left)
 
 pub put-top-spec : {M : Type 1} → statement M
 put-top-spec =
     tie.close
-    (tie.spec
-    put-start-of-requires
-    enum-known-a1
-    enum-told
-    same-length
-    same-length-2
-    returns
-    sub-put-kind-of
-    part-put-kind-of-start
-    part-put-kind-of-end
-    put-kind-of-requires
-    enum-known-a2
-    enum-told-2
-    same-length-3
-    same-length-4
-    returns-2
-    add-b2
-    sub-put-name-of
-    part-put-name-of-start
-    part-put-name-of-end
-    put-name-of-requires
-    enum-known-a3
-    enum-told-3
-    same-length-5
-    same-length-6
-    returns-3
-    add-b3
-    same-length-7
-    same-length-8
-    returns-4)
+    (tie.spec put-start-of-requires enum-known-a1 enum-told same-length (λ c. search needs) returns sub-put-kind-of part-put-kind-of-start
+    part-put-kind-of-end put-kind-of-requires enum-known-a2 enum-told-2 same-length-3 (λ c. search needs) returns-2 add-b2 sub-put-name-of
+    part-put-name-of-start part-put-name-of-end put-name-of-requires enum-known-a3 enum-told-3 same-length-5 (λ c. search needs) returns-3 add-b3
+    same-length-7 (λ c. search needs) returns-4)

@@ -1,33 +1,13 @@
 use borrow.Author.Needs.{needs}
-use mathlib.Core.Path.{_≡_, refl, sym, ap, _∙_}
-use mathlib.Core.List.{List, [], _∷_}
-use Prim.Native.Nat.{ℕ, _+_, _-_, _≤_, _<_}
-use native.Mathlib.Nat.{le-refl, lt-of-le-of-lt}
 use native.Mathlib.Omega.{arith}
-use denote.Ref.{now}
 use borrow.Author.Tests.{not-true, not-false}
-use lib.ListN.{length, take, drop, getD}
 use Rattle.to_json_maps.proofs.Marking.{filled-holds, filled-none}
 use Rattle.to_json_card.proofs.Name.{value-unread, value-read}
 use Rattle.to_json_card.proofs.value_of.Statement.{statement}
 use Rattle.to_json_card.proofs.value_of.Tie as tie
-use Rattle.to_json_card.proofs.value_of.Reads as reads
-use Rattle.to_json_card.proofs.value_of.Lts as lts
 
 fill-requires : tie.Need-fill-requires
 fill-requires c κs = c .before .before .before .pre
-
-sub-result : tie.Need-sub-result
-sub-result c = search needs
-
-part-result-start : tie.Need-part-result-start
-part-result-start c = search needs
-
-part-result-end : tie.Need-part-result-end
-part-result-end c = search needs
-
-same-length : tie.Need-same-length
-same-length c = search needs
 
 returns : tie.Need-returns
 returns c = value-unread _ _ (filled-none _ _ (c .before .before .before .before .fill .result) (c .before .before .before .before .fill .ensures) (not-true _ (c .before .if1 .taken)))
@@ -47,26 +27,11 @@ part-result-start-2 c = let v = (filled-holds (c .before .before .before .before
 part-result-end-2 : tie.Need-part-result-end-2
 part-result-end-2 c = let v = (filled-holds (c .before .before .before .before .before .fill .result) (c .before .before .before .before .before .fill .ensures) (not-false _ (c .before .before .if1 .left))) .sound .value in omega (arith, v .ordered, v .within)
 
-same-length-2 : tie.Need-same-length-2
-same-length-2 c = search needs
-
 returns-2 : tie.Need-returns-2
 returns-2 c = value-read (filled-holds (c .before .before .before .before .before .before .fill .result) (c .before .before .before .before .before .before .fill .ensures) (not-false _ (c .before .before .before .if1 .left)))
 
 pub value-of-spec : {M : Type 1} → statement M
 value-of-spec =
     tie.close
-    (tie.spec
-    fill-requires
-    sub-result
-    part-result-start
-    part-result-end
-    same-length
-    returns
-    slice-read-a
-    slice-read-b
-    sub-result-2
-    part-result-start-2
-    part-result-end-2
-    same-length-2
-    returns-2)
+    (tie.spec fill-requires (λ c. search needs) (λ c. search needs) (λ c. search needs) (λ c. search needs) returns slice-read-a slice-read-b
+    sub-result-2 part-result-start-2 part-result-end-2 (λ c. search needs) returns-2)

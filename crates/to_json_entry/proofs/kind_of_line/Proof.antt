@@ -20,9 +20,6 @@ part-is-named-start c = let v = c .before .before .before .before .pre .name in 
 part-is-named-end : tie.Need-part-is-named-end
 part-is-named-end c = let v = c .before .before .before .before .pre .name in omega (arith, v .ordered, v .within)
 
-slice-aggregate-is-named : tie.Need-slice-aggregate-is-named
-slice-aggregate-is-named c = search needs
-
 is-named-requires : tie.Need-is-named-requires
 is-named-requires c κs = tt
 
@@ -37,9 +34,6 @@ part-is-named-start-2 c = let v = c .before .before .before .before .before .bef
 
 part-is-named-end-2 : tie.Need-part-is-named-end-2
 part-is-named-end-2 c = let v = c .before .before .before .before .before .before .before .before .pre .name in omega (arith, v .ordered, v .within)
-
-slice-aggregate-is-named-2 : tie.Need-slice-aggregate-is-named-2
-slice-aggregate-is-named-2 c = search needs
 
 is-named-requires-2 : tie.Need-is-named-requires-2
 is-named-requires-2 c κs = tt
@@ -61,4 +55,5 @@ returns-3 c =
 pub kind-of-line-spec : {M : Type 1} → statement M
 kind-of-line-spec =
     tie.close
-    (tie.spec shared-slice-read-a shared-slice-read-b sub-is-named part-is-named-start part-is-named-end slice-aggregate-is-named is-named-requires returns sub-is-named-2 part-is-named-start-2 part-is-named-end-2 slice-aggregate-is-named-2 is-named-requires-2 returns-2 returns-3)
+    (tie.spec shared-slice-read-a shared-slice-read-b sub-is-named part-is-named-start part-is-named-end (λ c. search needs) is-named-requires returns
+    sub-is-named-2 part-is-named-start-2 part-is-named-end-2 (λ c. search needs) is-named-requires-2 returns-2 returns-3)

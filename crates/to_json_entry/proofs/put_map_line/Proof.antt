@@ -16,9 +16,6 @@ value-kind-requires c κs =
     let pre = c .before .before .before .before .before .before .before .pre in
     (pre .rowed .wide, (lineIn (now (args .s)) (now (args .t)) .params, pre .rowed .row))
 
-slice-aggregate-mark-rows : tie.Need-slice-aggregate-mark-rows
-slice-aggregate-mark-rows c = search needs
-
 mark-rows-requires : tie.Need-mark-rows-requires
 mark-rows-requires c κs = (nine-long, c .before .before .before .before .before .before .before .before .before .pre .rowed .sound)
 
@@ -40,9 +37,6 @@ part-put-entry-start c = let v = c .before .before .before .before .before .befo
 part-put-entry-end : tie.Need-part-put-entry-end
 part-put-entry-end c = let v = c .before .before .before .before .before .before .before .before .before .before .before .before .before .before .before .before .pre .rowed .sound .value in omega (arith, v .ordered, v .within)
 
-slice-aggregate-put-entry : tie.Need-slice-aggregate-put-entry
-slice-aggregate-put-entry c = search needs
-
 sub-put-entry-2 : tie.Need-sub-put-entry-2
 sub-put-entry-2 c = omega arith
 
@@ -59,9 +53,6 @@ put-entry-requires c κs = (
       let c2 = c1 .before .before .before .before .before .before .before .before in
       let x = c2 .pre in strings-good (now (c2 .args .s)) (now (c2 .args .t)) (x .seen) (x .slot) (x .entry) (x .is) (x .converts) (c1 .value-kind .result) (c1 .value-kind .ensures _ (x .rowed .row)),
 )
-
-same-length : tie.Need-same-length
-same-length c = search needs
 
 returns : tie.Need-returns
 returns c =
@@ -86,9 +77,6 @@ part-put-entry-start-3 c = let v = c .before .before .before .before .before .be
 
 part-put-entry-end-3 : tie.Need-part-put-entry-end-3
 part-put-entry-end-3 c = let v = c .before .before .before .before .before .before .before .before .before .before .before .before .before .before .before .before .before .before .pre .rowed .sound .value in omega (arith, v .ordered, v .within)
-
-slice-aggregate-put-entry-2 : tie.Need-slice-aggregate-put-entry-2
-slice-aggregate-put-entry-2 c = search needs
 
 sub-put-entry-4 : tie.Need-sub-put-entry-4
 sub-put-entry-4 c =
@@ -116,9 +104,6 @@ put-entry-requires-2 c κs = (
       let x = c2 .pre in strings-good (now (c2 .args .s)) (now (c2 .args .t)) (x .seen) (x .slot) (x .entry) (x .is) (x .converts) (c1 .value-kind .result) (c1 .value-kind .ensures _ (x .rowed .row)),
 )
 
-same-length-2 : tie.Need-same-length-2
-same-length-2 c = search needs
-
 returns-2 : tie.Need-returns-2
 returns-2 c =
     let c1 = c .before .before in let c2 = c1 .before .before .before .before .before .before .before in let c3 = c2 .before .before .before .before
@@ -132,7 +117,7 @@ returns-2 c =
 pub put-map-line-spec : {M : Type 1} → statement M
 put-map-line-spec =
     tie.close
-    (tie.spec value-kind-requires slice-aggregate-mark-rows mark-rows-requires shared-slice-read-a shared-slice-read-b shared-slice-read-k
-    sub-put-entry part-put-entry-start part-put-entry-end slice-aggregate-put-entry sub-put-entry-2 part-put-entry-start-2 part-put-entry-end-2
-    put-entry-requires same-length returns shared-slice-read-c shared-slice-read-d sub-put-entry-3 part-put-entry-start-3 part-put-entry-end-3
-    slice-aggregate-put-entry-2 sub-put-entry-4 part-put-entry-start-4 part-put-entry-end-4 put-entry-requires-2 same-length-2 returns-2)
+    (tie.spec value-kind-requires (λ c. search needs) mark-rows-requires shared-slice-read-a shared-slice-read-b shared-slice-read-k sub-put-entry
+    part-put-entry-start part-put-entry-end (λ c. search needs) sub-put-entry-2 part-put-entry-start-2 part-put-entry-end-2 put-entry-requires
+    (λ c. search needs) returns shared-slice-read-c shared-slice-read-d sub-put-entry-3 part-put-entry-start-3 part-put-entry-end-3
+    (λ c. search needs) sub-put-entry-4 part-put-entry-start-4 part-put-entry-end-4 put-entry-requires-2 (λ c. search needs) returns-2)

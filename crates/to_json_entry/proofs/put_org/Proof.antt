@@ -11,7 +11,6 @@ use Rattle.to_json_entry.specs.Entry.{unitsAfter, unitsPiece}
 use native.Mathlib.Nat.{le-refl}
 use mathlib.Core.List.{[], _∷_}
 use denote.Ref.{now}
-use borrow.Author.Needs.{needs}
 use Rattle.output.proofs.Rows.{Here, first!, next!, none, stop!, all, in!, fit!, same!, length-puts}
 use Rattle.to_json_entry.proofs.put_org.Statement.{statement}
 use Rattle.to_json_entry.proofs.put_org.Tie as tie

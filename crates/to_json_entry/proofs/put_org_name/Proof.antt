@@ -11,13 +11,10 @@ returns c = puts-as (name-empty (c .before .before .before .args .i) (now (c .be
 put-string-member-requires : tie.Need-put-string-member-requires
 put-string-member-requires c κs = c .before .before .before .before .pre
 
-same-length : tie.Need-same-length
-same-length c = search needs
-
 returns-2 : tie.Need-returns-2
 returns-2 c = puts-as (name-filled (c .before .before .before .before .before .before .before .args .i) (now (c .before .before .before .before .before .before .before .args .u)) (c .before .before .before .before .if1 .left)) (c .before .before .put-string-member .ensures)
 
 pub put-org-name-spec : {M : Type 1} → statement M
 put-org-name-spec =
     tie.close
-    (tie.spec returns put-string-member-requires same-length returns-2)
+    (tie.spec returns put-string-member-requires (λ c. search needs) returns-2)

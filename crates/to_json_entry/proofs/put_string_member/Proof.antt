@@ -2,7 +2,6 @@ use Rattle.convert_put.specs.Pieces.{valuePiece}
 use native.Mathlib.Nat.{le-refl}
 use mathlib.Core.List.{[], _∷_}
 use denote.Ref.{now}
-use borrow.Author.Needs.{needs}
 use Rattle.output.proofs.Rows.{Here, first!, next!, none, stop!, all, in!, fit!, same!, length-puts}
 use Rattle.to_json_entry.proofs.put_string_member.Statement.{statement}
 use Rattle.to_json_entry.proofs.put_string_member.Tie as tie

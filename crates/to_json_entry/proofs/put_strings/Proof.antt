@@ -8,9 +8,6 @@ use Rattle.to_json_entry.proofs.put_strings.Tie as tie
 put-org-requires : tie.Need-put-org-requires
 put-org-requires c κs = c .before .before .before .before .pre .org (c .before .if1 .taken)
 
-same-length : tie.Need-same-length
-same-length c = search needs
-
 returns : tie.Need-returns
 returns c =
     let c1 = c .before .before in
@@ -20,9 +17,6 @@ returns c =
 
 put-string-member-requires : tie.Need-put-string-member-requires
 put-string-member-requires c κs = c .before .before .before .before .pre .plain (c .before .if1 .left)
-
-same-length-2 : tie.Need-same-length-2
-same-length-2 c = search needs
 
 returns-2 : tie.Need-returns-2
 returns-2 c =
@@ -34,4 +28,4 @@ returns-2 c =
 pub put-strings-spec : {M : Type 1} → statement M
 put-strings-spec =
     tie.close
-    (tie.spec put-org-requires same-length returns put-string-member-requires same-length-2 returns-2)
+    (tie.spec put-org-requires (λ c. search needs) returns put-string-member-requires (λ c. search needs) returns-2)

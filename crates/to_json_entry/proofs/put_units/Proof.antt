@@ -33,9 +33,6 @@ enum-known-n c = c .match .keys1
 enum-told : tie.Need-enum-told
 enum-told c = c .match .keys2
 
-same-length : tie.Need-same-length
-same-length c = search needs
-
 returns : tie.Need-returns
 returns c =
     let c1 = c .before .before .before .before in
@@ -70,9 +67,6 @@ enum-known-m c = c .match2 .keys1
 enum-told-2 : tie.Need-enum-told-2
 enum-told-2 c = c .match2 .keys2
 
-same-length-3 : tie.Need-same-length-3
-same-length-3 c = search needs
-
 returns-3 : tie.Need-returns-3
 returns-3 c =
     let c1 = c .before .before .before .before in
@@ -105,4 +99,6 @@ returns-4 c =
 pub put-units-spec : {M : Type 1} → statement M
 put-units-spec =
     tie.close
-    (tie.spec sub-put-items part-put-items-start part-put-items-end put-items-requires enum-known-n enum-told same-length returns same-length-2 returns-2 sub-put-byte part-put-byte-start part-put-byte-end put-byte-requires enum-known-m enum-told-2 same-length-3 returns-3 add-nm same-length-4 returns-4)
+    (tie.spec sub-put-items part-put-items-start part-put-items-end put-items-requires enum-known-n enum-told (λ c. search needs) returns
+    same-length-2 returns-2 sub-put-byte part-put-byte-start part-put-byte-end put-byte-requires enum-known-m enum-told-2 (λ c. search needs)
+    returns-3 add-nm same-length-4 returns-4)

@@ -24,13 +24,10 @@ part-put-units-end c = omega (arith, c .before .if1 .left, c .before .before .be
 put-units-requires : tie.Need-put-units-requires
 put-units-requires c κs = rest-readable (now (c .before .before .before .before .before .args .v)) (c .before .before .before .before .before .args .e) (c .before .before .before .before .before .pre .1) (c .before .before .before .before .before .pre .0) (omega (arith, c .before .before .if1 .left))
 
-same-length : tie.Need-same-length
-same-length c = search needs
-
 returns-2 : tie.Need-returns-2
 returns-2 c = puts-as (rest-units (c .before .before .before .before .before .before .before .before .args .k) (now (c .before .before .before .before .before .before .before .before .args .v)) (c .before .before .before .before .before .before .before .before .args .e) (omega (arith, c .before .before .before .before .before .if1 .left))) (c .before .before .put-units .ensures)
 
 pub put-units-after-spec : {M : Type 1} → statement M
 put-units-after-spec =
     tie.close
-    (tie.spec returns add-a sub-put-units part-put-units-start part-put-units-end put-units-requires same-length returns-2)
+    (tie.spec returns add-a sub-put-units part-put-units-start part-put-units-end put-units-requires (λ c. search needs) returns-2)

@@ -1,5 +1,3 @@
-use borrow.Author.Needs.{needs}
-use denote.Ref.{now}
 use Rattle.to_json_entry.proofs.Org.{kind-named, kind-alone}
 use Rattle.to_json_entry.proofs.unit_kind.Statement.{statement}
 use Rattle.to_json_entry.proofs.unit_kind.Tie as tie

@@ -11,13 +11,10 @@ returns c = puts-as (kind-none (now (c .before .before .before .args .v)) (c .if
 put-kind-member-requires : tie.Need-put-kind-member-requires
 put-kind-member-requires c κs = tt
 
-same-length : tie.Need-same-length
-same-length c = search needs
-
 returns-2 : tie.Need-returns-2
 returns-2 c = puts-as (kind-some (now (c .before .before .before .before .before .before .before .args .v)) (c .before .before .before .before .if1 .left)) (c .before .before .put-kind-member .ensures)
 
 pub put-kind-spec : {M : Type 1} → statement M
 put-kind-spec =
     tie.close
-    (tie.spec returns put-kind-member-requires same-length returns-2)
+    (tie.spec returns put-kind-member-requires (λ c. search needs) returns-2)

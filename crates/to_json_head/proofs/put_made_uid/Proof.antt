@@ -5,7 +5,6 @@ use Rattle.text.specs.Decimal.{decimal}
 use native.Mathlib.Nat.{le-refl}
 use mathlib.Core.List.{[], _∷_}
 use denote.Ref.{now}
-use borrow.Author.Needs.{needs}
 use Rattle.output.proofs.Rows.{Here, first!, next!, none, stop!, all, in!, fit!, same!, length-puts}
 use Rattle.to_json_head.proofs.put_made_uid.Statement.{statement}
 use Rattle.to_json_head.proofs.put_made_uid.Tie as tie

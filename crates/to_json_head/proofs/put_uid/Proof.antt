@@ -8,9 +8,6 @@ use Rattle.to_json_head.proofs.put_uid.Tie as tie
 put-string-requires : tie.Need-put-string-requires
 put-string-requires c κs = tt
 
-same-length : tie.Need-same-length
-same-length c = search needs
-
 returns : tie.Need-returns
 returns c =
     let c1 = c .before .before in
@@ -20,9 +17,6 @@ returns c =
 
 put-made-uid-requires : tie.Need-put-made-uid-requires
 put-made-uid-requires c κs = tt
-
-same-length-2 : tie.Need-same-length-2
-same-length-2 c = search needs
 
 returns-2 : tie.Need-returns-2
 returns-2 c =
@@ -34,4 +28,4 @@ returns-2 c =
 pub put-uid-spec : {M : Type 1} → statement M
 put-uid-spec =
     tie.close
-    (tie.spec put-string-requires same-length returns put-made-uid-requires same-length-2 returns-2)
+    (tie.spec put-string-requires (λ c. search needs) returns put-made-uid-requires (λ c. search needs) returns-2)

@@ -4,7 +4,6 @@ use Rattle.to_json_items.specs.Items.{lead}
 use native.Mathlib.Nat.{le-refl}
 use mathlib.Core.List.{[], _∷_}
 use denote.Ref.{now}
-use borrow.Author.Needs.{needs}
 use Rattle.output.proofs.Rows.{Here, first!, next!, none, stop!, all, in!, fit!, same!, length-puts}
 use Rattle.to_json_items.proofs.put_item.Statement.{statement}
 use Rattle.to_json_items.proofs.put_item.Tie as tie

@@ -1,5 +1,4 @@
 use borrow.Author.Needs.{needs}
-use denote.Ref.{now}
 use Rattle.output.proofs.Laws.{puts-as, start, done}
 use Rattle.to_json_items.proofs.Pieces.{head-begun, head-named, head-first, head-none}
 use Rattle.to_json_items.proofs.put_item_head.Statement.{statement}
@@ -8,32 +7,17 @@ use Rattle.to_json_items.proofs.put_item_head.Tie as tie
 put-byte-requires : tie.Need-put-byte-requires
 put-byte-requires c κs = tt
 
-same-length : tie.Need-same-length
-same-length c = search needs
-
 returns : tie.Need-returns
 returns c = puts-as (head-begun (c .before .before .before .before .before .before .args .begun) (c .before .before .before .before .before .before .args .k) (c .before .before .before .before .if1 .taken)) (c .before .before .put-byte .ensures)
-
-slice-aggregate-put-text : tie.Need-slice-aggregate-put-text
-slice-aggregate-put-text c = search needs
 
 put-text-requires : tie.Need-put-text-requires
 put-text-requires c κs = tt
 
-same-length-2 : tie.Need-same-length-2
-same-length-2 c = search needs
-
 returns-2 : tie.Need-returns-2
 returns-2 c = puts-as (head-named (c .before .before .before .before .before .before .before .before .args .begun) (c .before .before .before .before .before .before .before .before .args .k) (c .before .before .before .before .before .before .if1 .left) (c .before .before .before .before .before .if2 .taken)) (c .before .before .put-text .ensures)
 
-slice-aggregate-put-text-2 : tie.Need-slice-aggregate-put-text-2
-slice-aggregate-put-text-2 c = search needs
-
 put-text-requires-2 : tie.Need-put-text-requires-2
 put-text-requires-2 c κs = tt
-
-same-length-3 : tie.Need-same-length-3
-same-length-3 c = search needs
 
 returns-3 : tie.Need-returns-3
 returns-3 c = puts-as (head-first (c .before .before .before .before .before .before .before .before .before .args .begun) (c .before .before .before .before .before .before .before .before .before .args .k) (c .before .before .before .before .before .before .before .if1 .left) (c .before .before .before .before .before .if3 .taken)) (c .before .before .put-text2 .ensures)
@@ -44,4 +28,5 @@ returns-4 c = puts-as (head-none (c .before .before .before .before .args .begun
 pub put-item-head-spec : {M : Type 1} → statement M
 put-item-head-spec =
     tie.close
-    (tie.spec put-byte-requires same-length returns slice-aggregate-put-text put-text-requires same-length-2 returns-2 slice-aggregate-put-text-2 put-text-requires-2 same-length-3 returns-3 returns-4)
+    (tie.spec put-byte-requires (λ c. search needs) returns (λ c. search needs) put-text-requires (λ c. search needs) returns-2 (λ c. search needs)
+    put-text-requires-2 (λ c. search needs) returns-3 returns-4)

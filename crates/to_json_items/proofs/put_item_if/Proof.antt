@@ -10,9 +10,6 @@ use Rattle.to_json_items.proofs.put_item_if.Tie as tie
 put-item-requires : tie.Need-put-item-requires
 put-item-requires c κs = c .before .before .before .before .pre
 
-same-length : tie.Need-same-length
-same-length c = search needs
-
 returns : tie.Need-returns
 returns c =
     let c1 = c .before .before in
@@ -26,4 +23,4 @@ returns-2 c = puts-as (piece-off (c .before .before .before .args .on) (itemPiec
 pub put-item-if-spec : {M : Type 1} → statement M
 put-item-if-spec =
     tie.close
-    (tie.spec put-item-requires same-length returns returns-2)
+    (tie.spec put-item-requires (λ c. search needs) returns returns-2)

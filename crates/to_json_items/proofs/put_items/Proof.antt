@@ -16,9 +16,6 @@ use Rattle.to_json_items.proofs.put_items.Tie as tie
 put-noted-requires : tie.Need-put-noted-requires
 put-noted-requires c κs = (c .before .before .before .before .before .before .pre .0, c .before .before .before .before .before .before .pre .1, long-fits (length (now (c .before .before .before .before .before .before .args .o))) (c .before .before .if1 .taken))
 
-same-length : tie.Need-same-length
-same-length c = search needs
-
 returns : tie.Need-returns
 returns c =
     let args = c .before .before .before .before .before .before .before .before .before .args in
@@ -29,21 +26,12 @@ returns c =
 put-noted-requires-2 : tie.Need-put-noted-requires-2
 put-noted-requires-2 c κs = (c .before .before .before .before .before .before .pre .0, c .before .before .before .before .before .before .pre .1, long-fits (length (now (c .before .before .before .before .before .before .args .o))) (c .before .before .if1 .taken))
 
-same-length-2 : tie.Need-same-length-2
-same-length-2 c = search needs
-
 returns-2 : tie.Need-returns-2
 returns-2 c =
     let args = c .before .before .before .before .before .before .before .before .before .args in
     let if2 = c .before .before .before .before .if2 in
     puts-as (ap (λ b. listed (args .k) b (keep (isOwn (textsOf 44 (now (args .o)))) (textsOf (args .d) (now (args .v))))) (sym (if2 .left)))
     (c .before .before .put-noted2 .ensures)
-
-slice-aggregate-put-own : tie.Need-slice-aggregate-put-own
-slice-aggregate-put-own c = search needs
-
-slice-aggregate-put-own-2 : tie.Need-slice-aggregate-put-own-2
-slice-aggregate-put-own-2 c = search needs
 
 put-own-requires : tie.Need-put-own-requires
 put-own-requires c κs = (c .before .before .before .before .before .before .before .pre .0, c .before .before .before .before .before .before .before .pre .1, λ e. not-both e refl)
@@ -57,14 +45,8 @@ enum-known-n c = c .match .keys1
 enum-told : tie.Need-enum-told
 enum-told c = c .match .keys2
 
-same-length-3 : tie.Need-same-length-3
-same-length-3 c = search needs
-
 returns-3 : tie.Need-returns-3
 returns-3 c = answered (c .enum-told .given .1) (c .before .before .before .before .put-own .ensures)
-
-same-length-4 : tie.Need-same-length-4
-same-length-4 c = search needs
 
 returns-4 : tie.Need-returns-4
 returns-4 c = answered (c .before .n .given .1) (c .before .before .before .before .before .put-own .ensures)
@@ -72,19 +54,5 @@ returns-4 c = answered (c .before .n .given .1) (c .before .before .before .befo
 pub put-items-spec : {M : Type 1} → statement M
 put-items-spec =
     tie.close
-    (tie.spec
-    put-noted-requires
-    same-length
-    returns
-    put-noted-requires-2
-    same-length-2
-    returns-2
-    slice-aggregate-put-own
-    slice-aggregate-put-own-2
-    put-own-requires
-    enum-known-n
-    enum-told
-    same-length-3
-    returns-3
-    same-length-4
-    returns-4)
+    (tie.spec put-noted-requires (λ c. search needs) returns put-noted-requires-2 (λ c. search needs) returns-2 (λ c. search needs)
+    (λ c. search needs) put-own-requires enum-known-n enum-told (λ c. search needs) returns-3 (λ c. search needs) returns-4)

@@ -141,29 +141,6 @@ loop-again c =
 pub put-own-spec : {M : Type 1} → statement M
 put-own-spec =
     tie.close
-    (tie.spec
-    Inv-loop
-    μ-loop
-    loop-holds
-    part-end-requires
-    sub-is-own
-    part-is-own-start
-    part-is-own-end
-    is-own-requires
-    sub-put-item-if
-    part-put-item-if-start
-    part-put-item-if-end
-    sub-put-item-if-2
-    part-put-item-if-start-2
-    part-put-item-if-end-2
-    put-item-if-requires
-    enum-known-n
-    enum-told
-    same-length
-    returns
-    add-at
-    same-length-2
-    returns-2
-    add-i
-    loop-less
-    loop-again)
+    (tie.spec Inv-loop μ-loop loop-holds part-end-requires sub-is-own part-is-own-start part-is-own-end is-own-requires sub-put-item-if
+    part-put-item-if-start part-put-item-if-end sub-put-item-if-2 part-put-item-if-start-2 part-put-item-if-end-2 put-item-if-requires enum-known-n
+    enum-told same-length returns add-at same-length-2 returns-2 add-i loop-less loop-again)

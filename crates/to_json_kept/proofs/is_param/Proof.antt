@@ -1,4 +1,3 @@
-use borrow.Author.Needs.{needs}
 use denote.Ref.{now}
 use Rattle.to_json_kept.proofs.Params.{is-value, is-other}
 use Rattle.to_json_kept.proofs.is_param.Statement.{statement}

@@ -1,5 +1,4 @@
 use borrow.Author.Needs.{needs}
-use denote.Ref.{now}
 use native.Mathlib.Omega.{arith}
 use Rattle.to_json_kept.proofs.is_value.Statement.{statement}
 use Rattle.to_json_kept.proofs.is_value.Tie as tie
@@ -34,9 +33,6 @@ part-is-named-start c = let v = c .before .before .before .before .pre .0 .rows 
 part-is-named-end : tie.Need-part-is-named-end
 part-is-named-end c = let v = c .before .before .before .before .pre .0 .rows .name (c .before .before .before .before .args .k) (c .before .before .before .before .pre .1) in omega (arith, v .ordered, v .within)
 
-slice-aggregate-is-named : tie.Need-slice-aggregate-is-named
-slice-aggregate-is-named c = search needs
-
 is-named-requires : tie.Need-is-named-requires
 is-named-requires c κs = tt
 
@@ -46,4 +42,5 @@ returns c = c .is-named .ensures
 pub is-value-spec : {M : Type 1} → statement M
 is-value-spec =
     tie.close
-    (tie.spec mul-i add-i mul-a shared-slice-read-a add-b mul-b shared-slice-read-b sub-is-named part-is-named-start part-is-named-end slice-aggregate-is-named is-named-requires returns)
+    (tie.spec mul-i add-i mul-a shared-slice-read-a add-b mul-b shared-slice-read-b sub-is-named part-is-named-start part-is-named-end
+    (λ c. search needs) is-named-requires returns)

@@ -1,5 +1,4 @@
 use borrow.Author.Needs.{needs}
-use denote.Ref.{now}
 use mathlib.Core.List.{[], _∷_}
 use Rattle.output.proofs.Laws.{puts-as, start, done}
 use Rattle.to_json_kept.proofs.Whole.{piece-on, piece-off}
@@ -8,9 +7,6 @@ use Rattle.to_json_kept.proofs.put_comma.Tie as tie
 
 put-byte-requires : tie.Need-put-byte-requires
 put-byte-requires c κs = tt
-
-same-length : tie.Need-same-length
-same-length c = search needs
 
 returns : tie.Need-returns
 returns c = puts-as (piece-on (c .before .before .before .before .before .before .args .begun) (44 ∷ []) (c .before .before .before .before .if1 .taken)) (c .before .before .put-byte .ensures)
@@ -21,4 +17,4 @@ returns-2 c = puts-as (piece-off (c .before .before .args .begun) (44 ∷ []) (c
 pub put-comma-spec : {M : Type 1} → statement M
 put-comma-spec =
     tie.close
-    (tie.spec put-byte-requires same-length returns returns-2)
+    (tie.spec put-byte-requires (λ c. search needs) returns returns-2)

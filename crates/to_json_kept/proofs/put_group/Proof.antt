@@ -11,13 +11,10 @@ returns c = puts-as (group-empty (now (c .before .before .before .args .g)) (c .
 put-group-member-requires : tie.Need-put-group-member-requires
 put-group-member-requires c κs = tt
 
-same-length : tie.Need-same-length
-same-length c = search needs
-
 returns-2 : tie.Need-returns-2
 returns-2 c = puts-as (group-filled (now (c .before .before .before .before .before .before .before .args .g)) (c .before .before .before .before .if1 .left)) (c .before .before .put-group-member .ensures)
 
 pub put-group-spec : {M : Type 1} → statement M
 put-group-spec =
     tie.close
-    (tie.spec returns put-group-member-requires same-length returns-2)
+    (tie.spec returns put-group-member-requires (λ c. search needs) returns-2)

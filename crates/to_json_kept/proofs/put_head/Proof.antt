@@ -82,9 +82,6 @@ part-put-text-start c = in! (s₂ c)
 part-put-text-end : tie.Need-part-put-text-end
 part-put-text-end c = le-refl _
 
-slice-aggregate-put-text : tie.Need-slice-aggregate-put-text
-slice-aggregate-put-text c = search needs
-
 put-text-requires : tie.Need-put-text-requires
 put-text-requires c κs = tt
 
@@ -140,6 +137,6 @@ pub put-head-spec : {M : Type 1} → statement M
 put-head-spec =
     tie.close
     (tie.spec put-byte-requires enum-known-a enum-told same-length returns sub-put-lower part-put-lower-start part-put-lower-end put-lower-requires
-    enum-known-b enum-told-2 same-length-2 returns-2 add-ab sub-put-text part-put-text-start part-put-text-end slice-aggregate-put-text
-    put-text-requires enum-known-c enum-told-3 same-length-3 returns-3 add-ac sub-put-group part-put-group-start part-put-group-end put-group-requires
-    enum-known-d enum-told-4 same-length-4 returns-4 add-ad same-length-5 returns-5)
+    enum-known-b enum-told-2 same-length-2 returns-2 add-ab sub-put-text part-put-text-start part-put-text-end (λ c. search needs) put-text-requires
+    enum-known-c enum-told-3 same-length-3 returns-3 add-ac sub-put-group part-put-group-start part-put-group-end put-group-requires enum-known-d
+    enum-told-4 same-length-4 returns-4 add-ad same-length-5 returns-5)

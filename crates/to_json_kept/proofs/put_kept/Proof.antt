@@ -12,7 +12,6 @@ use Rattle.convert_put.specs.Pieces.{inside}
 use native.Mathlib.Nat.{le-refl}
 use mathlib.Core.List.{[], _∷_}
 use denote.Ref.{now}
-use borrow.Author.Needs.{needs}
 use Rattle.output.proofs.Rows.{Here, first!, next!, none, stop!, all, in!, fit!, same!, length-puts}
 use Rattle.to_json_kept.proofs.put_kept.Statement.{statement}
 use Rattle.to_json_kept.proofs.put_kept.Tie as tie

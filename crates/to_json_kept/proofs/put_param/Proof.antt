@@ -8,7 +8,6 @@ use Rattle.text.specs.Bytes.{lowered}
 use native.Mathlib.Nat.{le-refl}
 use mathlib.Core.List.{[], _∷_}
 use denote.Ref.{now}
-use borrow.Author.Needs.{needs}
 use Rattle.output.proofs.Rows.{Here, first!, next!, none, stop!, all, in!, fit!, same!, length-puts}
 use Rattle.to_json_kept.proofs.put_param.Statement.{statement}
 use Rattle.to_json_kept.proofs.put_param.Tie as tie

@@ -10,9 +10,6 @@ use Rattle.to_json_kept.proofs.put_param_if.Tie as tie
 put-param-requires : tie.Need-put-param-requires
 put-param-requires c κs = c .before .before .before .before .before .pre
 
-same-length : tie.Need-same-length
-same-length c = search needs
-
 returns : tie.Need-returns
 returns c =
     let c1 = c .before .before in
@@ -26,4 +23,4 @@ returns-2 c = let s = now (c .before .before .before .before .args .s) in puts-a
 pub put-param-if-spec : {M : Type 1} → statement M
 put-param-if-spec =
     tie.close
-    (tie.spec put-param-requires same-length returns returns-2)
+    (tie.spec put-param-requires (λ c. search needs) returns returns-2)

@@ -35,9 +35,6 @@ s₅ c =
     let b = c .before .before .before .before .before in
     next! (s₄ (b .before .before)) (b .put-byte2 .ensures) (c .before .e .given .1)
 
-slice-aggregate-put-text : tie.Need-slice-aggregate-put-text
-slice-aggregate-put-text c = search needs
-
 put-text-requires : tie.Need-put-text-requires
 put-text-requires c κs = tt
 
@@ -174,7 +171,7 @@ returns-6 c = all (s₅ c .left)
 pub put-tail-spec : {M : Type 1} → statement M
 put-tail-spec =
     tie.close
-    (tie.spec slice-aggregate-put-text put-text-requires enum-known-a enum-told same-length returns sub-put-type part-put-type-start part-put-type-end
+    (tie.spec (λ c. search needs) put-text-requires enum-known-a enum-told same-length returns sub-put-type part-put-type-start part-put-type-end
     put-type-requires enum-known-b enum-told-2 same-length-2 returns-2 add-ab sub-put-byte part-put-byte-start part-put-byte-end put-byte-requires
     enum-known-c enum-told-3 same-length-3 returns-3 add-ac sub-put-string part-put-string-start part-put-string-end put-string-requires enum-known-d
     enum-told-4 same-length-4 returns-4 add-ad sub-put-byte-2 part-put-byte-start-2 part-put-byte-end-2 put-byte-requires-2 enum-known-e enum-told-5

@@ -12,14 +12,8 @@ value-row-requires c κs = c .before .before .before .pre
 shared-slice-read-if1 : tie.Need-shared-slice-read-if1
 shared-slice-read-if1 c = omega (arith, c .before .before .before .before .before .pre .wide)
 
-slice-aggregate-put-text : tie.Need-slice-aggregate-put-text
-slice-aggregate-put-text c = search needs
-
 put-text-requires : tie.Need-put-text-requires
 put-text-requires c κs = tt
-
-same-length : tie.Need-same-length
-same-length c = search needs
 
 returns : tie.Need-returns
 returns c =
@@ -65,9 +59,6 @@ part-put-lower-end c = let v = c .before .before .before .before .before .before
 put-lower-requires : tie.Need-put-lower-requires
 put-lower-requires c κs = tt
 
-same-length-2 : tie.Need-same-length-2
-same-length-2 c = search needs
-
 returns-2 : tie.Need-returns-2
 returns-2 c =
     let c1 = c .before .before in
@@ -79,4 +70,6 @@ returns-2 c =
 pub put-type-spec : {M : Type 1} → statement M
 put-type-spec =
     tie.close
-    (tie.spec value-row-requires shared-slice-read-if1 slice-aggregate-put-text put-text-requires same-length returns mul-i add-i add-a mul-a shared-slice-read-a add-b mul-b shared-slice-read-b sub-put-lower part-put-lower-start part-put-lower-end put-lower-requires same-length-2 returns-2)
+    (tie.spec value-row-requires shared-slice-read-if1 (λ c. search needs) put-text-requires (λ c. search needs) returns mul-i add-i add-a mul-a
+    shared-slice-read-a add-b mul-b shared-slice-read-b sub-put-lower part-put-lower-start part-put-lower-end put-lower-requires (λ c. search needs)
+    returns-2)

@@ -4,19 +4,13 @@ use Rattle.to_json_keys.proofs.Marked.{no-ids, with-ids}
 use borrow.Author.Needs.{needs}
 use Rattle.to_json_keys.proofs.next_number.Statement.{statement}
 use Rattle.to_json_keys.proofs.next_number.Tie as tie
-use Rattle.to_json_keys.proofs.next_number.Reads as reads
-use Rattle.to_json_keys.proofs.next_number.Lts as lts
-use Rattle.to_json_keys.proofs.next_free.Reads as next-free-reads
 
--- src/lib.rt:124:9
 returns : tie.Need-returns
 returns c = no-ids (now (c .before .before .args .row)) (c .before .before .args .taken) (c .before .before .args .from) (not-true _ (c .if1 .taken))
 
--- src/lib.rt:126:5
 next-free-requires : tie.Need-next-free-requires
 next-free-requires c κs = search needs
 
--- src/lib.rt:120:1
 returns-2 : tie.Need-returns-2
 returns-2 c = with-ids (now (c .before .before .before .args .row)) (c .before .before .before .args .taken) (c .before .before .before .args .from) (c .next-free .result) (not-false _ (c .before .if1 .left)) (c .next-free .ensures)
 

@@ -2,7 +2,6 @@ use Rattle.text.specs.Decimal.{decimal}
 use native.Mathlib.Nat.{le-refl}
 use mathlib.Core.List.{[], _∷_}
 use denote.Ref.{now}
-use borrow.Author.Needs.{needs}
 use Rattle.output.proofs.Laws.{puts-as}
 use Rattle.to_json_keys.proofs.Spelled.{key-row}
 use Rattle.output.proofs.Rows.{Here, first!, next!, none, stop!, all, in!, fit!, same!, length-puts}

@@ -7,15 +7,10 @@ use denote.Ref.{now}
 use borrow.Author.Tests.{not-true, not-false}
 use lib.ListN.{length}
 use Rattle.convert.specs.Classify.{Classed}
-use Rattle.card_lines.specs.Classified.{Classified}
+use Rattle.from_card_lines.specs.Classified.{Classified}
 use Rattle.to_json_maps.proofs.Marking.{Marking, marking-start, marking-other, line-entering, marking-line, marking-end}
 use Rattle.to_json_maps.proofs.mark_ids.Statement.{statement}
 use Rattle.to_json_maps.proofs.mark_ids.Tie as tie
-use Rattle.to_json_maps.proofs.mark_ids.Reads as reads
-use Rattle.to_json_maps.proofs.mark_ids.Lts as lts
-use Rattle.line_unfold.proofs.line_at.Reads as line-at-reads
-use Rattle.to_json_maps.proofs.is_of.Reads as is-of-reads
-use Rattle.to_json_maps.proofs.mark_line.Reads as mark-line-reads
 
 abbrev Inv-loop : tie.InvT-loop
 Inv-loop row₀ t₀ prefix scratch starts codes n i any₀ k₀ row t any k = (k ≤ n) × (length row ≡ length row₀) × (length t ≡ length t₀) × ((cs : List Classed) → Classified scratch starts codes n cs → Marking prefix i cs k any row)
@@ -23,30 +18,24 @@ Inv-loop row₀ t₀ prefix scratch starts codes n i any₀ k₀ row t any k = (
 abbrev μ-loop : tie.MeasureT-loop
 μ-loop row₀ t₀ prefix scratch starts codes n i any₀ k₀ row t any k = n - k
 
--- src/lib.rt:139:5
 loop-holds : tie.Need-loop-holds Inv-loop μ-loop
 loop-holds c =
     let args = c .before .before .before .before .before .before .args in
     let pre = c .before .before .before .before .before .before .pre in
     (omega arith, refl, refl, λ cs h. marking-start (now (args .prefix)) (args .i) cs (now (args .row)) (pre .0))
 
--- src/lib.rt:140:19
 shared-slice-read-is-of : tie.Need-shared-slice-read-is-of Inv-loop μ-loop
 shared-slice-read-is-of c = omega (arith, c .before .before .before .before .before .before .before .before .before .pre .2 .1 .wide, c .before .loop-test .taken)
 
--- src/lib.rt:140:13
 is-of-requires : tie.Need-is-of-requires Inv-loop μ-loop
 is-of-requires c κs = tt
 
--- src/lib.rt:141:13
 add-k : tie.Need-add-k Inv-loop μ-loop
 add-k c = search needs
 
--- src/lib.rt:139:5
 loop-less : tie.Need-loop-less Inv-loop μ-loop
 loop-less c = omega arith
 
--- src/lib.rt:139:5
 loop-again : tie.Need-loop-again Inv-loop μ-loop
 loop-again c =
     let args = c .before .before .before .before .before .before .before .before .before .before .before .args in
@@ -59,11 +48,9 @@ loop-again c =
       λ cs h. marking-other h (loop .k) (loop-test .taken) (args .i) (is-of .result) (is-of .ensures) (now (args .prefix)) (loop .any) (loop .row) (not-true _ (c .if1 .taken)) (loop .inv .3 cs h),
     )
 
--- src/lib.rt:144:13
 line-at-requires : tie.Need-line-at-requires Inv-loop μ-loop
 line-at-requires c κs = tt
 
--- src/lib.rt:145:13
 mark-line-requires : tie.Need-mark-line-requires Inv-loop μ-loop
 mark-line-requires c κs =
     let args = c .before .before .before .before .before .before .before .before .before .before .before .before .before .before .args in
@@ -77,15 +64,12 @@ mark-line-requires c κs =
       line-entering (pre .2 .1) (loop .k) (loop-test .taken) (args .i) (is-of .result) (is-of .ensures) (not-false _ (if1 .left)) (pre .3) (c .before .before .line-at .ensures),
     )
 
--- src/lib.rt:147:9
 add-k-2 : tie.Need-add-k-2 Inv-loop μ-loop
 add-k-2 c = search needs
 
--- src/lib.rt:139:5
 loop-less-2 : tie.Need-loop-less-2 Inv-loop μ-loop
 loop-less-2 c = omega arith
 
--- src/lib.rt:139:5
 loop-again-2 : tie.Need-loop-again-2 Inv-loop μ-loop
 loop-again-2 c =
     let args = c .before .before .before .before .before .before .before .before .before .before .before .before .before .before .before .before .before .before .before .args in
@@ -102,15 +86,12 @@ loop-again-2 c =
       λ cs h. marking-line h (loop .k) (loop-test .taken) (args .i) (is-of .result) (is-of .ensures) (not-false _ (if1 .left)) (pre .3) (now (args .prefix)) (loop .any) (mark-line .result) (loop .row) (mark-line .last .0) (line-at .ensures) (mark-line .ensures) (loop .inv .3 cs h),
     )
 
--- src/lib.rt:124:1
 same-length : tie.Need-same-length Inv-loop μ-loop
 same-length c = c .before .loop .inv .1
 
--- src/lib.rt:124:1
 same-length-2 : tie.Need-same-length-2 Inv-loop μ-loop
 same-length-2 c = c .before .loop .inv .2
 
--- src/lib.rt:124:1
 returns : tie.Need-returns Inv-loop μ-loop
 returns c =
     let args = c .before .before .before .before .before .before .before .before .args in
@@ -120,20 +101,5 @@ returns c =
 pub mark-ids-spec : {M : Type 1} → statement M
 mark-ids-spec =
     tie.close
-    (tie.spec
-    Inv-loop
-    μ-loop
-    loop-holds
-    shared-slice-read-is-of
-    is-of-requires
-    add-k
-    loop-less
-    loop-again
-    line-at-requires
-    mark-line-requires
-    add-k-2
-    loop-less-2
-    loop-again-2
-    same-length
-    same-length-2
-    returns)
+    (tie.spec Inv-loop μ-loop loop-holds shared-slice-read-is-of is-of-requires add-k loop-less loop-again line-at-requires mark-line-requires add-k-2
+    loop-less-2 loop-again-2 same-length same-length-2 returns)

@@ -7,25 +7,11 @@ use Rattle.to_json_maps.proofs.Marking.{filled-holds, filled-none, unre
 use borrow.Author.Needs.{needs}
 use Rattle.to_json_maps.proofs.mark_line.Statement.{statement}
 use Rattle.to_json_maps.proofs.mark_line.Tie as tie
-use Rattle.to_json_maps.proofs.mark_line.Reads as reads
-use Rattle.to_json_maps.proofs.mark_line.Lts as lts
-use Rattle.line_table.proofs.fill.Reads as fill-reads
-use Rattle.table_params.proofs.scan_rows.Reads as scan-rows-reads
-use Rattle.to_json_keys.proofs.mark_key.Reads as mark-key-reads
-
-has-dash-requires : tie.Need-has-dash-requires
-has-dash-requires c κs = search needs
 
 returns : tie.Need-returns
 returns c =
     let args = c .before .before .before .before .before .before .args in
     line-dashless (now (args .prefix)) (now (args .s)) (now (args .row)) (c .before .has-dash .ensures (not-true _ (c .if1 .taken)))
-
-fill-requires : tie.Need-fill-requires
-fill-requires c κs = search needs
-
-same-length : tie.Need-same-length
-same-length c = search needs
 
 returns-2 : tie.Need-returns-2
 returns-2 c =
@@ -33,26 +19,11 @@ returns-2 c =
     let fill = c .before .before .before .fill in
     unread (now (args .prefix)) (now (args .s)) (now (args .row)) (filled-none _ _ (fill .result) (fill .ensures) (not-true _ (c .if2 .taken)))
 
-slice-aggregate-scan-rows : tie.Need-slice-aggregate-scan-rows
-slice-aggregate-scan-rows c = search needs
-
-slice-aggregate-scan-rows-2 : tie.Need-slice-aggregate-scan-rows-2
-slice-aggregate-scan-rows-2 c = search needs
-
-slice-aggregate-scan-rows-3 : tie.Need-slice-aggregate-scan-rows-3
-slice-aggregate-scan-rows-3 c = search needs
-
 scan-rows-requires : tie.Need-scan-rows-requires
 scan-rows-requires c κs =
     let fill = c .before .before .before .before .before .before .before .fill in
     let if2 = c .before .before .before .before .if2 in
     (clear-eight, (filled-holds (fill .result) (fill .ensures) (not-false _ (if2 .left))) .sound)
-
-array-read-k : tie.Need-array-read-k
-array-read-k c = search needs
-
-same-length-2 : tie.Need-same-length-2
-same-length-2 c = search needs
 
 returns-3 : tie.Need-returns-3
 returns-3 c =
@@ -63,12 +34,6 @@ returns-3 c =
     line-free (now (args .prefix)) (now (args .s)) (fill .last .0) (scan-rows .last .0) (scan-rows .last .1 .0) (scan-rows .last .1 .1 .0)
     (now (args .row)) (filled-holds (fill .result) (fill .ensures) (not-false _ (if2 .left))) (scan-rows .ensures) (c .if3 .taken)
 
-array-read-a : tie.Need-array-read-a
-array-read-a c = search needs
-
-array-read-b : tie.Need-array-read-b
-array-read-b c = search needs
-
 sub-mark-key : tie.Need-sub-mark-key
 sub-mark-key c = let v = first-id (c .before .before .before .before .before .scan-rows .ensures) (c .before .if3 .left) in omega (arith, v .ordered, v .within)
 
@@ -77,15 +42,6 @@ part-mark-key-start c = let v = first-id (c .before .before .before .before .bef
 
 part-mark-key-end : tie.Need-part-mark-key-end
 part-mark-key-end c = let v = first-id (c .before .before .before .before .before .scan-rows .ensures) (c .before .if3 .left) in omega (arith, v .ordered, v .within)
-
-mark-key-requires : tie.Need-mark-key-requires
-mark-key-requires c κs = search needs
-
-same-length-3 : tie.Need-same-length-3
-same-length-3 c = search needs
-
-same-length-4 : tie.Need-same-length-4
-same-length-4 c = search needs
 
 returns-4 : tie.Need-returns-4
 returns-4 c =
@@ -102,25 +58,6 @@ returns-4 c =
 pub mark-line-spec : {M : Type 1} → statement M
 mark-line-spec =
     tie.close
-    (tie.spec
-    has-dash-requires
-    returns
-    fill-requires
-    same-length
-    returns-2
-    slice-aggregate-scan-rows
-    slice-aggregate-scan-rows-2
-    slice-aggregate-scan-rows-3
-    scan-rows-requires
-    array-read-k
-    same-length-2
-    returns-3
-    array-read-a
-    array-read-b
-    sub-mark-key
-    part-mark-key-start
-    part-mark-key-end
-    mark-key-requires
-    same-length-3
-    same-length-4
-    returns-4)
+    (tie.spec (λ c κs. search needs) returns (λ c κs. search needs) (λ c. search needs) returns-2 (λ c. search needs) (λ c. search needs)
+    (λ c. search needs) scan-rows-requires (λ c. search needs) (λ c. search needs) returns-3 (λ c. search needs) (λ c. search needs) sub-mark-key
+    part-mark-key-start part-mark-key-end (λ c κs. search needs) (λ c. search needs) (λ c. search needs) returns-4)

@@ -9,7 +9,7 @@ use denote.Ref.{now}
 use borrow.Author.Tests.{not-true, not-false}
 use Rattle.text.proofs.Cases.{not-both}
 use Rattle.convert.specs.Classify.{Classed}
-use Rattle.card_lines.specs.Classified.{Classified}
+use Rattle.from_card_lines.specs.Classified.{Classified}
 use Rattle.to_json_maps.proofs.Heads.{unmarked}
 use Rattle.to_json_maps.proofs.Marking.{Marking, marking-start, marking-other, marking-line, marking-end, line-dashless}
 use Rattle.to_json_maps.proofs.may_have_ids.Statement.{statement}
@@ -75,19 +75,5 @@ returns-2 c = λ e cs h. marking-end h [] (c .before .before .before .before .be
 pub may-have-ids-spec : {M : Type 1} → statement M
 may-have-ids-spec =
     tie.close
-    (tie.spec
-    Inv-loop
-    μ-loop
-    loop-holds
-    shared-slice-read-is-of
-    is-of-requires
-    add-k
-    loop-less
-    loop-again
-    line-at-requires
-    has-dash-requires
-    returns
-    add-k-2
-    loop-less-2
-    loop-again-2
-    returns-2)
+    (tie.spec Inv-loop μ-loop loop-holds shared-slice-read-is-of is-of-requires add-k loop-less loop-again line-at-requires has-dash-requires returns
+    add-k-2 loop-less-2 loop-again-2 returns-2)

@@ -1,23 +1,21 @@
 use borrow.Author.Needs.{needs}
-use mathlib.Core.Path.{_≡_, refl, sym, ap, _∙_}
-use mathlib.Core.List.{List, [], _∷_}
-use Prim.Native.Nat.{_+_, _-_, _≤_, _<_}
+use mathlib.Core.Path.{_≡_, refl, _∙_}
+use mathlib.Core.List.{List, []}
+use Prim.Native.Nat.{_-_, _≤_}
 use native.Mathlib.Nat.{le-refl}
 use native.Mathlib.Omega.{arith}
 use denote.Ref.{now}
 use borrow.Author.Tests.{not-true, not-false}
-use lib.ListN.{length, take, drop, getD}
+use lib.ListN.{length}
 use Rattle.output.proofs.Rests.{rest-as, rest-next, rest-stop, rest-done, rest-in, rest-fit, rest-same}
 use Rattle.output.proofs.Rows.{length-puts}
 use Rattle.convert.specs.Classify.{Classed}
 use Rattle.convert_put.proofs.Writing.{closed, opened}
-use Rattle.card_lines.specs.Classified.{Classified}
+use Rattle.from_card_lines.specs.Classified.{Classified}
 use Rattle.to_json_maps.proofs.Heads.{prefixes, prefix-short}
 use Rattle.to_json_maps.proofs.Turns.{Mapping, mapping-start, mapping-end, mapping-other, has-turn, mapping-stop, mapping-next}
 use Rattle.to_json_maps.proofs.put_entries.Statement.{statement}
 use Rattle.to_json_maps.proofs.put_entries.Tie as tie
-use Rattle.to_json_maps.proofs.put_entries.Reads as reads
-use Rattle.to_json_maps.proofs.put_entries.Lts as lts
 
 abbrev Inv-loop : tie.InvT-loop
 Inv-loop out₀ t₀ scratch starts codes n i prefix row taken at₀ k₀ from₀ begun₀ out t at k from begun = (k ≤ n) × (length t ≡ length t₀) × ((cs : List Classed) → Classified scratch starts codes n cs → Mapping out₀ prefix i n cs k from begun at out)
@@ -275,42 +273,7 @@ returns-4 c =
 pub put-entries-spec : {M : Type 1} → statement M
 put-entries-spec =
     tie.close
-    (tie.spec
-    Inv-loop
-    μ-loop
-    loop-holds
-    shared-slice-read-is-of
-    is-of-requires
-    add-k
-    loop-less
-    loop-again
-    line-at-requires
-    sub-put-turn
-    part-put-turn-start
-    part-put-turn-end
-    put-turn-requires
-    enum-known-bytes
-    enum-told
-    same-length
-    same-length-2
-    returns
-    add-at
-    add-k-2
-    loop-less-2
-    loop-again-2
-    same-length-3
-    same-length-4
-    returns-2
-    sub-put-byte
-    part-put-byte-start
-    part-put-byte-end
-    put-byte-requires
-    enum-known-m
-    enum-told-2
-    same-length-5
-    same-length-6
-    returns-3
-    add-all
-    same-length-7
-    same-length-8
-    returns-4)
+    (tie.spec Inv-loop μ-loop loop-holds shared-slice-read-is-of is-of-requires add-k loop-less loop-again line-at-requires sub-put-turn
+    part-put-turn-start part-put-turn-end put-turn-requires enum-known-bytes enum-told same-length same-length-2 returns add-at add-k-2 loop-less-2
+    loop-again-2 same-length-3 same-length-4 returns-2 sub-put-byte part-put-byte-start part-put-byte-end put-byte-requires enum-known-m enum-told-2
+    same-length-5 same-length-6 returns-3 add-all same-length-7 same-length-8 returns-4)

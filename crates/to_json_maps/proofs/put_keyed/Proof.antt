@@ -1,12 +1,5 @@
-use borrow.Author.Needs.{needs}
-use mathlib.Core.Path.{_≡_, refl, sym, ap, _∙_}
-use mathlib.Core.List.{List, [], _∷_}
-use Prim.Native.Nat.{_+_, _-_, _≤_, _<_}
 use native.Mathlib.Nat.{le-refl, lt-of-le-of-lt}
-use native.Mathlib.Omega.{arith}
 use denote.Ref.{now}
-use borrow.Author.Tests.{not-true, not-false}
-use lib.ListN.{length, take, drop, getD}
 use Rattle.output.proofs.Laws.{first, first-full, next, stop, more, done, within, puts-as}
 use Rattle.output.proofs.Rows.{length-puts}
 use Rattle.convert.specs.ToJson.{entryJson}
@@ -16,8 +9,6 @@ use Rattle.to_json_maps.specs.Maps.{mapAt}
 use Rattle.to_json_maps.proofs.Turns.{piece-is, row-is, entry-puts}
 use Rattle.to_json_maps.proofs.put_keyed.Statement.{statement}
 use Rattle.to_json_maps.proofs.put_keyed.Tie as tie
-use Rattle.to_json_maps.proofs.put_keyed.Reads as reads
-use Rattle.to_json_maps.proofs.put_keyed.Lts as lts
 
 types-of-requires : tie.Need-types-of-requires
 types-of-requires c κs = tt
@@ -162,23 +153,6 @@ returns-3 c =
 pub put-keyed-spec : {M : Type 1} → statement M
 put-keyed-spec =
     tie.close
-    (tie.spec
-    types-of-requires
-    form-of-requires
-    kind-of-line-requires
-    put-map-head-requires
-    enum-known-a
-    enum-told
-    same-length
-    returns
-    sub-put-map-line
-    part-put-map-line-start
-    part-put-map-line-end
-    put-map-line-requires
-    enum-known-b
-    enum-told-2
-    same-length-2
-    returns-2
-    add-ab
-    same-length-3
-    returns-3)
+    (tie.spec types-of-requires form-of-requires kind-of-line-requires put-map-head-requires enum-known-a enum-told same-length returns
+    sub-put-map-line part-put-map-line-start part-put-map-line-end put-map-line-requires enum-known-b enum-told-2 same-length-2 returns-2 add-ab
+    same-length-3 returns-3)

@@ -1,21 +1,10 @@
 use borrow.Author.Needs.{needs}
-use mathlib.Core.Path.{_≡_, refl, sym, ap, _∙_}
-use mathlib.Core.List.{List, [], _∷_}
-use Prim.Native.Nat.{_+_, _-_, _≤_, _<_}
-use native.Mathlib.Nat.{le-refl}
+use mathlib.Core.Path.{sym}
 use native.Mathlib.Omega.{arith}
-use denote.Ref.{now}
-use borrow.Author.Tests.{not-true, not-false}
-use lib.ListN.{length, take, drop, getD}
 use Rattle.to_json_maps.specs.Maps.{mapAt}
 use Rattle.to_json_maps.proofs.Turns.{put-front, fits-front, never-full, piece-as}
 use Rattle.to_json_maps.proofs.put_made.Statement.{statement}
 use Rattle.to_json_maps.proofs.put_made.Tie as tie
-use Rattle.to_json_maps.proofs.put_made.Reads as reads
-use Rattle.to_json_maps.proofs.put_made.Lts as lts
-
-slice-aggregate-put-key : tie.Need-slice-aggregate-put-key
-slice-aggregate-put-key c = search needs
 
 put-key-requires : tie.Need-put-key-requires
 put-key-requires c κs = tt
@@ -41,9 +30,6 @@ part-put-keyed-end c = omega (arith, fits-front _ _ _ _ _ (c .before .before .be
 put-keyed-requires : tie.Need-put-keyed-requires
 put-keyed-requires c κs = c .before .before .before .before .before .before .before .before .before .before .before .before .before .before .before .before .pre .0
 
-same-length : tie.Need-same-length
-same-length c = search needs
-
 returns-2 : tie.Need-returns-2
 returns-2 c =
     let args = c .before .before .before .before .before .before .before .before .before .before .before .before .before .before .before .before .before .before .before .args in
@@ -55,15 +41,5 @@ returns-2 c =
 pub put-made-spec : {M : Type 1} → statement M
 put-made-spec =
     tie.close
-    (tie.spec
-    slice-aggregate-put-key
-    put-key-requires
-    enum-known-k
-    enum-told
-    returns
-    sub-put-keyed
-    part-put-keyed-start
-    part-put-keyed-end
-    put-keyed-requires
-    same-length
-    returns-2)
+    (tie.spec (λ c. search needs) put-key-requires enum-known-k enum-told returns sub-put-keyed part-put-keyed-start part-put-keyed-end
+    put-keyed-requires (λ c. search needs) returns-2)

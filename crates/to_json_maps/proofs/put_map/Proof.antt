@@ -1,21 +1,10 @@
 use borrow.Author.Needs.{needs}
-use mathlib.Core.Path.{_≡_, refl, sym, ap, _∙_}
-use mathlib.Core.List.{List, [], _∷_}
-use Prim.Native.Nat.{_+_, _-_, _≤_, _<_}
-use native.Mathlib.Nat.{le-refl}
 use native.Mathlib.Omega.{arith}
-use denote.Ref.{now}
-use borrow.Author.Tests.{not-true, not-false}
-use lib.ListN.{length, take, drop, getD}
+use borrow.Author.Tests.{not-true}
 use Rattle.to_json_maps.proofs.Heads.{prefix-fits, unmarked}
 use Rattle.to_json_maps.proofs.Turns.{put-front, fits-front, never-full}
 use Rattle.to_json_maps.proofs.put_map.Statement.{statement}
 use Rattle.to_json_maps.proofs.put_map.Tie as tie
-use Rattle.to_json_maps.proofs.put_map.Reads as reads
-use Rattle.to_json_maps.proofs.put_map.Lts as lts
-
-slice-aggregate-put-prefix : tie.Need-slice-aggregate-put-prefix
-slice-aggregate-put-prefix c = search needs
 
 put-prefix-requires : tie.Need-put-prefix-requires
 put-prefix-requires c κs = tt
@@ -47,26 +36,14 @@ part-put-entries-start c = omega (arith, fits-front _ _ _ _ _ (c .before .before
 part-put-entries-end : tie.Need-part-put-entries-end
 part-put-entries-end c = omega (arith, fits-front _ _ _ _ _ (c .before .before .before .before .before .before .before .before .before .put-prefix .ensures) (c .before .before .before .before .before .before .p .given .1))
 
-slice-aggregate-put-entries : tie.Need-slice-aggregate-put-entries
-slice-aggregate-put-entries c = search needs
-
 put-entries-requires : tie.Need-put-entries-requires
 put-entries-requires c κs =
     let pre = c .before .before .before .before .before .before .before .before .before .before .before .before .before .before .before .before .before .before .pre in
     let none = c .before .before .before .before .before .before .may-have-ids .ensures (not-true _ (c .before .before .before .before .before .if1 .taken)) in
     (search needs, record { lines = pre .1; small = pre .2; is = put-front _ _ _ _ _ (c .before .before .before .before .before .before .before .before .before .before .before .put-prefix .ensures) (c .before .before .before .before .before .before .before .before .p .given .1); ids = none })
 
-same-length : tie.Need-same-length
-same-length c = search needs
-
-same-length-2 : tie.Need-same-length-2
-same-length-2 c = search needs
-
 returns-2 : tie.Need-returns-2
 returns-2 c = c .before .before .before .before .put-entries .ensures
-
-slice-aggregate-mark-ids : tie.Need-slice-aggregate-mark-ids
-slice-aggregate-mark-ids c = search needs
 
 sub-mark-ids : tie.Need-sub-mark-ids
 sub-mark-ids c = omega (arith, fits-front _ _ _ _ _ (c .before .before .before .before .before .before .before .before .put-prefix .ensures) (c .before .before .before .before .before .p .given .1))
@@ -97,9 +74,6 @@ part-put-entries-end-2 c =
     let p = c .before .before .before .before .before .before .before .before .before .before .before .before .before .before .p in
     omega (arith, fits-front _ _ _ _ _ (put-prefix .ensures) (p .given .1))
 
-slice-aggregate-put-entries-2 : tie.Need-slice-aggregate-put-entries-2
-slice-aggregate-put-entries-2 c = search needs
-
 put-entries-requires-2 : tie.Need-put-entries-requires-2
 put-entries-requires-2 c κs =
     let pre = c .before .before .before .before .before .before .before .before .before .before .before .before .before .before .before .before .before .before .before .before .before .before .before .before .before .before .pre in
@@ -108,43 +82,13 @@ put-entries-requires-2 c κs =
     let mark-ids = c .before .before .before .before .before .before .before .before .mark-ids in
     (search needs, record { lines = pre .1; small = pre .2; is = (put-front _ _ _ _ _ (put-prefix .ensures) (p .given .1)); ids = mark-ids .ensures })
 
-same-length-3 : tie.Need-same-length-3
-same-length-3 c = search needs
-
-same-length-4 : tie.Need-same-length-4
-same-length-4 c = search needs
-
 returns-3 : tie.Need-returns-3
 returns-3 c = c .before .before .before .before .put-entries2 .ensures
 
 pub put-map-spec : {M : Type 1} → statement M
 put-map-spec =
     tie.close
-    (tie.spec
-    slice-aggregate-put-prefix
-    put-prefix-requires
-    enum-known-p
-    enum-told
-    returns
-    may-have-ids-requires
-    sub-put-entries
-    part-put-entries-start
-    part-put-entries-end
-    slice-aggregate-put-entries
-    put-entries-requires
-    same-length
-    same-length-2
-    returns-2
-    slice-aggregate-mark-ids
-    sub-mark-ids
-    part-mark-ids-start
-    part-mark-ids-end
-    mark-ids-requires
-    sub-put-entries-2
-    part-put-entries-start-2
-    part-put-entries-end-2
-    slice-aggregate-put-entries-2
-    put-entries-requires-2
-    same-length-3
-    same-length-4
-    returns-3)
+    (tie.spec (λ c. search needs) put-prefix-requires enum-known-p enum-told returns may-have-ids-requires sub-put-entries part-put-entries-start
+    part-put-entries-end (λ c. search needs) put-entries-requires (λ c. search needs) (λ c. search needs) returns-2 (λ c. search needs) sub-mark-ids
+    part-mark-ids-start part-mark-ids-end mark-ids-requires sub-put-entries-2 part-put-entries-start-2 part-put-entries-end-2 (λ c. search needs)
+    put-entries-requires-2 (λ c. search needs) (λ c. search needs) returns-3)

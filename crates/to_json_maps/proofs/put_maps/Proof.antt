@@ -1,7 +1,7 @@
 use borrow.Author.Needs.{needs}
-use mathlib.Core.Path.{_≡_, refl, sym, ap, _∙_}
-use mathlib.Core.List.{List, [], _∷_}
-use Prim.Native.Nat.{_+_, _-_, _≤_, _<_}
+use mathlib.Core.Path.{_≡_, refl}
+use mathlib.Core.List.{List}
+use Prim.Native.Nat.{_-_, _≤_}
 use native.Mathlib.Nat.{le-refl}
 use native.Mathlib.Omega.{arith}
 use denote.Ref.{now}
@@ -11,12 +11,10 @@ use Rattle.output.proofs.Rests.{rest-all, rest-as, rest-next, rest-stop, rest-d
 use Rattle.output.proofs.Rows.{length-puts}
 use Rattle.convert.specs.Table.{maps}
 use Rattle.convert.specs.Classify.{Classed}
-use Rattle.card_lines.specs.Classified.{Classified}
+use Rattle.from_card_lines.specs.Classified.{Classified}
 use Rattle.to_json_maps.proofs.Whole.{allMaps, mapsAfter, maps-bytes, maps-step, maps-end}
 use Rattle.to_json_maps.proofs.put_maps.Statement.{statement}
 use Rattle.to_json_maps.proofs.put_maps.Tie as tie
-use Rattle.to_json_maps.proofs.put_maps.Reads as reads
-use Rattle.to_json_maps.proofs.put_maps.Lts as lts
 
 abbrev Inv-loop : tie.InvT-loop
 Inv-loop out₀ t₀ scratch starts codes n at₀ i₀ out t at i = (i ≤ 7) × (length t ≡ length t₀) × ((cs : List Classed) → Classified scratch starts codes n cs → Rest out₀ (allMaps cs) (mapsAfter i (drop i maps) cs) at out)
@@ -105,23 +103,5 @@ returns-2 c = λ cs h. rest-done (maps-end (c .before .loop .i) cs (omega arith)
 pub put-maps-spec : {M : Type 1} → statement M
 put-maps-spec =
     tie.close
-    (tie.spec
-    Inv-loop
-    μ-loop
-    loop-holds
-    sub-put-map
-    part-put-map-start
-    part-put-map-end
-    put-map-requires
-    enum-known-m
-    enum-told
-    same-length
-    same-length-2
-    returns
-    add-at
-    add-i
-    loop-less
-    loop-again
-    same-length-3
-    same-length-4
-    returns-2)
+    (tie.spec Inv-loop μ-loop loop-holds sub-put-map part-put-map-start part-put-map-end put-map-requires enum-known-m enum-told same-length
+    same-length-2 returns add-at add-i loop-less loop-again same-length-3 same-length-4 returns-2)

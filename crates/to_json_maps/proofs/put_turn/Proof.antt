@@ -1,12 +1,8 @@
 use borrow.Author.Needs.{needs}
-use mathlib.Core.Path.{_≡_, refl, sym, ap, _∙_}
-use mathlib.Core.List.{List, [], _∷_}
-use Prim.Native.Nat.{_+_, _-_, _≤_, _<_}
-use native.Mathlib.Nat.{le-refl}
+use mathlib.Core.Path.{sym, _∙_}
 use native.Mathlib.Omega.{arith}
 use denote.Ref.{now}
 use borrow.Author.Tests.{not-true, not-false}
-use lib.ListN.{length, take, drop, getD}
 use Rattle.text.proofs.Choices.{none-some}
 use Rattle.convert_entry.proofs.Entry.{clear-eight}
 use Rattle.convert_entry.proofs.Tests.{first-id}
@@ -18,32 +14,15 @@ use Rattle.to_json_maps.proofs.Marking.{filled-holds, filled-none}
 use Rattle.to_json_maps.proofs.Turns.{said-as, key-made, goes-made, key-own, goes-own, piece-as}
 use Rattle.to_json_maps.proofs.put_turn.Statement.{statement}
 use Rattle.to_json_maps.proofs.put_turn.Tie as tie
-use Rattle.to_json_maps.proofs.put_turn.Reads as reads
-use Rattle.to_json_maps.proofs.put_turn.Lts as lts
 
 fill-requires : tie.Need-fill-requires
 fill-requires c κs = c .before .before .before .before .before .before .pre .0
 
-same-length : tie.Need-same-length
-same-length c = search needs
-
 returns : tie.Need-returns
 returns c = λ ids used e x. none-some (sym (filled-none _ _ (c .before .before .before .fill .result) (c .before .before .before .fill .ensures) (not-true _ (c .if1 .taken))) ∙ x .enters .read)
 
-slice-aggregate-scan-rows : tie.Need-slice-aggregate-scan-rows
-slice-aggregate-scan-rows c = search needs
-
-slice-aggregate-scan-rows-2 : tie.Need-slice-aggregate-scan-rows-2
-slice-aggregate-scan-rows-2 c = search needs
-
-slice-aggregate-scan-rows-3 : tie.Need-slice-aggregate-scan-rows-3
-slice-aggregate-scan-rows-3 c = search needs
-
 scan-rows-requires : tie.Need-scan-rows-requires
 scan-rows-requires c κs = (clear-eight, (filled-holds (c .before .before .before .before .before .before .before .fill .result) (c .before .before .before .before .before .before .before .fill .ensures) (not-false _ (c .before .before .before .before .if1 .left))) .sound)
-
-array-read-ids : tie.Need-array-read-ids
-array-read-ids c = search needs
 
 next-number-requires : tie.Need-next-number-requires
 next-number-requires c κs = tt
@@ -56,15 +35,6 @@ add-next c =
       arith,
       (made-low ((pre .1 .turning) .going) ((pre .1 .turning) .few) (c .next-number .ensures (now (args .prefix)) _ ((pre .1 .turning) .blocked) ((pre .1 .turning) .going .from))),
     )
-
-slice-aggregate-put-made : tie.Need-slice-aggregate-put-made
-slice-aggregate-put-made c = search needs
-
-slice-aggregate-put-made-2 : tie.Need-slice-aggregate-put-made-2
-slice-aggregate-put-made-2 c = search needs
-
-slice-aggregate-put-made-3 : tie.Need-slice-aggregate-put-made-3
-slice-aggregate-put-made-3 c = search needs
 
 put-made-requires : tie.Need-put-made-requires
 put-made-requires c κs =
@@ -84,12 +54,6 @@ enum-known-bytes c = c .match .keys1
 enum-told : tie.Need-enum-told
 enum-told c = c .match .keys2
 
-same-length-2 : tie.Need-same-length-2
-same-length-2 c = search needs
-
-same-length-3 : tie.Need-same-length-3
-same-length-3 c = search needs
-
 returns-2 : tie.Need-returns-2
 returns-2 c =
     let args = c .before .before .before .before .before .before .before .before .before .before .before .before .before .before .before .before .before .before .before .before .before .before .before .before .before .before .before .before .before .before .args in
@@ -108,12 +72,6 @@ returns-2 c =
       tt,
     )
 
-same-length-4 : tie.Need-same-length-4
-same-length-4 c = search needs
-
-same-length-5 : tie.Need-same-length-5
-same-length-5 c = search needs
-
 returns-3 : tie.Need-returns-3
 returns-3 c =
     let args = c .before .before .before .before .before .before .before .before .before .before .before .before .before .before .before .before .before .before .before .before .before .before .before .before .before .before .before .before .before .before .before .args in
@@ -131,21 +89,6 @@ returns-3 c =
           (said-as (c .before .bytes .given .1) (put-made .ensures e (held-converts holds (x .enters)))),
       goes-made x made keyless,
     )
-
-array-read-a : tie.Need-array-read-a
-array-read-a c = search needs
-
-array-read-b : tie.Need-array-read-b
-array-read-b c = search needs
-
-slice-aggregate-put-keyed : tie.Need-slice-aggregate-put-keyed
-slice-aggregate-put-keyed c = search needs
-
-slice-aggregate-put-keyed-2 : tie.Need-slice-aggregate-put-keyed-2
-slice-aggregate-put-keyed-2 c = search needs
-
-slice-aggregate-put-keyed-3 : tie.Need-slice-aggregate-put-keyed-3
-slice-aggregate-put-keyed-3 c = search needs
 
 sub-put-keyed : tie.Need-sub-put-keyed
 sub-put-keyed c = let v = first-id (c .before .before .before .before .before .before .before .before .before .scan-rows .ensures) (c .before .before .before .before .before .if2 .left) in omega (arith, v .ordered, v .within)
@@ -180,12 +123,6 @@ enum-known-bytes-2 c = c .match2 .keys1
 enum-told-2 : tie.Need-enum-told-2
 enum-told-2 c = c .match2 .keys2
 
-same-length-6 : tie.Need-same-length-6
-same-length-6 c = search needs
-
-same-length-7 : tie.Need-same-length-7
-same-length-7 c = search needs
-
 returns-4 : tie.Need-returns-4
 returns-4 c =
     let args = c .before .before .before .before .before .before .before .before .before .before .before .before .before .before .before .before .before .before .before .before .before .before .before .before .before .before .before .before .before .before .args in
@@ -199,12 +136,6 @@ returns-4 c =
       piece-as (mapAt (args .i)) (args .begun) e (key-own x (o .1) ∙ o .0) (said-as (c .enum-told2 .given .1) (put-keyed .ensures e (held-converts (filled-holds (fill .result) (fill .ensures) (not-false _ (if1 .left))) (x .enters)))),
       tt,
     )
-
-same-length-8 : tie.Need-same-length-8
-same-length-8 c = search needs
-
-same-length-9 : tie.Need-same-length-9
-same-length-9 c = search needs
 
 returns-5 : tie.Need-returns-5
 returns-5 c =
@@ -223,43 +154,9 @@ returns-5 c =
 pub put-turn-spec : {M : Type 1} → statement M
 put-turn-spec =
     tie.close
-    (tie.spec
-    fill-requires
-    same-length
-    returns
-    slice-aggregate-scan-rows
-    slice-aggregate-scan-rows-2
-    slice-aggregate-scan-rows-3
-    scan-rows-requires
-    array-read-ids
-    next-number-requires
-    add-next
-    slice-aggregate-put-made
-    slice-aggregate-put-made-2
-    slice-aggregate-put-made-3
-    put-made-requires
-    enum-known-bytes
-    enum-told
-    same-length-2
-    same-length-3
-    returns-2
-    same-length-4
-    same-length-5
-    returns-3
-    array-read-a
-    array-read-b
-    slice-aggregate-put-keyed
-    slice-aggregate-put-keyed-2
-    slice-aggregate-put-keyed-3
-    sub-put-keyed
-    part-put-keyed-start
-    part-put-keyed-end
-    put-keyed-requires
-    enum-known-bytes-2
-    enum-told-2
-    same-length-6
-    same-length-7
-    returns-4
-    same-length-8
-    same-length-9
+    (tie.spec fill-requires (λ c. search needs) returns (λ c. search needs) (λ c. search needs) (λ c. search needs) scan-rows-requires
+    (λ c. search needs) next-number-requires add-next (λ c. search needs) (λ c. search needs) (λ c. search needs) put-made-requires enum-known-bytes
+    enum-told (λ c. search needs) (λ c. search needs) returns-2 (λ c. search needs) (λ c. search needs) returns-3 (λ c. search needs)
+    (λ c. search needs) (λ c. search needs) (λ c. search needs) (λ c. search needs) sub-put-keyed part-put-keyed-start part-put-keyed-end
+    put-keyed-requires enum-known-bytes-2 enum-told-2 (λ c. search needs) (λ c. search needs) returns-4 (λ c. search needs) (λ c. search needs)
     returns-5)

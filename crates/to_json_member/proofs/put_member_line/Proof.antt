@@ -1,6 +1,5 @@
 use borrow.Author.Needs.{needs}
 use denote.Ref.{now}
-use mathlib.Core.Path.{ap}
 use native.Mathlib.Omega.{arith}
 use lib.ListN.{getD}
 use Rattle.output.proofs.Laws.{puts-as}
@@ -32,9 +31,6 @@ enum-known-k c = c .match .keys1
 
 enum-told : tie.Need-enum-told
 enum-told c = c .match .keys2
-
-same-length : tie.Need-same-length
-same-length c = search needs
 
 returns : tie.Need-returns
 returns c =
@@ -89,12 +85,6 @@ put-pointed-requires c κs =
     let c1 = c .before .before .before .before .before .before .before .before .before .before .before .before .before .before .before .before .before .before .before .before .before .before .before in
     let m = c1 .pre .0 in pointing-here (now (c1 .args .s)) (now (c1 .args .t)) (m .rowed .row) (pointed-of (m .seen) (lineIn (now (c1 .args .s)) (now (c1 .args .t))) (m .name) (m .value) (m .is))
 
-same-length-2 : tie.Need-same-length-2
-same-length-2 c = search needs
-
-same-length-3 : tie.Need-same-length-3
-same-length-3 c = search needs
-
 returns-2 : tie.Need-returns-2
 returns-2 c =
     let c1 = c .before .before in
@@ -106,4 +96,6 @@ returns-2 c =
 pub put-member-line-spec : {M : Type 1} → statement M
 put-member-line-spec =
     tie.close
-    (tie.spec shared-slice-read-a shared-slice-read-b sub-read-text part-read-text-start part-read-text-end read-text-requires enum-known-k enum-told same-length returns shared-slice-read-c shared-slice-read-d sub-put-pointed part-put-pointed-start part-put-pointed-end sub-put-pointed-2 part-put-pointed-start-2 part-put-pointed-end-2 put-pointed-requires same-length-2 same-length-3 returns-2)
+    (tie.spec shared-slice-read-a shared-slice-read-b sub-read-text part-read-text-start part-read-text-end read-text-requires enum-known-k enum-told
+    (λ c. search needs) returns shared-slice-read-c shared-slice-read-d sub-put-pointed part-put-pointed-start part-put-pointed-end sub-put-pointed-2
+    part-put-pointed-start-2 part-put-pointed-end-2 put-pointed-requires (λ c. search needs) (λ c. search needs) returns-2)

@@ -81,9 +81,6 @@ part-put-text-start c = in! (s₂ c)
 part-put-text-end : tie.Need-part-put-text-end
 part-put-text-end c = le-refl _
 
-slice-aggregate-put-text : tie.Need-slice-aggregate-put-text
-slice-aggregate-put-text c = search needs
-
 put-text-requires : tie.Need-put-text-requires
 put-text-requires c κs = tt
 
@@ -140,5 +137,5 @@ put-pointed-spec =
     tie.close
     (tie.spec put-byte-requires enum-known-a enum-told same-length returns sub-spell-pointer part-spell-pointer-start part-spell-pointer-end
     spell-pointer-requires enum-known-b enum-told-2 same-length-2 returns-2 add-ab sub-put-text part-put-text-start part-put-text-end
-    slice-aggregate-put-text put-text-requires enum-known-c enum-told-3 same-length-3 returns-3 add-ac sub-put-compact part-put-compact-start
+    (λ c. search needs) put-text-requires enum-known-c enum-told-3 same-length-3 returns-3 add-ac sub-put-compact part-put-compact-start
     part-put-compact-end put-compact-requires enum-known-d enum-told-4 same-length-4 returns-4 add-ad same-length-5 returns-5)

@@ -1,11 +1,11 @@
 use borrow.Author.Needs.{needs}
 use denote.Ref.{now}
-use mathlib.Core.Path.{sym, ap, _∙_}
+use mathlib.Core.Path.{ap}
 use Prim.Native.Nat.{_-_, _≤_}
 use native.Mathlib.Nat.{le-refl}
 use native.Mathlib.Omega.{arith}
 use lib.ListN.{length, drop}
-use Rattle.json.specs.Compact.{spelled, spelledAll}
+use Rattle.json.specs.Compact.{spelledAll}
 use Rattle.output.specs.Put.{Rest}
 use Rattle.output.proofs.Rests.{rest-all, rest-as, rest-next, rest-stop, rest-done, rest-in, rest-fit, rest-same}
 use Rattle.convert_pointer.specs.Name.{nameIn, Pointing}

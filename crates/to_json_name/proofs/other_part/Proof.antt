@@ -1,5 +1,3 @@
-use borrow.Author.Needs.{needs}
-use denote.Ref.{now}
 use Rattle.to_json_name.proofs.Parts.{other-family, other-suffix, other-none}
 use Rattle.to_json_name.proofs.other_part.Statement.{statement}
 use Rattle.to_json_name.proofs.other_part.Tie as tie

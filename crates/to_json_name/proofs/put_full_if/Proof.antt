@@ -8,9 +8,6 @@ use Rattle.to_json_name.proofs.put_full_if.Tie as tie
 put-full-requires : tie.Need-put-full-requires
 put-full-requires c κs = c .before .before .before .before .pre (c .before .if1 .taken)
 
-same-length : tie.Need-same-length
-same-length c = search needs
-
 returns : tie.Need-returns
 returns c = puts-as (full-on (c .before .before .before .before .before .before .before .args .full) (now (c .before .before .before .before .before .before .before .args .v)) (c .before .before .before .before .if1 .taken)) (c .before .before .put-full .ensures)
 
@@ -20,4 +17,4 @@ returns-2 c = puts-as (full-off (c .before .before .before .args .full) (now (c 
 pub put-full-if-spec : {M : Type 1} → statement M
 put-full-if-spec =
     tie.close
-    (tie.spec put-full-requires same-length returns returns-2)
+    (tie.spec put-full-requires (λ c. search needs) returns returns-2)

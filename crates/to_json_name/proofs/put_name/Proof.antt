@@ -8,9 +8,6 @@ use Rattle.to_json_name.proofs.put_name.Tie as tie
 put-name-member-requires : tie.Need-put-name-member-requires
 put-name-member-requires c κs = c .before .before .before .before .before .pre
 
-same-length : tie.Need-same-length
-same-length c = search needs
-
 returns : tie.Need-returns
 returns c =
     let c1 = c .before .before in
@@ -24,4 +21,4 @@ returns-2 c = puts-as (name-none (c .before .before .before .before .args .full)
 pub put-name-spec : {M : Type 1} → statement M
 put-name-spec =
     tie.close
-    (tie.spec put-name-member-requires same-length returns returns-2)
+    (tie.spec put-name-member-requires (λ c. search needs) returns returns-2)

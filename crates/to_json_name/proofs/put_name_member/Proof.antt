@@ -29,9 +29,6 @@ s₄ c =
     let b = c .before .before .before .before .before in
     next! (s₃ (b .before .before)) (b .put-byte .ensures) (c .before .d .given .1)
 
-slice-aggregate-put-text : tie.Need-slice-aggregate-put-text
-slice-aggregate-put-text c = search needs
-
 put-text-requires : tie.Need-put-text-requires
 put-text-requires c κs = tt
 
@@ -140,7 +137,7 @@ returns-5 c = all (s₄ c .left)
 pub put-name-member-spec : {M : Type 1} → statement M
 put-name-member-spec =
     tie.close
-    (tie.spec slice-aggregate-put-text put-text-requires enum-known-a enum-told same-length returns sub-put-full-if part-put-full-if-start
+    (tie.spec (λ c. search needs) put-text-requires enum-known-a enum-told same-length returns sub-put-full-if part-put-full-if-start
     part-put-full-if-end put-full-if-requires enum-known-b enum-told-2 same-length-2 returns-2 add-ab sub-put-parts-if part-put-parts-if-start
     part-put-parts-if-end put-parts-if-requires enum-known-c enum-told-3 same-length-3 returns-3 add-ac sub-put-byte part-put-byte-start
     part-put-byte-end put-byte-requires enum-known-d enum-told-4 same-length-4 returns-4 add-ad same-length-5 returns-5)

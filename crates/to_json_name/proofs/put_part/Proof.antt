@@ -9,37 +9,16 @@ use Rattle.to_json_name.proofs.Parts.{slice-is, slice-good, values-alon
 use Rattle.to_json_name.proofs.put_part.Statement.{statement}
 use Rattle.to_json_name.proofs.put_part.Tie as tie
 
-other-part-requires : tie.Need-other-part-requires
-other-part-requires c κs = search needs
-
-sub-put-items : tie.Need-sub-put-items
-sub-put-items c = search needs
-
-part-put-items-start : tie.Need-part-put-items-start
-part-put-items-start c = search needs
-
 part-put-items-end : tie.Need-part-put-items-end
 part-put-items-end c =
     let pre = c .before .before .before .before .before .pre in
     omega (arith, pre .2 .from, pre .2 .within (pre .1 .within))
-
-sub-put-items-2 : tie.Need-sub-put-items-2
-sub-put-items-2 c = search needs
-
-part-put-items-start-2 : tie.Need-part-put-items-start-2
-part-put-items-start-2 c = search needs
-
-part-put-items-end-2 : tie.Need-part-put-items-end-2
-part-put-items-end-2 c = search needs
 
 put-items-requires : tie.Need-put-items-requires
 put-items-requires c κs =
     let args = c .before .before .before .before .before .before .before .args in
     let pre = c .before .before .before .before .before .before .before .pre in
     (slice-good (now (args .v)) (args .k) (args .a) (args .b) (pre .0) (pre .1) (pre .2), nothing-readable)
-
-same-length : tie.Need-same-length
-same-length c = search needs
 
 returns : tie.Need-returns
 returns c =
@@ -53,28 +32,10 @@ returns c =
     (slice-is (now (args .v)) (args .k) (args .a) (args .b) (pre .1) (pre .2)) (if1 .taken)))
     (c .before .before .put-items .ensures)
 
-part-from-requires : tie.Need-part-from-requires
-part-from-requires c κs = search needs
-
-part-end-requires : tie.Need-part-end-requires
-part-end-requires c κs = search needs
-
-sub-put-items-3 : tie.Need-sub-put-items-3
-sub-put-items-3 c = search needs
-
-part-put-items-start-3 : tie.Need-part-put-items-start-3
-part-put-items-start-3 c = search needs
-
 part-put-items-end-3 : tie.Need-part-put-items-end-3
 part-put-items-end-3 c =
     let pre = c .before .before .before .before .before .before .before .pre in
     omega (arith, pre .2 .from, pre .2 .within (pre .1 .within))
-
-sub-put-items-4 : tie.Need-sub-put-items-4
-sub-put-items-4 c = search needs
-
-part-put-items-start-4 : tie.Need-part-put-items-start-4
-part-put-items-start-4 c = search needs
 
 part-put-items-end-4 : tie.Need-part-put-items-end-4
 part-put-items-end-4 c =
@@ -91,9 +52,6 @@ put-items-requires-2 c κs =
       slice-good (now (args .v)) (args .k) (args .a) (args .b) (pre .0) (pre .1) (pre .2),
       slice-good (now (args .v)) _ _ _ (pre .0) (part-from .ensures) (part-end .ensures),
     )
-
-same-length-2 : tie.Need-same-length-2
-same-length-2 c = search needs
 
 returns-2 : tie.Need-returns-2
 returns-2 c =
@@ -113,25 +71,7 @@ returns-2 c =
 pub put-part-spec : {M : Type 1} → statement M
 put-part-spec =
     tie.close
-    (tie.spec
-    other-part-requires
-    sub-put-items
-    part-put-items-start
-    part-put-items-end
-    sub-put-items-2
-    part-put-items-start-2
-    part-put-items-end-2
-    put-items-requires
-    same-length
-    returns
-    part-from-requires
-    part-end-requires
-    sub-put-items-3
-    part-put-items-start-3
-    part-put-items-end-3
-    sub-put-items-4
-    part-put-items-start-4
-    part-put-items-end-4
-    put-items-requires-2
-    same-length-2
+    (tie.spec (λ c κs. search needs) (λ c. search needs) (λ c. search needs) part-put-items-end (λ c. search needs) (λ c. search needs)
+    (λ c. search needs) put-items-requires (λ c. search needs) returns (λ c κs. search needs) (λ c κs. search needs) (λ c. search needs)
+    (λ c. search needs) part-put-items-end-3 (λ c. search needs) (λ c. search needs) part-put-items-end-4 put-items-requires-2 (λ c. search needs)
     returns-2)

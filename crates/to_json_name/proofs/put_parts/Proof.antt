@@ -101,23 +101,5 @@ returns-2 c =
 pub put-parts-spec : {M : Type 1} → statement M
 put-parts-spec =
     tie.close
-    (tie.spec
-    Inv-loop
-    μ-loop
-    loop-holds
-    part-end-requires
-    sub-put-part
-    part-put-part-start
-    part-put-part-end
-    put-part-requires
-    enum-known-n
-    enum-told
-    same-length
-    returns
-    add-at
-    part-after-requires
-    add-k
-    loop-less
-    loop-again
-    same-length-2
-    returns-2)
+    (tie.spec Inv-loop μ-loop loop-holds part-end-requires sub-put-part part-put-part-start part-put-part-end put-part-requires enum-known-n enum-told
+    same-length returns add-at part-after-requires add-k loop-less loop-again same-length-2 returns-2)

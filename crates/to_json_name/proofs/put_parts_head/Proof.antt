@@ -1,30 +1,17 @@
 use borrow.Author.Needs.{needs}
-use denote.Ref.{now}
 use Rattle.output.proofs.Laws.{puts-as}
 use Rattle.to_json_name.proofs.Names.{head-after, head-first}
 use Rattle.to_json_name.proofs.put_parts_head.Statement.{statement}
 use Rattle.to_json_name.proofs.put_parts_head.Tie as tie
 
-slice-aggregate-put-text : tie.Need-slice-aggregate-put-text
-slice-aggregate-put-text c = search needs
-
 put-text-requires : tie.Need-put-text-requires
 put-text-requires c κs = tt
-
-same-length : tie.Need-same-length
-same-length c = search needs
 
 returns : tie.Need-returns
 returns c = puts-as (head-after (c .before .before .before .before .before .before .before .args .full) (c .before .before .before .before .before .if1 .taken)) (c .before .before .put-text .ensures)
 
-slice-aggregate-put-text-2 : tie.Need-slice-aggregate-put-text-2
-slice-aggregate-put-text-2 c = search needs
-
 put-text-requires-2 : tie.Need-put-text-requires-2
 put-text-requires-2 c κs = tt
-
-same-length-2 : tie.Need-same-length-2
-same-length-2 c = search needs
 
 returns-2 : tie.Need-returns-2
 returns-2 c = puts-as (head-first (c .before .before .before .before .before .before .before .args .full) (c .before .before .before .before .before .if1 .left)) (c .before .before .put-text2 .ensures)
@@ -32,4 +19,4 @@ returns-2 c = puts-as (head-first (c .before .before .before .before .before .be
 pub put-parts-head-spec : {M : Type 1} → statement M
 put-parts-head-spec =
     tie.close
-    (tie.spec slice-aggregate-put-text put-text-requires same-length returns slice-aggregate-put-text-2 put-text-requires-2 same-length-2 returns-2)
+    (tie.spec (λ c. search needs) put-text-requires (λ c. search needs) returns (λ c. search needs) put-text-requires-2 (λ c. search needs) returns-2)

@@ -8,9 +8,6 @@ use Rattle.to_json_name.proofs.put_parts_if.Tie as tie
 put-parts-member-requires : tie.Need-put-parts-member-requires
 put-parts-member-requires c κs = c .before .before .before .before .pre (c .before .if1 .taken)
 
-same-length : tie.Need-same-length
-same-length c = search needs
-
 returns : tie.Need-returns
 returns c = puts-as (parts-there (c .before .before .before .before .before .before .before .args .full) (c .before .before .before .before .before .before .before .args .parts) (now (c .before .before .before .before .before .before .before .args .v)) (c .before .before .before .before .if1 .taken)) (c .before .before .put-parts-member .ensures)
 
@@ -20,4 +17,4 @@ returns-2 c = puts-as (parts-off (c .before .before .before .args .full) (c .bef
 pub put-parts-if-spec : {M : Type 1} → statement M
 put-parts-if-spec =
     tie.close
-    (tie.spec put-parts-member-requires same-length returns returns-2)
+    (tie.spec put-parts-member-requires (λ c. search needs) returns returns-2)

@@ -1,17 +1,12 @@
 use borrow.Author.Needs.{needs}
-use mathlib.Core.Path.{_≡_, refl, sym, ap, _∙_}
-use mathlib.Core.List.{List, [], _∷_}
-use Prim.Native.Nat.{ℕ, _+_, _-_, _≤_, _<_}
-use native.Mathlib.Nat.{le-refl, lt-of-le-of-lt}
+use mathlib.Core.Path.{_≡_}
+use Prim.Native.Nat.{ℕ, _-_, _≤_, _<_}
 use native.Mathlib.Omega.{arith}
 use denote.Ref.{now}
-use borrow.Author.Tests.{not-true, not-false}
-use lib.ListN.{length, take, drop, getD}
+use lib.ListN.{getD}
 use Rattle.to_json_sections.proofs.Lines.{none-before, first-here, first-none}
 use Rattle.to_json_sections.proofs.first_of.Statement.{statement}
 use Rattle.to_json_sections.proofs.first_of.Tie as tie
-use Rattle.to_json_sections.proofs.first_of.Reads as reads
-use Rattle.to_json_sections.proofs.first_of.Lts as lts
 
 abbrev Inv-loop : tie.InvT-loop
 Inv-loop codes n q k₀ k = (k ≤ n) × ((j : ℕ) → j < k → getD codes j 0 ≡ q → ⊥)
@@ -55,14 +50,4 @@ returns-2 c = first-none (now (c .before .before .before .args .codes)) (c .befo
 pub first-of-spec : {M : Type 1} → statement M
 first-of-spec =
     tie.close
-    (tie.spec
-    Inv-loop
-    μ-loop
-    loop-holds
-    shared-slice-read-is-of
-    is-of-requires
-    returns
-    add-k
-    loop-less
-    loop-again
-    returns-2)
+    (tie.spec Inv-loop μ-loop loop-holds shared-slice-read-is-of is-of-requires returns add-k loop-less loop-again returns-2)

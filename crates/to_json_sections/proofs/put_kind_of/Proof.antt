@@ -1,17 +1,11 @@
 use borrow.Author.Needs.{needs}
-use mathlib.Core.Path.{_≡_, refl, sym, ap, _∙_}
-use Prim.Native.Nat.{_≤_, _<_}
 use native.Mathlib.Omega.{arith}
-use denote.Ref.{now}
 use borrow.Author.Tests.{not-true, not-false}
-use lib.ListN.{length}
 use Rattle.to_json_maps.proofs.Marking.{filled-holds, filled-none}
 use Rattle.output.proofs.Laws.{puts-as, done, start}
 use Rattle.to_json_sections.proofs.Firsts.{kind-none, kind-given, found-unread}
 use Rattle.to_json_sections.proofs.put_kind_of.Statement.{statement}
 use Rattle.to_json_sections.proofs.put_kind_of.Tie as tie
-use Rattle.to_json_sections.proofs.put_kind_of.Reads as reads
-use Rattle.to_json_sections.proofs.put_kind_of.Lts as lts
 
 first-of-requires : tie.Need-first-of-requires
 first-of-requires c κs = (c .before .before .before .before .before .pre .1 .1) .wide
@@ -24,9 +18,6 @@ line-at-requires c κs = tt
 
 fill-requires : tie.Need-fill-requires
 fill-requires c κs = c .before .before .before .before .before .before .before .before .before .pre .0
-
-same-length : tie.Need-same-length
-same-length c = search needs
 
 returns-2 : tie.Need-returns-2
 returns-2 c =
@@ -55,12 +46,6 @@ part-put-kind-end c = let v = (filled-holds (c .before .before .before .before .
 put-kind-requires : tie.Need-put-kind-requires
 put-kind-requires c κs = tt
 
-same-length-2 : tie.Need-same-length-2
-same-length-2 c = search needs
-
-same-length-3 : tie.Need-same-length-3
-same-length-3 c = search needs
-
 returns-3 : tie.Need-returns-3
 returns-3 c =
     let first-of = c .before .before .before .before .before .before .before .before .before .before .before .before .before .before .first-of in
@@ -75,19 +60,5 @@ returns-3 c =
 pub put-kind-of-spec : {M : Type 1} → statement M
 put-kind-of-spec =
     tie.close
-    (tie.spec
-    first-of-requires
-    returns
-    line-at-requires
-    fill-requires
-    same-length
-    returns-2
-    slice-read-a
-    slice-read-b
-    sub-put-kind
-    part-put-kind-start
-    part-put-kind-end
-    put-kind-requires
-    same-length-2
-    same-length-3
-    returns-3)
+    (tie.spec first-of-requires returns line-at-requires fill-requires (λ c. search needs) returns-2 slice-read-a slice-read-b sub-put-kind
+    part-put-kind-start part-put-kind-end put-kind-requires (λ c. search needs) (λ c. search needs) returns-3)

@@ -1,12 +1,8 @@
 use borrow.Author.Needs.{needs}
-use mathlib.Core.Path.{_≡_, refl, sym, ap, _∙_}
-use mathlib.Core.List.{List, [], _∷_}
-use Prim.Native.Nat.{ℕ, _+_, _-_, _≤_, _<_}
+use mathlib.Core.Path.{sym, _∙_}
+use mathlib.Core.List.{[]}
 use native.Mathlib.Nat.{le-refl, lt-of-le-of-lt}
-use native.Mathlib.Omega.{arith}
-use denote.Ref.{now}
 use borrow.Author.Tests.{not-true, not-false}
-use lib.ListN.{length, take, drop, getD}
 use Rattle.json.specs.Compact.{written}
 use Rattle.convert.specs.ToJson.{keptJson}
 use Rattle.output.proofs.Laws.{first, first-full, next, stop, more, done, within, puts-as}
@@ -17,14 +13,9 @@ use Rattle.to_json_sections.proofs.Props.{piece-is}
 use Rattle.to_json_sections.proofs.Lines.{held-kept}
 use Rattle.to_json_sections.proofs.put_prop.Statement.{statement}
 use Rattle.to_json_sections.proofs.put_prop.Tie as tie
-use Rattle.to_json_sections.proofs.put_prop.Reads as reads
-use Rattle.to_json_sections.proofs.put_prop.Lts as lts
 
 fill-requires : tie.Need-fill-requires
 fill-requires c κs = c .before .before .before .before .pre .0
-
-same-length : tie.Need-same-length
-same-length c = search needs
 
 returns : tie.Need-returns
 returns c = λ k x. none-some (sym (filled-none _ _ (c .before .before .before .fill .result) (c .before .before .before .fill .ensures) (not-true _ (c .if1 .taken))) ∙ x .read)
@@ -37,12 +28,6 @@ enum-known-a c = c .match .keys1
 
 enum-told : tie.Need-enum-told
 enum-told c = c .match .keys2
-
-same-length-2 : tie.Need-same-length-2
-same-length-2 c = search needs
-
-same-length-3 : tie.Need-same-length-3
-same-length-3 c = search needs
 
 returns-2 : tie.Need-returns-2
 returns-2 c =
@@ -84,9 +69,6 @@ same-length-4 c =
     (held-kept (filled-holds (fill .result) (fill .ensures) (not-false _ (if1 .left))) (pre .1 .1) (put-kept .ensures))
     (c .enum-told2 .given .1))
 
-same-length-5 : tie.Need-same-length-5
-same-length-5 c = search needs
-
 returns-3 : tie.Need-returns-3
 returns-3 c =
     let args = c .before .before .before .before .before .before .before .before .before .before .before .before .before .before .before .before .before .before .before .before .before .before .args in
@@ -127,9 +109,6 @@ same-length-6 c =
     next (first (put-prop-head .ensures) (a .given .1))
     (held-kept (filled-holds (fill .result) (fill .ensures) (not-false _ (if1 .left))) (pre .1 .1) (put-kept .ensures)) (c .before .b .given .1) .same
 
-same-length-7 : tie.Need-same-length-7
-same-length-7 c = search needs
-
 returns-4 : tie.Need-returns-4
 returns-4 c =
     let args = c .before .before .before .before .before .before .before .before .before .before .before .before .before .before .before .before .before .before .before .before .before .before .before .args in
@@ -146,26 +125,6 @@ returns-4 c =
 pub put-prop-spec : {M : Type 1} → statement M
 put-prop-spec =
     tie.close
-    (tie.spec
-    fill-requires
-    same-length
-    returns
-    put-prop-head-requires
-    enum-known-a
-    enum-told
-    same-length-2
-    same-length-3
-    returns-2
-    sub-put-kept
-    part-put-kept-start
-    part-put-kept-end
-    put-kept-requires
-    enum-known-b
-    enum-told-2
-    same-length-4
-    same-length-5
-    returns-3
-    add-ab
-    same-length-6
-    same-length-7
-    returns-4)
+    (tie.spec fill-requires (λ c. search needs) returns put-prop-head-requires enum-known-a enum-told (λ c. search needs) (λ c. search needs)
+    returns-2 sub-put-kept part-put-kept-start part-put-kept-end put-kept-requires enum-known-b enum-told-2 same-length-4 (λ c. search needs)
+    returns-3 add-ab same-length-6 (λ c. search needs) returns-4)

@@ -1,36 +1,17 @@
 use borrow.Author.Needs.{needs}
-use mathlib.Core.Path.{_≡_, refl, sym, ap, _∙_}
-use mathlib.Core.List.{List, [], _∷_}
-use Prim.Native.Nat.{ℕ, _+_, _-_, _≤_, _<_}
-use native.Mathlib.Nat.{le-refl, lt-of-le-of-lt}
-use native.Mathlib.Omega.{arith}
-use denote.Ref.{now}
-use borrow.Author.Tests.{not-true, not-false}
-use lib.ListN.{length, take, drop, getD}
 use Rattle.output.proofs.Laws.{puts-as}
 use Rattle.to_json_sections.proofs.Props.{head-begun, head-first}
 use Rattle.to_json_sections.proofs.put_prop_head.Statement.{statement}
 use Rattle.to_json_sections.proofs.put_prop_head.Tie as tie
-use Rattle.to_json_sections.proofs.put_prop_head.Reads as reads
-use Rattle.to_json_sections.proofs.put_prop_head.Lts as lts
 
 put-byte-requires : tie.Need-put-byte-requires
 put-byte-requires c κs = tt
 
-same-length : tie.Need-same-length
-same-length c = search needs
-
 returns : tie.Need-returns
 returns c = puts-as (head-begun (c .before .before .before .before .before .before .args .begun) (c .before .before .before .before .if1 .taken)) (c .before .before .put-byte .ensures)
 
-slice-aggregate-put-text : tie.Need-slice-aggregate-put-text
-slice-aggregate-put-text c = search needs
-
 put-text-requires : tie.Need-put-text-requires
 put-text-requires c κs = tt
-
-same-length-2 : tie.Need-same-length-2
-same-length-2 c = search needs
 
 returns-2 : tie.Need-returns-2
 returns-2 c = puts-as (head-first (c .before .before .before .before .before .before .before .args .begun) (c .before .before .before .before .before .if1 .left)) (c .before .before .put-text .ensures)
@@ -38,11 +19,4 @@ returns-2 c = puts-as (head-first (c .before .before .before .before .before .be
 pub put-prop-head-spec : {M : Type 1} → statement M
 put-prop-head-spec =
     tie.close
-    (tie.spec
-    put-byte-requires
-    same-length
-    returns
-    slice-aggregate-put-text
-    put-text-requires
-    same-length-2
-    returns-2)
+    (tie.spec put-byte-requires (λ c. search needs) returns (λ c. search needs) put-text-requires (λ c. search needs) returns-2)

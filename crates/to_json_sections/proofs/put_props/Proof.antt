@@ -1,24 +1,22 @@
 use borrow.Author.Needs.{needs}
-use mathlib.Core.Path.{_≡_, refl, sym, ap, _∙_}
-use mathlib.Core.List.{List, [], _∷_}
-use Prim.Native.Nat.{ℕ, _+_, _-_, _≤_, _<_}
-use native.Mathlib.Nat.{le-refl, lt-of-le-of-lt}
+use mathlib.Core.Path.{_≡_, refl, _∙_}
+use mathlib.Core.List.{List, []}
+use Prim.Native.Nat.{_-_, _≤_}
+use native.Mathlib.Nat.{le-refl}
 use native.Mathlib.Omega.{arith}
 use denote.Ref.{now}
 use borrow.Author.Tests.{not-true, not-false}
-use lib.ListN.{length, take, drop, getD}
+use lib.ListN.{length, drop}
 use Rattle.output.specs.Put.{Rest}
 use Rattle.output.proofs.Rests.{rest-as, rest-next, rest-stop, rest-done, rest-in, rest-fit, rest-same}
 use Rattle.output.proofs.Rows.{length-puts}
 use Rattle.convert.specs.Classify.{Classed}
-use Rattle.card_lines.specs.Classified.{Classified}
+use Rattle.from_card_lines.specs.Classified.{Classified}
 use Rattle.to_json_sections.specs.Sections.{keptOf, propsFrom, propsBytes}
 use Rattle.to_json_sections.proofs.Props.{end-none, end-some, from-nil}
 use Rattle.to_json_sections.proofs.Lines.{props-start, props-end, props-skip, has-kept, props-stop, props-next}
 use Rattle.to_json_sections.proofs.put_props.Statement.{statement}
 use Rattle.to_json_sections.proofs.put_props.Tie as tie
-use Rattle.to_json_sections.proofs.put_props.Reads as reads
-use Rattle.to_json_sections.proofs.put_props.Lts as lts
 
 abbrev Inv-loop : tie.InvT-loop
 Inv-loop out₀ t₀ scratch starts codes n at₀ k₀ begun₀ out t at k begun = (k ≤ n) × (length t ≡ length t₀) × ((cs : List Classed) → Classified scratch starts codes n cs → Rest out₀ (propsBytes (keptOf cs)) (propsFrom begun (keptOf (drop k cs))) at out)
@@ -244,42 +242,7 @@ returns-4 c =
 pub put-props-spec : {M : Type 1} → statement M
 put-props-spec =
     tie.close
-    (tie.spec
-    Inv-loop
-    μ-loop
-    loop-holds
-    shared-slice-read-is-of
-    is-of-requires
-    add-k
-    loop-less
-    loop-again
-    line-at-requires
-    sub-put-prop
-    part-put-prop-start
-    part-put-prop-end
-    put-prop-requires
-    enum-known-m
-    enum-told
-    same-length
-    same-length-2
-    returns
-    add-at
-    add-k-2
-    loop-less-2
-    loop-again-2
-    same-length-3
-    same-length-4
-    returns-2
-    sub-put-byte
-    part-put-byte-start
-    part-put-byte-end
-    put-byte-requires
-    enum-known-m-2
-    enum-told-2
-    same-length-5
-    same-length-6
-    returns-3
-    add-all
-    same-length-7
-    same-length-8
-    returns-4)
+    (tie.spec Inv-loop μ-loop loop-holds shared-slice-read-is-of is-of-requires add-k loop-less loop-again line-at-requires sub-put-prop
+    part-put-prop-start part-put-prop-end put-prop-requires enum-known-m enum-told same-length same-length-2 returns add-at add-k-2 loop-less-2
+    loop-again-2 same-length-3 same-length-4 returns-2 sub-put-byte part-put-byte-start part-put-byte-end put-byte-requires enum-known-m-2 enum-told-2
+    same-length-5 same-length-6 returns-3 add-all same-length-7 same-length-8 returns-4)

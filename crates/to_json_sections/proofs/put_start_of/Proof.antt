@@ -1,27 +1,20 @@
 use borrow.Author.Needs.{needs}
-use mathlib.Core.Path.{_≡_, refl, sym, ap, _∙_}
-use Prim.Native.Nat.{_≤_, _<_}
+use mathlib.Core.Path.{ap}
 use native.Mathlib.Omega.{arith}
 use denote.Ref.{now}
 use borrow.Author.Tests.{not-true, not-false}
-use lib.ListN.{length}
 use Rattle.to_json_maps.proofs.Marking.{filled-holds, filled-none}
 use Rattle.output.proofs.Laws.{puts-as}
 use Rattle.to_json_head.specs.Head.{startBytes}
 use Rattle.to_json_sections.proofs.Firsts.{uid-made, uid-given, found-unread}
 use Rattle.to_json_sections.proofs.put_start_of.Statement.{statement}
 use Rattle.to_json_sections.proofs.put_start_of.Tie as tie
-use Rattle.to_json_sections.proofs.put_start_of.Reads as reads
-use Rattle.to_json_sections.proofs.put_start_of.Lts as lts
 
 first-of-requires : tie.Need-first-of-requires
 first-of-requires c κs = (c .before .before .before .before .before .before .pre .1 .1) .wide
 
 put-start-requires : tie.Need-put-start-requires
 put-start-requires c κs = tt
-
-same-length : tie.Need-same-length
-same-length c = search needs
 
 returns : tie.Need-returns
 returns c =
@@ -36,9 +29,6 @@ line-at-requires c κs = tt
 
 fill-requires : tie.Need-fill-requires
 fill-requires c κs = c .before .before .before .before .before .before .before .before .before .before .pre .0
-
-same-length-2 : tie.Need-same-length-2
-same-length-2 c = search needs
 
 returns-2 : tie.Need-returns-2
 returns-2 c =
@@ -67,12 +57,6 @@ part-put-start-end c = let v = (filled-holds (c .before .before .before .before 
 put-start-requires-2 : tie.Need-put-start-requires-2
 put-start-requires-2 c κs = tt
 
-same-length-3 : tie.Need-same-length-3
-same-length-3 c = search needs
-
-same-length-4 : tie.Need-same-length-4
-same-length-4 c = search needs
-
 returns-3 : tie.Need-returns-3
 returns-3 c =
     let args = c .before .before .before .before .before .before .before .before .before .before .before .before .before .before .before .before .before .before .before .before .before .args in
@@ -90,21 +74,6 @@ returns-3 c =
 pub put-start-of-spec : {M : Type 1} → statement M
 put-start-of-spec =
     tie.close
-    (tie.spec
-    first-of-requires
-    put-start-requires
-    same-length
-    returns
-    line-at-requires
-    fill-requires
-    same-length-2
-    returns-2
-    slice-read-a
-    slice-read-b
-    sub-put-start
-    part-put-start-start
-    part-put-start-end
-    put-start-requires-2
-    same-length-3
-    same-length-4
+    (tie.spec first-of-requires put-start-requires (λ c. search needs) returns line-at-requires fill-requires (λ c. search needs) returns-2
+    slice-read-a slice-read-b sub-put-start part-put-start-start part-put-start-end put-start-requires-2 (λ c. search needs) (λ c. search needs)
     returns-3)

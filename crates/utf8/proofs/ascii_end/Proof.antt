@@ -1,5 +1,5 @@
 use Prim.Native.Nat.{_-_, _≤_}
-use mathlib.Core.Path.{_≡_, refl, _∙_}
+use mathlib.Core.Path.{refl, _∙_}
 use native.Mathlib.Omega.{arith}
 use borrow.Author.Needs.{needs}
 use lib.ListN.{length}
@@ -42,13 +42,4 @@ returns c =
 pub ascii-end-spec : {M : Type 1} → statement M
 ascii-end-spec =
     tie.close
-    (tie.spec
-    Inv-loop
-    μ-loop
-    loop-holds
-    skips-requires
-    add-i
-    loop-less
-    loop-again
-    ascii-from-requires
-    returns)
+    (tie.spec Inv-loop μ-loop loop-holds skips-requires add-i loop-less loop-again ascii-from-requires returns)

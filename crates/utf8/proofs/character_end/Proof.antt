@@ -1,6 +1,5 @@
-use Prim.Native.Nat.{_+_, _-_, _≤_}
 use native.Mathlib.Omega.{arith}
-use mathlib.Core.Path.{_≡_, refl, sym, ap, _∙_}
+use mathlib.Core.Path.{sym, ap, _∙_}
 use borrow.Author.Needs.{needs}
 use denote.Ref.{now}
 use borrow.Author.Tests.{not-true, not-false}
@@ -17,29 +16,8 @@ two c =
     first-met (now (b .args .s)) (b .args .at) (b .pre) (sym (ap dueOf (c .before .before .before .low .given .1)) ∙ (d .due-after .ensures)) (c .before .is-next .ensures)
     (not-false (c .before .is-next .result) (c .if1 .left))
 
-shared-slice-read-due-after : tie.Need-shared-slice-read-due-after
-shared-slice-read-due-after c = search needs
-
-due-after-requires : tie.Need-due-after-requires
-due-after-requires c κs = search needs
-
-enum-told : tie.Need-enum-told
-enum-told c = search needs
-
-add-t10 : tie.Need-add-t10
-add-t10 c = search needs
-
 returns : tie.Need-returns
 returns c = (omega arith, search needs, first-step (now (c .before .before .before .before .before .args .s)) (c .before .before .before .before .before .args .at) (c .before .before .before .before .before .pre) (sym (ap dueOf (c .enum-told .given .1)) ∙ (c .before .before .due-after .ensures)))
-
-enum-known-low : tie.Need-enum-known-low
-enum-known-low c = search needs
-
-add-second : tie.Need-add-second
-add-second c = search needs
-
-is-next-requires : tie.Need-is-next-requires
-is-next-requires c κs = search needs
 
 returns-2 : tie.Need-returns-2
 returns-2 c =
@@ -57,27 +35,11 @@ tails-end-requires c κs = omega (arith, two c .0)
 returns-3 : tie.Need-returns-3
 returns-3 c = one-more (now (c .before .before .before .before .before .before .before .before .before .args .s)) (c .before .before .before .before .before .before .before .before .before .args .at) (c .before .before .before .before .low .given .0 .1 .1 .0) (c .tails-end .result) (two (c .before)) (c .tails-end .ensures)
 
-enum-told-2 : tie.Need-enum-told-2
-enum-told-2 c = search needs
-
 returns-4 : tie.Need-returns-4
 returns-4 c = first-bad (now (c .before .before .before .before .before .args .s)) (c .before .before .before .before .before .args .at) (c .before .before .before .before .before .pre) (sym (ap dueOf (c .enum-told2 .given .1)) ∙ (c .before .before .due-after .ensures))
 
 pub character-end-spec : {M : Type 1} → statement M
 character-end-spec =
     tie.close
-    (tie.spec
-    shared-slice-read-due-after
-    due-after-requires
-    enum-told
-    add-t10
-    returns
-    enum-known-low
-    add-second
-    is-next-requires
-    returns-2
-    add-tails-end
-    tails-end-requires
-    returns-3
-    enum-told-2
-    returns-4)
+    (tie.spec (λ c. search needs) (λ c κs. search needs) (λ c. search needs) (λ c. search needs) returns (λ c. search needs) (λ c. search needs)
+    (λ c κs. search needs) returns-2 add-tails-end tails-end-requires returns-3 (λ c. search needs) returns-4)

@@ -53,15 +53,4 @@ returns-11 c = by-row (broken) 0xf5 11 (c .before .before .before .before .befor
 pub due-after-spec : {M : Type 1} → statement M
 due-after-spec =
     tie.close
-    (tie.spec
-    returns
-    returns-2
-    returns-3
-    returns-4
-    returns-5
-    returns-6
-    returns-7
-    returns-8
-    returns-9
-    returns-10
-    returns-11)
+    (tie.spec returns returns-2 returns-3 returns-4 returns-5 returns-6 returns-7 returns-8 returns-9 returns-10 returns-11)

@@ -7,14 +7,8 @@ use Rattle.utf8.proofs.is_next.Tie as tie
 returns : tie.Need-returns
 returns c = next-cut (now (c .before .args .s)) (c .before .args .at) (c .before .args .low) (c .before .args .high) (c .if1 .taken)
 
-shared-slice-read-if2 : tie.Need-shared-slice-read-if2
-shared-slice-read-if2 c = search needs
-
 returns-2 : tie.Need-returns-2
 returns-2 c = next-low (now (c .before .before .before .args .s)) (c .before .before .before .args .at) (c .before .before .before .args .low) (c .before .before .before .args .high) (c .before .before .if1 .left) (c .if2 .taken)
-
-shared-slice-read-if3 : tie.Need-shared-slice-read-if3
-shared-slice-read-if3 c = search needs
 
 returns-3 : tie.Need-returns-3
 returns-3 c = next-high (now (c .before .before .before .before .before .args .s)) (c .before .before .before .before .before .args .at) (c .before .before .before .before .before .args .low) (c .before .before .before .before .before .args .high) (c .before .before .before .before .if1 .left) (c .before .before .if2 .left) (c .if3 .taken)
@@ -25,4 +19,4 @@ returns-4 c = next-due (now (c .before .before .before .before .before .args .s)
 pub is-next-spec : {M : Type 1} → statement M
 is-next-spec =
     tie.close
-    (tie.spec returns shared-slice-read-if2 returns-2 shared-slice-read-if3 returns-3 returns-4)
+    (tie.spec returns (λ c. search needs) returns-2 (λ c. search needs) returns-3 returns-4)

@@ -1,6 +1,6 @@
-use Prim.Native.Nat.{_+_, _-_, _≤_}
+use Prim.Native.Nat.{_-_, _≤_}
 use native.Mathlib.Omega.{arith}
-use mathlib.Core.Path.{_≡_, refl, _∙_}
+use mathlib.Core.Path.{refl, _∙_}
 use borrow.Author.Needs.{needs}
 use denote.Ref.{now}
 use lib.ListN.{length}
@@ -53,15 +53,4 @@ returns-2 c =
 pub is-utf8-spec : {M : Type 1} → statement M
 is-utf8-spec =
     tie.close
-    (tie.spec
-    Inv-loop
-    μ-loop
-    loop-holds
-    ascii-end-requires
-    returns
-    character-end-requires
-    enum-known-e
-    loop-less
-    loop-again
-    enum-told
-    returns-2)
+    (tie.spec Inv-loop μ-loop loop-holds ascii-end-requires returns character-end-requires enum-known-e loop-less loop-again enum-told returns-2)

@@ -1,6 +1,6 @@
-use Prim.Native.Nat.{_+_, _≤_}
+use Prim.Native.Nat.{_≤_}
 use native.Mathlib.Omega.{arith}
-use mathlib.Core.Path.{_≡_, refl, sym, ap, _∙_}
+use mathlib.Core.Path.{_≡_, refl, ap, _∙_}
 use borrow.Author.Needs.{needs}
 use denote.Ref.{now}
 use borrow.Author.Tests.{not-true, not-false}
@@ -43,14 +43,4 @@ returns-2 c = let z : (c .before .loop .left) ≡ 0 = omega arith in (c .before 
 pub tails-end-spec : {M : Type 1} → statement M
 tails-end-spec =
     tie.close
-    (tie.spec
-    Inv-loop
-    μ-loop
-    loop-holds
-    is-next-requires
-    returns
-    add-i
-    sub-left
-    loop-less
-    loop-again
-    returns-2)
+    (tie.spec Inv-loop μ-loop loop-holds is-next-requires returns add-i sub-left loop-less loop-again returns-2)

@@ -1,0 +1,6 @@
+pub mod Lines
+pub mod Values
+pub mod ToCard
+pub mod Normal
+pub mod Stream
+pub mod Json
