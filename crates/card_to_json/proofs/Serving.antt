@@ -13,6 +13,7 @@ use Rattle.line.specs.Physical.{sizeOf}
 use Rattle.convert.specs.Answers.{Answer, no, yes, cardRoom, jsonRoom, lineRoom, cardToJson, isStemText, isCardNumber}
 use Rattle.convert.specs.Served.{leftBy}
 use Rattle.served.specs.declared.Outcome.{Outcome}
+use Rattle.served.specs.declared.Outcome.the-variants.{Refused as Outcome-Refused}
 use Rattle.served.specs.Served.{outcomeOf, Serves as ServesAnswer}
 use Rattle.card_to_json.specs.Inner.{inner, fit, Serves}
 use Rattle.card_to_json.specs.Laying.{Many}

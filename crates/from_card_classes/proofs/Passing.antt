@@ -21,6 +21,7 @@ use Rattle.convert.specs.Answers.{seek, firstFrom, ungrammatical, linesOf, orNo
 use Rattle.convert_entry.specs.Rows.{codeOf}
 use Rattle.table_entry.proofs.Spread.{classify-spread}
 use Rattle.class_member.specs.Member.{Room}
+use Rattle.class_line.specs.declared.Class.{Class as Answered}
 use Rattle.class_line.specs.Class.{Classes, seenWith}
 use Rattle.from_card_lines.specs.Classified.{Turned, Classified}
 use Rattle.from_card_garbled.proofs.First.{first-on, first-here, first-end}

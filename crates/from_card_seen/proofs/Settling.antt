@@ -16,6 +16,7 @@ use Rattle.convert.specs.Classify.{Id, id, isId, Seen}
 use Rattle.convert.proofs.Pointers.{pointer-pointed}
 use Rattle.convert_tests.proofs.Used.{other-map, same-map}
 use Rattle.line_table.specs.Table.{part, Span}
+use Rattle.class_line.specs.declared.Class.{Class as Answer}
 use Rattle.class_line.specs.declared.Class.the-variants.{Full, Parts, Keyed, Member}
 use Rattle.class_line.specs.Class.{idUsed, memberUsed, withMember, seenWith, numberOf, Points}
 use Rattle.from_card_seen.specs.Ids.{pointers, idsAt, IdTable, Unfilled, withId, Remembers, Cut}

@@ -20,6 +20,7 @@ use Rattle.json_chars.specs.Strings.{ToEnd, Unmarked}
 use Rattle.json_chars.proofs.Laws.{string-on, char-escape}
 use Rattle.json_escapes.specs.declared.Value.{Value}
 use Rattle.json_escapes.specs.declared.Value.the-variants.{Of}
+use Rattle.json_escapes.specs.declared.Piece.the-variants.{Of as Piece-Of}
 use Rattle.json_escapes.specs.Units.{push, unit}
 use Rattle.json_escapes.specs.Values.{Tells}
 use Rattle.json_escapes.proofs.Laws.{tells-as, by-place}

@@ -16,6 +16,7 @@ use Rattle.json_read.specs.declared.Verdict.{Verdict}
 use Rattle.json_read.specs.declared.Verdict.the-variants.{Sound, Large, NotJson}
 use Rattle.convert.specs.Answers.{Answer, no, yes, cardRoom, jsonRoom, jsonToCard}
 use Rattle.served.specs.declared.Outcome.{Outcome}
+use Rattle.served.specs.declared.Outcome.the-variants.{Refused as Outcome-Refused}
 use Rattle.served.specs.Served.{Serves}
 use Rattle.served_put.specs.Lent.{fitLent}
 use Rattle.served_put.proofs.Serving.{serves-refused, serves-as}

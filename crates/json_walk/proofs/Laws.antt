@@ -11,6 +11,8 @@ use lib.ListN.{drop}
 use denote.Enum.Declared.{tagOf}
 use Rattle.text.specs.Bytes.{Bytes}
 use Rattle.json.specs.Tree.{Json, Member as Named}
+use Rattle.json_walk.proofs.Member.{the-type as member-type}
+use Rattle.json_walk.proofs.Element.{the-type as element-type}
 use Rattle.json_walk.specs.declared.Member.{Member}
 use Rattle.json_walk.specs.declared.Member.the-variants.{At as Member-At, End as Member-End, NoObject}
 use Rattle.json_walk.specs.declared.Element.{Element}

@@ -15,6 +15,7 @@ use Rattle.text.proofs.Same.{differ-same}
 use Rattle.text.proofs.Letters.{lowered-empty}
 use Rattle.line.specs.Physical.{withoutCr, isBegin, isEnd}
 use Rattle.stream.specs.Plain.{Reader, Kind, blank, begin, other, kindOf, lineTells, lineNext, tells, next, Told, Tells, more, refuses, closes, unless, readFrom, readPiece}
+use Rattle.stream.specs.Plain.{end as ends}
 use Rattle.stream.specs.Calls.{piece, asked}
 use Rattle.stream.specs.Lines.{LineText, Reads, LinesRead}
 use Rattle.stream.proofs.BeginInside.{all-both, all-second, cr-gone, is-begin}

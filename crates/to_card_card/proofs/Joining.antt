@@ -10,6 +10,7 @@ use Rattle.text.specs.Choice.{both}
 use Rattle.text.specs.Bytes.{Bytes}
 use Rattle.line_pen.specs.Pen.{Fills}
 use Rattle.line_pen.proofs.Filling.{then}
+use Rattle.to_card_map.specs.Maps.{LinesIn as MapsIn}
 use Rattle.to_card_lines.specs.declared.Lines.{Lines}
 use Rattle.to_card_lines.specs.declared.Lines.the-variants.{All, Wrong}
 use Rattle.to_card_lines.specs.Lines.{linesBytes, Part, PartAs, joinParts}

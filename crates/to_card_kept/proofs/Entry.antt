@@ -25,6 +25,7 @@ use Rattle.to_card_kept_used.proofs.Standing.{stands-kept}
 use Rattle.to_card_kept_entry.specs.table.Kept.{keptForm, formed}
 use Rattle.to_card_kept_entry.specs.entry.Entry.{HoldsKept, HoldsAs, FillsKept}
 use Rattle.to_card_kept_entry.proofs.fill.Composed.{fills-formed, stands-formed}
+use Rattle.to_card_kept_entry.specs.writing.Line.{PutsKept as PutsLine}
 use Rattle.to_card_lines.specs.declared.Lines.{Lines}
 use Rattle.to_card_lines.specs.declared.Lines.the-variants.{All, Wrong}
 use Rattle.to_card_lines.specs.declared.Penned.{Penned}

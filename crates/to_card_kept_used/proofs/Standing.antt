@@ -25,6 +25,7 @@ use Rattle.convert_entry.specs.Rows.{codeOf}
 use Rattle.home.proofs.Classes.{Fact, class-fact}
 use Rattle.home.proofs.Slots.{at, slot-row}
 use Rattle.line_table.specs.Table.{part, lineIn}
+use Rattle.class_line.specs.declared.Class.{Class as Answer}
 use Rattle.class_line.specs.declared.Class.the-variants.{Kept, Dropped, Version, Uid, Kind, Full, Parts, Entry as InMap, Keyed, Member as AsMember}
 use Rattle.class_line.specs.Class.{memberUsed, withMember, Points, Classes}
 use Rattle.to_card_kept_used.specs.Used.{IdUsed, PointerUsed, CardIn, Unreserved, KeptIn}

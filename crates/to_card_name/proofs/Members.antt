@@ -25,6 +25,7 @@ use Rattle.convert.specs.Carry.{apart}
 use Rattle.convert.specs.FromJson.{Component, componentOf, byKind, isFalse}
 use Rattle.to_card_value.specs.Values.{StringIs, TellsString}
 use Rattle.to_card_head.proofs.Slots.{slot-none, slot-some}
+use Rattle.to_card_parts.specs.declared.Array.{Array as Arr}
 use Rattle.to_card_parts.specs.declared.Array.the-variants.{At as ArrayAt, Empty, Wrong as NoArray}
 use Rattle.to_card_parts.specs.Parts.{ArrayIn, OpenedAs, OpensAs, Elements, valuesOf, Marked, CheckedAs, ChecksFrom}
 use Rattle.to_card_parts.proofs.Elements.{kind-told}

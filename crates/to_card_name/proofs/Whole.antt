@@ -20,6 +20,7 @@ use Rattle.json_index.proofs.Objects.{at-inv}
 use Rattle.convert.specs.FromJson.{onlyMembers, Component, Name, nameFrom}
 use Rattle.to_card_value.specs.Values.{StringIs}
 use Rattle.to_card_lines.specs.declared.Lines.{Lines}
+use Rattle.to_card_lines.specs.declared.Lines.the-variants.{Wrong as Twelve}
 use Rattle.to_card_lines.specs.Lines.{Part, PartAs}
 use Rattle.to_card_lines.proofs.Parts.{none-wrong}
 use Rattle.to_card_head.proofs.Slots.{slot-none, slot-some}

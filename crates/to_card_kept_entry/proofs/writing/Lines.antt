@@ -19,6 +19,7 @@ use Rattle.line_pen.proofs.Filling.{then}
 use Rattle.line_pen.proofs.Laws.{filled, fold-append}
 use Rattle.line_table.specs.Table.{part, lineIn}
 use Rattle.convert.specs.Model.{Kept}
+use Rattle.convert.specs.Value.{filled as is-filled}
 use Rattle.convert.specs.FromJson.{isLowerWord, keptAsLine}
 use Rattle.convert.specs.Carry.{carriedRaw, carriedParam, carriedKept}
 use Rattle.to_card_pen.specs.Styles.{standsIn, allStandIn}
