@@ -79,7 +79,37 @@ fn next_character(s: &[u8], at: usize) -> Turn
     }
 }
 
-// Past characters of one byte that stand for themselves.
+// Past characters of one byte that stand for themselves, byte by byte: for names, which are short, and for texts that are refused.
+fn near_end(s: &[u8], at: usize) -> usize
+    requires { ⌜ at ≤ length (now s) ⌝ }
+    ensures { λ r. ⌜ (at ≤ r) × (r ≤ length (now (s .entry))) ⌝ }
+    ensures { λ r. ⌜ ToEnd (now (s .entry)) at r ⌝ }
+    ensures { λ r. ⌜ Unmarked (now (s .entry)) at r ⌝ }
+{
+    let mut i = at;
+    loop {
+        let b = look(s, i);
+        if b > BACKSLASH {
+            if b > 127 {
+                return i;
+            }
+            i += 1;
+            continue;
+        }
+        if b == QUOTE {
+            return i;
+        }
+        if b == BACKSLASH {
+            return i;
+        }
+        if b < 32 {
+            return i;
+        }
+        i += 1;
+    }
+}
+
+// The same, eight bytes at a time: for values.
 fn plain_end(s: &[u8], at: usize) -> usize
     requires { ⌜ at ≤ length (now s) ⌝ }
     ensures { λ r. ⌜ (at ≤ r) × (r ≤ length (now (s .entry))) ⌝ }
@@ -120,7 +150,7 @@ pub fn string_end(s: &[u8], at: usize) -> Read
 {
     let mut i = at;
     loop {
-        let from = plain_end(s, i);
+        let from = near_end(s, i);
         match next_character(s, from) {
             Turn::Go(j) => {
                 i = j;

@@ -14,8 +14,36 @@ ghost use Prim.Native.Nat.{_≤_};
 ghost use lib.ListN.{length, drop};
 ghost use Rattle.json_skip.specs.Skip.{quoted, opens, shuts, outside, closed, Leaves, Skips};
 
-// The place after a string, from after its first quote.
+// The place after a string, from after its first quote, byte by byte: for names, which are short.
 pub fn string_stop(s: &[u8], at: usize) -> usize
+    requires { ⌜ at ≤ length (now s) ⌝ }
+    ensures { λ r. ⌜ Leaves (now (s .entry)) at (quoted false (drop at (now (s .entry)))) r ⌝ }
+{
+    let mut i = at;
+    while i < s.len() {
+        let b = s[i];
+        // Most bytes are small letters.
+        if b > b'\\' {
+            i += 1;
+            continue;
+        }
+        if b == b'"' {
+            return i + 1;
+        }
+        if b == b'\\' {
+            if s.len() - i < 2 {
+                return s.len();
+            }
+            i += 2;
+            continue;
+        }
+        i += 1;
+    }
+    i
+}
+
+// The same, eight bytes at a time: for values.
+fn value_stop(s: &[u8], at: usize) -> usize
     requires { ⌜ at ≤ length (now s) ⌝ }
     ensures { λ r. ⌜ Leaves (now (s .entry)) at (quoted false (drop at (now (s .entry)))) r ⌝ }
 {
@@ -65,7 +93,7 @@ fn bracket_stop(s: &[u8], at: usize) -> usize
     while i < s.len() {
         let b = s[i];
         if b == b'"' {
-            i = string_stop(s, i + 1);
+            i = value_stop(s, i + 1);
             continue;
         }
         // Commas, colons, digits and white space stand below the brackets.
@@ -102,12 +130,10 @@ pub fn skip_value(s: &[u8], at: usize) -> usize
     let i = skip_space(s, at);
     let b = look(s, i);
     if b == QUOTE {
-        return string_stop(s, i + 1);
+        return value_stop(s, i + 1);
     }
-    if b == LEFT_BRACKET {
-        return bracket_stop(s, i + 1);
-    }
-    if b == LEFT_BRACE {
+    // One call for both, so that it is compiled in place.
+    if (b == LEFT_BRACKET) | (b == LEFT_BRACE) {
         return bracket_stop(s, i + 1);
     }
     // A number or a literal: a few bytes, and they end by the grammar (in 1x the value is 1).
