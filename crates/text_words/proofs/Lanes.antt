@@ -1,7 +1,7 @@
 -- An expression over a word is the same expression over each of its bytes, where no sum leaves its byte: one law for every class of bytes.
 -- A class is then an expression and a table of 256 bytes that computes (`marks`).
 use mathlib.Core.Path.{_≡_, refl, ap, ap₂, _∙_}
-use mathlib.Core.Bool.{Bool, true, false, _&&_}
+use mathlib.Core.Bool.{Bool, true, _&&_}
 use mathlib.Core.List.{map}
 use Prim.Native.Nat.{ℕ, zero, suc, _+_, _*_, _^_, _<_}
 use native.Mathlib.Omega.{arith}

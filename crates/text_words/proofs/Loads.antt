@@ -6,7 +6,7 @@ use native.Mathlib.Omega.{arith}
 use lib.ListN.{getD, drop}
 use lib.Seq.{getD-drop}
 use Rattle.text.specs.Bytes.{Bytes}
-use Rattle.text_words.specs.Words.{word, wordAt, Loaded}
+use Rattle.text_words.specs.Words.{word, Loaded}
 
 module _ (s : Bytes) (at : ℕ) where
   -- a byte by its place

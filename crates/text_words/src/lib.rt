@@ -1,16 +1,40 @@
-// Runs of bytes that pass a test, eight bytes at a time: a word of marks has the highest bit of each byte that does not pass.
+// The end of a run of bytes that pass a test, eight bytes at a time, for long strings and lines. A word has eight bytes, the first in its lowest eight bits; of its
+// marks, one in the highest bit of each byte, those are set whose byte does not pass. The tests are on the low seven bits, so that no sum leaves its byte.
 ghost use mathlib.Core.Path.{_≡_};
 ghost use Prim.Native.Nat.{_+_, _≤_};
 ghost use lib.ListN.{length, drop};
 ghost use Rattle.text.specs.Reader.{taken};
 ghost use Rattle.text_words.specs.Words.{Loaded, Marks, FirstMark, soft, bare, raw, plain, noLf, stored};
 
+// The low seven bits of each byte of a word, and its highest one, the mark.
+const LOW: u64 = 0x7f7f7f7f7f7f7f7f;
+
+const MARK: u64 = 0x8080808080808080;
+
+// Eight of one byte.
+const QUOTES: u64 = 0x2222222222222222;
+
+const BACKSLASHES: u64 = 0x5c5c5c5c5c5c5c5c;
+
+const COMMAS: u64 = 0x2c2c2c2c2c2c2c2c;
+
+const SEMICOLONS: u64 = 0x3b3b3b3b3b3b3b3b;
+
+const DELETES: u64 = 0x7f7f7f7f7f7f7f7f;
+
+const LINE_FEEDS: u64 = 0x0a0a0a0a0a0a0a0a;
+
+// What makes a byte of 32 or more reach the mark: 128 less 32.
+const OVER_CONTROLS: u64 = 0x6060606060606060;
+
+// A byte as a word.
 fn wide(b: u8) -> u64
     ensures { λ r. ⌜ r ≡ b ⌝ }
 {
     b as u64
 }
 
+// Two bytes, then four, then eight: as sums, each of which fits.
 fn pair_at(s: &[u8], at: usize) -> u64
     requires { ⌜ at + 2 ≤ length (now s) ⌝ }
     ensures { λ r. ⌜ Loaded 2 (now (s .entry)) at r ⌝ }
@@ -40,7 +64,7 @@ pub fn first_mark(m: u64) -> usize
     (u64::trailing_zeros(m) / 8) as usize
 }
 
-// ---- bytes neither a quote nor a backslash
+// ---- bytes neither a quote nor a backslash: strings passed over
 
 fn is_soft(b: u8) -> bool
     ensures { λ r. ⌜ r ≡ soft b ⌝ }
@@ -48,16 +72,17 @@ fn is_soft(b: u8) -> bool
     !((b == b'"') | (b == b'\\'))
 }
 
-// Marks at all other bytes of a word.
+// The marks of a word: at all other bytes.
 fn soft_marks(w: u64) -> u64
     ensures { λ r. ⌜ Marks soft w r ⌝ }
 {
-    let v = w & 0x7f7f7f7f7f7f7f7f;
-    let quote = (v ^ 0x2222222222222222) + 0x7f7f7f7f7f7f7f7f;
-    let backslash = (v ^ 0x5c5c5c5c5c5c5c5c) + 0x7f7f7f7f7f7f7f7f;
-    (((quote & backslash) | w) & 0x8080808080808080) ^ 0x8080808080808080
+    let v = w & LOW;
+    let quote = (v ^ QUOTES) + LOW;
+    let backslash = (v ^ BACKSLASHES) + LOW;
+    (((quote & backslash) | w) & MARK) ^ MARK
 }
 
+// The end of the run, byte by byte: for the last seven bytes.
 fn soft_from(s: &[u8], at: usize) -> usize
     ensures { λ r. ⌜ r ≡ at + length (taken soft (drop at (now (s .entry)))) ⌝ }
 {
@@ -89,7 +114,7 @@ pub fn soft_end(s: &[u8], at: usize) -> usize
     soft_from(s, i)
 }
 
-// ---- bytes that stand for themselves in a JSON string, those beyond ASCII too
+// ---- bytes that stand for themselves in a JSON string, those beyond ASCII too: strings decoded
 
 fn is_bare(b: u8) -> bool
     ensures { λ r. ⌜ r ≡ bare b ⌝ }
@@ -97,17 +122,18 @@ fn is_bare(b: u8) -> bool
     (b >= 32) & is_soft(b)
 }
 
-// Marks at all other bytes of a word.
+// The marks of a word: at all other bytes.
 fn bare_marks(w: u64) -> u64
     ensures { λ r. ⌜ Marks bare w r ⌝ }
 {
-    let v = w & 0x7f7f7f7f7f7f7f7f;
-    let quote = (v ^ 0x2222222222222222) + 0x7f7f7f7f7f7f7f7f;
-    let backslash = (v ^ 0x5c5c5c5c5c5c5c5c) + 0x7f7f7f7f7f7f7f7f;
-    let control = v + 0x6060606060606060;
-    (((quote & backslash & control) | w) & 0x8080808080808080) ^ 0x8080808080808080
+    let v = w & LOW;
+    let quote = (v ^ QUOTES) + LOW;
+    let backslash = (v ^ BACKSLASHES) + LOW;
+    let control = v + OVER_CONTROLS;
+    (((quote & backslash & control) | w) & MARK) ^ MARK
 }
 
+// The end of the run, byte by byte: for the last seven bytes.
 fn bare_from(s: &[u8], at: usize) -> usize
     ensures { λ r. ⌜ r ≡ at + length (taken bare (drop at (now (s .entry)))) ⌝ }
 {
@@ -139,7 +165,7 @@ pub fn bare_end(s: &[u8], at: usize) -> usize
     bare_from(s, i)
 }
 
-// ---- bytes of ASCII that stand for themselves in a JSON string
+// ---- bytes of ASCII that stand for themselves in a JSON string: strings judged
 
 fn is_raw(b: u8) -> bool
     ensures { λ r. ⌜ r ≡ raw b ⌝ }
@@ -147,17 +173,18 @@ fn is_raw(b: u8) -> bool
     (b <= 127) & is_bare(b)
 }
 
-// Marks at all other bytes of a word.
+// The marks of a word: at all other bytes.
 fn raw_marks(w: u64) -> u64
     ensures { λ r. ⌜ Marks raw w r ⌝ }
 {
-    let v = w & 0x7f7f7f7f7f7f7f7f;
-    let quote = (v ^ 0x2222222222222222) + 0x7f7f7f7f7f7f7f7f;
-    let backslash = (v ^ 0x5c5c5c5c5c5c5c5c) + 0x7f7f7f7f7f7f7f7f;
-    let control = v + 0x6060606060606060;
-    (((quote & backslash & control) ^ 0x8080808080808080) | w) & 0x8080808080808080
+    let v = w & LOW;
+    let quote = (v ^ QUOTES) + LOW;
+    let backslash = (v ^ BACKSLASHES) + LOW;
+    let control = v + OVER_CONTROLS;
+    (((quote & backslash & control) ^ MARK) | w) & MARK
 }
 
+// The end of the run, byte by byte: for the last seven bytes.
 fn raw_from(s: &[u8], at: usize) -> usize
     ensures { λ r. ⌜ r ≡ at + length (taken raw (drop at (now (s .entry)))) ⌝ }
 {
@@ -189,7 +216,7 @@ pub fn raw_end(s: &[u8], at: usize) -> usize
     raw_from(s, i)
 }
 
-// ---- bytes that stand for themselves in a JSON string and in a line of every style
+// ---- bytes that stand for themselves in a JSON string and in a line of every style: strings written into lines
 
 fn is_plain(b: u8) -> bool
     ensures { λ r. ⌜ r ≡ plain b ⌝ }
@@ -197,21 +224,21 @@ fn is_plain(b: u8) -> bool
     !((b == 127) | ((b == b',') | (b == b';'))) & is_bare(b)
 }
 
-// Marks at all other bytes of a word.
+// The marks of a word: at all other bytes.
 fn plain_marks(w: u64) -> u64
     ensures { λ r. ⌜ Marks plain w r ⌝ }
 {
-    let v = w & 0x7f7f7f7f7f7f7f7f;
-    let quote = (v ^ 0x2222222222222222) + 0x7f7f7f7f7f7f7f7f;
-    let backslash = (v ^ 0x5c5c5c5c5c5c5c5c) + 0x7f7f7f7f7f7f7f7f;
-    let comma = (v ^ 0x2c2c2c2c2c2c2c2c) + 0x7f7f7f7f7f7f7f7f;
-    let semicolon = (v ^ 0x3b3b3b3b3b3b3b3b) + 0x7f7f7f7f7f7f7f7f;
-    let del = (v ^ 0x7f7f7f7f7f7f7f7f) + 0x7f7f7f7f7f7f7f7f;
-    let control = v + 0x6060606060606060;
-    (((quote & backslash & comma & semicolon & del & control) | w) & 0x8080808080808080)
-        ^ 0x8080808080808080
+    let v = w & LOW;
+    let quote = (v ^ QUOTES) + LOW;
+    let backslash = (v ^ BACKSLASHES) + LOW;
+    let comma = (v ^ COMMAS) + LOW;
+    let semicolon = (v ^ SEMICOLONS) + LOW;
+    let del = (v ^ DELETES) + LOW;
+    let control = v + OVER_CONTROLS;
+    (((quote & backslash & comma & semicolon & del & control) | w) & MARK) ^ MARK
 }
 
+// The end of the run, byte by byte: for the last seven bytes.
 fn plain_from(s: &[u8], at: usize) -> usize
     ensures { λ r. ⌜ r ≡ at + length (taken plain (drop at (now (s .entry)))) ⌝ }
 {
@@ -251,15 +278,16 @@ fn is_line(b: u8) -> bool
     b != 10
 }
 
-// Marks at all other bytes of a word.
+// The marks of a word: at all other bytes.
 fn line_marks(w: u64) -> u64
     ensures { λ r. ⌜ Marks noLf w r ⌝ }
 {
-    let v = w & 0x7f7f7f7f7f7f7f7f;
-    let lf = (v ^ 0x0a0a0a0a0a0a0a0a) + 0x7f7f7f7f7f7f7f7f;
-    ((lf | w) & 0x8080808080808080) ^ 0x8080808080808080
+    let v = w & LOW;
+    let lf = (v ^ LINE_FEEDS) + LOW;
+    ((lf | w) & MARK) ^ MARK
 }
 
+// The end of the run, byte by byte: for the last seven bytes.
 fn line_from(s: &[u8], at: usize) -> usize
     ensures { λ r. ⌜ r ≡ at + length (taken noLf (drop at (now (s .entry)))) ⌝ }
 {
@@ -293,6 +321,7 @@ pub fn line_end(s: &[u8], at: usize) -> usize
 
 // ---- a word put back
 
+// Two bytes, then four, then eight.
 fn put_pair(out: &mut [u8], to: usize, w: u64)
     requires { ⌜ to + 2 ≤ length (now out) ⌝ }
     ensures { λ _. ⌜ now (out .exit) ≡ stored 2 w to (now (out .entry)) ⌝ }

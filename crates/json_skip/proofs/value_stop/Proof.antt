@@ -1,7 +1,7 @@
 use denote.Ref.{now}
 use mathlib.Core.Path.{_≡_, refl, _∙_}
 use mathlib.Core.Bool.{false}
-use Prim.Native.Nat.{_+_, _-_, _≤_}
+use Prim.Native.Nat.{_-_, _≤_}
 use native.Mathlib.Omega.{arith}
 use lib.ListN.{length, drop}
 use borrow.Author.Needs.{needs}
@@ -75,17 +75,5 @@ loop-again c =
 pub value-stop-spec : {M : Type 1} → statement M
 value-stop-spec =
     tie.close
-    (tie.spec
-    Inv-loop
-    μ-loop
-    loop-holds
-    soft-end-requires
-    returns
-    shared-slice-read-if2
-    add-result
-    returns-2
-    sub-if3
-    returns-3
-    add-i
-    loop-less
+    (tie.spec Inv-loop μ-loop loop-holds soft-end-requires returns shared-slice-read-if2 add-result returns-2 sub-if3 returns-3 add-i loop-less
     loop-again)

@@ -7,27 +7,6 @@ use Rattle.json_strings.proofs.Sixteen.{sixteen-copied}
 use Rattle.json_strings.proofs.copy_sixteen.Statement.{statement}
 use Rattle.json_strings.proofs.copy_sixteen.Tie as tie
 
-word-at-requires : tie.Need-word-at-requires
-word-at-requires c κs = search needs
-
-add-word-at : tie.Need-add-word-at
-add-word-at c = search needs
-
-word-at-requires-2 : tie.Need-word-at-requires-2
-word-at-requires-2 c κs = search needs
-
-put-word-requires : tie.Need-put-word-requires
-put-word-requires c κs = search needs
-
-add-put-word : tie.Need-add-put-word
-add-put-word c = search needs
-
-put-word-requires-2 : tie.Need-put-word-requires-2
-put-word-requires-2 c κs = search needs
-
-same-length : tie.Need-same-length
-same-length c = search needs
-
 returns : tie.Need-returns
 returns c =
     let second = c .before .before in
@@ -42,12 +21,5 @@ returns c =
 pub copy-sixteen-spec : {M : Type 1} → statement M
 copy-sixteen-spec =
     tie.close
-    (tie.spec
-    word-at-requires
-    add-word-at
-    word-at-requires-2
-    put-word-requires
-    add-put-word
-    put-word-requires-2
-    same-length
-    returns)
+    (tie.spec (λ c κs. search needs) (λ c. search needs) (λ c κs. search needs) (λ c κs. search needs) (λ c. search needs) (λ c κs. search needs)
+    (λ c. search needs) returns)

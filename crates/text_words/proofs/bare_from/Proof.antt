@@ -51,14 +51,4 @@ returns-2 c = let loop = c .before .loop in sym (loop .inv ∙ run-out bare (now
 pub bare-from-spec : {M : Type 1} → statement M
 bare-from-spec =
     tie.close
-    (tie.spec
-    Inv-loop
-    μ-loop
-    loop-holds
-    shared-slice-read-is-bare
-    is-bare-requires
-    returns
-    add-i
-    loop-less
-    loop-again
-    returns-2)
+    (tie.spec Inv-loop μ-loop loop-holds shared-slice-read-is-bare is-bare-requires returns add-i loop-less loop-again returns-2)

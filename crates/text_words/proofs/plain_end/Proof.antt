@@ -1,7 +1,7 @@
 use borrow.Author.Needs.{needs}
 use denote.Ref.{now}
 use mathlib.Core.Path.{_≡_, refl, sym, _∙_}
-use Prim.Native.Nat.{_+_, _-_, _≤_}
+use Prim.Native.Nat.{_-_, _≤_}
 use native.Mathlib.Omega.{arith}
 use lib.ListN.{length}
 use Rattle.text_words.specs.Words.{plain}
@@ -75,19 +75,5 @@ returns-3 c = c .plain-from .ensures ∙ sym (c .before .before .loop .inv .1)
 pub plain-end-spec : {M : Type 1} → statement M
 plain-end-spec =
     tie.close
-    (tie.spec
-    Inv-loop
-    μ-loop
-    returns
-    loop-holds
-    add-loop
-    word-at-requires
-    plain-marks-requires
-    first-mark-requires
-    add-result
-    returns-2
-    add-i
-    loop-less
-    loop-again
-    plain-from-requires
-    returns-3)
+    (tie.spec Inv-loop μ-loop returns loop-holds add-loop word-at-requires plain-marks-requires first-mark-requires add-result returns-2 add-i
+    loop-less loop-again plain-from-requires returns-3)

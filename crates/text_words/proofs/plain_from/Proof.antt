@@ -51,14 +51,4 @@ returns-2 c = let loop = c .before .loop in sym (loop .inv ∙ run-out plain (no
 pub plain-from-spec : {M : Type 1} → statement M
 plain-from-spec =
     tie.close
-    (tie.spec
-    Inv-loop
-    μ-loop
-    loop-holds
-    shared-slice-read-is-plain
-    is-plain-requires
-    returns
-    add-i
-    loop-less
-    loop-again
-    returns-2)
+    (tie.spec Inv-loop μ-loop loop-holds shared-slice-read-is-plain is-plain-requires returns add-i loop-less loop-again returns-2)

@@ -2,7 +2,6 @@ use borrow.Author.Needs.{needs}
 use native.Mathlib.Omega.{arith}
 use denote.Ref.{now}
 use mathlib.Core.Path.{sym, subst}
-use lib.ListN.{length}
 use Rattle.text_words.specs.Words.{bare}
 use Rattle.text_words.proofs.Meanings.{bare-is}
 use Rattle.text_words.proofs.Runs.{run-chain}
