@@ -2,16 +2,15 @@
 use mathlib.Core.Path.{_≡_, sym, ap, _∙_}
 use mathlib.Core.Bool.{Bool, true, _&&_}
 use mathlib.Core.List.{[], _∷_, _++_, append-assoc}
-use Prim.Native.Nat.{ℕ, _+_, _≤_, _<_}
+use Prim.Native.Nat.{ℕ, _+_, _<_}
 use native.Mathlib.Nat.{add-zero}
 use native.Mathlib.Omega.{arith}
 use lib.ListN.{length, take, drop, getD}
 use Rattle.text.specs.Bytes.{Bytes}
-use Rattle.text_words.specs.Words.{wordAt, stored}
 use Rattle.text.specs.Reader.{taken}
 use Rattle.text.proofs.Cases.{and-left, and-right}
 use Rattle.output.specs.Put.{Rest}
-use Rattle.json_strings.proofs.Sixteen.{byte-more, Copies, copies-none, stored-copies}
+use Rattle.json_strings.proofs.Sixteen.{byte-more, Copies}
 use Rattle.json_write.specs.Pieces.{bare, BareFor}
 use Rattle.json_write.proofs.Spelling.{bare-on}
 
@@ -37,9 +36,3 @@ module _ (s : Bytes) (at : ℕ) where
     so = copied room (left .x) (left .so);
     rest = append-assoc (left .x) (take n (drop at s)) (taken bare (drop (at + n) s)) ∙ ap (λ (y : Bytes). left .x ++ y) (sym run) ∙ left .rest;
   }
-
-  -- a word makes eight bytes
-  pub eight-copied : (to : ℕ) (out : Bytes) → ((i : ℕ) → getD (drop at s) i 0 < 256) → (w : ℕ) (after : Bytes) → w ≡ wordAt 8 s at → at + 8 ≤ length s → to + 8 ≤ length out
-      → after ≡ stored 8 w to out → Copies s at to out 8 after
-  eight-copied to out h w after p l m e =
-      rw (e, p) (stored-copies s at to out h 8 0 at to out (omega arith) (omega arith) (omega arith) (omega arith) (copies-none s at to out))

@@ -6,16 +6,14 @@ use json_strings::next_byte;
 use output::Wrote;
 use output::put_byte;
 use output::put_text;
-use text_words::put_word;
-use text_words::word_at;
 ghost use mathlib.Core.Path.{_≡_};
 ghost use mathlib.Core.Bool.{true};
-ghost use mathlib.Core.List.{_∷_, [], _++_};
+ghost use mathlib.Core.List.{_∷_, []};
 ghost use Prim.Native.Nat.{_+_, _≤_, _<_};
-ghost use lib.ListN.{length, take, drop};
-ghost use Rattle.text.specs.Bytes.{Bytes, ascii, code};
+ghost use lib.ListN.{length, drop};
+ghost use Rattle.text.specs.Bytes.{ascii, code};
 ghost use Rattle.text.specs.Reader.{taken};
-ghost use Rattle.output.specs.Put.{Puts, Sofar};
+ghost use Rattle.output.specs.Put.{Puts};
 ghost use Rattle.text.specs.Decimal.{decimal};
 ghost use Rattle.json.specs.Compact.{hexDigit, spelled, spelledAll, quoted};
 ghost use Rattle.json_write.specs.Pieces.{coded, bare, BareFor, runAt};
@@ -142,62 +140,6 @@ fn has_run(room: usize, s: &[u8], at: usize) -> bool
     are_bare(s, at)
 }
 
-// Whether eight bytes all stand for themselves, likewise.
-fn are_eight_bare(s: &[u8], at: usize) -> bool
-    requires { ⌜ at + 8 ≤ length (now s) ⌝ }
-    ensures { λ r. ⌜ (r ≡ true → BareFor (now (s .entry)) at 8) ⌝ }
-{
-    let mut all = true;
-    let mut k = 0;
-    while k < 8 {
-        all = all & is_bare(s[at + k]);
-        k += 1;
-    }
-    all
-}
-
-// Whether eight bytes stand there that all stand for themselves, and there is room for them.
-fn has_eight(room: usize, s: &[u8], at: usize) -> bool
-    ensures { λ r. ⌜ (r ≡ true → (8 ≤ room) × (at + 8 ≤ length (now (s .entry))) × BareFor (now (s .entry)) at 8) ⌝ }
-{
-    if room < 8 {
-        return false;
-    }
-    if s.len() <= at {
-        return false;
-    }
-    if s.len() - at < 8 {
-        return false;
-    }
-    are_eight_bare(s, at)
-}
-
-// Eight bytes after what stands before `to`, as one word.
-fn copy_eight(out: &mut [u8], to: usize, s: &[u8], at: usize)
-    requires { ⌜ to + 8 ≤ length (now out) ⌝ }
-    requires { ⌜ at + 8 ≤ length (now s) ⌝ }
-    ensures { λ _. ⌜ ((room x : Bytes) → Sofar room x to (now (out .entry)) → Sofar room (x ++ take 8 (drop at (now (s .entry)))) (to + 8) (now (out .exit))) ⌝ }
-{
-    let w = word_at(s, at);
-    put_word(out, to, w);
-}
-
-// The same bytes as `bare_from` writes: eight at once, where there are so many, and then byte by byte.
-fn put_few(out: &mut [u8], s: &[u8], at: usize) -> Wrote
-    ensures { λ r. ⌜ Puts (now (out .entry)) (taken bare (drop at (now (s .entry)))) r (now (out .exit)) ⌝ }
-{
-    if !has_eight(out.len(), s, at) {
-        return bare_from(out, s, at);
-    }
-    copy_eight(out, 0, s, at);
-    let i = at + 8;
-    let Wrote::Bytes(n) = bare_from(&mut out[8..], s, i) else {
-        return Wrote::Full;
-    };
-    let all = 8 + n;
-    Wrote::Bytes(all)
-}
-
 // The bytes from `at` on, up to the first that does not stand for itself.
 pub fn put_bare(out: &mut [u8], s: &[u8], at: usize) -> Wrote
     ensures { λ r. ⌜ Puts (now (out .entry)) (taken bare (drop at (now (s .entry)))) r (now (out .exit)) ⌝ }
@@ -209,7 +151,7 @@ pub fn put_bare(out: &mut [u8], s: &[u8], at: usize) -> Wrote
         k += 16;
         i += 16;
     }
-    let Wrote::Bytes(n) = put_few(&mut out[k..], s, i) else {
+    let Wrote::Bytes(n) = bare_from(&mut out[k..], s, i) else {
         return Wrote::Full;
     };
     let kn = k + n;

@@ -22,7 +22,7 @@ abbrev μ-loop : tie.MeasureT-loop
 
 -- after the last bytes
 abbrev wrote : tie.After-known-told Inv-loop μ-loop → Going
-wrote c = going (rest-next [] (rest-as (sym (append-nil _)) (c .before .before .before .before .before .before .before .before .before .loop .inv)) (c .before .before .before .before .before .put-few .ensures) (c .before .n .given .1))
+wrote c = going (rest-next [] (rest-as (sym (append-nil _)) (c .before .before .before .before .before .before .before .before .before .loop .inv)) (c .before .before .before .before .before .bare-from .ensures) (c .before .n .given .1))
 
 loop-holds : tie.Need-loop-holds Inv-loop μ-loop
 loop-holds c = rest-all _ _
@@ -50,17 +50,17 @@ loop-again c =
     let run = c .before .before .before .before .before .has-run .ensures (c .before .before .before .before .if1 .taken) in
     rest-copied (now (c .before .before .before .before .before .before .before .before .before .args .s)) (c .before .before .before .before .before .before .loop .i) 16 (run .2) (c .before .before .before .before .before .before .loop .inv) (c .before .before .copy-sixteen .ensures)
 
-sub-put-few : tie.Need-sub-put-few Inv-loop μ-loop
-sub-put-few c = rest-in (c .before .before .loop .inv)
+sub-bare-from : tie.Need-sub-bare-from Inv-loop μ-loop
+sub-bare-from c = rest-in (c .before .before .loop .inv)
 
-part-put-few-start : tie.Need-part-put-few-start Inv-loop μ-loop
-part-put-few-start c = rest-in (c .before .before .loop .inv)
+part-bare-from-start : tie.Need-part-bare-from-start Inv-loop μ-loop
+part-bare-from-start c = rest-in (c .before .before .loop .inv)
 
-part-put-few-end : tie.Need-part-put-few-end Inv-loop μ-loop
-part-put-few-end c = le-refl _
+part-bare-from-end : tie.Need-part-bare-from-end Inv-loop μ-loop
+part-bare-from-end c = le-refl _
 
-put-few-requires : tie.Need-put-few-requires Inv-loop μ-loop
-put-few-requires c κs = search needs
+bare-from-requires : tie.Need-bare-from-requires Inv-loop μ-loop
+bare-from-requires c κs = search needs
 
 enum-known-n : tie.Need-enum-known-n Inv-loop μ-loop
 enum-known-n c = c .match .keys1
@@ -72,7 +72,7 @@ same-length : tie.Need-same-length Inv-loop μ-loop
 same-length c = search needs
 
 returns : tie.Need-returns Inv-loop μ-loop
-returns c = rest-stop [] (rest-as (sym (append-nil _)) (c .before .before .before .before .before .before .before .before .loop .inv)) (c .before .before .before .before .put-few .ensures) (c .enum-told .given .1)
+returns c = rest-stop [] (rest-as (sym (append-nil _)) (c .before .before .before .before .before .before .before .before .loop .inv)) (c .before .before .before .before .bare-from .ensures) (c .enum-told .given .1)
 
 add-kn : tie.Need-add-kn Inv-loop μ-loop
 add-kn c = rest-fit (wrote c .left) (c .before .before .before .before .before .before .before .before .before .before .before .before .good .0 .0)
@@ -86,5 +86,5 @@ returns-2 c = rest-done refl (wrote c .left)
 pub put-bare-spec : {M : Type 1} → statement M
 put-bare-spec =
     tie.close
-    (tie.spec Inv-loop μ-loop loop-holds sub-has-run has-run-requires copy-sixteen-requires add-k add-i loop-less loop-again sub-put-few
-    part-put-few-start part-put-few-end put-few-requires enum-known-n enum-told same-length returns add-kn same-length-2 returns-2)
+    (tie.spec Inv-loop μ-loop loop-holds sub-has-run has-run-requires copy-sixteen-requires add-k add-i loop-less loop-again sub-bare-from
+    part-bare-from-start part-bare-from-end bare-from-requires enum-known-n enum-told same-length returns add-kn same-length-2 returns-2)
