@@ -7,6 +7,7 @@ use text::Read;
 use text::Turn;
 use text::in_range;
 use text::look;
+use text_words::raw_end;
 use utf8::Due;
 use utf8::due_after;
 ghost use Prim.Native.Nat.{_≤_};
@@ -78,8 +79,8 @@ fn next_character(s: &[u8], at: usize) -> Turn
     }
 }
 
-// Past characters of one byte that stand for themselves.
-fn plain_end(s: &[u8], at: usize) -> usize
+// Past characters of one byte that stand for themselves, byte by byte: for names, which are short, and for texts that are refused.
+fn near_end(s: &[u8], at: usize) -> usize
     requires { ⌜ at ≤ length (now s) ⌝ }
     ensures { λ r. ⌜ (at ≤ r) × (r ≤ length (now (s .entry))) ⌝ }
     ensures { λ r. ⌜ ToEnd (now (s .entry)) at r ⌝ }
@@ -106,6 +107,16 @@ fn plain_end(s: &[u8], at: usize) -> usize
         }
         i += 1;
     }
+}
+
+// The same, eight bytes at a time: for values.
+fn plain_end(s: &[u8], at: usize) -> usize
+    requires { ⌜ at ≤ length (now s) ⌝ }
+    ensures { λ r. ⌜ (at ≤ r) × (r ≤ length (now (s .entry))) ⌝ }
+    ensures { λ r. ⌜ ToEnd (now (s .entry)) at r ⌝ }
+    ensures { λ r. ⌜ Unmarked (now (s .entry)) at r ⌝ }
+{
+    raw_end(s, at)
 }
 
 // Past characters that stand for themselves, of one byte or of several.
@@ -139,7 +150,7 @@ pub fn string_end(s: &[u8], at: usize) -> Read
 {
     let mut i = at;
     loop {
-        let from = plain_end(s, i);
+        let from = near_end(s, i);
         match next_character(s, from) {
             Turn::Go(j) => {
                 i = j;

@@ -3,3 +3,4 @@ pub mod Steps
 pub mod Strings
 pub mod Values
 pub mod Ends
+pub mod Soft

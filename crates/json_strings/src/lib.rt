@@ -154,27 +154,7 @@ fn bare_end(s: &[u8], at: usize) -> usize
     ensures { λ r. ⌜ (at ≤ r) × (r ≤ length (now (s .entry))) ⌝ }
     ensures { λ r. ⌜ is-some (decodedAt (now (s .entry)) at) ≡ is-some (decodedAt (now (s .entry)) r) ⌝ }
 {
-    let mut i = at;
-    loop {
-        let b = look(s, i);
-        if b > BACKSLASH {
-            if b > 255 {
-                return i;
-            }
-            i += 1;
-            continue;
-        }
-        if b == QUOTE {
-            return i;
-        }
-        if b == BACKSLASH {
-            return i;
-        }
-        if b < 32 {
-            return i;
-        }
-        i += 1;
-    }
+    text_words::bare_end(s, at)
 }
 
 // No surrogate stands alone.
@@ -400,11 +380,10 @@ pub fn copy_sixteen(out: &mut [u8], to: usize, s: &[u8], at: usize)
     requires { ⌜ at + 16 ≤ length (now s) ⌝ }
     ensures { λ _. ⌜ ((room x : Bytes) → Sofar room x to (now (out .entry)) → Sofar room (x ++ take 16 (drop at (now (s .entry)))) (to + 16) (now (out .exit))) ⌝ }
 {
-    let mut k = 0;
-    while k < 16 {
-        out[to + k] = s[at + k];
-        k += 1;
-    }
+    let a = text_words::word_at(s, at);
+    let b = text_words::word_at(s, at + 8);
+    text_words::put_word(out, to, a);
+    text_words::put_word(out, to + 8, b);
 }
 
 // The bytes from a place on that stand for themselves, copied while there is room: how many. None where bytes are held, which come first.

@@ -1,6 +1,6 @@
 -- One physical line at the front of the bytes.
 use mathlib.Core.Path.{_≡_, refl, sym, ap, subst, _∙_}
-use mathlib.Core.Bool.{Bool, true, false, not, _||_}
+use mathlib.Core.Bool.{Bool, false, not, _||_}
 use mathlib.Core.List.{[], _∷_, _++_, tail, append-assoc}
 use Prim.Native.Nat.{ℕ, zero, suc, _+_, _-_, _≤_, _<_}
 use native.Mathlib.Omega.{arith}
@@ -17,14 +17,6 @@ use Rattle.line_class.proofs.Runs.{run-on, taken-part, past-part, taken-within}
 use Rattle.line_frame.specs.Lines.{notLf, SameLf, crEnd, LineAt}
 
 -- ---- up to the LF
-
-pub is-lf : (c : ℕ) → c ≡ 10 → notLf c ≡ false
-unfolding notLf
-is-lf c e = rw e
-
-pub is-not-lf : (c : ℕ) → (c ≡ 10 → ⊥) → notLf c ≡ true
-unfolding notLf
-is-not-lf c e = rw (ne-eqb c 10 e)
 
 -- one byte more that is no LF
 pub lf-more : (s : Bytes) (a k : ℕ) (found : Bool) → a + k < length s → (found ≡ false → SameLf s a (a + k))

@@ -8,6 +8,7 @@ ghost use Rattle.line.specs.Physical.{sizeOf, isBegin, isEnd};
 ghost use Rattle.line_frame.specs.Lines.{notLf, SameLf, crEnd, LineAt};
 ghost use Rattle.line_frame.specs.Frame.{Ends, Framed};
 use line_name::is_named;
+use text_words::line_end;
 
 // The bytes of a card: the LF that is supposed at the end counts.
 pub fn size_of(s: &[u8]) -> usize
@@ -22,20 +23,6 @@ pub fn size_of(s: &[u8]) -> usize
         return n;
     }
     n + 1
-}
-
-// The first LF from `at` on, or where the bytes end: byte by byte.
-fn lf_from(s: &[u8], at: usize) -> usize
-    ensures { λ r. ⌜ r ≡ at + length (taken notLf (drop at (now (s .entry)))) ⌝ }
-{
-    let mut i = at;
-    while i < s.len() {
-        if s[i] == 10 {
-            return i;
-        }
-        i += 1;
-    }
-    i
 }
 
 // Whether one of sixteen bytes is an LF. No early way out: one test of a vector.
@@ -65,7 +52,7 @@ fn skips(s: &[u8], at: usize) -> bool
     !has_lf(s, at)
 }
 
-// Where the line that begins at `at` has its LF, or where the bytes end.
+// Where the line that begins at `at` has its LF, or where the bytes end: by sixteens up to the last one, and by words in it.
 pub fn lf_at(s: &[u8], at: usize) -> usize
     ensures { λ r. ⌜ r ≡ at + length (taken notLf (drop at (now (s .entry)))) ⌝ }
 {
@@ -73,7 +60,7 @@ pub fn lf_at(s: &[u8], at: usize) -> usize
     while skips(s, i) {
         i += 16;
     }
-    lf_from(s, i)
+    line_end(s, i)
 }
 
 // A physical line: where its bytes end, and where the next begins.

@@ -1,7 +1,6 @@
 // Strings of a JSON text one after the other in a lent buffer, and the values of a parameter of vCardProps as rows of a line's table.
 use card_table::kept;
 use json_access::element_at;
-use json_index::is_raw;
 use json_marks::separator;
 use json_marks::skip_space;
 use json_strings::decode_into;
@@ -50,16 +49,12 @@ pub fn is_word(w: &[u8]) -> bool
 fn bare_end(s: &[u8], at: usize) -> usize
     ensures { λ r. ⌜ (r < length (now (s .entry)) → BareText (now (s .entry)) at r) ⌝ }
 {
-    let mut i = at;
-    while i < s.len() {
-        let c = s[i];
-        if !is_raw(c) {
-            if c == b'"' {
-                return i;
-            }
-            return s.len();
-        }
-        i += 1;
+    let e = text_words::bare_end(s, at);
+    if e >= s.len() {
+        return s.len();
+    }
+    if s[e] == b'"' {
+        return e;
     }
     s.len()
 }

@@ -9,8 +9,8 @@ use native.Mathlib.Numerals.{add-one}
 use native.Mathlib.Nat.{add-zero}
 use lib.ListN.{length, take, drop}
 use lib.Seq.{drop-cons, take-all}
-use lib.Dec.{eqb, ltb}
-use borrow.Author.Tests.{ne-eqb, le-ltb, ltb-true, eqb-true, eqb-false}
+use lib.Dec.{eqb}
+use borrow.Author.Tests.{ne-eqb, le-ltb, eqb-true, eqb-false}
 use borrow.Rule.Slice.PartMut.{midOf, putMid}
 use Rattle.text.specs.Bytes.{Bytes, all, is, between}
 use Rattle.text.specs.Places.{byteAt}
@@ -47,21 +47,6 @@ pub byte-whole : (s : Bytes) (at hold : ℕ) (r : Byte)
 byte-whole s at hold r = subst (λ (t : Bytes). (left t at hold ≡ byteOf t r) × ByteIn t at hold r) (whole s)
 
 -- ---- plain bytes
-
-pub plain-high : (b : ℕ) (r : Bool) → 92 < b → r ≡ ltb b 256 && not (eqb b 127) → PlainByte b r
-plain-high b r l e = subst (PlainByte b) (sym e) (go (ltb b 256) (eqb b 127) (ltb-true b 256) (eqb-false b 127))
-  where
-    go : (x y : Bool) → (x ≡ true → b < 256) → (y ≡ false → b ≡ 127 → ⊥) → PlainByte b (x && not y)
-    go false y f g = tt
-    go true true f g = tt
-    go true false f g = let u = f refl in (omega arith, u, (λ z. omega arith), (λ z. omega arith), (λ z. omega arith), (λ z. omega arith), g refl)
-
-pub plain-low : (b : ℕ) (r : Bool) → b ≤ 92 → 32 ≤ b → (b ≡ 34 → ⊥) → (b ≡ 44 → ⊥) → (b ≡ 59 → ⊥) → r ≡ not (eqb b 92) → PlainByte b r
-plain-low b r u l n m o e = subst (PlainByte b) (sym e) (go (eqb b 92) (eqb-false b 92))
-  where
-    go : (y : Bool) → (y ≡ false → b ≡ 92 → ⊥) → PlainByte b (not y)
-    go true g = tt
-    go false g = (l, omega arith, n, g refl, m, o, λ z. omega arith)
 
 module _ (style b : ℕ) (h : PlainByte b true) where
   escaped : (semi : Bool) → escape semi b ≡ b ∷ []

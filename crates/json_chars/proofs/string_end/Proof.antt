@@ -18,32 +18,32 @@ abbrev μ-loop : tie.MeasureT-loop
 loop-holds : tie.Need-loop-holds Inv-loop μ-loop
 loop-holds c = (search needs, λ r x. x)
 
-plain-end-requires : tie.Need-plain-end-requires Inv-loop μ-loop
-plain-end-requires c κs = c .loop .inv .0
+near-end-requires : tie.Need-near-end-requires Inv-loop μ-loop
+near-end-requires c κs = c .loop .inv .0
 
 next-character-requires : tie.Need-next-character-requires Inv-loop μ-loop
-next-character-requires c κs = c .plain-end .ensures .0 .1
+next-character-requires c κs = c .near-end .ensures .0 .1
 
 enum-known-j : tie.Need-enum-known-j Inv-loop μ-loop
 enum-known-j c = search needs
 
 loop-less : tie.Need-loop-less Inv-loop μ-loop
-loop-less c = let h = turn-as (c .before .before .before .next-character .ensures) (c .before .j .given .1) in omega (arith, h .within .0, h .within .1, c .before .before .before .before .plain-end .ensures .0 .0)
+loop-less c = let h = turn-as (c .before .before .before .next-character .ensures) (c .before .j .given .1) in omega (arith, h .within .0, h .within .1, c .before .before .before .before .near-end .ensures .0 .0)
 
 loop-again : tie.Need-loop-again Inv-loop μ-loop
 loop-again c =
     let args = c .before .before .before .before .before .before .before .args in
     let loop = c .before .before .before .before .before .loop in
-    let plain-end = c .before .before .before .before .plain-end in
-    let h = turn-as (c .before .before .before .next-character .ensures) (c .before .j .given .1) in (h .within .1, λ r x. loop .inv .1 r (plain-end .ensures .1 .0 r (string-on (now (args .s)) (plain-end .result) (c .before .j .given .0 .0) h r x)))
+    let near-end = c .before .before .before .before .near-end in
+    let h = turn-as (c .before .before .before .next-character .ensures) (c .before .j .given .1) in (h .within .1, λ r x. loop .inv .1 r (near-end .ensures .1 .0 r (string-on (now (args .s)) (near-end .result) (c .before .j .given .0 .0) h r x)))
 
 enum-known-r : tie.Need-enum-known-r Inv-loop μ-loop
 enum-known-r c = search needs
 
 returns : tie.Need-returns Inv-loop μ-loop
-returns c = c .before .before .before .before .before .loop .inv .1 _ (c .before .before .before .before .plain-end .ensures .1 .0 _ (string-stop (now (c .before .before .before .before .before .before .before .args .s)) (c .before .before .before .before .plain-end .result) (c .before .r .given .0 .0) (turn-as (c .before .before .before .next-character .ensures) (c .before .r .given .1))))
+returns c = c .before .before .before .before .before .loop .inv .1 _ (c .before .before .before .before .near-end .ensures .1 .0 _ (string-stop (now (c .before .before .before .before .before .before .before .args .s)) (c .before .before .before .before .near-end .result) (c .before .r .given .0 .0) (turn-as (c .before .before .before .next-character .ensures) (c .before .r .given .1))))
 
 pub string-end-spec : {M : Type 1} → statement M
 string-end-spec =
     tie.close
-    (tie.spec Inv-loop μ-loop loop-holds plain-end-requires next-character-requires enum-known-j loop-less loop-again enum-known-r returns)
+    (tie.spec Inv-loop μ-loop loop-holds near-end-requires next-character-requires enum-known-j loop-less loop-again enum-known-r returns)

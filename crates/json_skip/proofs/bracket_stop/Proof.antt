@@ -21,23 +21,23 @@ loop-holds c = (omega arith, c .before .pre, omega arith, refl)
 shared-slice-read-b : tie.Need-shared-slice-read-b Inv-loop μ-loop
 shared-slice-read-b c = search needs
 
-add-string-stop : tie.Need-add-string-stop Inv-loop μ-loop
-add-string-stop c = search needs
+add-value-stop : tie.Need-add-value-stop Inv-loop μ-loop
+add-value-stop c = search needs
 
-string-stop-requires : tie.Need-string-stop-requires Inv-loop μ-loop
-string-stop-requires c κs = search needs
+value-stop-requires : tie.Need-value-stop-requires Inv-loop μ-loop
+value-stop-requires c κs = search needs
 
 loop-less : tie.Need-loop-less Inv-loop μ-loop
-loop-less c = omega (arith, c .before .before .before .loop-test .taken, c .string-stop .ensures .from, c .string-stop .ensures .to)
+loop-less c = omega (arith, c .before .before .before .loop-test .taken, c .value-stop .ensures .from, c .value-stop .ensures .to)
 
 loop-again : tie.Need-loop-again Inv-loop μ-loop
 loop-again c = (
-  omega (arith, c .before .before .before .before .loop .inv .0, c .string-stop .ensures .from),
-  c .string-stop .ensures .to,
-  omega (arith, c .before .before .before .before .loop .inv .2, c .string-stop .ensures .from),
+  omega (arith, c .before .before .before .before .loop .inv .0, c .value-stop .ensures .from),
+  c .value-stop .ensures .to,
+  omega (arith, c .before .before .before .before .loop .inv .2, c .value-stop .ensures .from),
   c .before .before .before .before .loop .inv .3
       ∙ brackets-string _ _ _ (c .before .before .before .loop-test .taken) (c .before .if1 .taken)
-      ∙ ap (closed outside (c .before .before .before .before .loop .open)) (c .string-stop .ensures .is),
+      ∙ ap (closed outside (c .before .before .before .before .loop .open)) (c .value-stop .ensures .is),
 )
 
 add-i : tie.Need-add-i Inv-loop μ-loop
@@ -133,6 +133,6 @@ returns-2 c = record {
 pub bracket-stop-spec : {M : Type 1} → statement M
 bracket-stop-spec =
     tie.close
-    (tie.spec Inv-loop μ-loop loop-holds shared-slice-read-b add-string-stop string-stop-requires loop-less loop-again add-i loop-less-2 loop-again-2
+    (tie.spec Inv-loop μ-loop loop-holds shared-slice-read-b add-value-stop value-stop-requires loop-less loop-again add-i loop-less-2 loop-again-2
     is-opening-requires add-open add-i-2 loop-less-3 loop-again-3 is-closing-requires add-result returns sub-open add-i-3 loop-less-4 loop-again-4
     add-i-4 loop-less-5 loop-again-5 returns-2)

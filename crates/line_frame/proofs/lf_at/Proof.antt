@@ -3,7 +3,8 @@ use mathlib.Core.Path.{refl, _∙_}
 use native.Mathlib.Omega.{arith}
 use borrow.Author.Needs.{needs}
 use lib.ListN.{length}
-use Rattle.line_frame.specs.Lines.{SameLf}
+use Rattle.text_words.specs.Words.{noLf}
+use Rattle.line_frame.specs.Lines.{notLf, SameLf}
 use Rattle.line_frame.proofs.lf_at.Statement.{statement}
 use Rattle.line_frame.proofs.lf_at.Tie as tie
 
@@ -28,13 +29,14 @@ loop-less c = omega (arith, c .before .skips .ensures (c .if1 .taken) .0)
 loop-again : tie.Need-loop-again Inv-loop μ-loop
 loop-again c = c .before .skips .ensures (c .if1 .taken) .1 ∙ (c .before .before .loop .inv)
 
-lf-from-requires : tie.Need-lf-from-requires Inv-loop μ-loop
-lf-from-requires c κs = search needs
+line-end-requires : tie.Need-line-end-requires Inv-loop μ-loop
+line-end-requires c κs = search needs
 
 returns : tie.Need-returns Inv-loop μ-loop
-returns c = c .lf-from .ensures ∙ (c .before .before .before .loop .inv)
+unfolding notLf noLf
+returns c = c .line-end .ensures ∙ (c .before .before .before .loop .inv)
 
 pub lf-at-spec : {M : Type 1} → statement M
 lf-at-spec =
     tie.close
-    (tie.spec Inv-loop μ-loop loop-holds skips-requires add-i loop-less loop-again lf-from-requires returns)
+    (tie.spec Inv-loop μ-loop loop-holds skips-requires add-i loop-less loop-again line-end-requires returns)
