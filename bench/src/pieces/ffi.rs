@@ -10,8 +10,6 @@ extern "C" {
     fn pieces_parse(
         table: *mut usize,
         table_length: usize,
-        row: *mut u8,
-        row_length: usize,
         bytes: *const u8,
         bytes_length: usize,
         starts: *const usize,
@@ -21,7 +19,6 @@ extern "C" {
     ) -> usize;
     fn pieces_put(out: *mut u8, out_length: usize, bytes: *const u8, bytes_length: usize, starts: *const usize, starts_length: usize, count: usize, writer: u8) -> usize;
     fn pieces_read(json: *const u8, json_length: usize) -> usize;
-    fn pieces_walk(json: *const u8, json_length: usize) -> usize;
 }
 
 /// The writers of `pieces_put`, by their numbers.
@@ -29,7 +26,6 @@ extern "C" {
 #[repr(u8)]
 pub enum Writer {
     ReadText,
-    WriteText,
     Pen,
     JsonString,
     Decode,
@@ -48,28 +44,25 @@ pub fn garbled(lines: &Parts) -> usize {
     unsafe { pieces_garbled(bytes.as_ptr(), bytes.len(), starts.as_ptr(), starts.len(), lines.count()) }
 }
 
-/// The places of a line's table in crates/line_table, and the marks of TYPE.
+/// The places of a line's table in crates/line_table.
 pub struct Scratch {
     table: [usize; 264],
-    row: [u8; 9],
 }
 
 impl Scratch {
     pub fn new() -> Scratch {
-        Scratch { table: [0; 264], row: [0; 9] }
+        Scratch { table: [0; 264] }
     }
 }
 
 /// How many lines were taken apart, and with marks: whose parameters are all listed.
 pub fn parse(scratch: &mut Scratch, lines: &Parts, marks: bool) -> usize {
-    let (table, row) = (&mut scratch.table, &mut scratch.row);
+    let table = &mut scratch.table;
     let (bytes, starts) = (&lines.bytes, &lines.starts);
     unsafe {
         pieces_parse(
             table.as_mut_ptr(),
             table.len(),
-            row.as_mut_ptr(),
-            row.len(),
             bytes.as_ptr(),
             bytes.len(),
             starts.as_ptr(),
@@ -89,9 +82,4 @@ pub fn put(out: &mut [u8], parts: &Parts, writer: Writer) -> usize {
 /// The length of a JSON text; 0 where it is refused.
 pub fn read(json: &[u8]) -> usize {
     unsafe { pieces_read(json.as_ptr(), json.len()) }
-}
-
-/// Where the value ends, its leaves visited.
-pub fn walk(json: &[u8]) -> usize {
-    unsafe { pieces_walk(json.as_ptr(), json.len()) }
 }

@@ -8,7 +8,7 @@ use crate::measure::{alternating, Work};
 use crate::times::json_of;
 use crate::workloads;
 use ffi::{Scratch, Writer};
-use parts::{leaves, Card, Parts};
+use parts::{Card, Parts};
 use std::hint::black_box;
 use thymebarrel::{CARD_BYTES, JSON_BYTES};
 use thymebarrel_baseline::limits::{CARD_LINES, JSON_DEPTH};
@@ -26,13 +26,12 @@ struct Measured {
 
 type Piece = fn(&Card) -> Measured;
 
-const PIECES: [(&str, Piece); 15] = [
+const PIECES: [(&str, Piece); 12] = [
     ("frame and unfolding (`frame_of`, `unfold`)", unfold),
     ("UTF-8 and controls (`first_garbled`)", garbled),
     ("lines taken apart (`line_table::fill`)", parse),
     ("parameters, one pass (`scan_rows`, `mark_rows`)", parameters),
     ("TEXT read (`read_text`)", read_text),
-    ("TEXT written (`write_text`)", write_text),
     ("line folded (`pen_bytes`)", |card| appended(&card.lines, Writer::Pen, baseline::fold)),
     ("JSON string written (`put_string`)", |card| appended(&card.strings, Writer::JsonString, baseline::write_string)),
     ("JSON string decoded (`decode_into`)", decode),
@@ -40,8 +39,6 @@ const PIECES: [(&str, Piece); 15] = [
     ("JSON written compactly (`put_compact`)", |card| appended(&card.json, Writer::Compact, |_, out| baseline::write_json(&card.tree, out))),
     ("JSON read and written compactly", read_and_compact),
     ("JSON read (`json_read::read`)", |card| read(&card.json.bytes)),
-    ("JSON walked to its leaves (`json_access`)", walk),
-    ("JSON read and walked to its leaves", read_and_walk),
 ];
 
 pub fn print() {
@@ -186,17 +183,6 @@ fn read_text(card: &Card) -> Measured {
     written(&card.values, Writer::ReadText, &card.texts.bytes, theirs)
 }
 
-fn write_text(card: &Card) -> Measured {
-    let texts = card.texts.texts();
-    let want: String = texts.iter().map(|text| baseline::write_text(text)).collect();
-    let theirs = move || {
-        for text in black_box(&texts) {
-            black_box(baseline::write_text(text));
-        }
-    };
-    written(&card.texts, Writer::WriteText, want.as_bytes(), theirs)
-}
-
 fn decode(card: &Card) -> Measured {
     let strings = card.spelled.slices();
     let theirs = move || {
@@ -239,26 +225,4 @@ fn read_and_compact(card: &Card) -> Measured {
         black_box(ffi::put(&mut out, &card.json, Writer::Compact));
     };
     measured(card.json.bytes.len(), theirs, ours)
-}
-
-/// The baseline walks its tree, and not the text: that is measured with the reading.
-fn walk(card: &Card) -> Measured {
-    let json = &card.json.bytes;
-    assert_eq!(ffi::walk(json), json.len());
-    let ours = || {
-        black_box(ffi::walk(black_box(json)));
-    };
-    Measured { ratio: None, ..measured(json.len(), || (), ours) }
-}
-
-fn read_and_walk(card: &Card) -> Measured {
-    let json = &card.json.bytes;
-    let theirs = || {
-        black_box(leaves(&tree_of(black_box(json))));
-    };
-    let ours = || {
-        black_box(ffi::read(black_box(json)));
-        black_box(ffi::walk(black_box(json)));
-    };
-    measured(json.len(), theirs, ours)
 }

@@ -100,12 +100,3 @@ fn collect_strings<'a>(value: &'a Value, strings: &mut Vec<&'a str>) {
         _ => {}
     }
 }
-
-/// How many values of a tree hold no others.
-pub fn leaves(value: &Value) -> usize {
-    match value {
-        Value::Array(items) => items.iter().map(leaves).sum(),
-        Value::Object(members) => members.iter().map(|(_, value)| leaves(value)).sum(),
-        _ => 1,
-    }
-}

@@ -1,4 +1,3 @@
 pub mod Plain
 pub mod Reading
 pub mod Splitting
-pub mod Writing

@@ -176,40 +176,6 @@ pub fn read_text(out: &mut [u8], s: &[u8]) -> Wrote
     }
 }
 
-// One byte of a TEXT; a semicolon is escaped where semi says so.
-fn put_escape(out: &mut [u8], c: u8, semi: bool) -> Wrote
-    ensures { λ r. ⌜ Puts (now (out .entry)) (escape semi c) r (now (out .exit)) ⌝ }
-{
-    if c == b'\\' {
-        return put_text(out, b"\\\\");
-    }
-    if c == 10 {
-        return put_text(out, b"\\n");
-    }
-    if c == b',' {
-        return put_text(out, b"\\,");
-    }
-    if semi & (c == b';') {
-        return put_text(out, b"\\;");
-    }
-    put_byte(out, c)
-}
-
-pub fn write_text(out: &mut [u8], s: &[u8], semi: bool) -> Wrote
-    ensures { λ r. ⌜ Puts (now (out .entry)) (writeText semi (now (s .entry))) r (now (out .exit)) ⌝ }
-{
-    let mut at = 0;
-    let mut i = 0;
-    while i < s.len() {
-        let Wrote::Bytes(n) = put_escape(&mut out[at..], s[i], semi) else {
-            return Wrote::Full;
-        };
-        at += n;
-        i += 1;
-    }
-    Wrote::Bytes(at)
-}
-
 // Where the byte at i, or the escape that begins there, ends.
 fn char_end(s: &[u8], i: usize) -> usize
     requires { ⌜ i < length (now s) ⌝ }

@@ -1,2 +1,3 @@
-pub mod Tables
-pub mod Walked
+pub mod Reading
+pub mod Unfolding
+pub mod Writing

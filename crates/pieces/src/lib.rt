@@ -1,23 +1,15 @@
-// For measuring alone (`tools/bench --pieces`), and not delivered: the pieces that the services are made of, under C names. They are proved as far as
-// that no call goes wrong; what they give is for timing, and their contracts say little of it. Each function does one piece's work over a whole input, so that
-// a call is long enough to be timed. A part of the bytes is what stands from one of the starts to the next.
-ghost use Prim.Native.Nat.{_≤_};
-ghost use lib.ListN.{length};
-ghost use Rattle.line_table.specs.Table.{Sound};
+// For measuring alone (`tools/bench --pieces`), and not delivered: the pieces that the services are made of, under C names. Each function does one piece's work
+// over a whole input, so that a call is long enough to be timed, and promises what it gives (specs/Given). A part of the bytes is what stands from one of the
+// starts to the next.
+ghost use mathlib.Core.Path.{_≡_};
+ghost use Rattle.output.specs.Put.{Puts};
 ghost use Rattle.from_card_garbled.specs.Garbled.{FirstGarbled};
-ghost use Rattle.card_table.specs.Numbers.{typeCount};
-use card_table::params;
-use card_table::types;
+ghost use Rattle.pieces.specs.Given.{lengthRead, foldedLine, written, writtenParts, PutsParts, UnfoldsCard};
 use from_card_garbled::first_garbled;
-use json_access::head_at;
-use json_access::place;
 use json_compact::put_compact;
 use json_limits::DEPTH;
-use json_marks::separator;
-use json_marks::skip_space;
 use json_read::Verdict;
 use json_read::read;
-use json_skip::skip_value;
 use json_strings::decode_into;
 use json_write::put_requoted;
 use json_write::put_string;
@@ -26,49 +18,33 @@ use line_frame::frame_of;
 use line_limits::LINES;
 use line_pen::fill as fill_bytes;
 use line_pen::pen_bytes;
-use line_table::fill;
-use line_table::table;
 use line_text::read_text;
-use line_text::write_text;
 use line_unfold::Unfolded;
 use line_unfold::line_at;
 use line_unfold::unfold;
 use output::Wrote;
-use table_params::mark_rows;
-use table_params::scan_rows;
-use text::LEFT_BRACE;
-use text::LEFT_BRACKET;
-use text::RIGHT_BRACE;
-use text::RIGHT_BRACKET;
-use text::Turn;
-use text::look;
 
 // Where each line begins, and where the last ends.
 const STARTS: usize = LINES + 1;
 
-// The lines between BEGIN and END, unfolded: how many.
+// The lines between BEGIN and END, unfolded: how many. 0 too where the bytes are not one card, or the lent parts are too short for any card of that length.
 #[no_mangle]
-pub extern "C" fn pieces_unfold(out: &mut [u8], starts: &mut [usize], card: &[u8]) -> usize {
+pub extern "C" fn pieces_unfold(out: &mut [u8], starts: &mut [usize], card: &[u8]) -> usize
+    ensures { λ r. ⌜ UnfoldsCard (now (out .entry)) (now (starts .entry)) (now (card .entry)) r (now (out .exit)) (now (starts .exit)) ⌝ }
+{
     if starts.len() < STARTS {
+        return 0;
+    }
+    if out.len() < card.len() {
         return 0;
     }
     let Frame::Body { start: a, end: b } = frame_of(card) else {
         return 0;
     };
-    if b > card.len() {
+    let Unfolded::Lines(n) = unfold(out, starts, LINES, &card[a..b]) else {
         return 0;
-    }
-    if a > b {
-        return 0;
-    }
-    let body = &card[a..b];
-    if body.len() > out.len() {
-        return 0;
-    }
-    match unfold(out, starts, LINES, body) {
-        Unfolded::Lines(n) => n,
-        Unfolded::TooMany => 0,
-    }
+    };
+    n
 }
 
 // The first line that is not UTF-8 or has a control; 0 where there is none.
@@ -79,103 +55,98 @@ pub extern "C" fn pieces_garbled(bytes: &[u8], starts: &[usize], n: usize) -> us
     first_garbled(bytes, starts, n)
 }
 
-// The parameters of a line that the table holds: how many values each kind has and where the first stands, and the marks of TYPE.
-fn mark_line(row: &mut [u8], line: &[u8], table: &[usize]) -> bool
-    requires { ⌜ (typeCount ≤ length (now row)) × Sound (now line) (now table) ⌝ }
-{
-    let mut counts = [0usize; params::COUNT];
-    let mut froms = [0usize; params::COUNT];
-    let mut tos = [0usize; params::COUNT];
-    scan_rows(&mut counts, &mut froms, &mut tos, line, table);
-    // Each row is looked at, so that none of them is left out.
-    if (counts[params::OTHER] > 0) | (froms[params::TYPE] > tos[params::TYPE]) {
-        return false;
-    }
-    mark_rows(row, line, table, types::COUNT)
-}
-
-// Nothing is asked of the line where `marks` is 0.
-fn is_good(row: &mut [u8], line: &[u8], table: &[usize], marks: u8) -> bool
-    requires { ⌜ (typeCount ≤ length (now row)) × Sound (now line) (now table) ⌝ }
-{
-    if marks == 0 {
-        return true;
-    }
-    mark_line(row, line, table)
-}
-
-// Each line taken apart into the table, and its parameters looked at where `marks` is not 0: how many lines were good.
-#[no_mangle]
-pub extern "C" fn pieces_parse(
-    table: &mut [usize],
-    row: &mut [u8],
-    bytes: &[u8],
-    starts: &[usize],
-    n: usize,
-    marks: u8,
-) -> usize {
-    if table.len() < table::LENGTH {
-        return 0;
-    }
-    if row.len() < types::COUNT {
-        return 0;
-    }
-    let mut k = 0;
-    let mut good: usize = 0;
-    while k < n {
-        let line = line_at(bytes, starts, k);
-        if !fill(table, line) {
-            return good;
-        }
-        k += 1;
-        if is_good(row, line, table, marks) {
-            good += 1;
-        }
-    }
-    good
-}
-
 // The validating reader: the length of the text, and 0 where it is refused.
 #[no_mangle]
-pub extern "C" fn pieces_read(json: &[u8]) -> usize {
+pub extern "C" fn pieces_read(json: &[u8]) -> usize
+    ensures { λ r. ⌜ r ≡ lengthRead (now (json .entry)) ⌝ }
+{
     match read(json, DEPTH) {
-        Verdict::Sound => json.len(),
-        Verdict::Large => 0,
-        Verdict::NotJson(_) => 0,
+        Verdict::Sound => {
+            return json.len();
+        }
+        Verdict::Large => {
+            return 0;
+        }
+        Verdict::NotJson(_) => {
+            return 0;
+        }
     }
 }
 
+// How a part is written, by number.
+mod writers {
+    // TEXT read.
+    pub const READ: u8 = 0;
+
+    // A line folded, as JSON to card writes it.
+    pub const FOLD: u8 = 1;
+
+    // A JSON string.
+    pub const STRING: u8 = 2;
+
+    // What a JSON string with its quotes stands for.
+    pub const DECODE: u8 = 3;
+
+    // The same spelled anew; any other number is a JSON text written compactly.
+    pub const REQUOTE: u8 = 4;
+}
+
+// The end of a line.
+const END: [u8; 2] = *b"\r\n";
+
 // A line as the pens of JSON to card write it.
-fn put_penned(out: &mut [u8], line: &[u8]) -> Wrote {
+fn put_folded(out: &mut [u8], line: &[u8]) -> Wrote
+    ensures { λ r. ⌜ Puts (now (out .entry)) (foldedLine (now (line .entry))) r (now (out .exit)) ⌝ }
+{
     let p = pen_bytes(out, 0, line);
     let n = p.bytes;
-    if n > out.len() {
-        return Wrote::Full;
-    }
-    let m = fill_bytes(&mut out[n..], b"\r\n");
+    let m = fill_bytes(&mut out[n..], &END);
     if m < 2 {
         return Wrote::Full;
     }
-    if m > out.len() - n {
-        return Wrote::Full;
-    }
-    Wrote::Bytes(n + m)
+    let nm = n + m;
+    Wrote::Bytes(nm)
 }
 
-// One part, by the writer of that number. The parts of 4 and 5 are JSON strings with their quotes, that of 6 is a JSON text.
-fn put_part(out: &mut [u8], part: &[u8], writer: u8) -> Wrote {
-    match writer {
-        0 => read_text(out, part),
-        1 => write_text(out, part, false),
-        2 => put_penned(out, part),
-        3 => put_string(out, part),
-        4 => decode_into(out, part, 1),
-        5 => put_requoted(out, part, 1),
-        _ => put_compact(out, part),
+// One part, by the writer of that number.
+fn put_part(out: &mut [u8], part: &[u8], writer: u8) -> Wrote
+    ensures { λ r. ⌜ Puts (now (out .entry)) (written writer (now (part .entry))) r (now (out .exit)) ⌝ }
+{
+    if writer == writers::READ {
+        return read_text(out, part);
     }
+    if writer == writers::FOLD {
+        return put_folded(out, part);
+    }
+    if writer == writers::STRING {
+        return put_string(out, part);
+    }
+    if writer == writers::DECODE {
+        return decode_into(out, part, 1);
+    }
+    if writer == writers::REQUOTE {
+        return put_requoted(out, part, 1);
+    }
+    put_compact(out, part)
 }
 
-// All parts, one after the other: how many bytes were written.
+// All parts, one after the other.
+fn put_parts(out: &mut [u8], bytes: &[u8], starts: &[usize], n: usize, writer: u8) -> Wrote
+    ensures { λ r. ⌜ Puts (now (out .entry)) (writtenParts (now (bytes .entry)) (now (starts .entry)) n writer) r (now (out .exit)) ⌝ }
+{
+    let mut at = 0;
+    let mut k = 0;
+    while k < n {
+        let Wrote::Bytes(m) = put_part(&mut out[at..], line_at(bytes, starts, k), writer) else {
+            return Wrote::Full;
+        };
+        at += m;
+        k += 1;
+    }
+    Wrote::Bytes(at)
+}
+
+// The same: how many bytes were written, and 0 where there was no room for all.
 #[no_mangle]
 pub extern "C" fn pieces_put(
     out: &mut [u8],
@@ -184,89 +155,10 @@ pub extern "C" fn pieces_put(
     n: usize,
     writer: u8,
 ) -> usize
-    ensures { λ r. ⌜ r ≤ length (now (out .entry)) ⌝ }
+    ensures { λ r. ⌜ PutsParts (now (out .entry)) (writtenParts (now (bytes .entry)) (now (starts .entry)) n writer) r (now (out .exit)) ⌝ }
 {
-    let mut at = 0;
-    let mut k = 0;
-    while k < n {
-        let Wrote::Bytes(m) = put_part(&mut out[at..], line_at(bytes, starts, k), writer) else {
-            return at;
-        };
-        if m > out.len() - at {
-            return at;
-        }
-        at += m;
-        k += 1;
-    }
-    at
-}
-
-// The byte that closes what a byte opens; 256, which is no byte, where it opens nothing.
-fn closing_of(b: u16) -> u16
-    ensures { λ r. ⌜ r ≤ 256 ⌝ }
-{
-    if b == LEFT_BRACE {
-        return RIGHT_BRACE;
-    }
-    if b == LEFT_BRACKET {
-        return RIGHT_BRACKET;
-    }
-    256
-}
-
-// Where the value begins of the member or element at a place.
-fn value_start(s: &[u8], at: usize, close: u16) -> usize
-    requires { ⌜ at ≤ length (now s) ⌝ }
-    ensures { λ r. ⌜ (at ≤ r) × (r ≤ length (now (s .entry))) ⌝ }
-{
-    if close == RIGHT_BRACE {
-        let h = head_at(s, at);
-        return h.start;
-    }
-    at
-}
-
-// White space and a value, down to its leaves: where it ends. (A text that reads does not end before that.)
-fn walk(s: &[u8], at: usize, depth: usize) -> usize
-    requires { ⌜ at ≤ length (now s) ⌝ }
-    ensures { λ r. ⌜ (at ≤ r) × (r ≤ length (now (s .entry))) ⌝ }
-{
-    let i = skip_space(s, at);
-    if i >= s.len() {
-        return i;
-    }
-    if depth == 0 {
-        return skip_value(s, i);
-    }
-    let close = closing_of(look(s, i));
-    if close == 256 {
-        return skip_value(s, i);
-    }
-    let mut k = skip_space(s, i + 1);
-    if k >= s.len() {
-        return k;
-    }
-    if look(s, k) == close {
-        return k + 1;
-    }
-    loop {
-        let v = value_start(s, k, close);
-        let e = walk(s, v, depth - 1);
-        match separator(s, e, close) {
-            Turn::Go(j) => {
-                k = j;
-            }
-            Turn::Stop(r) => {
-                return place(r);
-            }
-        }
-    }
-}
-
-// A text that reads, down to its leaves: where its value ends.
-#[no_mangle]
-pub extern "C" fn pieces_walk(json: &[u8]) -> usize
-    ensures { λ r. ⌜ r ≤ length (now (json .entry)) ⌝ }
-{
-    walk(json, 0, DEPTH)
+    let Wrote::Bytes(k) = put_parts(out, bytes, starts, n, writer) else {
+        return 0;
+    };
+    k
 }
