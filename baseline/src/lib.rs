@@ -46,5 +46,5 @@ pub mod pieces {
     pub use crate::line::{fold, Line};
     pub use crate::physical::{between_begin_and_end, unfold};
     pub use crate::table::Map;
-    pub use crate::text::{read as read_text, write as write_text};
+    pub use crate::text::{read as read_text};
 }

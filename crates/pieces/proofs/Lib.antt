@@ -1,3 +1,4 @@
+pub mod Parsing
 pub mod Reading
 pub mod Unfolding
 pub mod Writing

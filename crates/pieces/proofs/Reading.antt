@@ -1,6 +1,5 @@
 -- The length of a text, by the verdict of its reader.
 use mathlib.Core.Path.{_≡_, sym, ap, _∙_}
-use Prim.Native.Nat.{ℕ}
 use lib.ListN.{length}
 use Rattle.text.specs.Bytes.{Bytes}
 use Rattle.json_read.specs.declared.Verdict.{Verdict}

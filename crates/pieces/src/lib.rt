@@ -3,8 +3,11 @@
 // starts to the next.
 ghost use mathlib.Core.Path.{_≡_};
 ghost use Rattle.output.specs.Put.{Puts};
+ghost use Rattle.line_table.specs.Table.{Sound, lineIn};
 ghost use Rattle.from_card_garbled.specs.Garbled.{FirstGarbled};
-ghost use Rattle.pieces.specs.Given.{lengthRead, foldedLine, written, writtenParts, PutsParts, UnfoldsCard};
+ghost use Rattle.pieces.specs.Given.{knownParams, passed, parsedLines, lengthRead, foldedLine, written, writtenParts, PutsParts, UnfoldsCard};
+use card_table::params;
+use card_table::types;
 use from_card_garbled::first_garbled;
 use json_compact::put_compact;
 use json_limits::DEPTH;
@@ -18,11 +21,15 @@ use line_frame::frame_of;
 use line_limits::LINES;
 use line_pen::fill as fill_bytes;
 use line_pen::pen_bytes;
+use line_table::fill;
+use line_table::table;
 use line_text::read_text;
 use line_unfold::Unfolded;
 use line_unfold::line_at;
 use line_unfold::unfold;
 use output::Wrote;
+use table_params::mark_rows;
+use table_params::scan_rows;
 
 // Where each line begins, and where the last ends.
 const STARTS: usize = LINES + 1;
@@ -53,6 +60,63 @@ pub extern "C" fn pieces_garbled(bytes: &[u8], starts: &[usize], n: usize) -> us
     ensures { λ r. ⌜ FirstGarbled (now (bytes .entry)) (now (starts .entry)) n r ⌝ }
 {
     first_garbled(bytes, starts, n)
+}
+
+// Whether the parameters of a line that the table holds are all among those that the converter looks at, and the values of TYPE among the table's.
+fn knows_params(line: &[u8], table: &[usize]) -> bool
+    requires { ⌜ Sound (now line) (now table) ⌝ }
+    ensures { λ r. ⌜ r ≡ knownParams (lineIn (now (line .entry)) (now (table .entry)) .params) ⌝ }
+{
+    let mut row = [0usize; params::ROW];
+    scan_rows(&mut row, line, table);
+    if row[params::OTHER_COUNT] != 0 {
+        return false;
+    }
+    let mut marks = [0u8; types::COUNT];
+    mark_rows(&mut marks, line, table, types::COUNT)
+}
+
+// 1 for a line that passes: any where `marks` is 0, else one whose parameters are known.
+fn pass(line: &[u8], table: &[usize], marks: u8) -> usize
+    requires { ⌜ Sound (now line) (now table) ⌝ }
+    ensures { λ r. ⌜ r ≡ passed marks (lineIn (now (line .entry)) (now (table .entry)) .params) ⌝ }
+{
+    if marks == 0 {
+        return 1;
+    }
+    if knows_params(line, table) {
+        return 1;
+    }
+    0
+}
+
+// Each line taken apart into the lent table, up to one that is no line, and its parameters looked at where `marks` is not 0: how many pass. 0 where the
+// table is too short for a line.
+#[no_mangle]
+pub extern "C" fn pieces_parse(
+    table: &mut [usize],
+    bytes: &[u8],
+    starts: &[usize],
+    n: usize,
+    marks: u8,
+) -> usize
+    ensures { λ r. ⌜ r ≡ parsedLines (now (table .entry)) (now (bytes .entry)) (now (starts .entry)) n marks ⌝ }
+{
+    if table.len() < table::LENGTH {
+        return 0;
+    }
+    let mut k = 0;
+    let mut good: usize = 0;
+    while k < n {
+        let line = line_at(bytes, starts, k);
+        if !fill(table, line) {
+            return good;
+        }
+        let one = pass(line, table, marks);
+        good += one;
+        k += 1;
+    }
+    good
 }
 
 // The validating reader: the length of the text, and 0 where it is refused.

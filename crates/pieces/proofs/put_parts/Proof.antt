@@ -23,9 +23,15 @@ loop-holds c = rest-as (sym (left-all (now (c .before .before .before .args .byt
 -- after the k-th part
 abbrev wrote : tie.After-known-told Inv-loop μ-loop → Going
 wrote c =
+    let args = c .before .before .before .before .before .before .before .before .before .before .before .before .before .args in
+    let loop = c .before .before .before .before .before .before .before .before .before .loop in
+    let loop-test = c .before .before .before .before .before .before .before .before .loop-test in
+    let line-at = c .before .before .before .before .before .before .line-at in
+    let put-part = c .before .before .before .before .before .put-part in
     going
-    (rest-next _ (rest-as (left-one (now (c .before .before .before .before .before .before .before .before .before .before .before .before .before .args .bytes)) (now (c .before .before .before .before .before .before .before .before .before .before .before .before .before .args .starts)) (c .before .before .before .before .before .before .before .before .before .before .before .before .before .args .writer) (c .before .before .before .before .before .before .before .before .before .loop .k) (c .before .before .before .before .before .before .before .before .before .before .before .before .before .args .n) (c .before .before .before .before .before .before .before .before .loop-test .taken)) (c .before .before .before .before .before .before .before .before .before .loop .inv))
-    (puts-as (ap (written (c .before .before .before .before .before .before .before .before .before .before .before .before .before .args .writer)) (c .before .before .before .before .before .before .line-at .ensures)) (c .before .before .before .before .before .put-part .ensures)) (c .before .m .given .1))
+    (rest-next _
+    (rest-as (left-one (now (args .bytes)) (now (args .starts)) (args .writer) (loop .k) (args .n) (loop-test .taken)) (loop .inv))
+    (puts-as (ap (written (args .writer)) (line-at .ensures)) (put-part .ensures)) (c .before .m .given .1))
 
 sub-put-part : tie.Need-sub-put-part Inv-loop μ-loop
 sub-put-part c = rest-in (c .before .loop .inv)
@@ -38,8 +44,13 @@ part-put-part-end c = le-refl _
 
 returns : tie.Need-returns Inv-loop μ-loop
 returns c =
-    rest-stop _ (rest-as (left-one (now (c .before .before .before .before .before .before .before .before .before .before .before .before .args .bytes)) (now (c .before .before .before .before .before .before .before .before .before .before .before .before .args .starts)) (c .before .before .before .before .before .before .before .before .before .before .before .before .args .writer) (c .before .before .before .before .before .before .before .before .loop .k) (c .before .before .before .before .before .before .before .before .before .before .before .before .args .n) (c .before .before .before .before .before .before .before .loop-test .taken)) (c .before .before .before .before .before .before .before .before .loop .inv))
-    (puts-as (ap (written (c .before .before .before .before .before .before .before .before .before .before .before .before .args .writer)) (c .before .before .before .before .before .line-at .ensures)) (c .before .before .before .before .put-part .ensures)) (c .enum-told .given .1)
+    let args = c .before .before .before .before .before .before .before .before .before .before .before .before .args in
+    let loop = c .before .before .before .before .before .before .before .before .loop in
+    let loop-test = c .before .before .before .before .before .before .before .loop-test in
+    let line-at = c .before .before .before .before .before .line-at in
+    let put-part = c .before .before .before .before .put-part in
+    rest-stop _ (rest-as (left-one (now (args .bytes)) (now (args .starts)) (args .writer) (loop .k) (args .n) (loop-test .taken)) (loop .inv))
+    (puts-as (ap (written (args .writer)) (line-at .ensures)) (put-part .ensures)) (c .enum-told .given .1)
 
 add-at : tie.Need-add-at Inv-loop μ-loop
 add-at c = rest-fit (wrote c .left) (c .before .before .before .before .before .before .before .before .before .before .before .before .before .good .0 .0)
@@ -51,7 +62,10 @@ same-length-2 : tie.Need-same-length-2 Inv-loop μ-loop
 same-length-2 c = rest-same (c .before .loop .inv)
 
 returns-2 : tie.Need-returns-2 Inv-loop μ-loop
-returns-2 c = rest-done (left-out (now (c .before .before .before .before .before .args .bytes)) (now (c .before .before .before .before .before .args .starts)) (c .before .before .before .before .before .args .writer) (c .before .loop .k) (c .before .before .before .before .before .args .n) (c .loop-test .left)) (c .before .loop .inv)
+returns-2 c =
+    let args = c .before .before .before .before .before .args in
+    let loop = c .before .loop in
+    rest-done (left-out (now (args .bytes)) (now (args .starts)) (args .writer) (loop .k) (args .n) (c .loop-test .left)) (loop .inv)
 
 pub put-parts-spec : {M : Type 1} → statement M
 put-parts-spec =
