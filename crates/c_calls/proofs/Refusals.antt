@@ -10,7 +10,7 @@ use Rattle.text.specs.Choice.{with-some}
 use Rattle.text.specs.Bytes.{Bytes, all}
 use Rattle.text.proofs.Cases.{by_bool}
 use Rattle.text.proofs.Lists.{all_head, all_tail}
-use Rattle.json.specs.Read.{Reading, tree, refused, reading}
+use Rattle.json_text.specs.Read.{Reading, tree, refused, reading}
 use Rattle.line.specs.Grammar.{Line}
 use Rattle.line.specs.Physical.{size_of}
 use Rattle.convert.specs.Model.{Card}

@@ -8,6 +8,8 @@
 // as a byte; NAME is the member's name, HEAD what the JSON has before its first entry; PREFIX begins the keys that are made; CONTENT is what the JSON has
 // before an entry's string; MEMBERS are the names of an entry's members by their slots (`entry`), a slot that the map does not have being another name for
 // the first; LINES are the names of its lines in capitals.
+#![tactic(auto)]
+
 pub mod nicknames {
     use super::{forms, names};
 
@@ -663,7 +665,7 @@ pub mod unit {
     pub const DEPTH: usize = entry::UNITS_DEPTH - 1;
 }
 
-// An entry of v_card_props: an array in an array. Its elements, the values of its parameters, and the elements of these.
+// An entry of vCardProps: an array in an array. Its elements, the values of its parameters, and the elements of these.
 pub mod kept {
     use super::members;
 

@@ -9,7 +9,7 @@ use lib.Dec.{eqb}
 use Rattle.text.specs.Choice.{pick, with-some, provided, is_some}
 use Rattle.text.specs.Bytes.{Bytes, empty, among, lowered}
 use Rattle.text.proofs.Cases.{by_bool, not-both}
-use Rattle.json.specs.Tree.{Json}
+use Rattle.json_text.specs.Tree.{Json}
 use Rattle.line.specs.Grammar.{Line}
 use Rattle.line.specs.Params.{besides_value}
 use Rattle.line.specs.Text.{read_text}

@@ -1,4 +1,4 @@
-// What a parsed line becomes, for a card's line and for an entry of v_card_props alike: as far as the line itself says. What is left open is one
+// What a parsed line becomes, for a card's line and for an entry of vCardProps alike: as far as the line itself says. What is left open is one
 // question to what was seen before (a PROP-ID of the map, a member's name), which is the caller's.
 ghost use Rattle.std.specs.Prelude.{◌≡◌, ◌+◌};
 ghost use Rattle.table_entry.specs.Key.{Rowed};
@@ -14,7 +14,7 @@ use table_entry::{Key, entry_key};
 
 #[derive(Drop)]
 pub enum Class {
-    // to v_card_props
+    // to vCardProps
     Kept,
     // FN with only DERIVED=TRUE
     Dropped,

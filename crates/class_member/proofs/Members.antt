@@ -9,7 +9,7 @@ use lib.ListN.{length, take, drop, get_or}
 use Rattle.text.specs.Choice.{pick, with-some, provided, is_some}
 use Rattle.text.specs.Bytes.{Bytes, ascii, all, any, same, among}
 use Rattle.text.proofs.Cases.{by_bool}
-use Rattle.json.specs.Tree.{Json}
+use Rattle.json_text.specs.Tree.{Json}
 use Rattle.line.specs.Grammar.{Param, Line}
 use Rattle.line.specs.Params.{values_named, only_named, besides_value}
 use Rattle.convert.specs.Table.{reserved}

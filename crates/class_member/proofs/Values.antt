@@ -20,9 +20,9 @@ use Rattle.output.specs.declared.Wrote.TheVariants.{Bytes as Wrote-Bytes, Full}
 use Rattle.output.proofs.Laws.{put-fits, said-bytes, said-full}
 use Rattle.line.specs.Text.{push, escaped, text_from, read_text}
 use Rattle.line_text.specs.Read.{plain_text}
-use Rattle.json.specs.Read.{Reading, tree, refused, reading}
-use Rattle.json.specs.Lookup.{is_tree}
-use Rattle.json.specs.Syntax.{skip, value, text, scalar, number, int, opt, digits}
+use Rattle.json_text.specs.Read.{Reading, tree, refused, reading}
+use Rattle.json_text.specs.Lookup.{is_tree}
+use Rattle.json_text.specs.Syntax.{skip, value, text, scalar, number, int, opt, digits}
 use Rattle.json_read.specs.Verdict.{verdict_of, verdict}
 use Rattle.json_read.specs.declared.Verdict.{Verdict}
 use Rattle.json_read.specs.declared.Verdict.TheVariants.{Sound, Large, NotJson}

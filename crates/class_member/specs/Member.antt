@@ -4,11 +4,11 @@ use Rattle.std.proofs.Math.Option.{some}
 use Prim.Native.Char.{code}
 use Rattle.text.specs.Choice.{pick}
 use Rattle.text.specs.Bytes.{Bytes, among}
-use Rattle.json.specs.Tree.{Json}
+use Rattle.json_text.specs.Tree.{Json}
 use Rattle.convert.specs.Pointer.{pointed}
 use Rattle.convert.specs.Classify.{Seen, as_member, as-kept, member_value, member_class}
 use Rattle.line_table.specs.Table.{part, Span, line_in}
-use Rattle.json.specs.Lookup.{room}
+use Rattle.json_text.specs.Lookup.{room}
 use Rattle.class_member.specs.declared.Member.{Member as Answer}
 use Rattle.class_member.specs.declared.Member.TheVariants.{Kept, At}
 

@@ -1,4 +1,4 @@
-// JSPROP of a parsed line, for a card's line and for an entry of v_card_props alike.
+// JSPROP of a parsed line, for a card's line and for an entry of vCardProps alike.
 ghost use Rattle.std.specs.Prelude.{◌≡◌, ◌≤◌, length, take, drop};
 ghost use Rattle.text.specs.Choice.{is_some};
 ghost use Rattle.text.specs.Bytes.{among};
@@ -74,7 +74,7 @@ fn is_head(p: &[u8]) -> bool
     same_bytes(p, &members::NAME_NAME)
 }
 
-// The others: the maps, and v_card_props.
+// The others: the maps, and vCardProps.
 fn is_section(p: &[u8]) -> bool
     ensures { result ≡ among p.now (drop 5 reserved) }
 {

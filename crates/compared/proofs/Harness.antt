@@ -8,7 +8,7 @@ use Prim.Native.String.{String, [] as []ˢ, ◌∷◌ as ◌∷ˢ◌}
 use lib.Dec.{ltb, eqb}
 use Rattle.text.specs.Choice.{pick}
 use Rattle.text.specs.Bytes.{Bytes, same}
-use Rattle.json.specs.Lookup.{Part, look_up}
+use Rattle.json_text.specs.Lookup.{Part, look_up}
 use Rattle.convert.specs.Answers.{Answer, no, yes, card_to_json, json_to_card}
 use Rattle.convert.specs.NormalCard.{normal_card}
 use Rattle.convert.specs.NormalJson.{normal_json}

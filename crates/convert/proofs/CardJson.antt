@@ -6,8 +6,8 @@ use mathlib.Core.Option.{some}
 use Rattle.text.specs.Choice.{is_some}
 use Rattle.text.specs.Bytes.{Bytes, ascii, any, all, empty, same, among, keep}
 use Rattle.text.proofs.Lists.{all_head, all_tail, all_both, keep_append}
-use Rattle.json.specs.Tree.{Json, jstr, Member, member, name_of, object, array}
-use Rattle.json.proofs.Listed.{members-listed}
+use Rattle.json_text.specs.Tree.{Json, jstr, Member, member, name_of, object, array}
+use Rattle.json_text.proofs.Listed.{members-listed}
 use Rattle.convert.specs.Table.{Map, maps, reserved}
 use Rattle.convert.specs.Model.{Entry, Card, has_parts}
 use Rattle.convert.specs.Value.{filled}

@@ -7,8 +7,8 @@ use Rattle.text.specs.Choice.{pick, chain, provided, with-some, is_some}
 use Rattle.text.specs.Bytes.{Bytes, ascii, any, empty, same, among, distinct, each}
 use Rattle.text.proofs.Cases.{by_bool, or_left, or_right, not-both}
 use Rattle.text.proofs.Same.{same_true, OfAll, among_of}
-use Rattle.json.specs.Tree.{jstr, Member, member, array, field, as_string, as_array}
-use Rattle.json.proofs.Listed.{elems-listed, either, field-none, field-append, field-later}
+use Rattle.json_text.specs.Tree.{jstr, Member, member, array, field, as_string, as_array}
+use Rattle.json_text.proofs.Listed.{elems-listed, either, field-none, field-append, field-later}
 use Rattle.convert.specs.Table.{maps, reserved}
 use Rattle.convert.specs.Model.{Kept, Card, has_parts, no_parts}
 use Rattle.convert.specs.Value.{filled}

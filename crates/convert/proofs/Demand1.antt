@@ -9,7 +9,7 @@ use lib.Dec.{ltb}
 use Rattle.text.specs.Choice.{pick, with-some, is_some}
 use Rattle.text.specs.Bytes.{Bytes, ascii, any}
 use Rattle.text.proofs.Cases.{by_bool}
-use Rattle.json.specs.Read.{Reading, tree, refused, reading}
+use Rattle.json_text.specs.Read.{Reading, tree, refused, reading}
 use Rattle.line.specs.Grammar.{Line}
 use Rattle.line.specs.Physical.{size_of}
 use Rattle.convert.specs.Model.{Card}

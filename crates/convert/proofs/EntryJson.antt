@@ -14,8 +14,8 @@ use Rattle.text.specs.Bytes.{Bytes, ascii, any, all, empty, same, among, keep, e
 use Rattle.text.proofs.Cases.{by_bool, and_left, and_right, not-both}
 use Rattle.text.proofs.Same.{same_true, same_self, same-swap}
 use Rattle.text.proofs.Lists.{all_none, keep_all, keep-none, each_map}
-use Rattle.json.specs.Tree.{Json, jstr, jnum, Member, member, object, array, field, as_string, as_number, as_array}
-use Rattle.json.proofs.Listed.{members-listed, elems-listed, field-append, field-here}
+use Rattle.json_text.specs.Tree.{Json, jstr, jnum, Member, member, object, array, field, as_string, as_number, as_array}
+use Rattle.json_text.proofs.Listed.{members-listed, elems-listed, field-append, field-here}
 use Rattle.convert.specs.Table.{Form, text, single, uri, phone, organization, Map, type_names, position}
 use Rattle.convert.specs.Model.{Entry}
 use Rattle.convert.specs.Value.{filled, head_or, is_pref}

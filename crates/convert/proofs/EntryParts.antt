@@ -10,8 +10,8 @@ use Rattle.text.specs.Bytes.{Bytes, ascii, any, all, empty, same, among, keep, f
 use Rattle.text.proofs.Cases.{or_left, or_right}
 use Rattle.text.proofs.Same.{same_self}
 use Rattle.text.proofs.Lists.{all_append}
-use Rattle.json.specs.Tree.{Json, jstr, jnum, Member, member, name_of, object, field}
-use Rattle.json.proofs.Listed.{either, field-none, field-append, field-here, field-later}
+use Rattle.json_text.specs.Tree.{Json, jstr, jnum, Member, member, name_of, object, field}
+use Rattle.json_text.proofs.Listed.{either, field-none, field-append, field-here, field-later}
 use Rattle.convert.specs.Table.{Form, text, single, uri, phone, organization, Map}
 use Rattle.convert.specs.Model.{Entry}
 use Rattle.convert.specs.Value.{filled}

@@ -9,8 +9,8 @@ use lib.Dec.{eqb}
 use Rattle.text.specs.Bytes.{any, all, same, keep, each}
 use Rattle.text.proofs.Cases.{by_keys_p, not-both}
 use Rattle.text.proofs.Lists.{all_head, all_tail, any_append, keep-passes}
-use Rattle.json.specs.Tree.{jtrue, Member, member, object}
-use Rattle.json.proofs.Listed.{members-listed}
+use Rattle.json_text.specs.Tree.{jtrue, Member, member, object}
+use Rattle.json_text.proofs.Listed.{members-listed}
 use Rattle.convert.specs.Table.{TypeName, feature-type, type_names, json_type, context_codes, feature_codes, position, in_order}
 use Rattle.convert.specs.FromJson.{flag_of, flags_from}
 use Rattle.convert.proofs.Orders.{any-keep, codes}

@@ -8,8 +8,8 @@ use Rattle.text.specs.Bytes.{Bytes, ascii, any, all, empty, same, lower, lowered
 use Rattle.text.proofs.Cases.{by_bool, not-both}
 use Rattle.text.proofs.Same.{same_true}
 use Rattle.text.proofs.Lists.{all_head, all_tail, keep_all, keep-none, all-not, each_map}
-use Rattle.json.specs.Tree.{jstr, Member, member, object, as_string}
-use Rattle.json.proofs.Listed.{members-listed, elems-listed}
+use Rattle.json_text.specs.Tree.{jstr, Member, member, object, as_string}
+use Rattle.json_text.proofs.Listed.{members-listed, elems-listed}
 use Rattle.line.specs.Grammar.{Param, param, param_values}
 use Rattle.line.specs.Params.{named, values_named, lacking, first_or, value_type, besides_value, merged}
 use Rattle.line.proofs.Merging.{Settled, settled-merged}

@@ -7,7 +7,7 @@ use lib.ListN.{length, replicate}
 use lib.Dec.{ltb}
 use Rattle.text.specs.Choice.{pick}
 use Rattle.text.specs.Bytes.{Bytes, ascii, flat}
-use Rattle.json.specs.Read.{reading}
+use Rattle.json_text.specs.Read.{reading}
 use Rattle.line.specs.Grammar.{Line}
 use Rattle.line.specs.Physical.{size_of}
 use Rattle.convert.specs.Model.{Card}

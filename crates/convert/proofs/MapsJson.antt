@@ -7,8 +7,8 @@ use Rattle.text.specs.Choice.{pick}
 use Rattle.text.specs.Bytes.{Bytes, any, empty, same, among, distinct, each}
 use Rattle.text.proofs.Cases.{by_bool, and_left, and_right, or_left, or_right, not-true, not-both}
 use Rattle.text.proofs.Same.{same_true, same-swap, among-head, among_later}
-use Rattle.json.specs.Tree.{Member, member, object, field}
-use Rattle.json.proofs.Listed.{members-listed, field-append, field-none}
+use Rattle.json_text.specs.Tree.{Member, member, object, field}
+use Rattle.json_text.proofs.Listed.{members-listed, field-append, field-none}
 use Rattle.convert.specs.Table.{Map}
 use Rattle.convert.specs.Model.{Entry}
 use Rattle.convert.specs.FromJson.{entry_from, map_from}

@@ -11,8 +11,8 @@ use Rattle.text.specs.Choice.{pick, chain, is_some}
 use Rattle.text.specs.Bytes.{Bytes, ascii, any, all, empty, same, among, each, flat}
 use Rattle.text.proofs.Cases.{by_bool, by_below, or_left, or_right, not-both}
 use Rattle.text.proofs.Lists.{all_head, all_tail, flat_append, map_both, each_both}
-use Rattle.json.specs.Tree.{Json, jstr, member, object, array, field, as_array}
-use Rattle.json.proofs.Listed.{members-listed, elems-listed}
+use Rattle.json_text.specs.Tree.{Json, jstr, member, object, array, field, as_array}
+use Rattle.json_text.proofs.Listed.{members-listed, elems-listed}
 use Rattle.convert.specs.Table.{component_kinds, position}
 use Rattle.convert.specs.Model.{has_parts, no_parts}
 use Rattle.convert.specs.Value.{filled}

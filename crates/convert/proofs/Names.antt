@@ -151,7 +151,7 @@ module _ (row : List Part) (ps : List (List Bytes)) where
 
   written-length : length written ≡ length row
   unfolding written_parts
-  written-length = row-length _ 0 row ps
+  written-length = row-length (λ others vs. vs ++ others) 0 row ps
 
   written_at : (k : ℕ) → k < length row → part written k ≡ with-some (repeated row k) (λ r. part ps k ++ part ps r) (part ps k)
   unfolding written_parts

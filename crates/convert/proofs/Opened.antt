@@ -14,7 +14,7 @@ use Rattle.convert.specs.ToCard.{derived_line, full_line, entry_line, maps_lines
 use Rattle.convert.specs.ToJson.{components_of, name_json, content_json, flags_json, entry_json, maps_json, kept_json, members_json, print_json}
 use Rattle.convert.specs.Value.{is_key_text, is_pref, organized, read_as, takes_type, is_tel_uri, write_as, written_type, part_values, without, own_parts, read_parts, written_parts, write_parts}
 use Rattle.text.proofs.Opened.{text-opened}
-use Rattle.json.proofs.Opened.{json-opened}
+use Rattle.json_text.proofs.Opened.{json-opened}
 use Rattle.line.proofs.Opened.{line-opened}
 
 unfoldable pub convert-opened : Unit {0}

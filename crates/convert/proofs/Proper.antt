@@ -7,8 +7,8 @@ use lib.ListN.{length, get_or}
 use lib.Dec.{ltb}
 use Rattle.text.specs.Choice.{pick}
 use Rattle.text.specs.Bytes.{Bytes, any, all, empty, same, among, distinct}
-use Rattle.json.specs.Tree.{Member, member, name_of}
-use Rattle.json.proofs.Sound.{Sound}
+use Rattle.json_text.specs.Tree.{Member, member, name_of}
+use Rattle.json_text.proofs.Sound.{Sound}
 use Rattle.convert.specs.Table.{Map, maps, position, reserved}
 use Rattle.convert.specs.Model.{Entry, Kept, Card}
 use Rattle.convert.specs.Value.{filled}

@@ -26,7 +26,7 @@ unknown-members =
     ∷ turns-away (json ",'phones':{'k':{'number':'1','features':{'work':true}}}") 12 0
     ∷ turns-away (json ",'emails':{'k':{'address':'a','features':{'fax':true}}}") 12 0
     ∷ turns-away (json ",'notes':{'k':{'note':'a','pref':1}}") 12 0
-    -- entries of v_card_props
+    -- entries of vCardProps
     ∷ turns-away (json ",'vCardProps':[['x',{},'unknown','a',1]]") 12 0
     ∷ turns-away (json ",'vCardProps':[['x',{'a':1},'unknown','a']]") 12 0
     ∷ []
@@ -59,7 +59,7 @@ written-forms =
     ∷ turns-away (json ",'links':{'k':{'uri':'a\\nb'}}") 13 0
     ∷ turns-away (json ",'vCardProps':[['x',{'a':'\\''},'unknown','a']]") 13 0
     ∷ turns-away (json ",'name':{'components':[{'kind':'credential','value':'c'},{'kind':'generation','value':'c'}]}") 13 0
-    -- normal forms: is_ordered gone, the group first, one-value arrays as strings, a title's kind
+    -- normal forms: isOrdered gone, the group first, one-value arrays as strings, a title's kind
     ∷ settles-as (json ",'vCardProps':[['x',{'a':['1'],'group':'g'},'unknown','v']],'titles':{'t':{'name':'n'}},'name':{'isOrdered':false,'full':'f'}")
     (json ",'name':{'full':'f'},'titles':{'t':{'kind':'title','name':'n'}},'vCardProps':[['x',{'group':'g','a':'1'},'unknown','v']]")
     ∷ []

@@ -4,10 +4,10 @@ use mathlib.Core.Bool.{true, false}
 use mathlib.Core.List.{List, [], ◌∷◌}
 use mathlib.Core.Option.{some}
 use Rattle.text.specs.Bytes.{Bytes, ascii, any, all, empty, same, among, lower, lowered, between, flat, keep}
-use Rattle.json.specs.Tree.{Json, member}
-use Rattle.json.specs.Compact.{compact}
-use Rattle.json.proofs.Sound.{Sound}
-use Rattle.json.proofs.Trees.{reading-compact}
+use Rattle.json_text.specs.Tree.{Json, member}
+use Rattle.json_text.specs.Compact.{compact}
+use Rattle.json_text.proofs.Sound.{Sound}
+use Rattle.json_text.proofs.Trees.{reading-compact}
 use Rattle.line.specs.Grammar.{Param, param}
 use Rattle.line.specs.Params.{named, values_named, lacking, only_named, value_type, besides_value}
 use Rattle.line.specs.Text.{write_text}

@@ -4,8 +4,8 @@ use Rattle.std.proofs.Math.Option.{Option, none, some}
 use Rattle.text.specs.Choice.{pick, with-some, is_some}
 use Rattle.text.specs.Bytes.{Bytes, ascii, empty, any, all, same, among, lowered, each}
 use Rattle.text.specs.Utf8.{utf8}
-use Rattle.json.specs.Read.{Reading, tree, refused, reading}
-use Rattle.json.specs.Lookup.{room, depth}
+use Rattle.json_text.specs.Read.{Reading, tree, refused, reading}
+use Rattle.json_text.specs.Lookup.{room, depth}
 use Rattle.line.specs.Class.{is_name, is_stem, is_control}
 use Rattle.line.specs.Physical.{physical, size_of, framed}
 use Rattle.line.specs.Unfold.{unfold'}

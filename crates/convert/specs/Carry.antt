@@ -1,9 +1,9 @@
--- Refusal 13: a string that no v_card line can carry.
+-- Refusal 13: a string that no vCard line can carry.
 use Rattle.std.specs.Prelude.{Bool, true, ◌&&◌, not, List, [], ◌∷◌, ℕ, suc}
 use Prim.Native.Char.{code}
 use Rattle.text.specs.Choice.{with-some}
 use Rattle.text.specs.Bytes.{Bytes, any, all, among, is, flat}
-use Rattle.json.specs.Tree.{name_of}
+use Rattle.json_text.specs.Tree.{name_of}
 use Rattle.line.specs.Class.{is_control}
 use Rattle.line.specs.Grammar.{param_values}
 use Rattle.convert.specs.Table.{Form, text, single, uri, phone, organization, Map, maps, Part, name_row}

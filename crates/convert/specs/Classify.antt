@@ -1,14 +1,14 @@
 -- Which line converts: one definition for both directions. A card's lines are classed in order, each by what was seen before it;
--- an entry of v_card_props is classed after all converted lines ("in its place").
+-- an entry of vCardProps is classed after all converted lines ("in its place").
 use Rattle.std.specs.Prelude.{Bool, true, false, ◌&&◌, not, List, [], ◌∷◌, map, ℕ, eqb, take}
 use Rattle.std.proofs.Math.Option
 use Rattle.std.proofs.Math.Option.{Option, none, some}
 use Prim.Native.Char.{code}
 use Rattle.text.specs.Choice.{pick, with-some, chain, provided}
 use Rattle.text.specs.Bytes.{Bytes, ascii, empty, any, same, among, lowered, parts, flat, each}
-use Rattle.json.specs.Tree.{Json}
-use Rattle.json.specs.Read.{Reading, tree, refused, reading}
-use Rattle.json.specs.Lookup.{member_depth}
+use Rattle.json_text.specs.Tree.{Json}
+use Rattle.json_text.specs.Read.{Reading, tree, refused, reading}
+use Rattle.json_text.specs.Lookup.{member_depth}
 use Rattle.line.specs.Grammar.{Param, param, Line}
 use Rattle.line.specs.Params.{values_named, only_named, value_type, besides_value}
 use Rattle.line.specs.Text.{read_text}

@@ -4,7 +4,7 @@ use Rattle.std.specs.Prelude.{◌≡◌, Bool, true, false, ◌&&◌, not, List,
 use Rattle.std.proofs.Math.Option.{Option, none}
 use Rattle.text.specs.Choice.{pick, with-some, is_some}
 use Rattle.text.specs.Bytes.{Bytes, ascii, any}
-use Rattle.json.specs.Read.{Reading, tree, refused, reading}
+use Rattle.json_text.specs.Read.{Reading, tree, refused, reading}
 use Rattle.line.specs.Physical.{size_of}
 use Rattle.convert.specs.Model.{Card}
 use Rattle.convert.specs.FromCard.{card_of_lines}
@@ -73,7 +73,7 @@ abbrev pub place_in : Reading → ℕ
 place_in (tree j) = 0
 place_in (refused p) = p
 
--- the card that a tree is, by 01's section 'To v_card'
+-- the card that a tree is, by 01's section 'To vCard'
 abbrev pub card_in : Reading → Option Card
 card_in (tree j) = card_from_json j
 card_in (refused p) = none

@@ -5,7 +5,7 @@ use Prim.Native.Char.{code}
 use Rattle.text.specs.Choice.{pick}
 use Rattle.text.specs.Bytes.{Bytes, lowered, flat}
 use Rattle.text.specs.Decimal.{decimal}
-use Rattle.json.specs.Tree.{Member, member}
+use Rattle.json_text.specs.Tree.{Member, member}
 use Rattle.line.specs.Grammar.{Line}
 use Rattle.line.specs.Params.{value_type, besides_value, merged}
 use Rattle.convert.specs.Table.{Map, maps}

@@ -4,7 +4,7 @@ use Rattle.std.proofs.Math.Option
 use Rattle.std.proofs.Math.Option.{Option, none, some}
 use Rattle.text.specs.Choice.{pick, with-some, is_some, both, chain, provided}
 use Rattle.text.specs.Bytes.{Bytes, ascii, empty, any, all, same, among, flat, keep, each}
-use Rattle.json.specs.Tree.{Json, jnull, jtrue, jfalse, jnum, jstr, jarr, jobj, Member, member, name_of, field, as_string, as_number, as_array, as_object, elems_of}
+use Rattle.json_text.specs.Tree.{Json, jnull, jtrue, jfalse, jnum, jstr, jarr, jobj, Member, member, name_of, field, as_string, as_number, as_array, as_object, elems_of}
 use Rattle.line.specs.Class.{is_lower_name}
 use Rattle.line.specs.Grammar.{Param, param, param_name, Line, fits}
 use Rattle.convert.specs.Table.{Form, text, single, uri, phone, organization, Map, maps, TypeName, type_names, json_type, in_order, Part, name_row, kinds_of, position, reserved}
@@ -75,7 +75,7 @@ is_false (jstr s) = none
 is_false (jarr es) = none
 is_false (jobj ms) = none
 
--- full or components must be there; is_ordered can only be false
+-- full or components must be there; isOrdered can only be false
 unfoldable pub name_from : Json → Option Name
 name_from j =
     chain (as_object j) λ ms.
@@ -154,7 +154,7 @@ entry_from m (member k j) =
 unfoldable pub map_from : List Member → Map → Option (List Entry)
 map_from ms m = optional m.member [] (λ j. chain (as_object j) (each (entry_from m))) ms
 
--- ---- v_card_props
+-- ---- vCardProps
 
 abbrev pub strings : Json → Option (List Bytes)
 strings jnull = none
@@ -237,7 +237,7 @@ ids_from i (es ∷ ess) = map (λ (e : Entry). id i e.key) es ++ ids_from (suc i
 unfoldable pub seen_in : Card → Seen
 seen_in c = record { full = is_some c.full; parts = has_parts c.parts; ids = ids_from 0 c.maps; members = map name_of c.members }
 
--- an entry among v_card_props, or 12
+-- an entry among vCardProps, or 12
 unfoldable pub standing : Card → Option Card
 standing c = provided (all (kept_stands (seen_in c)) c.kept) (some c)
 

@@ -103,9 +103,9 @@ pub record ListedConvert : Type 0 where
   -- 12: "a kind no KIND line gives": lower-case names
   pub kind-words : bytes_that (λ c. is_lower_word (c ∷ [])) ≡ ascii "-0123456789abcdefghijklmnopqrstuvwxyz"
   -- 13: "a control but tab (LF allowed in TEXT), `"` in a parameter": what is not carried
-  pub not-raw : bytesThat (λ c. not (carriedRaw (c ∷ []))) ≡ controls
-  pub not-text : bytesThat (λ c. not (carriedText (c ∷ []))) ≡ keep (λ c. not (eqb c 10)) controls
-  pub not-parameter : bytesThat (λ c. not (carriedParam (c ∷ []))) ≡ keep (λ c. ltb c 32) controls ++ ascii "\"" ++ 127 ∷ []
+  pub not-raw : bytes_that (λ c. not (carried_raw (c ∷ []))) ≡ controls
+  pub not-text : bytes_that (λ c. not (carried_text (c ∷ []))) ≡ keep (λ c. not (eqb c 10)) controls
+  pub not-parameter : bytes_that (λ c. not (carried_param (c ∷ []))) ≡ keep (λ c. ltb c 32) controls ++ ascii "\"" ++ 127 ∷ []
   -- "the prefix, hyphen, smallest positive number no converted line of that map has as PROP-ID or earlier key"
   pub made-keys : joined (ascii " ") (keys (ascii "K") (replicate 25 []))
       ≡ ascii "K-1 K-2 K-3 K-4 K-5 K-6 K-7 K-8 K-9 K-10 K-11 K-12 K-13 K-14 K-15 K-16 K-17 K-18 K-19 K-20 K-21 K-22 K-23 K-24 K-25"

@@ -2,7 +2,7 @@
 use Rattle.std.specs.Prelude.{Bool, not, List, [], ◌∷◌, map, ℕ, get_or}
 use Rattle.std.proofs.Math.Option.{Option, none}
 use Rattle.text.specs.Bytes.{Bytes, any, empty}
-use Rattle.json.specs.Tree.{Member}
+use Rattle.json_text.specs.Tree.{Member}
 use Rattle.line.specs.Grammar.{Param}
 use Rattle.convert.specs.Table.{Part, name_row}
 
@@ -14,7 +14,7 @@ pub record Entry : Type 0 where
   pub types : List ℕ  -- places in the table of TYPE, in its order
   pub pref : Bytes  -- as spelled; empty where there is none
 
--- A kept line (01's term): a line that is not converted, as an entry of v_card_props. All but the values is lower-case.
+-- A kept line (01's term): a line that is not converted, as an entry of vCardProps. All but the values is lower-case.
 pub record Kept : Type 0 where
   pub name : Bytes
   pub group : Bytes

@@ -6,7 +6,7 @@ use Prim.Native.Char.{code}
 use Rattle.text.specs.Choice.{pick, with-some}
 use Rattle.text.specs.Bytes.{Bytes, ascii, empty, any, same, among, lowered, begins, parts, joined, flat, keep}
 use Rattle.text.specs.Decimal.{decimal}
-use Rattle.json.specs.Compact.{compact}
+use Rattle.json_text.specs.Compact.{compact}
 use Rattle.line.specs.Class.{is_control}
 use Rattle.line.specs.Grammar.{Param, param, Line}
 use Rattle.line.specs.Params.{values_named, value_type, besides_value, merged}

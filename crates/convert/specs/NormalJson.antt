@@ -1,12 +1,12 @@
 -- The normal form of a JSON card, from 01's section 'Normal forms' alone: a tree's members in the stated order, and what goes, gone.
--- It goes from tree to tree and knows nothing of v_card; that the way home gives it is a theorem.
+-- It goes from tree to tree and knows nothing of vCard; that the way home gives it is a theorem.
 use Rattle.std.specs.Prelude.{Bool, true, false, ◌&&◌, not, List, [], ◌∷◌, ◌++◌, map, take, drop}
 use Rattle.text.specs.Choice.{pick, with-some}
 use Rattle.text.specs.Bytes.{Bytes, ascii, empty, same, among, flat, keep}
-use Rattle.json.specs.Tree.{Json, jnull, jtrue, jfalse, jnum, jstr, jarr, jobj, Member, member, name_of, value_of, field, object, array, as_string, as_array, as_object, elems_of}
-use Rattle.json.specs.Compact.{compact}
-use Rattle.json.specs.Read.{Reading, tree, refused, reading}
-use Rattle.json.specs.Lookup.{depth}
+use Rattle.json_text.specs.Tree.{Json, jnull, jtrue, jfalse, jnum, jstr, jarr, jobj, Member, member, name_of, value_of, field, object, array, as_string, as_array, as_object, elems_of}
+use Rattle.json_text.specs.Compact.{compact}
+use Rattle.json_text.specs.Read.{Reading, tree, refused, reading}
+use Rattle.json_text.specs.Lookup.{depth}
 use Rattle.convert.specs.Table.{Map, maps, TypeName, type_names, json_type, component_kinds, reserved}
 
 -- ---- pieces
@@ -29,7 +29,7 @@ abbrev pub unless_gone : {A : Type 0} → Bytes → (List A → Json) → List A
 unless_gone n f [] = []
 unless_gone n f (x ∷ xs) = member n (f (x ∷ xs)) ∷ []
 
--- ---- name: components stably by kind, empty values gone, is_ordered gone; gone where nothing is left
+-- ---- name: components stably by kind, empty values gone, isOrdered gone; gone where nothing is left
 
 unfoldable pub is_component : Bytes → Json → Bool
 is_component k j =
@@ -79,7 +79,7 @@ entry_tree m (member k j) =
 unfoldable pub map_tree : List Member → Map → List Member
 map_tree ms m = unless_gone m.member object (map (entry_tree m) (with-some (field m.member ms) fields_of []))
 
--- ---- v_card_props: group first, one-value arrays as strings
+-- ---- vCardProps: group first, one-value arrays as strings
 
 abbrev pub one_as_string : Json → Json
 one_as_string jnull = jnull

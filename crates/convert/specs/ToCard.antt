@@ -2,8 +2,8 @@
 use Rattle.std.specs.Prelude.{Bool, true, false, List, [], ◌∷◌, ◌++◌, map, get_or}
 use Rattle.text.specs.Choice.{pick, with-some}
 use Rattle.text.specs.Bytes.{Bytes, ascii, empty, joined, flat}
-use Rattle.json.specs.Tree.{Member, member}
-use Rattle.json.specs.Compact.{compact}
+use Rattle.json_text.specs.Tree.{Member, member}
+use Rattle.json_text.specs.Compact.{compact}
 use Rattle.line.specs.Grammar.{Param, param, Line}
 use Rattle.line.specs.Text.{write_text}
 use Rattle.line.specs.Write.{write_card}

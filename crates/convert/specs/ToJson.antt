@@ -1,10 +1,10 @@
--- The model to JSON, in the stated order: @type, version, uid, kind, name, the table's maps, JSPROP members, v_card_props.
+-- The model to JSON, in the stated order: @type, version, uid, kind, name, the table's maps, JSPROP members, vCardProps.
 use Rattle.std.specs.Prelude.{Bool, true, false, not, ◌||◌, List, [], ◌∷◌, ◌++◌, map, ℕ, get_or, eqb}
 use Rattle.std.proofs.Math.Option.{Option, none, some}
 use Rattle.text.specs.Choice.{is_some}
 use Rattle.text.specs.Bytes.{Bytes, ascii, empty, any, flat, keep}
-use Rattle.json.specs.Tree.{Json, jstr, jnum, jtrue, Member, member, object, array}
-use Rattle.json.specs.Compact.{compact}
+use Rattle.json_text.specs.Tree.{Json, jstr, jnum, jtrue, Member, member, object, array}
+use Rattle.json_text.specs.Compact.{compact}
 use Rattle.line.specs.Grammar.{Param, param}
 use Rattle.convert.specs.Table.{Form, text, single, uri, phone, organization, Map, maps, type_names, json_type, feature-type, context_codes, feature_codes, component_kinds}
 use Rattle.convert.specs.Model.{Entry, Kept, Card, has_parts}

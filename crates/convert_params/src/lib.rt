@@ -1,4 +1,6 @@
 // The parameters that the converter looks at, by number. Rows of eight (`Row`) say how many values those of each number have, and where the first of them stands.
+#![tactic(auto)]
+
 ghost use Rattle.std.specs.Prelude.{◌≡◌, ◌<◌};
 ghost use Rattle.text.specs.Bytes.{lowered};
 ghost use Rattle.card_table.specs.Numbers.{param_kinds};

@@ -1,4 +1,6 @@
 // The name of the member that a pointer of JSPTR points at, byte by byte.
+#![tactic(auto)]
+
 ghost use Rattle.std.specs.Prelude.{◌≡◌, ◌<◌, length, drop};
 ghost use Rattle.output.specs.Put.{Puts};
 ghost use Rattle.convert_pointer.specs.Name.{name_in, Pointing, pointer_byte, pointer_next};

@@ -1,4 +1,6 @@
 // The values of TYPE: each in any letter case, split at commas, marked in a row of nine.
+#![tactic(auto)]
+
 ghost use Rattle.std.specs.Prelude.{◌≡◌, ◌≤◌, ◌<◌, length};
 ghost use Rattle.text.specs.Bytes.{code, parts};
 ghost use Rattle.card_table.specs.Numbers.{type_count};

@@ -9,8 +9,8 @@ use lib.Dec.{ltb}
 use Rattle.text.specs.Choice.{pick, is_some, both, with-some}
 use Rattle.text.specs.Bytes.{Bytes, ascii, any, each}
 use Rattle.text.proofs.Cases.{and_left, and_right, not-false, not-both, or_left, or_right}
-use Rattle.json.specs.Tree.{Json}
-use Rattle.json.specs.Read.{Reading, tree, refused, reading}
+use Rattle.json_text.specs.Tree.{Json}
+use Rattle.json_text.specs.Read.{Reading, tree, refused, reading}
 use Rattle.line.specs.Physical.{size_of}
 use Rattle.line.specs.Grammar.{Line, read_line}
 use Rattle.convert.specs.Model.{Card}

@@ -14,10 +14,10 @@ use Rattle.text.proofs.Choices.{none-some, some_same}
 use Rattle.text.proofs.Lists.{each-length}
 use Rattle.text.proofs.Letters.{lowered-lowered}
 use Rattle.text.proofs.Same.{same_true}
-use Rattle.json.specs.Tree.{Json}
-use Rattle.json.specs.Compact.{compact}
-use Rattle.json.specs.Read.{Reading, tree, refused, reading}
-use Rattle.json.proofs.Trees.{reading-compact}
+use Rattle.json_text.specs.Tree.{Json}
+use Rattle.json_text.specs.Compact.{compact}
+use Rattle.json_text.specs.Read.{Reading, tree, refused, reading}
+use Rattle.json_text.proofs.Trees.{reading-compact}
 use Rattle.line.specs.Grammar.{Param, param, Line}
 use Rattle.line.specs.Params.{named, values_named, lacking, only_named, value_type, besides_value}
 use Rattle.line.specs.Text.{read_text, split_text, write_text}

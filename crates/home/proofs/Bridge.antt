@@ -12,7 +12,7 @@ use Rattle.text.specs.Bytes.{Bytes, ascii, all, empty, same, among}
 use Rattle.text.specs.Utf8.{utf8}
 use Rattle.text.proofs.Cases.{and_left, and_right, not-true, tests}
 use Rattle.text.proofs.Lists.{all_head, all_tail, all-imply}
-use Rattle.json.specs.Tree.{Member, member}
+use Rattle.json_text.specs.Tree.{Member, member}
 use Rattle.convert.specs.Table.{Map, maps, position, reserved}
 use Rattle.convert.specs.Model.{Entry, Kept, Card, part}
 use Rattle.convert.specs.Value.{filled}

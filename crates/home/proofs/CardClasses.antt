@@ -9,7 +9,7 @@ use Rattle.text.specs.Choice.{pick, with-some, is_some}
 use Rattle.text.specs.Bytes.{Bytes, ascii, any, all, empty, among}
 use Rattle.text.proofs.Cases.{by_bool}
 use Rattle.text.proofs.Same.{among_none}
-use Rattle.json.specs.Tree.{name_of}
+use Rattle.json_text.specs.Tree.{name_of}
 use Rattle.line.specs.Grammar.{Line}
 use Rattle.line.specs.Text.{write_text}
 use Rattle.convert.specs.Table.{maps}

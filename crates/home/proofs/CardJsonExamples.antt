@@ -7,8 +7,8 @@ use Prim.Native.Nat.{ℕ}
 use Prim.Native.String.{String}
 use Rattle.text.specs.Bytes.{Bytes, ascii, flat}
 use Rattle.text.proofs.Cases.{up_to}
-use Rattle.json.specs.Read.{Reading, tree, refused, reading}
-use Rattle.json.proofs.Opened.{json-opened}
+use Rattle.json_text.specs.Read.{Reading, tree, refused, reading}
+use Rattle.json_text.proofs.Opened.{json-opened}
 use Rattle.line.proofs.Opened.{line-opened}
 use Rattle.convert.specs.Worked.{text, json, worked-opened}
 use Rattle.home.specs.Allowed.{part_strings, name_strings, carries}
@@ -121,7 +121,7 @@ no_keys : Each false (note_at [] ∷ note_at (ascii "a.b") ∷ note_at (ascii "a
 unfolding card-json-opened
 no_keys = refl
 
--- v_card_props: the form of an entry
+-- vCardProps: the form of an entry
 props :
     Cards
     (",'vCardProps':[]" ∷ ",'vCardProps':[['x',{},'unknown',''],['x-y',{'a':'b','b':['c'],'c':['d','']},'text','v']]" ∷ ",'vCardProps':[['note',{'group':'g1'},'unknown','v']]"

@@ -1,4 +1,4 @@
--- An entry of v_card_props is read, and stands in its place, exactly where `CardJson` takes it.
+-- An entry of vCardProps is read, and stands in its place, exactly where `CardJson` takes it.
 use mathlib.Core.Path.{◌≡◌, refl, sym, ap, ap₂, ◌∙◌}
 use mathlib.Core.Bool.{Bool, true, false, ◌&&◌, not}
 use mathlib.Core.List.{List, [], ◌∷◌, map}
@@ -9,7 +9,7 @@ use Rattle.text.specs.Bytes.{Bytes, ascii, all, any, empty, same, among, lower, 
 use Rattle.text.proofs.Cases.{by_bool, not-true}
 use Rattle.text.proofs.Lists.{any_none, any-neither, all-not, keep-passes}
 use Rattle.text.proofs.Same.{same_true}
-use Rattle.json.specs.Tree.{Json, jnull, jtrue, jfalse, jnum, jstr, jarr, jobj, Member, member, name_of, value_of, field, as_string, as_array, as_object, elems_of}
+use Rattle.json_text.specs.Tree.{Json, jnull, jtrue, jfalse, jnum, jstr, jarr, jobj, Member, member, name_of, value_of, field, as_string, as_array, as_object, elems_of}
 use Rattle.line.specs.Class.{is_name}
 use Rattle.line.specs.Grammar.{Param, param, Line, fits}
 use Rattle.line.specs.Params.{named, first_or}

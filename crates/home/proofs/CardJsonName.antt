@@ -9,7 +9,7 @@ use lib.Dec.{eqb, ltb}
 use Rattle.text.specs.Choice.{with-some, is_some, chain}
 use Rattle.text.specs.Bytes.{Bytes, ascii, all, any, empty, same, among, flat, each}
 use Rattle.text.proofs.Cases.{by_bool, by_below, up_to, not-both}
-use Rattle.json.specs.Tree.{Json, Member, name_of, field, as_string, as_array, as_object}
+use Rattle.json_text.specs.Tree.{Json, Member, name_of, field, as_string, as_array, as_object}
 use Rattle.convert.specs.Table.{Part, name_row, kinds_of, position}
 use Rattle.convert.specs.Model.{has_parts}
 use Rattle.convert.specs.FromJson.{only_members, optional, required, Component, component, component_in, component_of, of_kind, values_from, by_kind, Name, is_false, name_from}

@@ -12,7 +12,7 @@ use Rattle.text.specs.Bytes.{Bytes, all, any, same, among, lower, lowered, betwe
 use Rattle.text.proofs.Cases.{by_bool, by_below, up_to, beyond, tests, not-both}
 use Rattle.text.proofs.Lists.{all_head, all_tail}
 use Rattle.text.proofs.Same.{same_true}
-use Rattle.json.specs.Tree.{Json, jnull, jtrue, jfalse, jnum, jstr, jarr, jobj, Member, member, name_of, field}
+use Rattle.json_text.specs.Tree.{Json, jnull, jtrue, jfalse, jnum, jstr, jarr, jobj, Member, member, name_of, field}
 use Rattle.line.specs.Class.{is_name, is_lower_name}
 use Rattle.convert.specs.Table.{position}
 use Rattle.convert.specs.Value.{is_key_text, is_pref}

@@ -8,7 +8,7 @@ use lib.Dec.{eqb}
 use Rattle.text.specs.Choice.{pick, is_some, chain, provided}
 use Rattle.text.specs.Bytes.{Bytes, ascii, all, any, same, among, lower, lowered, between, flat, keep, each}
 use Rattle.text.proofs.Lists.{any_append, all_append}
-use Rattle.json.specs.Tree.{Json, Member, name_of, value_of, field, as_string, as_array, as_object}
+use Rattle.json_text.specs.Tree.{Json, Member, name_of, value_of, field, as_string, as_array, as_object}
 use Rattle.line.specs.Grammar.{param}
 use Rattle.line.specs.Params.{named, values_named}
 use Rattle.convert.specs.Table.{Map, maps}
@@ -223,7 +223,7 @@ module _ (ms : List Member) where
       ∙ ap₂ ◌&&◌ (map_is _ C.nickname nickname-row ms) (ap₂ ◌&&◌ (map_is _ C.email email-row ms) (ap₂ ◌&&◌ (map_is _ C.phone phone-row ms) (ap₂ ◌&&◌ (map_is _ C.link link_row ms)
       (ap₂ ◌&&◌ (map_is _ C.note note-row ms) (ap₂ ◌&&◌ (map_is _ C.title title-row ms) (ap (λ (b : Bool). b && true) (map_is _ C.organization organization-row ms)))))))
 
-  -- ---- v_card_props, after all others
+  -- ---- vCardProps, after all others
 
   abbrev card_of : Bytes → Bytes → Name → List (List Entry) → List Kept → Card
   card_of u k n es ks = record { uid = u; kind = k; full = n.full; parts = n.parts; maps = es; members = other_members ms; kept = ks }

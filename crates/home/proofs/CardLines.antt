@@ -11,7 +11,7 @@ use Rattle.text.specs.Bytes.{Bytes, ascii, any, all, empty, same, among, lowered
 use Rattle.text.specs.Utf8.{utf8}
 use Rattle.text.proofs.Cases.{and_left, and_right, and-true}
 use Rattle.text.proofs.Lists.{all_head, all_tail, all-imply}
-use Rattle.json.specs.Tree.{Member, name_of}
+use Rattle.json_text.specs.Tree.{Member, name_of}
 use Rattle.line.specs.Class.{is_name, is_lower_name, is_control}
 use Rattle.line.specs.Grammar.{param, Line, value_count, fits, is_frame_name}
 use Rattle.line.specs.Text.{write_text}

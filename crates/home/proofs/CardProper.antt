@@ -16,7 +16,7 @@ use Rattle.text.specs.Utf8.{utf8}
 use Rattle.text.proofs.Cases.{by_bool, tests, implied, beyond, and_left, and_right, and-true, or_left, or_right, not-both}
 use Rattle.text.proofs.Lists.{all-imply, all_both, all_cons, any_head, any-tail}
 use Rattle.text.proofs.Decimals.{decimal-digits}
-use Rattle.json.specs.Tree.{Member, member, name_of}
+use Rattle.json_text.specs.Tree.{Member, member, name_of}
 use Rattle.line.specs.Class.{is_name, is_key, is_stem, is_control}
 use Rattle.line.specs.Grammar.{Line, accepted, read_line}
 use Rattle.convert.specs.Table.{maps}

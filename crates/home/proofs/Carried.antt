@@ -5,7 +5,7 @@ use mathlib.Core.List.{List}
 use Rattle.text.specs.Choice.{with-some}
 use Rattle.text.specs.Bytes.{Bytes, all}
 use Rattle.text.proofs.Cases.{and_left, and_right}
-use Rattle.json.specs.Tree.{name_of}
+use Rattle.json_text.specs.Tree.{name_of}
 use Rattle.convert.specs.Table.{maps, name_row}
 use Rattle.convert.specs.Model.{Card, part}
 use Rattle.convert.specs.Carry.{carried_raw, carried_text, carried_param, carried_maps, carried_kept, apart, apart_parts, carried}

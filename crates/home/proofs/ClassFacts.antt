@@ -5,7 +5,7 @@ use mathlib.Core.Option.{some}
 use Rattle.text.specs.Bytes.{ascii, any, all, empty, same, among, lowered}
 use Rattle.text.specs.Utf8.{utf8}
 use Rattle.text.proofs.Cases.{and-true, or_left, or_right, not-false}
-use Rattle.json.specs.Tree.{member}
+use Rattle.json_text.specs.Tree.{member}
 use Rattle.line.specs.Class.{is_name}
 use Rattle.line.specs.Grammar.{param_values, Line}
 use Rattle.line.specs.Params.{named, lacking, besides_value}

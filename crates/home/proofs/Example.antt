@@ -3,7 +3,7 @@ use mathlib.Core.Path.{refl}
 use mathlib.Core.List.{[], ◌∷◌}
 use mathlib.Core.Option.{none}
 use Rattle.text.specs.Bytes.{ascii}
-use Rattle.json.specs.Tree.{jstr, jarr, econs, enil, member}
+use Rattle.json_text.specs.Tree.{jstr, jarr, econs, enil, member}
 use Rattle.line.specs.Grammar.{param}
 use Rattle.convert.specs.Table.{maps}
 use Rattle.convert.specs.Model.{Entry, Kept, Card, singly}

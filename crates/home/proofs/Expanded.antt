@@ -11,7 +11,7 @@ use Rattle.text.specs.Utf8.{Due, start, due, broken, lead, tails, next, run, utf
 use Rattle.text.proofs.Cases.{by_bool, by_below, between-true, not-both}
 use Rattle.text.proofs.Lists.{all_head, all_tail, all_both}
 use Rattle.text.proofs.Characters.{run-append, utf8-run, run-utf8, not_start, later, later-lead, later-tails, later-bounds}
-use Rattle.json.specs.Compact.{spelled, spelled_all}
+use Rattle.json_text.specs.Compact.{spelled, spelled_all}
 use Rattle.line.specs.Text.{escape, write_text}
 use Rattle.convert.specs.Pointer.{pointer}
 use Rattle.convert.proofs.Pointers.{no_pointer, spelt}

@@ -7,8 +7,8 @@ use Rattle.text.specs.Bytes.{Bytes, ascii, any, all, empty, same, among, lowered
 use Rattle.text.specs.Utf8.{utf8}
 use Rattle.text.proofs.Cases.{by_bool, and_left, and_right, and-true}
 use Rattle.text.proofs.Lists.{all_head, all_tail, all_both, any_head, any-tail}
-use Rattle.json.specs.Tree.{Member, member, name_of}
-use Rattle.json.specs.Compact.{compact}
+use Rattle.json_text.specs.Tree.{Member, member, name_of}
+use Rattle.json_text.specs.Compact.{compact}
 use Rattle.line.specs.Class.{is_lower_name}
 use Rattle.line.specs.Grammar.{Param, param, param_name, param_values, value_count, fits, is_frame_name}
 use Rattle.convert.specs.Table.{reserved}

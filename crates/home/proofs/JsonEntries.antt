@@ -14,8 +14,8 @@ use Rattle.text.specs.Bytes.{Bytes, ascii, any, all, empty, same, among, distinc
 use Rattle.text.proofs.Cases.{by_bool, and_left, and_right, tests}
 use Rattle.text.proofs.Choices.{none-some, some_same, provided-inv, chain-inv, map-inv, both-inv}
 use Rattle.text.proofs.Lists.{all_both, all-imply}
-use Rattle.json.specs.Tree.{Json, Member, member, name_of, field, as_string, as_number, as_object}
-use Rattle.json.proofs.Sound.{Sound}
+use Rattle.json_text.specs.Tree.{Json, Member, member, name_of, field, as_string, as_number, as_object}
+use Rattle.json_text.proofs.Sound.{Sound}
 use Rattle.convert.specs.Table.{Map, maps, TypeName, type_names, json_type, position}
 use Rattle.convert.specs.Model.{Entry, singly}
 use Rattle.convert.specs.Value.{is_key_text, is_pref}

@@ -10,10 +10,10 @@ use Rattle.text.proofs.Opened.{text-opened}
 use Rattle.text.proofs.Cases.{by_bool, and_left, and_right, not-true, not-both}
 use Rattle.text.proofs.Same.{same_true}
 use Rattle.text.proofs.Lists.{all-imply, all_both}
-use Rattle.json.specs.Tree.{jstr, Member, member, name_of, object, array}
-use Rattle.json.specs.Read.{tree, reading}
-use Rattle.json.proofs.Sound.{Sound}
-use Rattle.json.proofs.Trees.{reading-compact}
+use Rattle.json_text.specs.Tree.{jstr, Member, member, name_of, object, array}
+use Rattle.json_text.specs.Read.{tree, reading}
+use Rattle.json_text.proofs.Sound.{Sound}
+use Rattle.json_text.proofs.Trees.{reading-compact}
 use Rattle.convert.specs.Table.{Map, maps, reserved}
 use Rattle.convert.specs.Model.{Card, has_parts}
 use Rattle.convert.specs.Value.{filled}
@@ -48,7 +48,7 @@ absent x [] h g = refl
 absent x (n ∷ ns) h g =
     by_bool (same x n) (λ e. not-both h (ap (λ (y : Bytes). among y reserved) (same_true x n e) ∙ g.0)) (λ e. rw e (absent x ns h g.1))
 
--- none of the others is v_card_props
+-- none of the others is vCardProps
 props-reserved : among (ascii "vCardProps") reserved ≡ true
 unfolding text-opened
 props-reserved = refl

@@ -10,8 +10,8 @@ use Rattle.text.specs.Utf8.{utf8}
 use Rattle.text.proofs.Cases.{and_left, not-true}
 use Rattle.text.proofs.Choices.{none-some, some_same, provided-inv, chain-inv, map-inv}
 use Rattle.text.proofs.Lists.{all_cons, all-not, keep-passes}
-use Rattle.json.specs.Tree.{Json, jnull, jtrue, jfalse, jnum, jstr, jarr, jobj, Member, member, name_of, as_string, as_array, as_object, elems_of}
-use Rattle.json.proofs.Sound.{Sound}
+use Rattle.json_text.specs.Tree.{Json, jnull, jtrue, jfalse, jnum, jstr, jarr, jobj, Member, member, name_of, as_string, as_array, as_object, elems_of}
+use Rattle.json_text.proofs.Sound.{Sound}
 use Rattle.line.specs.Grammar.{Param, param, param_name, param_values}
 use Rattle.convert.specs.Model.{Kept}
 use Rattle.convert.specs.Classify.{Seen}

@@ -11,10 +11,10 @@ use Rattle.text.specs.Utf8.{utf8}
 use Rattle.text.proofs.Cases.{by_bool, and_right, and-true}
 use Rattle.text.proofs.Choices.{some_same, provided-inv, chain-inv}
 use Rattle.text.proofs.Lists.{all_head, all_tail}
-use Rattle.json.specs.Tree.{Json, Member, name_of, field, as_string, as_array, as_object}
-use Rattle.json.specs.Read.{reading, tree}
-use Rattle.json.proofs.Sound.{Sound}
-use Rattle.json.proofs.Given.{reading-sound}
+use Rattle.json_text.specs.Tree.{Json, Member, name_of, field, as_string, as_array, as_object}
+use Rattle.json_text.specs.Read.{reading, tree}
+use Rattle.json_text.proofs.Sound.{Sound}
+use Rattle.json_text.proofs.Given.{reading-sound}
 use Rattle.convert.specs.Table.{maps, reserved}
 use Rattle.convert.specs.Model.{Kept, Card}
 use Rattle.convert.specs.Value.{filled}

@@ -6,12 +6,12 @@ use mathlib.Core.List.{List, [], map}
 use mathlib.Core.Option.{Option, none}
 use Prim.Native.Nat.{ℕ}
 use Rattle.text.specs.Bytes.{Bytes, any}
-use Rattle.json.specs.Tree.{Member, object}
-use Rattle.json.specs.Strings.{distinct_names}
-use Rattle.json.specs.Compact.{compact}
-use Rattle.json.specs.Read.{tree, reading}
-use Rattle.json.proofs.Sound.{sound-names}
-use Rattle.json.proofs.Given.{reading-sound}
+use Rattle.json_text.specs.Tree.{Member, object}
+use Rattle.json_text.specs.Strings.{distinct_names}
+use Rattle.json_text.specs.Compact.{compact}
+use Rattle.json_text.specs.Read.{tree, reading}
+use Rattle.json_text.proofs.Sound.{sound-names}
+use Rattle.json_text.proofs.Given.{reading-sound}
 use Rattle.line.specs.Grammar.{Line}
 use Rattle.line.proofs.Lines.{upper_line}
 use Rattle.convert.specs.Model.{Card}

@@ -13,8 +13,8 @@ use Rattle.text.specs.Utf8.{utf8}
 use Rattle.text.proofs.Cases.{by_bool, and_right, and-true}
 use Rattle.text.proofs.Choices.{some_same, provided-inv, chain-inv, map-inv, both-inv}
 use Rattle.text.proofs.Lists.{all_cons, keep-passes}
-use Rattle.json.specs.Tree.{Json, Member, field, as_string, as_array, as_object}
-use Rattle.json.proofs.Sound.{Sound}
+use Rattle.json_text.specs.Tree.{Json, Member, field, as_string, as_array, as_object}
+use Rattle.json_text.proofs.Sound.{Sound}
 use Rattle.convert.specs.Table.{Form, text, single, uri, phone, organization, component_kinds, position}
 use Rattle.convert.specs.Value.{filled}
 use Rattle.convert.specs.FromJson.{only_members, required, optional, Component, component, component_of, component_in, of_kind, by_kind, Name, nameless, is_false, name_from, unit_from, organization_from, content_from}

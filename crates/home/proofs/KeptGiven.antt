@@ -9,9 +9,9 @@ use Rattle.text.specs.Choice.{with-some, is_some, chain, provided}
 use Rattle.text.specs.Bytes.{Bytes, ascii, any, all, same, among, lowered, each}
 use Rattle.text.proofs.Cases.{by_bool, and-true, not-both, not-true, or_left, or_right}
 use Rattle.text.proofs.Lists.{all_cons}
-use Rattle.json.specs.Tree.{Json, Member, name_of, field, members_of, from_members, object, as_string}
-use Rattle.json.proofs.Listed.{members-listed}
-use Rattle.json.proofs.Sound.{Sound, sound-names}
+use Rattle.json_text.specs.Tree.{Json, Member, name_of, field, members_of, from_members, object, as_string}
+use Rattle.json_text.proofs.Listed.{members-listed}
+use Rattle.json_text.proofs.Sound.{Sound, sound-names}
 use Rattle.line.specs.Grammar.{Line, is_frame_name, accepted, read_line}
 use Rattle.convert.specs.Table.{maps}
 use Rattle.convert.specs.Model.{Entry, Kept}

@@ -6,8 +6,8 @@ use Rattle.text.specs.Bytes.{Bytes, ascii, any, empty, same, among, distinct}
 use Rattle.text.specs.Utf8.{utf8}
 use Rattle.text.proofs.Cases.{by_bool, and_left, and_right, not-true, not-both}
 use Rattle.text.proofs.Same.{same_true, among-head, among_later}
-use Rattle.json.specs.Tree.{Member, member, name_of, value_of}
-use Rattle.json.specs.Compact.{compact}
+use Rattle.json_text.specs.Tree.{Member, member, name_of, value_of}
+use Rattle.json_text.specs.Compact.{compact}
 use Rattle.line.specs.Text.{write_text}
 use Rattle.line.specs.Grammar.{param}
 use Rattle.convert.specs.Table.{reserved}

@@ -7,8 +7,8 @@ use Rattle.text.specs.Choice.{provided}
 use Rattle.text.specs.Bytes.{Bytes, ascii, same, among, lowered, flat}
 use Rattle.text.proofs.Choices.{none-some, some_same}
 use Rattle.text.proofs.Same.{same_true}
-use Rattle.json.specs.Tree.{member}
-use Rattle.json.specs.Compact.{compact}
+use Rattle.json_text.specs.Tree.{member}
+use Rattle.json_text.specs.Compact.{compact}
 use Rattle.line.specs.Grammar.{Param, param, param_name, Line}
 use Rattle.line.specs.Params.{named, values_named, lacking, only_named, besides_value}
 use Rattle.line.specs.Text.{write_text}

@@ -8,12 +8,12 @@ use Rattle.text.specs.Bytes.{Bytes, ascii, all, each}
 use Rattle.text.proofs.Cases.{and_left, and_right, not-both}
 use Rattle.text.proofs.Choices.{some_same}
 use Rattle.text.proofs.Same.{same_true}
-use Rattle.json.specs.Tree.{Json, jstr, Member, member, name_of, value_of, field, object, as_string, as_array, as_object}
-use Rattle.json.specs.Strings.{distinct_names}
-use Rattle.json.specs.Compact.{compact}
-use Rattle.json.specs.Read.{tree, reading}
-use Rattle.json.proofs.Sound.{sound-names}
-use Rattle.json.proofs.Given.{reading-sound}
+use Rattle.json_text.specs.Tree.{Json, jstr, Member, member, name_of, value_of, field, object, as_string, as_array, as_object}
+use Rattle.json_text.specs.Strings.{distinct_names}
+use Rattle.json_text.specs.Compact.{compact}
+use Rattle.json_text.specs.Read.{tree, reading}
+use Rattle.json_text.proofs.Sound.{sound-names}
+use Rattle.json_text.proofs.Given.{reading-sound}
 use Rattle.convert.specs.Table.{maps}
 use Rattle.convert.specs.Model.{Card, has_parts}
 use Rattle.convert.specs.Value.{filled}

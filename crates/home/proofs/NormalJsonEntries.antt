@@ -11,8 +11,8 @@ use Rattle.text.specs.Bytes.{Bytes, ascii, any, all, empty, same, among, distinc
 use Rattle.text.proofs.Cases.{by_bool, not-both, and_left, and_right, not-true}
 use Rattle.text.proofs.Same.{same_true, same-eq}
 use Rattle.text.proofs.Choices.{none-some, some_same}
-use Rattle.json.specs.Tree.{Json, jnull, jtrue, jfalse, jnum, jstr, jobj, jarr, Members, mnil, mcons, Member, member, name_of, value_of, field, object, array, as_string, as_number, as_array, as_object, members_of, from_members}
-use Rattle.json.specs.Strings.{distinct_names}
+use Rattle.json_text.specs.Tree.{Json, jnull, jtrue, jfalse, jnum, jstr, jobj, jarr, Members, mnil, mcons, Member, member, name_of, value_of, field, object, array, as_string, as_number, as_array, as_object, members_of, from_members}
+use Rattle.json_text.specs.Strings.{distinct_names}
 use Rattle.convert.specs.Table.{Form, text, single, uri, phone, organization, Map, maps, type_names, position}
 use Rattle.convert.specs.Model.{Entry}
 use Rattle.convert.specs.Value.{filled, head_or, is_key_text, is_pref}

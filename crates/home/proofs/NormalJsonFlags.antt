@@ -11,7 +11,7 @@ use Rattle.text.specs.Bytes.{Bytes, ascii, any, empty, same, flat, keep, each}
 use Rattle.text.proofs.Cases.{by_bool, by_below, up_to, not-both}
 use Rattle.text.proofs.Lists.{any_append, keep-swap}
 use Rattle.text.proofs.Same.{same_true}
-use Rattle.json.specs.Tree.{Json, jtrue, Member, member, field, object, as_object}
+use Rattle.json_text.specs.Tree.{Json, jtrue, Member, member, field, object, as_object}
 use Rattle.convert.specs.Table.{TypeName, feature-type, type_names, json_type, context_codes, feature_codes, in_order, position}
 use Rattle.convert.specs.FromJson.{is_true, flag_of, flags_from}
 use Rattle.convert.specs.ToJson.{flags_json}

@@ -1,4 +1,4 @@
--- v_card_props: group first, one-value arrays as strings.
+-- vCardProps: group first, one-value arrays as strings.
 use mathlib.Core.Path.{◌≡◌, refl, sym, ap, ap₂, ◌∙◌}
 use mathlib.Core.Bool.{true, false, not}
 use mathlib.Core.List.{List, [], ◌∷◌, ◌++◌, map, map-append}
@@ -9,8 +9,8 @@ use Rattle.text.proofs.Cases.{by_bool, not-both, and_left, and_right, or_left, o
 use Rattle.text.proofs.Choices.{none-some, some_same}
 use Rattle.text.proofs.Lists.{all_head, all_tail, keep-none, keep-passes, all-anything}
 use Rattle.text.proofs.Same.{same_true, same-swap}
-use Rattle.json.specs.Tree.{Json, jnull, jtrue, jfalse, jnum, jstr, jarr, jobj, Elems, enil, econs, Member, member, name_of, value_of, field, array, as_string, as_array, as_object, elems_of}
-use Rattle.json.specs.Strings.{distinct_names}
+use Rattle.json_text.specs.Tree.{Json, jnull, jtrue, jfalse, jnum, jstr, jarr, jobj, Elems, enil, econs, Member, member, name_of, value_of, field, array, as_string, as_array, as_object, elems_of}
+use Rattle.json_text.specs.Strings.{distinct_names}
 use Rattle.line.specs.Grammar.{Param, param, param_name}
 use Rattle.convert.specs.Model.{Kept}
 use Rattle.convert.specs.Value.{filled}

@@ -10,7 +10,7 @@ use borrow.Author.Tests.{eqb-true}
 use Rattle.text.specs.Choice.{with-some, is_some, chain}
 use Rattle.text.specs.Bytes.{Bytes, ascii, any, empty, same, flat, keep, each}
 use Rattle.text.proofs.Cases.{by_bool, by_below, up_to, not-both, and_left}
-use Rattle.json.specs.Tree.{Json, jstr, Member, member, field, object, array, as_string, as_array, as_object}
+use Rattle.json_text.specs.Tree.{Json, jstr, Member, member, field, object, array, as_string, as_array, as_object}
 use Rattle.convert.specs.Table.{component_kinds, position}
 use Rattle.convert.specs.Model.{has_parts}
 use Rattle.convert.specs.Value.{filled}

@@ -11,9 +11,9 @@ use Rattle.text.specs.Reader.{got, bind, under, first}
 use Rattle.text.proofs.Lists.{all_cons, all_both, all-imply}
 use Rattle.text.proofs.Readers.{got-what, bind_inv, under-inv, on-inv, some-of-inv}
 use Rattle.text.proofs.Cases.{or-second}
-use Rattle.json.specs.Grammar.{is_e}
-use Rattle.json.specs.Syntax.{opt, digits, int, frac, sign, exp, number}
-use Rattle.json.proofs.Numbers.{Spelled}
+use Rattle.json_text.specs.Grammar.{is_e}
+use Rattle.json_text.specs.Syntax.{opt, digits, int, frac, sign, exp, number}
+use Rattle.json_text.proofs.Numbers.{Spelled}
 
 unfoldable pub is_number : ℕ → Bool
 is_number c = is_digit c || is_e c || eqb c 43 || eqb c 45 || eqb c 46

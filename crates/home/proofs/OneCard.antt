@@ -6,7 +6,7 @@ use mathlib.Core.Option.{Option, some}
 use Prim.Native.Nat.{ℕ}
 use Rattle.text.specs.Bytes.{Bytes}
 use Rattle.text.proofs.Choices.{some_same}
-use Rattle.json.specs.Read.{reading}
+use Rattle.json_text.specs.Read.{reading}
 use Rattle.line.specs.Grammar.{Line}
 use Rattle.line.specs.Write.{write_card}
 use Rattle.convert.specs.Model.{Card}

@@ -12,7 +12,7 @@ use Rattle.text.specs.Bytes.{Bytes, ascii, empty, any, same, among, lowered, beg
 use Rattle.text.proofs.Cases.{by_bool, not-both}
 use Rattle.text.proofs.Choices.{none-some, some_same}
 use Rattle.text.proofs.Same.{same_true}
-use Rattle.json.specs.Tree.{jstr, jnum, Member, member, object, array}
+use Rattle.json_text.specs.Tree.{jstr, jnum, Member, member, object, array}
 use Rattle.line.specs.Grammar.{Line}
 use Rattle.line.specs.Params.{values_named, only_named, value_type, besides_value}
 use Rattle.line.specs.Text.{read_text, split_text}

@@ -10,8 +10,8 @@ use Rattle.text.specs.Choice.{with-some, provided}
 use Rattle.text.specs.Bytes.{Bytes, ascii, empty, any, same, among, lowered, flat, each}
 use Rattle.text.proofs.Cases.{by_bool, and_left}
 use Rattle.text.proofs.Choices.{some_same}
-use Rattle.json.specs.Tree.{Json, jstr, Member, member, object, array}
-use Rattle.json.specs.Read.{reading}
+use Rattle.json_text.specs.Tree.{Json, jstr, Member, member, object, array}
+use Rattle.json_text.specs.Read.{reading}
 use Rattle.line.specs.Grammar.{Param, param, Line}
 use Rattle.line.specs.Params.{values_named, only_named, value_type, besides_value, merged}
 use Rattle.line.specs.Text.{read_text, split_text}

@@ -10,7 +10,7 @@ use Rattle.text.specs.Choice.{pick}
 use Rattle.text.specs.Bytes.{Bytes, ascii, empty, any, all, same, among, lowered, parts, flat, keep, each}
 use Rattle.text.proofs.Cases.{by_below, tests, not-both}
 use Rattle.text.proofs.Lists.{keep-swap, keep-none, all_none, all_head}
-use Rattle.json.specs.Tree.{jtrue, Member, member, object}
+use Rattle.json_text.specs.Tree.{jtrue, Member, member, object}
 use Rattle.line.specs.Grammar.{Line}
 use Rattle.line.specs.Params.{values_named, besides_value}
 use Rattle.convert.specs.Table.{feature-type, type_names, json_type, context_codes, feature_codes, in_order}

@@ -13,7 +13,7 @@ use Rattle.text.specs.Bytes.{Bytes, ascii, empty, any, all, same, among, flat, k
 use Rattle.text.proofs.Cases.{by_bool, not-true, NoneOf, by_keys, testing}
 use Rattle.text.specs.Decimal.{decimal}
 use Rattle.text.proofs.Lists.{all_head, map_both}
-use Rattle.json.specs.Tree.{jstr, Member, member, object, array}
+use Rattle.json_text.specs.Tree.{jstr, Member, member, object, array}
 use Rattle.line.specs.Grammar.{Line}
 use Rattle.convert.specs.Table.{Map, maps, component_kinds}
 use Rattle.convert.specs.Model.{Entry, Kept, has_parts, no_parts}

@@ -10,7 +10,7 @@ use Rattle.text.specs.Choice.{with-some}
 use Rattle.text.specs.Bytes.{Bytes, ascii, any, all, empty, same, among, lower, lowered, between, keep, flat}
 use Rattle.text.proofs.Cases.{by_bool, and_left, and_right, and-true}
 use Rattle.text.proofs.Lists.{all_head, all_tail, any_head, any-tail, any-neither}
-use Rattle.json.specs.Tree.{Member, member}
+use Rattle.json_text.specs.Tree.{Member, member}
 use Rattle.line.specs.Class.{is_name}
 use Rattle.line.specs.Grammar.{Param, param, Line}
 use Rattle.line.specs.Params.{named, values_named}

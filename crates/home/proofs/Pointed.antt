@@ -13,10 +13,10 @@ use Rattle.text.proofs.Cases.{by_bool, and_left, and_right, or_left, or_right, n
 use Rattle.text.proofs.Choices.{none-some, some_same, provided-inv, chain-inv}
 use Rattle.text.proofs.Lists.{any_none}
 use Rattle.text.proofs.Characters.{utf8-run, run-utf8, later}
-use Rattle.json.specs.Tree.{Json}
-use Rattle.json.specs.Read.{Reading, tree, refused, reading}
-use Rattle.json.proofs.Sound.{Sound}
-use Rattle.json.proofs.Given.{reading-sound}
+use Rattle.json_text.specs.Tree.{Json}
+use Rattle.json_text.specs.Read.{Reading, tree, refused, reading}
+use Rattle.json_text.proofs.Sound.{Sound}
+use Rattle.json_text.proofs.Given.{reading-sound}
 use Rattle.line.specs.Class.{is_control}
 use Rattle.line.specs.Grammar.{Param, param_values}
 use Rattle.line.specs.Params.{values_named, only_named}

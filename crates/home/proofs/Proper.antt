@@ -7,8 +7,8 @@ use lib.Dec.{ltb}
 use Rattle.text.specs.Choice.{with-some}
 use Rattle.text.specs.Bytes.{any, all, among, empty, distinct, flat}
 use Rattle.text.specs.Utf8.{utf8}
-use Rattle.json.specs.Tree.{Member, name_of, value_of}
-use Rattle.json.proofs.Sound.{Sound}
+use Rattle.json_text.specs.Tree.{Member, name_of, value_of}
+use Rattle.json_text.proofs.Sound.{Sound}
 use Rattle.line.specs.Grammar.{param_values}
 use Rattle.line.proofs.Merging.{Settled}
 use Rattle.convert.specs.Table.{Map, maps, reserved}

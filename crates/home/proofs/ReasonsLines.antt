@@ -10,7 +10,7 @@ use Rattle.text.specs.Bytes.{Bytes, ascii, any, all, empty, same, among, lower, 
 use Rattle.text.proofs.Cases.{by_bool, not-both, and_left, and_right, or-second}
 use Rattle.text.proofs.Lists.{any-not, any_head, any-tail}
 use Rattle.text.proofs.Same.{same_true}
-use Rattle.json.specs.Read.{Reading, tree, refused, reading}
+use Rattle.json_text.specs.Read.{Reading, tree, refused, reading}
 use Rattle.line.specs.Grammar.{Param, Line}
 use Rattle.line.specs.Params.{values_named, only_named, lacking, value_type, besides_value}
 use Rattle.line.specs.Text.{read_text, split_text}

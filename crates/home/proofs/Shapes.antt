@@ -7,8 +7,8 @@ use Rattle.text.specs.Choice.{with-some}
 use Rattle.text.specs.Bytes.{Bytes, all, empty, same, distinct}
 use Rattle.text.proofs.Cases.{by_bool, not-both, and_left, and_right}
 use Rattle.text.proofs.Choices.{none-some, some_same}
-use Rattle.json.specs.Tree.{Json, jnull, jtrue, jfalse, jnum, jstr, jarr, jobj, Elems, enil, econs, Members, mnil, mcons, Member, member, name_of, value_of, field, members_of, elems_of, as_string, as_number}
-use Rattle.json.specs.Strings.{names, distinct_names, distinct_elems, distinct_members}
+use Rattle.json_text.specs.Tree.{Json, jnull, jtrue, jfalse, jnum, jstr, jarr, jobj, Elems, enil, econs, Members, mnil, mcons, Member, member, name_of, value_of, field, members_of, elems_of, as_string, as_number}
+use Rattle.json_text.specs.Strings.{names, distinct_names, distinct_elems, distinct_members}
 use Rattle.convert.specs.FromJson.{is_true}
 use Rattle.convert.specs.ToJson.{where'}
 use Rattle.convert.specs.NormalJson.{unless_gone, fields_of, items_of}

@@ -11,13 +11,13 @@ use Rattle.text.specs.Reader.{got, on, some_of}
 use Rattle.text.proofs.Cases.{and_left, and_right, not-true, not-both, other}
 use Rattle.text.proofs.Lists.{all_head}
 use Rattle.text.proofs.Readers.{some-of-run}
-use Rattle.json.specs.Tree.{Json, Member, member, name_of, from_members, from_elems, object, array}
-use Rattle.json.specs.Strings.{names}
-use Rattle.json.specs.Syntax.{opt, int, frac, exp, digits, number}
-use Rattle.json.specs.Grammar.{is_e}
-use Rattle.json.proofs.Sound.{Sound, SoundElems, SoundMembers}
-use Rattle.json.proofs.Numbers.{Spelled}
-use Rattle.json.proofs.Fine.{digit-256}
+use Rattle.json_text.specs.Tree.{Json, Member, member, name_of, from_members, from_elems, object, array}
+use Rattle.json_text.specs.Strings.{names}
+use Rattle.json_text.specs.Syntax.{opt, int, frac, exp, digits, number}
+use Rattle.json_text.specs.Grammar.{is_e}
+use Rattle.json_text.proofs.Sound.{Sound, SoundElems, SoundMembers}
+use Rattle.json_text.proofs.Numbers.{Spelled}
+use Rattle.json_text.proofs.Fine.{digit-256}
 use Rattle.convert.specs.Value.{is_pref}
 use Rattle.home.proofs.Alls.{All}
 use Rattle.home.proofs.SoundLists.{SoundMember}

@@ -10,8 +10,8 @@ use Rattle.text.specs.Utf8.{utf8}
 use Rattle.text.proofs.Opened.{text-opened}
 use Rattle.text.proofs.Cases.{by_bool, and_right, not-both}
 use Rattle.text.proofs.Lists.{all_head, all_tail, all-imply, keep-swap}
-use Rattle.json.specs.Tree.{Json, jtrue, jstr, Member, member, name_of, object, array}
-use Rattle.json.proofs.Sound.{Sound}
+use Rattle.json_text.specs.Tree.{Json, jtrue, jstr, Member, member, name_of, object, array}
+use Rattle.json_text.proofs.Sound.{Sound}
 use Rattle.line.specs.Class.{is_key}
 use Rattle.convert.specs.Table.{Form, text, single, uri, phone, organization, Map, maps, type_names, feature-type, json_type, context_codes, feature_codes, in_order}
 use Rattle.convert.specs.Value.{filled, is_key_text}

@@ -12,8 +12,8 @@ use Rattle.text.proofs.Cases.{by_bool, not-both}
 use Rattle.text.proofs.Choices.{none-some, some_same}
 use Rattle.text.proofs.Same.{same_true}
 use Rattle.text.proofs.Lists.{all_head, all_tail}
-use Rattle.json.specs.Tree.{Json, jnull, jtrue, jfalse, jnum, jstr, jarr, jobj, Elems, enil, econs, Members, mnil, mcons, Member, member, name_of, value_of, members_of, elems_of, field, as_string, as_array, as_object}
-use Rattle.json.proofs.Sound.{Sound, SoundElems, SoundMembers}
+use Rattle.json_text.specs.Tree.{Json, jnull, jtrue, jfalse, jnum, jstr, jarr, jobj, Elems, enil, econs, Members, mnil, mcons, Member, member, name_of, value_of, members_of, elems_of, field, as_string, as_array, as_object}
+use Rattle.json_text.proofs.Sound.{Sound, SoundElems, SoundMembers}
 use Rattle.convert.specs.FromJson.{only_members, optional}
 use Rattle.home.proofs.Alls.{All}
 use Rattle.home.proofs.Shapes.{names_of}

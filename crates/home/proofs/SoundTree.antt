@@ -6,7 +6,7 @@ use Prim.Native.Nat.{ℕ, suc}
 use lib.ListN.{get_or}
 use Rattle.text.specs.Bytes.{Bytes, ascii, empty, among, distinct, keep, flat}
 use Rattle.text.proofs.Cases.{and_right, not-both}
-use Rattle.json.specs.Tree.{jtrue, jnum, jstr, Member, member, name_of, object}
+use Rattle.json_text.specs.Tree.{jtrue, jnum, jstr, Member, member, name_of, object}
 use Rattle.convert.specs.Table.{Map, context_codes, feature_codes}
 use Rattle.convert.specs.Model.{Entry}
 use Rattle.convert.specs.Value.{filled, is_pref}

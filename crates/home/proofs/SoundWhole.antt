@@ -11,8 +11,8 @@ use Rattle.text.proofs.Opened.{text-opened}
 use Rattle.text.proofs.Cases.{and_left, and_right, or_left, or_right}
 use Rattle.text.proofs.Same.{same-swap}
 use Rattle.text.proofs.Lists.{all_head, all_tail}
-use Rattle.json.specs.Tree.{jstr, Member, member, name_of, object, array}
-use Rattle.json.proofs.Sound.{Sound}
+use Rattle.json_text.specs.Tree.{jstr, Member, member, name_of, object, array}
+use Rattle.json_text.proofs.Sound.{Sound}
 use Rattle.line.specs.Grammar.{Param, param, param_name, param_values}
 use Rattle.line.specs.Params.{named}
 use Rattle.line.proofs.Merging.{Settled}

@@ -11,9 +11,9 @@ use Rattle.text.specs.Choice.{pick}
 use Rattle.text.specs.Bytes.{Bytes, ascii, any, empty, same, among, lowered, flat, each}
 use Rattle.text.proofs.Cases.{by_bool, not-both, and_right, split}
 use Rattle.text.proofs.Same.{same_true}
-use Rattle.json.specs.Tree.{Json, jnull, jstr, Member, member, object}
-use Rattle.json.specs.Read.{Reading, tree, refused, reading}
-use Rattle.json.specs.Compact.{compact}
+use Rattle.json_text.specs.Tree.{Json, jnull, jstr, Member, member, object}
+use Rattle.json_text.specs.Read.{Reading, tree, refused, reading}
+use Rattle.json_text.specs.Compact.{compact}
 use Rattle.line.specs.Grammar.{Param, Line}
 use Rattle.line.specs.Params.{values_named, value_type, besides_value}
 use Rattle.line.specs.Text.{read_text, split_text}

@@ -8,8 +8,8 @@ use lib.Dec.{eqb, ltb}
 use Rattle.text.specs.Choice.{with-some, is_some}
 use Rattle.text.specs.Bytes.{Bytes}
 use Rattle.text.proofs.Cases.{by_bool, not-both}
-use Rattle.json.specs.Tree.{Json}
-use Rattle.json.specs.Read.{Reading, tree, refused, reading}
+use Rattle.json_text.specs.Tree.{Json}
+use Rattle.json_text.specs.Read.{Reading, tree, refused, reading}
 use Rattle.convert.specs.Model.{Card}
 use Rattle.convert.specs.FromJson.{card_from_json}
 use Rattle.convert.specs.Carry.{carried}

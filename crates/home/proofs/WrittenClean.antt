@@ -12,11 +12,11 @@ use Rattle.text.specs.Utf8.{utf8}
 use Rattle.text.proofs.Cases.{by_below, implied, beyond, and_left, and_right, not-true}
 use Rattle.text.proofs.Lists.{all-not, all-imply, any-neither, all-anything}
 use Rattle.text.proofs.Characters.{utf8_append}
-use Rattle.json.specs.Tree.{Json, jnull, jtrue, jfalse, jnum, jstr, jarr, jobj, Elems, enil, econs, Members, mnil, mcons}
-use Rattle.json.specs.Compact.{spelled, spelled_all, quoted, written, written_elems, elems_after, written_members, members_after, compact}
-use Rattle.json.specs.Grammar.{is_e}
-use Rattle.json.proofs.Numbers.{Spelled}
-use Rattle.json.proofs.Sound.{Sound, SoundElems, SoundMembers}
+use Rattle.json_text.specs.Tree.{Json, jnull, jtrue, jfalse, jnum, jstr, jarr, jobj, Elems, enil, econs, Members, mnil, mcons}
+use Rattle.json_text.specs.Compact.{spelled, spelled_all, quoted, written, written_elems, elems_after, written_members, members_after, compact}
+use Rattle.json_text.specs.Grammar.{is_e}
+use Rattle.json_text.proofs.Numbers.{Spelled}
+use Rattle.json_text.proofs.Sound.{Sound, SoundElems, SoundMembers}
 use Rattle.line.specs.Class.{is_control}
 use Rattle.line.specs.Text.{escape, write_text}
 use Rattle.convert.specs.Carry.{carried_raw, carried_text}

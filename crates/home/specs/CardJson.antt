@@ -1,11 +1,11 @@
--- Which JSON is a card of 01, as a test over its tree: paragraph 'To v_card' and what it refers to; 12 refuses every other tree. All names are written out once more on
+-- Which JSON is a card of 01, as a test over its tree: paragraph 'To vCard' and what it refers to; 12 refuses every other tree. All names are written out once more on
 -- purpose: nothing here is taken from the converter's tables, readers or model, so that a wrong one cannot make it true.
 use Rattle.std.specs.Prelude.{◌≡◌, Bool, true, false, ◌&&◌, ◌||◌, not, List, [], ◌∷◌, ◌++◌, map, length, ltb}
 use Rattle.text.specs.Choice.{pick, with-some, is_some}
 use Rattle.text.specs.Bytes.{Bytes, ascii, any, all, empty, same, among, lowered, flat, keep, each}
-use Rattle.json.specs.Tree.{Json, jnull, jtrue, jfalse, jnum, jstr, jarr, jobj, Member, name_of, value_of, field, as_string, as_number, as_array, as_object}
-use Rattle.json.specs.Lookup.{room}
-use Rattle.json.specs.Read.{tree, reading}
+use Rattle.json_text.specs.Tree.{Json, jnull, jtrue, jfalse, jnum, jstr, jarr, jobj, Member, name_of, value_of, field, as_string, as_number, as_array, as_object}
+use Rattle.json_text.specs.Lookup.{room}
+use Rattle.json_text.specs.Read.{tree, reading}
 use Rattle.line.specs.Class.{is_name}
 use Rattle.line.specs.Grammar.{Param, param, Line, fits}
 use Rattle.line.specs.Params.{first_or}
@@ -165,7 +165,7 @@ table_rules =
 unfoldable pub others : List Member → List Member
 others ms = keep (λ m. not (among (name_of m) (map rule_name table_rules ++ ascii "vCardProps" ∷ []))) ms
 
--- ---- v_card_props: "an entry of vCardProps that no kept line in its place gives (13, group's place and one-value arrays aside)"
+-- ---- vCardProps: "an entry of vCardProps that no kept line in its place gives (13, group's place and one-value arrays aside)"
 
 -- "in its place": after the lines that all other members become, each with what it stands for. Of these lines only the PROP-ID is said, and of what stands for them only what
 -- a later line may not repeat, since a reason (`has_reason`) looks at no more.

@@ -1,8 +1,8 @@
 -- The JSON of an accepted card, line by line: what stands for each (`StandsFor`), why it is kept (`Reasons`), and that nothing else is there.
 use Rattle.std.specs.Prelude.{◌≡◌, List, [], ℕ}
 use Rattle.text.specs.Bytes.{Bytes}
-use Rattle.json.specs.Tree.{Member, object}
-use Rattle.json.specs.Compact.{compact}
+use Rattle.json_text.specs.Tree.{Member, object}
+use Rattle.json_text.specs.Compact.{compact}
 use Rattle.line.specs.Grammar.{Line}
 use Rattle.home.specs.StandsFor.{Stand, AllStandFor, MapsOf, json_of}
 use Rattle.home.specs.Reasons.{KeptByReason}

@@ -7,7 +7,7 @@ use Rattle.text.specs.Choice.{pick, with-some, is_some}
 use Rattle.text.specs.Bytes.{Bytes, ascii, is, any, all, empty, same, among, lowered, begins, is_digit, each}
 use Rattle.text.specs.Decimal.{number}
 use Rattle.text.specs.Reader.{first}
-use Rattle.json.specs.Read.{Reading, tree, refused, reading}
+use Rattle.json_text.specs.Read.{Reading, tree, refused, reading}
 use Rattle.line.specs.Class.{is_key}
 use Rattle.line.specs.Grammar.{Line}
 use Rattle.line.specs.Params.{values_named, only_named, value_type, besides_value}

@@ -9,8 +9,8 @@ use Prim.Native.Char.{code}
 use Rattle.text.specs.Choice.{pick}
 use Rattle.text.specs.Bytes.{Bytes, ascii, same, among, lowered, flat, each}
 use Rattle.text.specs.Decimal.{decimal}
-use Rattle.json.specs.Tree.{Json, jstr, jnum, jtrue, Member, member, object, array}
-use Rattle.json.specs.Read.{tree, reading}
+use Rattle.json_text.specs.Tree.{Json, jstr, jnum, jtrue, Member, member, object, array}
+use Rattle.json_text.specs.Read.{tree, reading}
 use Rattle.line.specs.Grammar.{Param, param, Line}
 use Rattle.line.specs.Params.{values_named, value_type, besides_value, merged}
 use Rattle.line.specs.Text.{read_text, split_text}
@@ -26,7 +26,7 @@ pub data Stand : Type 0 where
   components : List Json → Stand  -- name.components
   an-entry : (map : Bytes) (ids : List Bytes) (entry : List Member) → Stand  -- of that top-level member; the PROP-ID, where there is one
   a-member : Bytes → Json → Stand  -- a top-level member
-  a-prop : Json → Stand  -- an entry of v_card_props: the line is kept
+  a-prop : Json → Stand  -- an entry of vCardProps: the line is kept
 
 -- ---- members, and members that are there or not
 

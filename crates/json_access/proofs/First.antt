@@ -9,9 +9,9 @@ use Rattle.text.specs.Reader.{got, under, when, one}
 use Rattle.text.specs.Places.{byte_at, Passes}
 use Rattle.text.proofs.Places.{on-yes, on-no, when-yes, when-no}
 use Rattle.text.proofs.Fine.{got-what, bind_inv, under-inv}
-use Rattle.json.specs.Grammar.{is_space}
-use Rattle.json.specs.Tree.{Json, jnull, jtrue, jfalse, jnum, jstr, jarr, jobj}
-use Rattle.json.specs.Syntax.{characters, number, four, scalar, elements, pairs, value}
+use Rattle.json_text.specs.Grammar.{is_space}
+use Rattle.json_text.specs.Tree.{Json, jnull, jtrue, jfalse, jnum, jstr, jarr, jobj}
+use Rattle.json_text.specs.Syntax.{characters, number, four, scalar, elements, pairs, value}
 use Rattle.json_scan.proofs.First.{as-scalar, as-array, as-object}
 use Rattle.json_access.specs.declared.Kind.TheVariants.{Null, True, False, Number, String, Array, Object}
 use Rattle.json_access.specs.Access.{kind_of, TellsKind}

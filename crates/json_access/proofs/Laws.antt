@@ -13,11 +13,11 @@ use Rattle.text.specs.Reader.{Got, got, past}
 use Rattle.text.specs.Places.{Gives, Passes}
 use Rattle.text.proofs.Places.{by_bool, at-bad, at_next}
 use Rattle.text.proofs.Fine.{not-bad, got-rest, bind_inv}
-use Rattle.json.specs.Grammar.{is_space}
-use Rattle.json.specs.Tree.{Json, jnum}
-use Rattle.json.specs.Syntax.{skip, token, characters, name, scalar, value}
-use Rattle.json.specs.Strings.{decode}
-use Rattle.json.proofs.AsSpelled.{number_spelled}
+use Rattle.json_text.specs.Grammar.{is_space}
+use Rattle.json_text.specs.Tree.{Json, jnum}
+use Rattle.json_text.specs.Syntax.{skip, token, characters, name, scalar, value}
+use Rattle.json_text.specs.Strings.{decode}
+use Rattle.json_text.proofs.AsSpelled.{number_spelled}
 use Rattle.json_marks.proofs.Laws.{skip-to}
 use Rattle.json_skip.specs.Skip.{quoted, Leaves}
 use Rattle.json_skip.proofs.Strings.{characters-leads}

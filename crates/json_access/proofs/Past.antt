@@ -7,7 +7,7 @@ use lib.ListN.{length, drop, drop_of_length-le}
 use Rattle.text.specs.Bytes.{Bytes}
 use Rattle.text.specs.Reader.{bad, on, past, one}
 use Rattle.text.proofs.Fine.{not-bad}
-use Rattle.json.specs.Syntax.{skip, token, name, value}
+use Rattle.json_text.specs.Syntax.{skip, token, name, value}
 use Rattle.json_skip.proofs.Ends.{no_value}
 use Rattle.json_access.specs.declared.Part.{Part}
 use Rattle.json_access.specs.declared.Head.{Head}

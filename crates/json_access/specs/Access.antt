@@ -4,9 +4,9 @@ use Rattle.text.specs.declared.Read.{Read}
 use Rattle.text.specs.declared.Read.TheVariants.{Next, Bad}
 use Rattle.text.specs.Bytes.{Bytes}
 use Rattle.text.specs.Reader.{got}
-use Rattle.json.specs.Tree.{Json, jnull, jtrue, jfalse, jnum, jstr, jarr, jobj}
-use Rattle.json.specs.Syntax.{skip, name, value}
-use Rattle.json.specs.Strings.{decode}
+use Rattle.json_text.specs.Tree.{Json, jnull, jtrue, jfalse, jnum, jstr, jarr, jobj}
+use Rattle.json_text.specs.Syntax.{skip, name, value}
+use Rattle.json_text.specs.Strings.{decode}
 use Rattle.json_strings.specs.Decoded.{decoded_at}
 use Rattle.json_access.specs.declared.Part.{Part}
 use Rattle.json_access.specs.declared.Head.{Head}

@@ -20,8 +20,8 @@ use Rattle.text.specs.Places.{byte_at, Gives, GivesT}
 use Rattle.text.proofs.Places.{by_bool, byte-default, here, bad-here, by-under, by-on, not_on, on-yes, on-no, same_turn, under_more, under-bad, more-here, last-here, bad-turn, same-as, up}
 use Rattle.text.proofs.Cases.{in_between}
 use Rattle.text.proofs.Fine.{loop-more, loop-last, loop-bad}
-use Rattle.json.specs.Syntax.{escape, is_lead, leads, tail_bytes, following, character, characters}
-use Rattle.json.proofs.Fine.{character-fine}
+use Rattle.json_text.specs.Syntax.{escape, is_lead, leads, tail_bytes, following, character, characters}
+use Rattle.json_text.proofs.Fine.{character-fine}
 use Rattle.json_escapes.proofs.Characters.{wide-bytes}
 use Rattle.json_chars.specs.Strings.{ToEnd, Unmarked}
 

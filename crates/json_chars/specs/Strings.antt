@@ -4,7 +4,7 @@ use Prim.Native.Char.{code}
 use Rattle.text.specs.declared.Read.{Read}
 use Rattle.text.specs.Bytes.{Bytes}
 use Rattle.text.specs.Places.{Gives}
-use Rattle.json.specs.Syntax.{characters}
+use Rattle.json_text.specs.Syntax.{characters}
 
 -- a string read from `i` on ends where it ends read from `at` on
 abbrev pub ToEnd : Bytes → ℕ → ℕ → Type 0

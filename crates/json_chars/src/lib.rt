@@ -1,8 +1,10 @@
 // Characters and strings of a JSON text, read by place.
+#![tactic(auto)]
+
 ghost use Rattle.std.specs.Prelude.{◌≤◌, length, drop};
 ghost use Rattle.text.specs.Utf8.{due};
 ghost use Rattle.text.specs.Places.{Gives, GivesT};
-ghost use Rattle.json.specs.Syntax.{tail_bytes, following, character, characters};
+ghost use Rattle.json_text.specs.Syntax.{tail_bytes, following, character, characters};
 ghost use Rattle.json_chars.specs.Strings.{ToEnd, Unmarked};
 
 use json_escapes::{Value, escape_at};

@@ -10,9 +10,9 @@ use Rattle.text.specs.Bytes.{Bytes, is, between, is_digit}
 use Rattle.text.specs.Reader.{Got, got, bad, bind, first, on, taken, past, one, some_of}
 use Rattle.text.proofs.Cases.{by_bool, not-both, and_left, and_right, not-true, implied, beyond}
 use Rattle.text.proofs.Readers.{not-bad, got-rest, got-what, bind_inv, under-inv, on-inv, when-inv}
-use Rattle.json.specs.Grammar.{is_space, is_e}
-use Rattle.json.specs.Tree.{Json}
-use Rattle.json.specs.Syntax.{skip, opt, digits, int, frac, sign, exp, number, four}
+use Rattle.json_text.specs.Grammar.{is_space, is_e}
+use Rattle.json_text.specs.Tree.{Json}
+use Rattle.json_text.specs.Syntax.{skip, opt, digits, int, frac, sign, exp, number, four}
 use Rattle.json_compact.specs.Squeezed.{squeezed}
 use Rattle.json_compact.proofs.Firsts.{byte-first, squeezed-skip}
 

@@ -7,9 +7,9 @@ use lib.Dec.{eqb}
 use Rattle.text.specs.Bytes.{Bytes, between}
 use Rattle.text.specs.Reader.{got, on, past}
 use Rattle.text.proofs.Cases.{by_bool}
-use Rattle.json.specs.Grammar.{is_space}
-use Rattle.json.specs.Strings.{decode}
-use Rattle.json.specs.Syntax.{skip, characters}
+use Rattle.json_text.specs.Grammar.{is_space}
+use Rattle.json_text.specs.Strings.{decode}
+use Rattle.json_text.specs.Syntax.{skip, characters}
 use Rattle.json_compact.specs.Squeezed.{in_quotes, piece, squeezed}
 use Rattle.json_compact.proofs.Pieces.{squeezed-on}
 

@@ -13,12 +13,12 @@ use Rattle.text.specs.declared.Read.TheVariants.{Next, Bad}
 use Rattle.text.proofs.Cases.{by_bool}
 use Rattle.text.proofs.Places.{byte-default, gives_as, at_next, at-bad, on-yes, on-no}
 use Rattle.text.proofs.Readers.{not-bad, got-what, under-inv, Takes, takes-on, takes-got, takes-under, takes-less, takes-bad}
-use Rattle.json.specs.Grammar.{is_space}
-use Rattle.json.specs.Strings.{decode}
-use Rattle.json.specs.Syntax.{characters}
-use Rattle.json.proofs.Fine.{space-256, below-256}
-use Rattle.json.proofs.Takes.{takes-characters}
-use Rattle.json.specs.Compact.{quoted}
+use Rattle.json_text.specs.Grammar.{is_space}
+use Rattle.json_text.specs.Strings.{decode}
+use Rattle.json_text.specs.Syntax.{characters}
+use Rattle.json_text.proofs.Fine.{space-256, below-256}
+use Rattle.json_text.proofs.Takes.{takes-characters}
+use Rattle.json_text.specs.Compact.{quoted}
 use Rattle.json_strings.specs.Decoded.{text_at}
 use Rattle.json_strings.proofs.Laws.{decoded-is}
 use Rattle.json_compact.specs.Squeezed.{in_quotes, piece, onward, squeezed_in, squeezed}

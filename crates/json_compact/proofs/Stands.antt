@@ -17,10 +17,10 @@ use Rattle.text.specs.declared.Read.TheVariants.{Next}
 use Rattle.text.proofs.Places.{byte-default, at_next}
 use Rattle.text.proofs.Cases.{by_bool, between-true}
 use Rattle.text.proofs.Readers.{not-bad, got-rest, got-what, under-inv}
-use Rattle.json.specs.Grammar.{is_space}
-use Rattle.json.specs.Strings.{before, decode_after, decode}
-use Rattle.json.specs.Compact.{spelled_all, quoted}
-use Rattle.json.specs.Syntax.{characters}
+use Rattle.json_text.specs.Grammar.{is_space}
+use Rattle.json_text.specs.Strings.{before, decode_after, decode}
+use Rattle.json_text.specs.Compact.{spelled_all, quoted}
+use Rattle.json_text.specs.Syntax.{characters}
 use Rattle.output.proofs.Laws.{split}
 use Rattle.json_chars.specs.Strings.{ToEnd, Unmarked}
 use Rattle.json_chars.proofs.Laws.{char-end, string-stop}

@@ -14,12 +14,12 @@ use Rattle.text.specs.Bytes.{Bytes, is, between}
 use Rattle.text.specs.Reader.{Got, got, bad, first, on, past}
 use Rattle.text.proofs.Cases.{by_bool}
 use Rattle.text.proofs.Readers.{not-bad, got-what, bind_inv, when-inv}
-use Rattle.json.specs.Grammar.{is_space}
-use Rattle.json.specs.Tree.{Json}
-use Rattle.json.specs.Syntax.{skip, value, text}
-use Rattle.json.specs.Strings.{decoded, distinct_names}
-use Rattle.json.specs.Compact.{written, compact}
-use Rattle.json.specs.Read.{tree, refused, sound, reading_of, reading}
+use Rattle.json_text.specs.Grammar.{is_space}
+use Rattle.json_text.specs.Tree.{Json}
+use Rattle.json_text.specs.Syntax.{skip, value, text}
+use Rattle.json_text.specs.Strings.{decoded, distinct_names}
+use Rattle.json_text.specs.Compact.{written, compact}
+use Rattle.json_text.specs.Read.{tree, refused, sound, reading_of, reading}
 use Rattle.output.specs.declared.Wrote.{Wrote}
 use Rattle.output.specs.Put.{Puts}
 use Rattle.output.proofs.Laws.{puts-as}

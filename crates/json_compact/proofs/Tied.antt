@@ -13,11 +13,11 @@ use Rattle.text.specs.Reader.{Got, got, bad, under, first, on, when, Step, more,
 use Rattle.text.proofs.Cases.{not-both}
 use Rattle.text.proofs.Choices.{some_same, map-inv}
 use Rattle.text.proofs.Readers.{not-bad, not_last, got-rest, got-what, bind_inv, under-inv, on-inv, when-inv}
-use Rattle.json.specs.Grammar.{is_space}
-use Rattle.json.specs.Tree.{Json, jnull, jtrue, jfalse, jnum, jstr}
-use Rattle.json.specs.Syntax.{skip, token, characters, number, four, scalar, sep, name}
-use Rattle.json.specs.Strings.{decode, decoded}
-use Rattle.json.specs.Compact.{spelled_all, quoted, written}
+use Rattle.json_text.specs.Grammar.{is_space}
+use Rattle.json_text.specs.Tree.{Json, jnull, jtrue, jfalse, jnum, jstr}
+use Rattle.json_text.specs.Syntax.{skip, token, characters, number, four, scalar, sep, name}
+use Rattle.json_text.specs.Strings.{decode, decoded}
+use Rattle.json_text.specs.Compact.{spelled_all, quoted, written}
 use Rattle.json_compact.specs.Squeezed.{in_quotes, squeezed}
 use Rattle.json_compact.proofs.Firsts.{string-first, squeezed-skip}
 use Rattle.json_compact.proofs.Copied.{Copied, plain, copied_is, copied-skip, copies-number, copied-one, copied-four}

@@ -11,10 +11,10 @@ use Rattle.text.specs.Bytes.{Bytes, is}
 use Rattle.text.specs.Reader.{got, under, first, on, more, last, loop}
 use Rattle.text.proofs.Choices.{some_same, map-inv, both-inv}
 use Rattle.text.proofs.Readers.{got-rest, got-what, bind_inv, under-inv, on-inv}
-use Rattle.json.specs.Tree.{Json, jarr, jobj, Elems, enil, econs, Members, mnil, mcons}
-use Rattle.json.specs.Syntax.{skip, name, scalar, item, elements, pair, pairs, value}
-use Rattle.json.specs.Strings.{decode, decoded, decoded_elems, decoded_members}
-use Rattle.json.specs.Compact.{written, written_elems, elems_after, written_members, members_after}
+use Rattle.json_text.specs.Tree.{Json, jarr, jobj, Elems, enil, econs, Members, mnil, mcons}
+use Rattle.json_text.specs.Syntax.{skip, name, scalar, item, elements, pair, pairs, value}
+use Rattle.json_text.specs.Strings.{decode, decoded, decoded_elems, decoded_members}
+use Rattle.json_text.specs.Compact.{written, written_elems, elems_after, written_members, members_after}
 use Rattle.json_compact.specs.Squeezed.{squeezed}
 use Rattle.json_compact.proofs.Firsts.{squeezed-skip}
 use Rattle.json_compact.proofs.Copied.{Copied, copied_is}

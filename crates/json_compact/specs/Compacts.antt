@@ -4,9 +4,9 @@ use Rattle.text.specs.Bytes.{Bytes}
 use Rattle.text.specs.Reader.{Got, got}
 use Rattle.output.specs.declared.Wrote.{Wrote}
 use Rattle.output.specs.Put.{Puts}
-use Rattle.json.specs.Tree.{Json}
-use Rattle.json.specs.Compact.{compact}
-use Rattle.json.specs.Read.{tree, reading}
+use Rattle.json_text.specs.Tree.{Json}
+use Rattle.json_text.specs.Compact.{compact}
+use Rattle.json_text.specs.Read.{tree, reading}
 use Rattle.json_compact.specs.Squeezed.{squeezed}
 
 -- the piece that was read is written

@@ -5,10 +5,10 @@ use Prim.Native.Char.{code}
 use Rattle.text.specs.Choice.{pick, with-some}
 use Rattle.text.specs.Bytes.{Bytes, is, between, empty}
 use Rattle.text.specs.Reader.{Got, got, bad, under, on}
-use Rattle.json.specs.Grammar.{is_space}
-use Rattle.json.specs.Compact.{quoted}
-use Rattle.json.specs.Strings.{decode}
-use Rattle.json.specs.Syntax.{characters}
+use Rattle.json_text.specs.Grammar.{is_space}
+use Rattle.json_text.specs.Compact.{quoted}
+use Rattle.json_text.specs.Strings.{decode}
+use Rattle.json_text.specs.Syntax.{characters}
 
 -- a string in its quotes; the quotes alone where it stands for nothing
 abbrev pub in_quotes : Option Bytes → Bytes

@@ -13,8 +13,8 @@ use Rattle.text.specs.Utf8.{Due, start, due, broken, lead, by_row}
 use Rattle.text.specs.Reader.{Got, got, bad, under, on, Step, more, last, after, turns, loop}
 use Rattle.text.proofs.Places.{by_bool, Between-in}
 use Rattle.text.proofs.Fine.{Fine, not-bad, got-rest, got-what, bind_inv, under-inv, fine-got, fine-bad, fine-weak, fine-under, fine-on, fine-loop, loop-more, loop-last, loop-bad}
-use Rattle.json.specs.Syntax.{escape, is_lead, tail_bytes, following, character, characters}
-use Rattle.json.proofs.Fine.{escape-fine, below-256, plain-256, lead-256, due_below, lead-below}
+use Rattle.json_text.specs.Syntax.{escape, is_lead, tail_bytes, following, character, characters}
+use Rattle.json_text.proofs.Fine.{escape-fine, below-256, plain-256, lead-256, due_below, lead-below}
 use Rattle.json_escapes.specs.Units.{push, unit, units}
 
 any-256 : between 32 255 256 ≡ false

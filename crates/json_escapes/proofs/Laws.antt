@@ -12,8 +12,8 @@ use Rattle.text.specs.declared.Read.{Read}
 use Rattle.text.specs.declared.Read.TheVariants.{Next, Bad}
 use Rattle.text.specs.Places.{byte_at, Gives}
 use Rattle.text.proofs.Places.{by_bool, on-yes, on-no, Between-in, same-as}
-use Rattle.json.specs.Grammar.{is_hex, is_short}
-use Rattle.json.specs.Syntax.{hex_val, hex, hex4, short, escape}
+use Rattle.json_text.specs.Grammar.{is_hex, is_short}
+use Rattle.json_text.specs.Syntax.{hex_val, hex, hex4, short, escape}
 use Rattle.json_escapes.specs.declared.Value.{Value}
 use Rattle.json_escapes.specs.declared.Value.TheVariants.{Of, Wrong}
 use Rattle.json_escapes.specs.Values.{value_of, ValueIn, Tells}

@@ -9,7 +9,7 @@ use Rattle.text.specs.Bytes.{Bytes, is, between}
 use Rattle.text.specs.Reader.{got, bad, under, last}
 use Rattle.text.specs.Places.{byte_at}
 use Rattle.text.proofs.Places.{on-yes, on-no}
-use Rattle.json.specs.Syntax.{escape}
+use Rattle.json_text.specs.Syntax.{escape}
 use Rattle.json_escapes.specs.Units.{push, unit}
 
 module _ (s : Bytes) (i b : ℕ) (e : b ≡ byte_at s i) where

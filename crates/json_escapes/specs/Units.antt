@@ -3,8 +3,8 @@ use Rattle.std.specs.Prelude.{[], ℕ, ◌≤◌, ◌<◌, drop}
 use Prim.Native.Char.{code}
 use Rattle.text.specs.Bytes.{Bytes, is, between}
 use Rattle.text.specs.Reader.{Got, got, bad, under, on, Step, last, loop}
-use Rattle.json.specs.Syntax as syntax
-use Rattle.json.specs.Syntax.{escape}
+use Rattle.json_text.specs.Syntax as syntax
+use Rattle.json_text.specs.Syntax.{escape}
 use Rattle.json_escapes.specs.declared.Piece.{Piece}
 use Rattle.json_escapes.specs.declared.Piece.TheVariants.{Of, End, Wrong}
 

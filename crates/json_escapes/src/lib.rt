@@ -1,7 +1,9 @@
-// The units of a JSON string: bytes, and what its escapes stand for (the numbers of \u_xxxx), with where they end.
+// The units of a JSON string: bytes, and what its escapes stand for (the numbers of \uXXXX), with where they end.
+#![tactic(auto)]
+
 ghost use Rattle.std.specs.Prelude.{◌≡◌, true, ◌≤◌, ◌<◌, length, drop};
-ghost use Rattle.json.specs.Grammar.{is_hex, is_short};
-ghost use Rattle.json.specs.Syntax.{hex_val, hex, hex4, short, escape};
+ghost use Rattle.json_text.specs.Grammar.{is_hex, is_short};
+ghost use Rattle.json_text.specs.Syntax.{hex_val, hex, hex4, short, escape};
 ghost use Rattle.json_escapes.specs.Values.{Tells};
 ghost use Rattle.text.specs.Bytes.{between};
 ghost use Rattle.json_escapes.specs.Units.{unit, unit_of, UnitIn};
@@ -176,7 +178,7 @@ pub fn escape_at(s: &[u8], at: usize) -> Value
     Value::Wrong(at)
 }
 
-// A unit of a string and where the next one starts: a byte, or 256 + v for \u_xxxx; the end of the string; or neither.
+// A unit of a string and where the next one starts: a byte, or 256 + v for \uXXXX; the end of the string; or neither.
 #[derive(Drop)]
 pub enum Piece {
     Of { unit: u32, next: usize },

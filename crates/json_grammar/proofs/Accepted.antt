@@ -13,9 +13,9 @@ use Rattle.text.proofs.Cases.{and_left, and_right}
 use Rattle.text.proofs.Lists.{all_append}
 use Rattle.text.proofs.Characters.{is_byte}
 use Rattle.text.proofs.Readers.{not-bad, got-rest, bind_inv, when-inv}
-use Rattle.json.specs.Tree.{Json, jnull, jnum}
-use Rattle.json.specs.Grammar.{Exactly, ◌then◌, is_space, is_e, Ws, Value, Text}
-use Rattle.json.specs.Syntax.{skip, opt, int, frac, exp, number, scalar, value, text}
+use Rattle.json_text.specs.Tree.{Json, jnull, jnum}
+use Rattle.json_text.specs.Grammar.{Exactly, ◌then◌, is_space, is_e, Ws, Value, Text}
+use Rattle.json_text.specs.Syntax.{skip, opt, int, frac, exp, number, scalar, value, text}
 use Rattle.json_grammar.proofs.Forms.{Reads, reads-got, reads-bad, reads_as, reads-bind}
 use Rattle.json_grammar.proofs.Tests.{reads-when}
 use Rattle.json_grammar.proofs.Lists.{no-ws}

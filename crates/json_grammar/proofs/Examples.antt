@@ -2,9 +2,9 @@
 use mathlib.Core.Path.{refl}
 use mathlib.Core.List.{[], ◌∷◌}
 use Rattle.text.specs.Bytes.{ascii}
-use Rattle.json.specs.Tree.{jarr, jnum, jobj, enil, econs, mcons, mnil}
-use Rattle.json.specs.Grammar.{Text, FirstBad}
-use Rattle.json.proofs.Opened.{json-opened}
+use Rattle.json_text.specs.Tree.{jarr, jnum, jobj, enil, econs, mcons, mnil}
+use Rattle.json_text.specs.Grammar.{Text, FirstBad}
+use Rattle.json_text.proofs.Opened.{json-opened}
 use Rattle.json_grammar.proofs.Accepted.{accepts-only}
 use Rattle.json_grammar.proofs.Place.{place-first}
 

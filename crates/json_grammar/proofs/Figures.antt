@@ -10,9 +10,9 @@ use Rattle.text.specs.Reader.{got, bind, under, first}
 use Rattle.text.proofs.Cases.{by_bool, not-both, not-true, implied, other, tests, beyond}
 use Rattle.text.proofs.Lists.{all_cons}
 use Rattle.text.proofs.Readers.{some-of-run}
-use Rattle.json.specs.Grammar.{One, Maybe, Many, is_e, is_sign, Digits, Int, Frac, Exp, Number}
-use Rattle.json.specs.Syntax.{opt, digits, int, frac, sign, exp, number}
-use Rattle.json.proofs.Numbers.{Stops, is_numeral}
+use Rattle.json_text.specs.Grammar.{One, Maybe, Many, is_e, is_sign, Digits, Int, Frac, Exp, Number}
+use Rattle.json_text.specs.Syntax.{opt, digits, int, frac, sign, exp, number}
+use Rattle.json_text.proofs.Numbers.{Stops, is_numeral}
 use Rattle.json_grammar.proofs.Tests.{on-yes, on-no, many-all}
 use Rattle.json_grammar.proofs.Rows.{one-is}
 use Rattle.json_grammar.proofs.Gives.{Gives, gives-bind, gives-last}

@@ -6,12 +6,12 @@ use Prim.Native.Nat.{ℕ, zero, suc}
 use Rattle.text.specs.Bytes.{Bytes}
 use Rattle.text.specs.Reader.{Got, got, bind, under, Step, more, last, after, turns, loop}
 use Rattle.text.proofs.Readers.{Moves, not-bad, bind_inv, loop-enough, turns_more, turns-last}
-use Rattle.json.specs.Tree.{jnull, jtrue, jfalse, jnum, jstr}
-use Rattle.json.specs.Grammar.{Lang, ◌then◌, Many, none_more, one_more, Ws, Mark, String, Scalar, Value}
-use Rattle.json.specs.Syntax.{skip, token, name, value}
-use Rattle.json.proofs.Values.{token-quote, token-colon}
-use Rattle.json.proofs.Numbers.{Stops}
-use Rattle.json.proofs.Values.{lit-null, lit-true, lit-false, a-string, a-number}
+use Rattle.json_text.specs.Tree.{jnull, jtrue, jfalse, jnum, jstr}
+use Rattle.json_text.specs.Grammar.{Lang, ◌then◌, Many, none_more, one_more, Ws, Mark, String, Scalar, Value}
+use Rattle.json_text.specs.Syntax.{skip, token, name, value}
+use Rattle.json_text.proofs.Values.{token-quote, token-colon}
+use Rattle.json_text.proofs.Numbers.{Stops}
+use Rattle.json_text.proofs.Values.{lit-null, lit-true, lit-false, a-string, a-number}
 use Rattle.json_grammar.proofs.Rows.{one-is}
 use Rattle.json_grammar.proofs.Gives.{Runs, characters-all}
 use Rattle.json_grammar.proofs.Figures.{number-all, number-begins}

@@ -6,7 +6,7 @@ use Prim.Native.Nat.{ℕ}
 use Rattle.text.specs.Bytes.{Bytes}
 use Rattle.text.specs.Reader.{Got, got, bad, bind, under, first}
 use Rattle.text.proofs.Readers.{not-bad, got-rest, got-what, bind_inv, under-inv}
-use Rattle.json.specs.Grammar.{Lang, ◌then◌}
+use Rattle.json_text.specs.Grammar.{Lang, ◌then◌}
 
 -- nothing, or what can be completed
 abbrev pub Short : {A : Type 0} → (A → Lang) → Lang

@@ -13,9 +13,9 @@ use Rattle.text.specs.Reader.{Got, got, bind, under, on, Step, more, last, turns
 use Rattle.text.proofs.Cases.{by_bool, not-both, implied, other, tests, testing, beyond}
 use Rattle.text.proofs.Characters.{utf8-run, run-utf8, not_start, lead-no-start}
 use Rattle.text.proofs.Readers.{takes-moves, loop-enough, turns_more, turns-last}
-use Rattle.json.specs.Grammar.{Lang, One, ◌then◌, Many, none_more, one_more, is_hex, is_short, is_plain, Wide, Character}
-use Rattle.json.specs.Syntax.{hex_val, hex, hex4, short, escape, is_lead, tail_bytes, following, push, character, characters}
-use Rattle.json.proofs.Takes.{takes-character}
+use Rattle.json_text.specs.Grammar.{Lang, One, ◌then◌, Many, none_more, one_more, is_hex, is_short, is_plain, Wide, Character}
+use Rattle.json_text.specs.Syntax.{hex_val, hex, hex4, short, escape, is_lead, tail_bytes, following, push, character, characters}
+use Rattle.json_text.proofs.Takes.{takes-character}
 use Rattle.json_grammar.proofs.Tests.{on-yes, on-no}
 use Rattle.json_grammar.proofs.Turns.{Loop}
 use Rattle.json_grammar.proofs.Rows.{one-is}

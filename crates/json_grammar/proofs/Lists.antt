@@ -6,7 +6,7 @@ use mathlib.Core.Logic.{inl, inr}
 use Prim.Native.Nat.{ℕ}
 use Rattle.text.specs.Choice.{pick}
 use Rattle.text.specs.Bytes.{Bytes, is}
-use Rattle.json.specs.Grammar.{Lang, One, ◌then◌, ◌or◌, Maybe, Many, none_more, one_more, Ws, Mark, String, Named}
+use Rattle.json_text.specs.Grammar.{Lang, One, ◌then◌, ◌or◌, Maybe, Many, none_more, one_more, Ws, Mark, String, Named}
 use Rattle.json_grammar.proofs.Turns.{Loop}
 use Rattle.json_grammar.proofs.Rows.{many-append}
 use Rattle.json_grammar.proofs.Units.{Turn}

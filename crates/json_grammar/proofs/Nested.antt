@@ -10,10 +10,10 @@ use Rattle.text.specs.Choice.{pick}
 use Rattle.text.specs.Bytes.{Bytes, is}
 use Rattle.text.specs.Reader.{Got, Step, more, last}
 use Rattle.text.proofs.Readers.{Takes}
-use Rattle.json.specs.Tree.{Json, jnull, jarr, jobj, Elems, enil, econs, Members, mnil, mcons}
-use Rattle.json.specs.Grammar.{Lang, One, ◌then◌, ◌or◌, Many, none_more, is_space, Ws, Mark, String, Array, Named, Object, Value}
-use Rattle.json.specs.Syntax.{skip, token, sep, name, item, elements, pair, pairs, value}
-use Rattle.json.proofs.Takes.{takes-item, takes-pair, takes-value}
+use Rattle.json_text.specs.Tree.{Json, jnull, jarr, jobj, Elems, enil, econs, Members, mnil, mcons}
+use Rattle.json_text.specs.Grammar.{Lang, One, ◌then◌, ◌or◌, Many, none_more, is_space, Ws, Mark, String, Array, Named, Object, Value}
+use Rattle.json_text.specs.Syntax.{skip, token, sep, name, item, elements, pair, pairs, value}
+use Rattle.json_text.proofs.Takes.{takes-item, takes-pair, takes-value}
 use Rattle.json_grammar.proofs.Forms.{Some, Reads, reads-got, reads_as, reads-under, reads-bind}
 use Rattle.json_grammar.proofs.Tests.{reads_on, reads-past}
 use Rattle.json_grammar.proofs.Turns.{ends, Loop, reads-loop}

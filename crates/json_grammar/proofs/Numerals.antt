@@ -9,9 +9,9 @@ use borrow.Author.Tests.{eqb-true, eq-eqb}
 use Rattle.text.specs.Bytes.{Bytes, ascii, is, between, is_digit}
 use Rattle.text.specs.Reader.{first}
 use Rattle.text.proofs.Cases.{implied, tests, beyond}
-use Rattle.json.specs.Tree.{Json, jnull, jtrue, jfalse, jnum, jstr}
-use Rattle.json.specs.Grammar.{One, Exactly, ◌then◌, Maybe, none_more, is_e, is_sign, Digits, Int, Frac, Exp, Number, String, Scalar}
-use Rattle.json.specs.Syntax.{opt, digits, int, frac, sign, exp, number, four, scalar}
+use Rattle.json_text.specs.Tree.{Json, jnull, jtrue, jfalse, jnum, jstr}
+use Rattle.json_text.specs.Grammar.{One, Exactly, ◌then◌, Maybe, none_more, is_e, is_sign, Digits, Int, Frac, Exp, Number, String, Scalar}
+use Rattle.json_text.specs.Syntax.{opt, digits, int, frac, sign, exp, number, four, scalar}
 use Rattle.json_grammar.proofs.Forms.{Reads, reads-got, reads_as, reads-under}
 use Rattle.json_grammar.proofs.Tests.{reads_on, reads-when, reads-some-of}
 use Rattle.json_grammar.proofs.Turns.{Loop}

@@ -15,11 +15,11 @@ use Rattle.text.specs.Reader.{Got, got, bad}
 use Rattle.text.proofs.Cases.{by_bool, tests}
 use Rattle.text.proofs.Characters.{is_byte}
 use Rattle.text.proofs.Readers.{not-bad}
-use Rattle.json.specs.Tree.{Json}
-use Rattle.json.specs.Grammar.{Text, Completes, FirstBad}
-use Rattle.json.specs.Syntax.{text}
-use Rattle.json.specs.Strings.{decoded, distinct_names}
-use Rattle.json.specs.Read.{tree, refused, sound, reading_of, reading}
+use Rattle.json_text.specs.Tree.{Json}
+use Rattle.json_text.specs.Grammar.{Text, Completes, FirstBad}
+use Rattle.json_text.specs.Syntax.{text}
+use Rattle.json_text.specs.Strings.{decoded, distinct_names}
+use Rattle.json_text.specs.Read.{tree, refused, sound, reading_of, reading}
 use Rattle.json_grammar.proofs.Forms.{Short}
 use Rattle.json_grammar.proofs.Lists.{no-ws}
 use Rattle.json_grammar.proofs.Nested.{has_value}

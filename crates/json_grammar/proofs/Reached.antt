@@ -6,12 +6,12 @@ use Prim.Native.Nat.{ℕ, zero, suc}
 use Rattle.text.specs.Bytes.{Bytes, is, between}
 use Rattle.text.specs.Reader.{got, under, on, when, more, last, loop, past}
 use Rattle.text.proofs.Readers.{bind_inv, takes-moves}
-use Rattle.json.specs.Tree.{Json, jarr, jobj, Elems, enil, econs, Members, mnil, mcons}
-use Rattle.json.specs.Grammar.{◌then◌, Maybe, is_space, is_e, Ws, Mark, String, Array, Named, Object, Value, Text}
-use Rattle.json.specs.Syntax.{skip, sep, item, elements, pair, pairs, value, text}
-use Rattle.json.proofs.Takes.{takes-item, takes-pair, takes-value}
-use Rattle.json.proofs.Numbers.{Stops}
-use Rattle.json.proofs.Values.{an-array, an-object, no-elems, no_pairs}
+use Rattle.json_text.specs.Tree.{Json, jarr, jobj, Elems, enil, econs, Members, mnil, mcons}
+use Rattle.json_text.specs.Grammar.{◌then◌, Maybe, is_space, is_e, Ws, Mark, String, Array, Named, Object, Value, Text}
+use Rattle.json_text.specs.Syntax.{skip, sep, item, elements, pair, pairs, value, text}
+use Rattle.json_text.proofs.Takes.{takes-item, takes-pair, takes-value}
+use Rattle.json_text.proofs.Numbers.{Stops}
+use Rattle.json_text.proofs.Values.{an-array, an-object, no-elems, no_pairs}
 use Rattle.json_grammar.proofs.Tests.{on-no}
 use Rattle.json_grammar.proofs.Rows.{one-is}
 use Rattle.json_grammar.proofs.Lists.{Items}

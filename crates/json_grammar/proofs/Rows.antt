@@ -7,7 +7,7 @@ use lib.Dec.{eqb}
 use borrow.Author.Tests.{eqb-true}
 use Rattle.text.specs.Bytes.{Bytes, is}
 use Rattle.text.specs.Reader.{Got, got, bad, bind, under, on, one}
-use Rattle.json.specs.Grammar.{Lang, One, ◌then◌, Many, none_more, one_more}
+use Rattle.json_text.specs.Grammar.{Lang, One, ◌then◌, Many, none_more, one_more}
 use Rattle.json_grammar.proofs.Forms.{Reads, reads-got, reads-bad, reads-under, reads-bind}
 use Rattle.json_grammar.proofs.Tests.{reads_on, reads_same}
 

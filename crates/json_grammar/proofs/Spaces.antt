@@ -9,10 +9,10 @@ use Rattle.text.specs.Bytes.{Bytes, between, is_digit}
 use Rattle.text.specs.Reader.{Got, got, bad, first, on, when, more, last, taken, past, one, some_of}
 use Rattle.text.proofs.Cases.{by_bool, by_keys_p, not-both}
 use Rattle.text.proofs.Readers.{not-bad, taken-all}
-use Rattle.json.specs.Tree.{Json}
-use Rattle.json.specs.Grammar.{One, Many, none_more, one_more, is_space, is_e, Ws, Mark}
-use Rattle.json.specs.Syntax.{skip, token, opt, digits, int, number, scalar, sep, name, elements, pairs, value}
-use Rattle.json.proofs.Numbers.{Stops}
+use Rattle.json_text.specs.Tree.{Json}
+use Rattle.json_text.specs.Grammar.{One, Many, none_more, one_more, is_space, is_e, Ws, Mark}
+use Rattle.json_text.specs.Syntax.{skip, token, opt, digits, int, number, scalar, sep, name, elements, pairs, value}
+use Rattle.json_text.proofs.Numbers.{Stops}
 use Rattle.json_grammar.proofs.Tests.{taken-past, all-many}
 use Rattle.json_grammar.proofs.Rows.{one-is}
 

@@ -9,7 +9,7 @@ use Rattle.text.specs.Reader.{Got, got, bad, under, first, on, when, taken, past
 use Rattle.text.proofs.Cases.{by_bool}
 use Rattle.text.proofs.Lists.{all_head, all_tail, all_cons}
 use Rattle.text.proofs.Readers.{got-rest, got-what, taken-run, past-run, taken-all}
-use Rattle.json.specs.Grammar.{Lang, One, ◌then◌, Many, none_more, one_more}
+use Rattle.json_text.specs.Grammar.{Lang, One, ◌then◌, Many, none_more, one_more}
 use Rattle.json_grammar.proofs.Forms.{Short, Some, Reads, not-got, first-append, first-cons, reads-bad, reads-under}
 
 -- ---- by the first byte

@@ -9,7 +9,7 @@ use lib.ListN.{length}
 use Rattle.text.specs.Bytes.{Bytes}
 use Rattle.text.specs.Reader.{Got, got, bad, first, Step, more, last, after, turns, loop}
 use Rattle.text.proofs.Readers.{not-bad, got-rest, got-what, bind_inv, under-inv, Takes}
-use Rattle.json.specs.Grammar.{Lang, ◌then◌, Many, none_more, one_more}
+use Rattle.json_text.specs.Grammar.{Lang, ◌then◌, Many, none_more, one_more}
 use Rattle.json_grammar.proofs.Forms.{Short, Reads, not-got, bind-bad, under-bad, first-append, first-cons}
 
 -- the last turn

@@ -13,9 +13,9 @@ use Rattle.text.specs.Utf8.{Due, start, due, broken, by_row, lead, tails, next, 
 use Rattle.text.specs.Reader.{first, Step, more, last}
 use Rattle.text.proofs.Cases.{by_bool, not-both, and_left, implied, tests, in_between, beyond}
 use Rattle.text.proofs.Characters.{utf8-run, run-utf8, lead_high, later, later-lead, later-bounds}
-use Rattle.json.specs.Grammar.{Lang, One, ◌then◌, ◌or◌, is_hex, is_short, is_plain, Wide, Character}
-use Rattle.json.specs.Syntax.{hex_val, hex, hex4, short, escape, is_lead, tail_bytes, following, push, character, characters}
-use Rattle.json.proofs.Takes.{takes-character}
+use Rattle.json_text.specs.Grammar.{Lang, One, ◌then◌, ◌or◌, is_hex, is_short, is_plain, Wide, Character}
+use Rattle.json_text.specs.Syntax.{hex_val, hex, hex4, short, escape, is_lead, tail_bytes, following, push, character, characters}
+use Rattle.json_text.proofs.Takes.{takes-character}
 use Rattle.json_grammar.proofs.Forms.{Reads, reads-got, reads-bad, reads-under}
 use Rattle.json_grammar.proofs.Tests.{reads_on}
 use Rattle.json_grammar.proofs.Turns.{ends, Loop, reads-loop}

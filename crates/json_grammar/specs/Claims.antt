@@ -2,9 +2,9 @@
 use Rattle.std.specs.Prelude.{◌≡◌, [], ◌↔◌, ℕ, ◌-◌, length}
 use Rattle.text.specs.Bytes.{Bytes}
 use Rattle.text.specs.Reader.{got, bad}
-use Rattle.json.specs.Grammar.{Text, FirstBad}
-use Rattle.json.specs.Tree.{Json}
-use Rattle.json.specs.Syntax.{text}
+use Rattle.json_text.specs.Grammar.{Text, FirstBad}
+use Rattle.json_text.specs.Tree.{Json}
+use Rattle.json_text.specs.Syntax.{text}
 
 -- it reads the texts of the grammar to their end, and no others
 abbrev pub ReadsGrammar : ℕ → Bytes → Type 0

@@ -7,7 +7,7 @@ use Prim.Native.Nat.{ℕ, suc}
 use Rattle.text.specs.Choice.{with-some}
 use Rattle.text.specs.Bytes.{Bytes, any, same, among}
 use Rattle.text.proofs.Same.{among_none}
-use Rattle.json.specs.Tree.{Json, Member as Named, member, as_object}
+use Rattle.json_text.specs.Tree.{Json, Member as Named, member, as_object}
 use Rattle.json_strings.specs.Decoded.{decoded_at, spells}
 use Rattle.json_access.specs.Access.{EndsAt}
 use Rattle.json_walk.specs.declared.Member.{Member}

@@ -3,7 +3,7 @@ use Rattle.std.specs.Prelude.{◌≡◌, Bool, false, List, map, ℕ, suc}
 use Rattle.std.proofs.Math.Option.{some}
 use Rattle.text.specs.Choice.{with-some}
 use Rattle.text.specs.Bytes.{Bytes, among}
-use Rattle.json.specs.Tree.{Json, Member, name_of, as_object}
+use Rattle.json_text.specs.Tree.{Json, Member, name_of, as_object}
 use Rattle.json_walk.specs.Walk.{json_at}
 
 -- a member has that name

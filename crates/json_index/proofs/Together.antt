@@ -14,7 +14,7 @@ use Rattle.text.specs.Bytes.{Bytes, between, same}
 use Rattle.text.specs.Places.{byte_at}
 use Rattle.text.proofs.Cases.{by_bool, between-true, beyond}
 use Rattle.text.proofs.Places.{byte-default}
-use Rattle.json.specs.Strings.{before}
+use Rattle.json_text.specs.Strings.{before}
 use Rattle.json_skip.specs.Skip.{quoted}
 use Rattle.json_strings.specs.Decoded.{decoded_at, spells}
 use Rattle.json_strings.proofs.Laws.{quote-at, bare-at, nothing-at}

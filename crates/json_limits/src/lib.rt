@@ -1,6 +1,8 @@
 // 01's limits of a JSON text.
 
 // How many bytes a text has at most: more are refused by 3.
+#![tactic(auto)]
+
 pub const ROOM: usize = 65536;
 
 // One byte more: a buffer of that length tells a text that is too long.

@@ -16,16 +16,16 @@ use Rattle.text.proofs.Cases.{by_bool, and_left, and_right}
 use Rattle.text.proofs.Choices.{some_same, map-inv, both-inv}
 use Rattle.text.proofs.Readers.{not-bad, got-what, bind_inv, under-inv, on-inv, when-inv}
 use Rattle.text.proofs.Same.{same-swap}
-use Rattle.json.specs.Tree.{Json, jnull, jtrue, jfalse, jnum, jstr, jarr, jobj, Members, mnil, mcons, members_of, as_object, field}
-use Rattle.json.specs.Syntax.{skip, name, scalar, elements, pair, pairs, value, text}
-use Rattle.json.specs.Strings.{decode, decoded, decoded_elems, decoded_members, names, distinct_names, distinct_members}
-use Rattle.json.specs.Read.{tree, refused, sound, reading_of, reading}
-use Rattle.json.specs.Lookup.{Span, span_of, spans, given, found, is_tree, room, look_up, part_of, Part as Found}
+use Rattle.json_text.specs.Tree.{Json, jnull, jtrue, jfalse, jnum, jstr, jarr, jobj, Members, mnil, mcons, members_of, as_object, field}
+use Rattle.json_text.specs.Syntax.{skip, name, scalar, elements, pair, pairs, value, text}
+use Rattle.json_text.specs.Strings.{decode, decoded, decoded_elems, decoded_members, names, distinct_names, distinct_members}
+use Rattle.json_text.specs.Read.{tree, refused, sound, reading_of, reading}
+use Rattle.json_text.specs.Lookup.{Span, span_of, spans, given, found, is_tree, room, look_up, part_of, Part as Found}
 use Rattle.json_access.specs.declared.Part.{Part}
 use Rattle.json_lookup.specs.Finds.{place_of}
-use Rattle.json.proofs.Fine.{value-fine}
-use Rattle.json.proofs.Sound.{Sound}
-use Rattle.json.proofs.Scalars.{scalar-gives}
+use Rattle.json_text.proofs.Fine.{value-fine}
+use Rattle.json_text.proofs.Sound.{Sound}
+use Rattle.json_text.proofs.Scalars.{scalar-gives}
 use Rattle.json_lookup.specs.Held.{member_of, value_of, Holds}
 use Rattle.json_lookup.proofs.Spans.{Spanned, spanned}
 use Rattle.json_lookup.proofs.Rests.{Ends, ends-then, ends-tail, ends-skip, ends-value, end-by-length, before-by-length}

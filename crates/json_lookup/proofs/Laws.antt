@@ -17,12 +17,12 @@ use Rattle.text.specs.Reader.{Got, got, bad, bind, first, on, when, Step, more, 
 use Rattle.text.specs.Places.{byte_at, GivesT}
 use Rattle.text.proofs.Places.{by_bool, on-yes, on-no}
 use Rattle.text.proofs.Fine.{Takes, got-what, bind_inv, under-inv, loop-more, loop-split}
-use Rattle.json.specs.Tree.{Json, jobj}
-use Rattle.json.specs.Syntax.{skip, name, sep, pair, value, text}
-use Rattle.json.specs.Strings.{decode}
-use Rattle.json.specs.Read.{Reading, tree, refused, reading_of, reading}
-use Rattle.json.specs.Lookup.{Span, span_of, spans, given, found, is_tree, room, look_up}
-use Rattle.json.proofs.Fine.{name-fine, value-fine, sep-fine}
+use Rattle.json_text.specs.Tree.{Json, jobj}
+use Rattle.json_text.specs.Syntax.{skip, name, sep, pair, value, text}
+use Rattle.json_text.specs.Strings.{decode}
+use Rattle.json_text.specs.Read.{Reading, tree, refused, reading_of, reading}
+use Rattle.json_text.specs.Lookup.{Span, span_of, spans, given, found, is_tree, room, look_up}
+use Rattle.json_text.proofs.Fine.{name-fine, value-fine, sep-fine}
 use Rattle.json_marks.proofs.Laws.{skip-to}
 use Rattle.json_strings.specs.Decoded.{decoded_at, spells}
 use Rattle.json_marks.proofs.Separators.{sep-adds, sep-go, sep-stop}

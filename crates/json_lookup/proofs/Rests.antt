@@ -12,9 +12,9 @@ use Rattle.text.specs.Bytes.{Bytes, is}
 use Rattle.text.specs.Reader.{got, bad, first, on, Step, more, last, past}
 use Rattle.text.proofs.Cases.{by_bool}
 use Rattle.text.proofs.Readers.{not-bad, got-rest, bind_inv, on-inv}
-use Rattle.json.specs.Grammar.{is_space}
-use Rattle.json.specs.Tree.{Json}
-use Rattle.json.specs.Syntax.{skip, token, characters, name, sep, value}
+use Rattle.json_text.specs.Grammar.{is_space}
+use Rattle.json_text.specs.Tree.{Json}
+use Rattle.json_text.specs.Syntax.{skip, token, characters, name, sep, value}
 use Rattle.json_grammar.proofs.Units.{reads-characters}
 use Rattle.json_grammar.proofs.Nested.{reads-value}
 

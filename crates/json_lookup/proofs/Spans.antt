@@ -9,9 +9,9 @@ use Rattle.text.specs.Bytes.{Bytes}
 use Rattle.text.specs.Choice.{pick}
 use Rattle.text.specs.Reader.{got, bad, bind, under, first, on, Step, more, last, after, turns}
 use Rattle.text.proofs.Readers.{not-bad, got-rest, got-what, bind_inv, under-inv}
-use Rattle.json.specs.Tree.{Json, Members, mnil, mcons}
-use Rattle.json.specs.Syntax.{skip, name, sep, pair, value}
-use Rattle.json.specs.Lookup.{Span, span_of}
+use Rattle.json_text.specs.Tree.{Json, Members, mnil, mcons}
+use Rattle.json_text.specs.Syntax.{skip, name, sep, pair, value}
+use Rattle.json_text.specs.Lookup.{Span, span_of}
 use Rattle.json_access.proofs.Laws.{value-skip}
 use Rattle.json_lookup.proofs.Rests.{Ends, ends-then, ends-skip, ends-sep, ends-value, ends-name}
 

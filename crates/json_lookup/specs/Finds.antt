@@ -3,9 +3,9 @@ use Rattle.std.specs.Prelude.{◌≡◌, ℕ, ◌+◌, ◌≤◌, length}
 use Rattle.std.proofs.Math.Option.{Option, none, some}
 use Rattle.text.specs.Bytes.{Bytes}
 use Rattle.text.specs.Reader.{got}
-use Rattle.json.specs.Lookup.{spans, given, found, Part as Found}
-use Rattle.json.specs.Tree.{Json}
-use Rattle.json.specs.Syntax.{text}
+use Rattle.json_text.specs.Lookup.{spans, given, found, Part as Found}
+use Rattle.json_text.specs.Tree.{Json}
+use Rattle.json_text.specs.Syntax.{text}
 use Rattle.json_access.specs.declared.Part.{Part}
 
 pub record Bounds (n : ℕ) (r : Part) : Type 0 where

@@ -3,9 +3,9 @@ use Rattle.std.specs.Prelude.{◌≡◌, [], length, leb}
 use Rattle.std.proofs.Math.Option.{Option, none, some}
 use Rattle.text.specs.Choice.{pick, chain}
 use Rattle.text.specs.Bytes.{Bytes}
-use Rattle.json.specs.Tree.{Json, as_object, field}
-use Rattle.json.specs.Read.{Reading, tree, refused, reading}
-use Rattle.json.specs.Lookup.{room, depth}
+use Rattle.json_text.specs.Tree.{Json, as_object, field}
+use Rattle.json_text.specs.Read.{Reading, tree, refused, reading}
+use Rattle.json_text.specs.Lookup.{room, depth}
 
 abbrev pub member_of : Bytes → Reading → Option Json
 member_of m (tree j) = chain (as_object j) (field m)

@@ -1,6 +1,6 @@
 // The look-up service: a top-level member's value as that very part of the caller's JSON.
 ghost use Rattle.std.specs.Prelude.{◌≡◌, ◌≤◌, length};
-ghost use Rattle.json.specs.Lookup.{look_up, part_of};
+ghost use Rattle.json_text.specs.Lookup.{look_up, part_of};
 ghost use Rattle.json_lookup.specs.Finds.{Bounds, FindsIn, place_of, stands_at};
 ghost use Rattle.json_lookup.specs.Held.{value_of, Holds};
 

@@ -15,8 +15,8 @@ use Rattle.text.specs.Bytes.{Bytes, is}
 use Rattle.text.specs.Reader.{got, bad, first, on, more, last}
 use Rattle.text.specs.Places.{byte_at, AgreeT, GivesT, Passes}
 use Rattle.text.proofs.Places.{same_turn, more-here, last-here, bad-turn, on-yes, on-no}
-use Rattle.json.specs.Grammar.{is_space}
-use Rattle.json.specs.Syntax.{skip, sep}
+use Rattle.json_text.specs.Grammar.{is_space}
+use Rattle.json_text.specs.Syntax.{skip, sep}
 
 -- white space before a reader
 pub skip-to : {s : Bytes} {at i : ℕ} → Passes is_space s at i → skip (drop at s) ≡ drop i s

@@ -14,7 +14,7 @@ use Rattle.text.specs.Bytes.{Bytes}
 use Rattle.text.specs.Reader.{Got, got, bad, first, on, Step, more, last}
 use Rattle.text.specs.Places.{AgreeT, GivesT}
 use Rattle.text.proofs.Readers.{not-bad, got-what}
-use Rattle.json.specs.Syntax.{skip, sep}
+use Rattle.json_text.specs.Syntax.{skip, sep}
 use Rattle.json_marks.proofs.Laws.{sep-any}
 
 -- the answer of a last turn that adds b

@@ -1,9 +1,11 @@
 // White space, single bytes and the marks between values.
+#![tactic(auto)]
+
 ghost use Rattle.std.specs.Prelude.{◌≡◌, zero, suc, ◌≤◌, ◌<◌, length, drop};
 ghost use Rattle.text.specs.Places.{Gives, GivesT, Passes};
 ghost use Rattle.text.specs.Reader.{one};
-ghost use Rattle.json.specs.Grammar.{is_space};
-ghost use Rattle.json.specs.Syntax.{token, sep};
+ghost use Rattle.json_text.specs.Grammar.{is_space};
+ghost use Rattle.json_text.specs.Syntax.{token, sep};
 
 use text::{COMMA, Read, Turn, look};
 

@@ -11,8 +11,8 @@ use Rattle.text.specs.Bytes.{Bytes, is, is_digit}
 use Rattle.text.specs.Reader.{got, bad, taken, some_of}
 use Rattle.text.specs.Places.{byte_at, Gives, Passes}
 use Rattle.text.proofs.Places.{same-as, up, here, bad-here, by-under, by-on, not_on, by-when, not-when, bind-under}
-use Rattle.json.specs.Grammar.{is_e}
-use Rattle.json.specs.Syntax.{digits, sign, exp}
+use Rattle.json_text.specs.Grammar.{is_e}
+use Rattle.json_text.specs.Syntax.{digits, sign, exp}
 use Rattle.json_numbers.specs.Power.{power}
 
 -- a run of digits, one at least

@@ -1,8 +1,10 @@
 // Numbers of a JSON text, read by place.
+#![tactic(auto)]
+
 ghost use Rattle.std.specs.Prelude.{◌≡◌, ◌≤◌, ◌<◌, length, drop};
 ghost use Rattle.text.specs.Bytes.{is_digit};
 ghost use Rattle.text.specs.Places.{Gives, Passes};
-ghost use Rattle.json.specs.Syntax.{digits, opt, int, frac, sign, exp, number};
+ghost use Rattle.json_text.specs.Syntax.{digits, opt, int, frac, sign, exp, number};
 ghost use Rattle.json_numbers.specs.Power.{power};
 
 use text::{DOT, MINUS, PLUS, Read, in_range, look};

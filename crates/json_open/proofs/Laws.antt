@@ -16,11 +16,11 @@ use Rattle.text.specs.Places.{byte_at, GivesT, Passes}
 use Rattle.text.proofs.Choices.{map-inv}
 use Rattle.text.proofs.Fine.{got-what, got-rest, under-inv}
 use Rattle.text.proofs.Places.{by_bool, on-yes, on-no}
-use Rattle.json.specs.Grammar.{is_space}
-use Rattle.json.specs.Tree.{Json, jobj, Members, mnil, mcons, Member, member, members_of, as_object}
-use Rattle.json.specs.Syntax.{skip, name, sep, pairs, value}
-use Rattle.json.specs.Strings.{decode, decoded, decoded_members}
-use Rattle.json.specs.Read.{reading}
+use Rattle.json_text.specs.Grammar.{is_space}
+use Rattle.json_text.specs.Tree.{Json, jobj, Members, mnil, mcons, Member, member, members_of, as_object}
+use Rattle.json_text.specs.Syntax.{skip, name, sep, pairs, value}
+use Rattle.json_text.specs.Strings.{decode, decoded, decoded_members}
+use Rattle.json_text.specs.Read.{reading}
 use Rattle.json_marks.proofs.Laws.{skip-to}
 use Rattle.json_scan.proofs.First.{as-object}
 use Rattle.json_strings.specs.Decoded.{decoded_at}

@@ -4,9 +4,9 @@ use Rattle.std.proofs.Math.Option.{some}
 use Prim.Native.Char.{code}
 use Rattle.text.specs.Bytes.{Bytes, parts}
 use Rattle.text.specs.Reader.{got}
-use Rattle.json.specs.Tree.{Members, members_of}
-use Rattle.json.specs.Syntax.{pairs, value}
-use Rattle.json.specs.Strings.{decoded_members}
+use Rattle.json_text.specs.Tree.{Members, members_of}
+use Rattle.json_text.specs.Syntax.{pairs, value}
+use Rattle.json_text.specs.Strings.{decoded_members}
 use Rattle.json_sound.specs.declared.Sounded.{Sounded}
 use Rattle.json_sound.specs.declared.Sounded.TheVariants.{Sound as SoundTo, Unsound as UnsoundTo, Bad as BadAt}
 use Rattle.json_index.specs.Index.{Indexed, Indexes}

@@ -1,13 +1,13 @@
 // The validating reader of a text whose top-level object is wanted by a list of names: its members are indexed while they are read, in one pass over the text.
 ghost use Rattle.std.specs.Prelude.{◌≡◌, [], ◌+◌, ◌*◌, ◌≤◌, ◌<◌, length, drop};
 ghost use Rattle.text.specs.Bytes.{code, parts};
-ghost use Rattle.json.specs.Syntax.{pairs, value};
-ghost use Rattle.json.specs.Read.{reading};
+ghost use Rattle.json_text.specs.Syntax.{pairs, value};
+ghost use Rattle.json_text.specs.Read.{reading};
 ghost use Rattle.json_strings.specs.Decoded.{decoded_at};
 ghost use Rattle.json_sound.specs.Sound.{sound_members, Judged, Onward};
 ghost use Rattle.json_index.specs.Index.{placed, noted, Clear};
 ghost use Rattle.json_read.specs.Verdict.{verdict_of, verdict, InWords};
-ghost use Rattle.json.specs.Lookup.{room};
+ghost use Rattle.json_text.specs.Lookup.{room};
 ghost use Rattle.json_open.specs.Opened.{as_verdict, answered, IndexedIf, Opens};
 
 use json_index::which_name;

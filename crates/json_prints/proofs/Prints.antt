@@ -16,7 +16,7 @@ use Rattle.text.specs.Choice.{is_some}
 use Rattle.text.specs.Bytes.{Bytes, any, same, among}
 use Rattle.text.proofs.Cases.{by_bool, not-both}
 use Rattle.text.proofs.Same.{same_true}
-use Rattle.json.specs.Strings.{before}
+use Rattle.json_text.specs.Strings.{before}
 use Rattle.json_strings.specs.declared.Byte.{Byte}
 use Rattle.json_strings.specs.declared.Byte.TheVariants.{One}
 use Rattle.json_strings.proofs.NextByte.{is_one}

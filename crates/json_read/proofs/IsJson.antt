@@ -16,11 +16,11 @@ use Rattle.text.proofs.Cases.{by_bool, and_left, and_right, and-true, not-both, 
 use Rattle.text.proofs.Choices.{none-some, some_same, map-inv, both-inv}
 use Rattle.text.proofs.Same.{same_self, same_true}
 use Rattle.text.proofs.Characters.{is_byte}
-use Rattle.json.specs.Tree.{Json, jnull, jtrue, jfalse, jnum, jstr, jarr, jobj, Elems, enil, econs, Members, mnil, mcons}
-use Rattle.json.specs.Syntax.{text}
-use Rattle.json.specs.Strings.{is_high, is_low, before, joined_pair, decode_after, decode, decoded, decoded_elems, decoded_members, names, distinct_names, distinct_elems, distinct_members}
-use Rattle.json.specs.Read.{tree, refused, sound, reading_of, reading}
-use Rattle.json.specs.Lookup.{is_tree}
+use Rattle.json_text.specs.Tree.{Json, jnull, jtrue, jfalse, jnum, jstr, jarr, jobj, Elems, enil, econs, Members, mnil, mcons}
+use Rattle.json_text.specs.Syntax.{text}
+use Rattle.json_text.specs.Strings.{is_high, is_low, before, joined_pair, decode_after, decode, decoded, decoded_elems, decoded_members, names, distinct_names, distinct_elems, distinct_members}
+use Rattle.json_text.specs.Read.{tree, refused, sound, reading_of, reading}
+use Rattle.json_text.specs.Lookup.{is_tree}
 use Rattle.json_grammar.proofs.Accepted.{accepts-bytes}
 use Rattle.json_read.specs.IsJson.{high_unit, low_unit, Paired, no-unit, one_unit, one-pair, AllPaired, PairedElems, PairedMembers, Repeats, NoRepeats, NoRepeatsElems, NoRepeatsMembers, IsJson}
 
@@ -33,7 +33,7 @@ before-inv p (some y) e = (y, refl)
 byte-plain : (u : ℕ) → ltb u 256 ≡ true → (high_unit u ≡ false) × (low_unit u ≡ false)
 byte-plain u h = let l = ltb-true u 256 h in (below _ _ u (omega arith), below _ _ u (omega arith))
 
--- units of \u_xxxx, by what they stand for
+-- units of \uXXXX, by what they stand for
 module _ (u : ℕ) (h : 256 ≤ u) where
   shift-low : (lo : ℕ) → leb lo (u - 256) ≡ leb (lo + 256) u
   shift-low lo = by_bool (leb lo (u - 256)) (λ a. a ∙ sym (let b = leb-true lo (u - 256) a in omega testing)) (λ a. a ∙ sym (let b = leb-false lo (u - 256) a in omega testing))

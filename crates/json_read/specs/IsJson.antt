@@ -4,14 +4,14 @@ use Rattle.std.specs.Prelude.{◌≡◌, Bool, true, false, List, [], ◌∷◌,
 use Rattle.std.proofs.Math.Option.{some}
 use Rattle.text.specs.Bytes.{Bytes, between}
 use Rattle.text.specs.Reader.{got}
-use Rattle.json.specs.Tree.{Json, jnull, jtrue, jfalse, jnum, jstr, jarr, jobj, Elems, enil, econs, Members, mnil, mcons}
-use Rattle.json.specs.Grammar.{Text}
-use Rattle.json.specs.Syntax.{text}
-use Rattle.json.specs.Strings.{decoded, names}
+use Rattle.json_text.specs.Tree.{Json, jnull, jtrue, jfalse, jnum, jstr, jarr, jobj, Elems, enil, econs, Members, mnil, mcons}
+use Rattle.json_text.specs.Grammar.{Text}
+use Rattle.json_text.specs.Syntax.{text}
+use Rattle.json_text.specs.Strings.{decoded, names}
 
 -- ---- no surrogate alone
 
--- A string as it is spelled is a list of units: a byte, or 256 + v for \u_xxxx. High surrogates are \ud800 to \udbff, low ones \udc00 to \udfff.
+-- A string as it is spelled is a list of units: a byte, or 256 + v for \uXXXX. High surrogates are \ud800 to \udbff, low ones \udc00 to \udfff.
 abbrev pub high_unit : ℕ → Bool
 high_unit u = between 0xd900 0xdcff u
 

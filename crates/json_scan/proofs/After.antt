@@ -15,9 +15,9 @@ use Rattle.text.specs.Reader.{Got, got, bad, bind, under, first, on, Step, more,
 use Rattle.text.specs.Places.{Agree, AgreeT, Gives, GivesT}
 use Rattle.text.proofs.Places.{same-as, up}
 use Rattle.text.proofs.Fine.{Fine, Takes, loop-more, loop-last, loop-bad}
-use Rattle.json.specs.Tree.{Json, enil, econs, mnil, mcons}
-use Rattle.json.specs.Syntax.{skip, sep, name, item, pair}
-use Rattle.json.proofs.Fine.{item-fine, pair-fine}
+use Rattle.json_text.specs.Tree.{Json, enil, econs, mnil, mcons}
+use Rattle.json_text.specs.Syntax.{skip, sep, name, item, pair}
+use Rattle.json_text.proofs.Fine.{item-fine, pair-fine}
 use Rattle.json_scan.specs.After.{later, elements_after, members_after, after_name}
 
 -- ---- by the separator that the code found

@@ -11,9 +11,9 @@ use Rattle.text.specs.Bytes.{Bytes, is}
 use Rattle.text.specs.Reader.{under, on}
 use Rattle.text.specs.Places.{byte_at, Gives, Passes}
 use Rattle.text.proofs.Places.{on-yes, on-no}
-use Rattle.json.specs.Grammar.{is_space}
-use Rattle.json.specs.Tree.{jarr, jobj}
-use Rattle.json.specs.Syntax.{scalar, elements, pairs, value}
+use Rattle.json_text.specs.Grammar.{is_space}
+use Rattle.json_text.specs.Tree.{jarr, jobj}
+use Rattle.json_text.specs.Syntax.{scalar, elements, pairs, value}
 use Rattle.json_marks.proofs.Laws.{skip-to}
 
 -- all of the bytes, as a part of them

@@ -11,9 +11,9 @@ use Rattle.text.specs.Bytes.{Bytes, is}
 use Rattle.text.specs.Reader.{Got, on, loop, one}
 use Rattle.text.specs.Places.{byte_at, Gives, GivesT, Passes}
 use Rattle.text.proofs.Places.{same-as, up, here, by-under, by-on, not_on, turn-next, bind-under}
-use Rattle.json.specs.Grammar.{is_space}
-use Rattle.json.specs.Tree.{Json, jnull, enil, econs, mnil, mcons}
-use Rattle.json.specs.Syntax.{four, scalar, sep, name, item, elements, pair, pairs, value}
+use Rattle.json_text.specs.Grammar.{is_space}
+use Rattle.json_text.specs.Tree.{Json, jnull, enil, econs, mnil, mcons}
+use Rattle.json_text.specs.Syntax.{four, scalar, sep, name, item, elements, pair, pairs, value}
 use Rattle.json_marks.proofs.Laws.{skip-to, sep-any}
 use Rattle.json_scan.proofs.First.{as-flat, as-scalar, as-array, as-object}
 

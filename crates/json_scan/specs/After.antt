@@ -5,8 +5,8 @@ use Rattle.text.specs.declared.Read.{Read}
 use Rattle.text.specs.Bytes.{Bytes, is}
 use Rattle.text.specs.Reader.{Got, got, bad, bind, under, on, loop}
 use Rattle.text.specs.Places.{Gives}
-use Rattle.json.specs.Tree.{Json, Elems, enil, Members, mnil, mcons}
-use Rattle.json.specs.Syntax.{skip, item, pair, value}
+use Rattle.json_text.specs.Tree.{Json, Elems, enil, Members, mnil, mcons}
+use Rattle.json_text.specs.Syntax.{skip, item, pair, value}
 
 -- the byte that closes, or a comma and what stands after it
 unfoldable pub later : {B : Type 0} → ℕ → B → (Bytes → Got B) → Bytes → Got B

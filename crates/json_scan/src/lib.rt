@@ -2,8 +2,8 @@
 ghost use Rattle.std.specs.Prelude.{◌≤◌, ◌<◌, length, drop};
 ghost use Rattle.text.specs.Reader.{loop};
 ghost use Rattle.text.specs.Places.{Gives};
-ghost use Rattle.json.specs.Tree.{jnull};
-ghost use Rattle.json.specs.Syntax.{four, scalar, name, item, elements, pair, pairs, value};
+ghost use Rattle.json_text.specs.Tree.{jnull};
+ghost use Rattle.json_text.specs.Syntax.{four, scalar, name, item, elements, pair, pairs, value};
 ghost use Rattle.json_scan.specs.After.{elements_after, members_after, GivesAfterName};
 
 use json_chars::string_end;

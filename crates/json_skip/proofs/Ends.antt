@@ -14,9 +14,9 @@ use Rattle.text.specs.Places.{byte_at, Gives, Passes}
 use Rattle.text.proofs.Cases.{by_bool, or_left, or_right}
 use Rattle.text.proofs.Places.{byte-default, on-yes, at_next, at-bad}
 use Rattle.text.proofs.Readers.{not-bad, got-rest, under-inv}
-use Rattle.json.specs.Grammar.{is_space}
-use Rattle.json.specs.Tree.{jstr, jarr, jobj}
-use Rattle.json.specs.Syntax.{skip, characters, opt, digits, int, number, scalar, elements, pairs, value}
+use Rattle.json_text.specs.Grammar.{is_space}
+use Rattle.json_text.specs.Tree.{jstr, jarr, jobj}
+use Rattle.json_text.specs.Syntax.{skip, characters, opt, digits, int, number, scalar, elements, pairs, value}
 use Rattle.json_scan.proofs.First.{as-flat, as-scalar, as-array, as-object}
 use Rattle.json_skip.specs.Skip.{quoted, outside, closed, Leaves, Skips}
 use Rattle.json_skip.proofs.Steps.{opened}

@@ -12,9 +12,9 @@ use Rattle.text.specs.Reader.{got, on, Step, more, last}
 use Rattle.text.proofs.Cases.{by_bool, tests, not-true, or_left, or_right, between-true, beyond, implied}
 use Rattle.text.proofs.Characters.{later, later-lead, later-bounds}
 use Rattle.text.proofs.Readers.{not-bad}
-use Rattle.json.specs.Grammar.{is_hex, is_short}
-use Rattle.json.specs.Syntax.{hex_val, hex, hex4, short, escape, is_lead, tail_bytes, following, push, character, characters}
-use Rattle.json.proofs.Fine.{hex-256, short-256, plain-256, tail-256, lead-256, due_below, below-256, lead-below}
+use Rattle.json_text.specs.Grammar.{is_hex, is_short}
+use Rattle.json_text.specs.Syntax.{hex_val, hex, hex4, short, escape, is_lead, tail_bytes, following, push, character, characters}
+use Rattle.json_text.proofs.Fine.{hex-256, short-256, plain-256, tail-256, lead-256, due_below, below-256, lead-below}
 use Rattle.json_skip.specs.Skip.{quoted}
 use Rattle.json_skip.proofs.Leads.{To, Leads, Byte, leads-got, leads-bad, leads-on, leads-under, leads-bind, Turns, leads-loop}
 use Rattle.json_skip.proofs.Steps.{quoted-end, quoted-plain, quoted-backslash, quoted-escaped}

@@ -9,10 +9,10 @@ use Rattle.text.specs.Choice.{pick}
 use Rattle.text.specs.Bytes.{Bytes, is, between, is_digit}
 use Rattle.text.specs.Reader.{Got, more, last, one}
 use Rattle.text.proofs.Cases.{tests, not-true, or_left, or_right, beyond, implied, NoneOf, by_keys}
-use Rattle.json.specs.Grammar.{is_space, is_e}
-use Rattle.json.specs.Tree.{Json, jnull, jtrue, jfalse, jnum, jstr, jarr, jobj, enil, econs, mnil, mcons}
-use Rattle.json.specs.Syntax.{skip, token, characters, opt, digits, int, frac, sign, exp, number, four, scalar, sep, name, item, elements, pair, pairs, value}
-use Rattle.json.proofs.Fine.{e-256}
+use Rattle.json_text.specs.Grammar.{is_space, is_e}
+use Rattle.json_text.specs.Tree.{Json, jnull, jtrue, jfalse, jnum, jstr, jarr, jobj, enil, econs, mnil, mcons}
+use Rattle.json_text.specs.Syntax.{skip, token, characters, opt, digits, int, frac, sign, exp, number, four, scalar, sep, name, item, elements, pair, pairs, value}
+use Rattle.json_text.proofs.Fine.{e-256}
 use Rattle.json_skip.specs.Skip.{quoted, opens, shuts, outside, closed}
 use Rattle.json_skip.proofs.Leads.{To, Leads, Byte, byte-is, leads-got, leads-bad, leads-on, leads-when, leads-under, leads-bind, past-leads, leads_one, leads-some, Turns, leads-loop}
 use Rattle.json_skip.proofs.Steps.{left, closed-quote, closed-open, closed-plain, closed-shut}

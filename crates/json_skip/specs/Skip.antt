@@ -4,8 +4,8 @@ use Prim.Native.Char.{code}
 use Rattle.text.specs.Choice.{pick}
 use Rattle.text.specs.Bytes.{Bytes}
 use Rattle.text.specs.Reader.{got}
-use Rattle.json.specs.Tree.{Json}
-use Rattle.json.specs.Syntax.{value}
+use Rattle.json_text.specs.Tree.{Json}
+use Rattle.json_text.specs.Syntax.{value}
 
 -- what is left of a string after its closing quote; `escaped` tells that the byte before was a backslash
 unfoldable pub quoted : Bool → Bytes → Bytes

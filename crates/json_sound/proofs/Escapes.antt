@@ -14,8 +14,8 @@ use Rattle.text.specs.Places.{byte_at}
 use Rattle.text.specs.declared.Read.TheVariants.{Next, Bad as Read-Bad}
 use Rattle.text.proofs.Cases.{by_bool, in_between}
 use Rattle.text.proofs.Places.{byte-default, on-yes, on-no, same-as, at-bad}
-use Rattle.json.specs.Strings.{is_high, is_low}
-use Rattle.json.specs.Syntax.{escape, characters}
+use Rattle.json_text.specs.Strings.{is_high, is_low}
+use Rattle.json_text.specs.Syntax.{escape, characters}
 use Rattle.json_chars.specs.Strings.{ToEnd, Unmarked}
 use Rattle.json_chars.proofs.Laws.{string-on, char-escape}
 use Rattle.json_escapes.specs.declared.Value.{Value}

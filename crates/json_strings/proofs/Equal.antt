@@ -17,7 +17,7 @@ use Rattle.text.specs.Bytes.{Bytes, same, between}
 use Rattle.text.specs.Places.{byte_at}
 use Rattle.text.specs.Utf8.{encode}
 use Rattle.text.proofs.Cases.{by_bool, between-true, below}
-use Rattle.json.specs.Strings.{before}
+use Rattle.json_text.specs.Strings.{before}
 use Rattle.json_strings.specs.declared.Letter.{Letter}
 use Rattle.json_strings.specs.declared.Letter.TheVariants.{Raw, Code, End, Alone}
 use Rattle.json_strings.specs.declared.Byte.{Byte}

@@ -16,8 +16,8 @@ use Rattle.text.specs.Places.{byte_at}
 use Rattle.text.proofs.Places.{by_bool, on-yes, on-no}
 use Rattle.text.proofs.Cases.{in_between}
 use Rattle.text.proofs.Fine.{loop-more, loop-last, loop-bad}
-use Rattle.json.specs.Syntax.{characters}
-use Rattle.json.specs.Strings.{is_high, is_low, joined_pair, before, decode_after, decode}
+use Rattle.json_text.specs.Syntax.{characters}
+use Rattle.json_text.specs.Strings.{is_high, is_low, joined_pair, before, decode_after, decode}
 use Rattle.json_escapes.specs.Units.{push, unit, units, unit_of, UnitIn}
 use Rattle.json_escapes.specs.declared.Piece.{Piece}
 use Rattle.json_escapes.specs.declared.Piece.TheVariants.{Of, End, Wrong}

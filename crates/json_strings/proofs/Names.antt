@@ -8,8 +8,8 @@ use Rattle.text.specs.Reader.{got}
 use Rattle.text.specs.Places.{Gives}
 use Rattle.text.proofs.Places.{at_next}
 use Rattle.text.proofs.Fine.{got-rest, got-what, bind_inv}
-use Rattle.json.specs.Syntax.{token, characters, name}
-use Rattle.json.specs.Strings.{decode}
+use Rattle.json_text.specs.Syntax.{token, characters, name}
+use Rattle.json_text.specs.Strings.{decode}
 use Rattle.json_strings.specs.Decoded.{decoded_at}
 use Rattle.json_strings.proofs.Laws.{decoded-is}
 

@@ -12,7 +12,7 @@ use Rattle.text.specs.Choice.{with-some, is_some}
 use Rattle.text.proofs.Cases.{by_bool}
 use Rattle.text.proofs.Choices.{some_same, none-some}
 use Rattle.text.specs.Bytes.{Bytes}
-use Rattle.json.specs.Strings.{before}
+use Rattle.json_text.specs.Strings.{before}
 use Rattle.json_strings.specs.declared.Byte.{Byte}
 use Rattle.json_strings.specs.declared.Byte.TheVariants.{One, End, Alone}
 use Rattle.json_strings.specs.Decoded.{decoded_at, text_at, left, byte_of, ByteIn}

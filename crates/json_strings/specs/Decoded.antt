@@ -5,7 +5,7 @@ use Rattle.text.specs.Choice.{pick, with-some}
 use Rattle.text.specs.Bytes.{Bytes, same}
 use Rattle.text.specs.Utf8.{encode}
 use Rattle.text.specs.Reader.{Got, got, bad}
-use Rattle.json.specs.Strings.{before, decode_after}
+use Rattle.json_text.specs.Strings.{before, decode_after}
 use Rattle.json_escapes.specs.Units.{units}
 use Rattle.json_strings.specs.declared.Letter.{Letter}
 use Rattle.json_strings.specs.declared.Letter.TheVariants.{Raw, Code, End as LEnd, Alone as LAlone}

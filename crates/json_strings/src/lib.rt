@@ -1,5 +1,7 @@
 // Strings of a JSON text by what they stand for: one decoded byte after the other; compared with given bytes and with each other; put into a lent
 // part. A string is given by the place after its first quote; a place past the end stands for nothing.
+#![tactic(auto)]
+
 ghost use Rattle.std.specs.Prelude.{◌≡◌, true, ℕ, ◌+◌, ◌≤◌, ◌<◌, length, take, drop, get_or, [], ◌++◌};
 ghost use Rattle.std.proofs.Math.Option.{Option, some};
 ghost use Rattle.text.specs.Bytes.{Bytes, between};

@@ -9,7 +9,7 @@ use lib.ListN.{length}
 use borrow.Author.Tests.{lt-ltb, le-ltb}
 use Rattle.text.specs.Choice.{pick, with-some}
 use Rattle.text.specs.Bytes.{Bytes}
-use Rattle.json.specs.Read.{Reading, tree, refused, reading}
+use Rattle.json_text.specs.Read.{Reading, tree, refused, reading}
 use Rattle.convert.specs.Model.{Card}
 use Rattle.convert.specs.FromJson.{card_from_json}
 use Rattle.convert.specs.Carry.{carried}

@@ -8,9 +8,9 @@ use lib.ListN.{length, take, drop}
 use lib.Seq.{take_at}
 use Rattle.text.specs.Choice.{with-some}
 use Rattle.text.specs.Bytes.{Bytes}
-use Rattle.json.specs.Read.{reading}
-use Rattle.json.proofs.Given.{reading-sound}
-use Rattle.json.proofs.Sound.{sound-names}
+use Rattle.json_text.specs.Read.{reading}
+use Rattle.json_text.proofs.Given.{reading-sound}
+use Rattle.json_text.proofs.Sound.{sound-names}
 use Rattle.json_index.proofs.Readings.{tree-at}
 use Rattle.output.proofs.Laws.{put-fits, length-put}
 use Rattle.line_pen.specs.Pen.{Fills}

@@ -8,8 +8,8 @@ use lib.ListN.{length, take, length-take}
 use borrow.Author.Tests.{le-leb}
 use Rattle.text.specs.Choice.{pick}
 use Rattle.text.specs.Bytes.{Bytes}
-use Rattle.json.specs.Tree.{Json}
-use Rattle.json.specs.Read.{Reading, tree, refused, reading}
+use Rattle.json_text.specs.Tree.{Json}
+use Rattle.json_text.specs.Read.{Reading, tree, refused, reading}
 use Rattle.json_index.specs.Index.{Indexes}
 use Rattle.json_read.specs.Verdict.{verdict, verdict_of, number, InWords}
 use Rattle.json_read.specs.declared.Verdict.{Verdict}

@@ -2,9 +2,9 @@
 use Rattle.std.specs.Prelude.{◌≡◌, not, [], ◌∷◌, ℕ, length, ltb}
 use Rattle.text.specs.Choice.{pick, with-some}
 use Rattle.text.specs.Bytes.{Bytes}
-use Rattle.json.specs.Tree.{Json}
-use Rattle.json.specs.Read.{Reading, tree, refused, reading}
-use Rattle.json.specs.Lookup.{depth}
+use Rattle.json_text.specs.Tree.{Json}
+use Rattle.json_text.specs.Read.{Reading, tree, refused, reading}
+use Rattle.json_text.specs.Lookup.{depth}
 use Rattle.convert.specs.Model.{Card}
 use Rattle.convert.specs.FromJson.{card_from_json}
 use Rattle.convert.specs.Carry.{carried}

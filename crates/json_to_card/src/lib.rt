@@ -1,6 +1,6 @@
 // JSON to card: the service.
 ghost use Rattle.std.specs.Prelude.{◌≡◌, true, ◌*◌, ◌≤◌, length};
-ghost use Rattle.json.specs.Read.{reading};
+ghost use Rattle.json_text.specs.Read.{reading};
 ghost use Rattle.json_index.specs.Index.{Clear, Indexes};
 ghost use Rattle.json_open.specs.Opened.{as_verdict, Opens};
 ghost use Rattle.json_read.specs.Verdict.{verdict, InWords};

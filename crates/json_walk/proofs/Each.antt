@@ -5,7 +5,7 @@ use mathlib.Core.Option.{Option, none, some}
 use Prim.Native.Nat.{ℕ, suc}
 use Rattle.text.specs.Choice.{both, chain}
 use Rattle.text.specs.Bytes.{Bytes, each}
-use Rattle.json.specs.Tree.{Json, Member as Named, member, as_object}
+use Rattle.json_text.specs.Tree.{Json, Member as Named, member, as_object}
 use Rattle.json_strings.specs.Decoded.{decoded_at}
 use Rattle.json_access.specs.Access.{EndsAt}
 use Rattle.json_walk.specs.declared.Member.{Member}

@@ -10,7 +10,7 @@ use native.Mathlib.Omega.{arith}
 use lib.ListN.{drop}
 use denote.Enum.Declared.{tag_of}
 use Rattle.text.specs.Bytes.{Bytes}
-use Rattle.json.specs.Tree.{Json, Member as Named}
+use Rattle.json_text.specs.Tree.{Json, Member as Named}
 use Rattle.json_walk.specs.contracts.Member.{the_type as member-type}
 use Rattle.json_walk.specs.contracts.Element.{the_type as element-type}
 use Rattle.json_walk.specs.declared.Member.{Member}

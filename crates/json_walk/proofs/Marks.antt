@@ -10,8 +10,8 @@ use Rattle.text.specs.Bytes.{Bytes}
 use Rattle.text.specs.Reader.{first, past}
 use Rattle.text.specs.Places.{byte_at, Within, GivesT, Passes}
 use Rattle.text.proofs.Places.{first-drop}
-use Rattle.json.specs.Grammar.{is_space}
-use Rattle.json.specs.Syntax.{skip, sep}
+use Rattle.json_text.specs.Grammar.{is_space}
+use Rattle.json_text.specs.Syntax.{skip, sep}
 use Rattle.json_marks.proofs.Laws.{skip-to}
 use Rattle.json_access.specs.Access.{place_of}
 use Rattle.json_walk.specs.Walk.{Opens, NoneOpens, Closes}

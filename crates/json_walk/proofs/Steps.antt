@@ -16,11 +16,11 @@ use Rattle.text.specs.Reader.{Got, got, bad, first, on, more, last, past, loop}
 use Rattle.text.specs.Places.{byte_at, AgreeT, Passes}
 use Rattle.text.proofs.Choices.{some_same, both-inv}
 use Rattle.text.proofs.Readers.{not-bad, got-what, got-rest, bind_inv, under-inv}
-use Rattle.json.specs.Grammar.{is_space}
-use Rattle.json.specs.Tree.{Json, jarr, jobj, Elems, enil, econs, Members, mnil, mcons, member, members_of, elems_of, as_array, as_object}
-use Rattle.json.specs.Syntax.{skip, name, sep, item, pair, value}
-use Rattle.json.specs.Strings.{decode, decoded, decoded_elems, decoded_members}
-use Rattle.json.proofs.Fine.{value-fine}
+use Rattle.json_text.specs.Grammar.{is_space}
+use Rattle.json_text.specs.Tree.{Json, jarr, jobj, Elems, enil, econs, Members, mnil, mcons, member, members_of, elems_of, as_array, as_object}
+use Rattle.json_text.specs.Syntax.{skip, name, sep, item, pair, value}
+use Rattle.json_text.specs.Strings.{decode, decoded, decoded_elems, decoded_members}
+use Rattle.json_text.proofs.Fine.{value-fine}
 use Rattle.json_marks.proofs.Laws.{skip-to}
 use Rattle.json_scan.specs.After.{later, elements_after, members_after}
 use Rattle.json_scan.proofs.After.{elements-by, members-by}

@@ -15,9 +15,9 @@ use Rattle.text.specs.Places.{byte_at}
 use Rattle.text.proofs.Choices.{none-some, some_same, map-inv}
 use Rattle.text.proofs.Places.{on-yes, on-no}
 use Rattle.text.proofs.Readers.{got-what, bind_inv, under-inv, on-inv, when-inv}
-use Rattle.json.specs.Tree.{Json, jnull, jtrue, jfalse, jnum, jstr, jarr, jobj, Elems, enil, Members, mnil, as_array, as_object}
-use Rattle.json.specs.Syntax.{skip, characters, number, four, scalar, item, elements, pair, pairs, value}
-use Rattle.json.specs.Strings.{decode, decoded, decoded_elems, decoded_members}
+use Rattle.json_text.specs.Tree.{Json, jnull, jtrue, jfalse, jnum, jstr, jarr, jobj, Elems, enil, Members, mnil, as_array, as_object}
+use Rattle.json_text.specs.Syntax.{skip, characters, number, four, scalar, item, elements, pair, pairs, value}
+use Rattle.json_text.specs.Strings.{decode, decoded, decoded_elems, decoded_members}
 use Rattle.json_marks.proofs.Laws.{skip-to}
 use Rattle.json_scan.proofs.First.{as-array, as-object}
 use Rattle.json_walk.specs.Walk.{meant, json_at, Opens, NoneOpens}

@@ -7,10 +7,10 @@ use Rattle.text.specs.declared.Turn.TheVariants.{Go, Stop}
 use Rattle.text.specs.Bytes.{Bytes}
 use Rattle.text.specs.Reader.{Got, got, bad, first}
 use Rattle.text.specs.Places.{byte_at, GivesT, Passes}
-use Rattle.json.specs.Grammar.{is_space}
-use Rattle.json.specs.Tree.{Json, Elems, Members, Member as Named, member, members_of, elems_of, as_array, as_object}
-use Rattle.json.specs.Syntax.{skip, sep, value}
-use Rattle.json.specs.Strings.{decoded, decoded_elems, decoded_members}
+use Rattle.json_text.specs.Grammar.{is_space}
+use Rattle.json_text.specs.Tree.{Json, Elems, Members, Member as Named, member, members_of, elems_of, as_array, as_object}
+use Rattle.json_text.specs.Syntax.{skip, sep, value}
+use Rattle.json_text.specs.Strings.{decoded, decoded_elems, decoded_members}
 use Rattle.json_scan.specs.After.{elements_after, members_after}
 use Rattle.json_strings.specs.Decoded.{decoded_at}
 use Rattle.json_access.specs.Access.{place_of, EndsAt, TellsHead}

@@ -19,7 +19,7 @@ use Rattle.output.specs.declared.Wrote.TheVariants.{Bytes as Wrote-Bytes, Full}
 use Rattle.output.specs.Put.{Puts, Rest}
 use Rattle.output.proofs.Laws.{split, said-bytes}
 use Rattle.output.proofs.Rests.{rest-as, rest-next, rest-stop}
-use Rattle.json.specs.Compact.{spelled_all}
+use Rattle.json_text.specs.Compact.{spelled_all}
 use Rattle.json_strings.specs.declared.Byte.TheVariants.{One}
 use Rattle.json_strings.specs.Decoded.{left, byte_of}
 use Rattle.json_strings.proofs.Laws.{bare-at, left-raw}

@@ -4,7 +4,7 @@ ghost use Rattle.text.specs.Bytes.{ascii, code};
 ghost use Rattle.text.specs.Reader.{taken};
 ghost use Rattle.output.specs.Put.{Puts};
 ghost use Rattle.text.specs.Decimal.{decimal};
-ghost use Rattle.json.specs.Compact.{hex_digit, spelled, spelled_all, quoted};
+ghost use Rattle.json_text.specs.Compact.{hex_digit, spelled, spelled_all, quoted};
 ghost use Rattle.json_write.specs.Pieces.{coded, bare, BareFor, run_at};
 ghost use Rattle.json_strings.specs.Decoded.{text_at};
 

@@ -12,8 +12,8 @@ unfoldable pub holds_one : Bytes → Bytes → Bool
 holds_one cs v = any (λ c. any (eqb c) cs) v
 
 -- quotes exactly where a value has one of `"` `;` `:` `,`, and always around JSPTR's; n in capitals
-unfoldable pub shownValue : Bytes → Bytes → Bytes
-shownValue n v = pick (same n (ascii "JSPTR") || holdsOne (ascii "\";:,") v) (ascii "\"" ++ v ++ ascii "\"") v
+unfoldable pub shown_value : Bytes → Bytes → Bytes
+shown_value n v = pick (same n (ascii "JSPTR") || holds_one (ascii "\";:,") v) (ascii "\"" ++ v ++ ascii "\"") v
 
 unfoldable pub shown_param : Param → Bytes
 shown_param (param n vs) = ascii ";" ++ uppered n ++ ascii "=" ++ joined (ascii ",") (map (shown_value (uppered n)) vs)

@@ -1,6 +1,8 @@
 // The classes of a byte: one table of 256 entries, whose agreement with the ranges is computed once over all of them.
 // Callers know only the ranges: the table may go without their noticing.
 // By them, whether a line is UTF-8 and has no controls (refusal 4).
+#![tactic(auto)]
+
 ghost use Rattle.std.specs.Prelude.{◌≡◌, ◌+◌, length, drop, get_or, ◌||◌, not};
 ghost use Rattle.text.specs.Bytes.{all, any};
 ghost use Rattle.text.specs.Reader.{taken};
@@ -9,7 +11,7 @@ ghost use Rattle.line_class.specs.Classes.{in_class, bit_of, has_bit, Agrees};
 ghost use Rattle.line_class.specs.Odd.{is_odd};
 ghost use Rattle.text.specs.Utf8.{utf8};
 
-#[derive(Drop)]
+#[derive(Clone, Copy)]
 pub enum Class {
     Name,
     LowerName,

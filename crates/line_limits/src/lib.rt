@@ -1,6 +1,8 @@
 // 01's limits of a card and of its lines.
 
 // How many bytes a card has at most: more are refused by 3.
+#![tactic(auto)]
+
 pub const CARD: usize = 32768;
 
 // One byte more: a buffer of that length tells a card that is too long.

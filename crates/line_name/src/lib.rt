@@ -1,4 +1,6 @@
 // Names in any letter case: ASCII letters alone have one.
+#![tactic(auto)]
+
 ghost use Rattle.std.specs.Prelude.{◌≡◌};
 ghost use Rattle.text.specs.Bytes.{lower, upper, lowered, same};
 

@@ -1,4 +1,6 @@
 // TEXT values: reading with their escapes, splitting at bare separators, writing.
+#![tactic(auto)]
+
 ghost use Rattle.output.specs.Put.{Puts};
 ghost use Rattle.std.specs.Prelude.{◌≡◌, true, false, ◌+◌, ◌≤◌, ◌<◌, length, drop};
 ghost use Rattle.text.specs.Choice.{is_some};

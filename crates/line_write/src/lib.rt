@@ -1,4 +1,6 @@
 // Where a line is folded: at 75 bytes at the latest whole character.
+#![tactic(auto)]
+
 ghost use Rattle.std.specs.Prelude.{◌≡◌};
 ghost use Rattle.line.specs.Write.{width, breaks};
 

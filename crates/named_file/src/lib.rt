@@ -1,4 +1,6 @@
 // The file that an argument of a program names.
+#![tactic(auto)]
+
 ghost use Rattle.io.specs.Counts.{IsPrefixLen};
 
 // Whether there was one, and how many bytes its path and its text have.

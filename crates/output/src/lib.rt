@@ -1,4 +1,6 @@
 // Writers into a lent part of the output: each is lent the rest of the room.
+#![tactic(auto)]
+
 ghost use Rattle.std.specs.Prelude.{◌∷◌, []};
 ghost use Rattle.text.specs.Bytes.{flat};
 ghost use Rattle.output.specs.Put.{Puts};

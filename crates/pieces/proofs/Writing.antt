@@ -11,7 +11,7 @@ use Rattle.output.specs.declared.Wrote.{Wrote}
 use Rattle.output.specs.declared.Wrote.TheVariants.{Bytes as Wrote-Bytes, Full}
 use Rattle.output.specs.Put.{answer, Puts}
 use Rattle.output.proofs.Laws.{said-bytes, said-full}
-use Rattle.json.specs.Compact.{quoted}
+use Rattle.json_text.specs.Compact.{quoted}
 use Rattle.json_strings.specs.Decoded.{text_at}
 use Rattle.json_compact.specs.Squeezed.{squeezed}
 use Rattle.line.specs.Write.{fold_from}

@@ -3,7 +3,7 @@ use Rattle.std.specs.Prelude.{◌≡◌, Bool, ◌&&◌, ◌||◌, List, [], ◌
 use Rattle.std.proofs.Math.Option.{some}
 use Rattle.text.specs.Choice.{pick, with-some, is_some}
 use Rattle.text.specs.Bytes.{Bytes, ascii, flat}
-use Rattle.json.specs.Compact.{quoted}
+use Rattle.json_text.specs.Compact.{quoted}
 use Rattle.json_read.specs.declared.Verdict.{Verdict}
 use Rattle.json_read.specs.declared.Verdict.TheVariants.{Sound, Large, NotJson}
 use Rattle.json_read.specs.Verdict.{verdict}

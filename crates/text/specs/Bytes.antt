@@ -1,4 +1,4 @@
--- Byte strings as lists of numbers, and tests on them. Nothing here knows of v_card or JSON.
+-- Byte strings as lists of numbers, and tests on them. Nothing here knows of vCard or JSON.
 use Rattle.std.specs.Prelude.{Bool, true, false, ◌&&◌, ◌||◌, not, List, [], ◌∷◌, ◌++◌, map, ℕ, ◌+◌, ◌-◌, leb, eqb}
 use Rattle.std.proofs.Math.Option.{Option, none, some}
 pub use Prim.Native.Char.{code}  -- contracts in .rt files can only take it from here

@@ -1,5 +1,5 @@
 -- Readers of a byte list: what was read and the rest, or the rest from the first byte that does not fit.
--- Both grammars (JSON and v_card lines) are written with these few forms, so that code is proved against one set of laws.
+-- Both grammars (JSON and vCard lines) are written with these few forms, so that code is proved against one set of laws.
 use Rattle.std.specs.Prelude.{Bool, ℕ, zero, suc, length}
 use mathlib.Core.List.{[], ◌∷◌, tail}
 use Rattle.text.specs.Choice.{pick}

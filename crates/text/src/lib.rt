@@ -1,5 +1,7 @@
 // Bytes, UTF-8, decimal numbers and readers of byte lists: the definitions and laws below every other layer,
 // and the two functions that every reader looks at a byte with.
+#![tactic(auto)]
+
 ghost use Rattle.std.specs.Prelude.{◌≡◌, ◌+◌, ◌≤◌, ◌<◌, ◌/◌, length};
 ghost use Rattle.text.specs.Bytes.{between};
 ghost use Rattle.text.specs.Places.{byte_at};

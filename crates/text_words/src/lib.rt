@@ -1,5 +1,7 @@
 // The end of a run of bytes that pass a test, eight bytes at a time, for long strings and lines. A word has eight bytes, the first in its lowest eight bits; of its
 // marks, one in the highest bit of each byte, those are set whose byte does not pass. The tests are on the low seven bits, so that no sum leaves its byte.
+#![tactic(auto)]
+
 ghost use Rattle.std.specs.Prelude.{◌≡◌, ◌+◌, ◌≤◌, length, drop};
 ghost use Rattle.text.specs.Reader.{taken};
 ghost use Rattle.text_words.specs.Words.{Loaded, Marks, FirstMark, soft, bare, raw, plain, no_lf, stored};

@@ -8,8 +8,8 @@ use native.Mathlib.Omega.{arith}
 use lib.ListN.{length}
 use Rattle.text.specs.Choice.{chain}
 use Rattle.text.specs.Bytes.{Bytes, parts}
-use Rattle.json.specs.Tree.{Json, jnull, jtrue, jfalse, jnum, jstr, jarr, jobj, Members, Member, members_of, as_object}
-use Rattle.json.specs.Strings.{distinct_names}
+use Rattle.json_text.specs.Tree.{Json, jnull, jtrue, jfalse, jnum, jstr, jarr, jobj, Members, Member, members_of, as_object}
+use Rattle.json_text.specs.Strings.{distinct_names}
 use Rattle.json_index.specs.Index.{Clear, Indexed, IndexOf, Indexes}
 use Rattle.convert.specs.Table.{reserved}
 use Rattle.convert.specs.FromJson.{card_from_json, card_from_members}

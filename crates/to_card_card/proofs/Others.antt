@@ -8,7 +8,7 @@ use lib.ListN.{get_or}
 use borrow.Author.Tests.{eq-eqb}
 use Rattle.text.specs.Bytes.{Bytes, all, among}
 use Rattle.text.proofs.Cases.{and_left, and_right}
-use Rattle.json.specs.Tree.{Member, name_of, jobj, members_of}
+use Rattle.json_text.specs.Tree.{Member, name_of, jobj, members_of}
 use Rattle.json_index.proofs.Fields.{first-other}
 use Rattle.convert.specs.Table.{reserved}
 use Rattle.to_card_lines.specs.declared.Lines.{Lines}

@@ -10,7 +10,7 @@ use lib.Dec.{eqb}
 use lib.ListN.{length, get_or}
 use Rattle.text.specs.Choice.{both, chain}
 use Rattle.text.specs.Bytes.{Bytes, ascii, each}
-use Rattle.json.specs.Tree.{Members, members_of, field}
+use Rattle.json_text.specs.Tree.{Members, members_of, field}
 use Rattle.json_index.specs.Index.{Slot}
 use Rattle.convert.specs.Table.{maps, reserved}
 use Rattle.convert.specs.Model.{Entry, has_parts}

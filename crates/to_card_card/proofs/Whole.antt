@@ -10,7 +10,7 @@ use lib.ListN.{length, take, get_or}
 use Rattle.text.specs.Choice.{both}
 use Rattle.text.specs.Bytes.{Bytes, ascii, any, among, same}
 use Rattle.text.proofs.Cases.{in_range}
-use Rattle.json.specs.Tree.{jobj, Members, Member, members_of, field}
+use Rattle.json_text.specs.Tree.{jobj, Members, Member, members_of, field}
 use Rattle.json_index.specs.Index.{Slot}
 use Rattle.json_index.proofs.Fields.{first_field}
 use Rattle.line_pen.specs.Pen.{Fills}

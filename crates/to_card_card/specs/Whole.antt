@@ -3,8 +3,8 @@ use Rattle.std.specs.Prelude.{◌≡◌, Bool, true, List, ℕ, min, ◌≤◌, 
 use Rattle.std.proofs.Math.Option.{Option, none, some}
 use Rattle.text.specs.Choice.{is_some}
 use Rattle.text.specs.Bytes.{Bytes, ascii}
-use Rattle.json.specs.Tree.{Json, jobj, Members, members_of}
-use Rattle.json.specs.Strings.{distinct_names}
+use Rattle.json_text.specs.Tree.{Json, jobj, Members, members_of}
+use Rattle.json_text.specs.Strings.{distinct_names}
 use Rattle.json_index.specs.Index.{json_at, Indexed}
 use Rattle.line_pen.specs.Pen.{Fills}
 use Rattle.convert.specs.Table.{reserved}

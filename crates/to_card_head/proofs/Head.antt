@@ -11,7 +11,7 @@ use Rattle.text.specs.Choice.{provided}
 use Rattle.text.specs.Bytes.{Bytes, ascii, empty, flat, uppered, upper, between, all}
 use Rattle.text.proofs.Cases.{and_left, not-true}
 use Rattle.text.proofs.Choices.{provided-inv, chain-inv, some_same}
-use Rattle.json.specs.Tree.{Json, as_string}
+use Rattle.json_text.specs.Tree.{Json, as_string}
 use Rattle.line.specs.Grammar.{Line}
 use Rattle.line.specs.Class.{is_lower_name}
 use Rattle.line.specs.Write.{width, breaks, fold, fold_from, write_group, write_params, write_line}

@@ -8,7 +8,7 @@ use lib.Dec.{eqb}
 use borrow.Author.Tests.{eq-eqb, ne_eqb, eqb-true}
 use Rattle.text.specs.Choice.{with-some, chain, provided}
 use Rattle.text.specs.Bytes.{Bytes, same}
-use Rattle.json.specs.Tree.{Json, as_string}
+use Rattle.json_text.specs.Tree.{Json, as_string}
 use Rattle.json_strings.specs.Decoded.{decoded_at, spells}
 use Rattle.json_index.specs.Index.{json_at, Slot}
 use Rattle.convert.specs.FromJson.{is_text}

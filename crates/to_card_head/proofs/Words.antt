@@ -10,7 +10,7 @@ use borrow.Author.Tests.{ne_eqb}
 use Rattle.text.specs.Bytes.{Bytes, all}
 use Rattle.text.proofs.Cases.{in_between, below, beyond}
 use Rattle.line.specs.Class.{is_lower_name}
-use Rattle.json.specs.Strings.{before}
+use Rattle.json_text.specs.Strings.{before}
 use Rattle.json_strings.specs.declared.Byte.{Byte}
 use Rattle.json_strings.specs.declared.Byte.TheVariants.{One, End, Alone}
 use Rattle.json_strings.specs.Decoded.{left, byte_of}

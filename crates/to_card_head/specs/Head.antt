@@ -3,7 +3,7 @@ use Rattle.std.specs.Prelude.{◌≡◌, Bool, true, false, ◌&&◌, List, [], 
 use Rattle.std.proofs.Math.Option.{Option, none, some}
 use Rattle.text.specs.Choice.{with-some, chain, provided}
 use Rattle.text.specs.Bytes.{Bytes, ascii}
-use Rattle.json.specs.Tree.{Json, as_string}
+use Rattle.json_text.specs.Tree.{Json, as_string}
 use Rattle.line.specs.Grammar.{Line}
 use Rattle.json_strings.specs.Decoded.{decoded_at}
 use Rattle.json_index.specs.Index.{json_at, Slot}

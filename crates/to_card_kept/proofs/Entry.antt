@@ -10,7 +10,7 @@ use Rattle.text.specs.Choice.{chain, provided}
 use Rattle.text.specs.Bytes.{Bytes, among}
 use Rattle.text.proofs.Cases.{not-both, and_left, and_right}
 use Rattle.text.proofs.Choices.{some_same, chain-inv, provided-inv}
-use Rattle.json.specs.Tree.{Json, jobj, members_of}
+use Rattle.json_text.specs.Tree.{Json, jobj, members_of}
 use Rattle.line_table.specs.Table.{line_in, Sound}
 use Rattle.convert.specs.Model.{Kept, Card}
 use Rattle.convert.specs.Classify.{Seen, classify}

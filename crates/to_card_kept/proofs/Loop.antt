@@ -14,9 +14,9 @@ use Rattle.text.specs.Bytes.{Bytes, all}
 use Rattle.text.specs.Reader.{got, loop}
 use Rattle.text.specs.Places.{GivesT}
 use Rattle.text.proofs.Lists.{all_head, all_tail}
-use Rattle.json.specs.Tree.{Json, members_of, Elems, enil, econs, elems_of}
-use Rattle.json.specs.Syntax.{sep, item, value}
-use Rattle.json.specs.Strings.{decoded, decoded_elems, distinct_names}
+use Rattle.json_text.specs.Tree.{Json, members_of, Elems, enil, econs, elems_of}
+use Rattle.json_text.specs.Syntax.{sep, item, value}
+use Rattle.json_text.specs.Strings.{decoded, decoded_elems, distinct_names}
 use Rattle.json_access.specs.Access.{EndsAt}
 use Rattle.json_index.specs.Index.{meant, json_at}
 use Rattle.to_card_kept_entry.specs.strings.Strings.{size, size_elems}

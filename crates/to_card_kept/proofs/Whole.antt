@@ -1,4 +1,4 @@
--- v_card_props by its slot.
+-- vCardProps by its slot.
 use mathlib.Core.Path.{◌≡◌, refl, sym, ap, subst, ◌∙◌}
 use mathlib.Core.Bool.{Bool, true}
 use mathlib.Core.List.{List, []}
@@ -12,9 +12,9 @@ use Rattle.text.specs.Places.{byte_at, Passes}
 use Rattle.text.proofs.Cases.{by_bool}
 use Rattle.text.proofs.Choices.{none-some, some_same}
 use Rattle.text.proofs.Same.{same_true}
-use Rattle.json.specs.Grammar.{is_space}
-use Rattle.json.specs.Tree.{Json, jnull, jtrue, jfalse, jnum, jstr, jarr, jobj, Members, mnil, mcons, Member, members_of, Elems, elems_of, field, as_array}
-use Rattle.json.specs.Strings.{distinct_names}
+use Rattle.json_text.specs.Grammar.{is_space}
+use Rattle.json_text.specs.Tree.{Json, jnull, jtrue, jfalse, jnum, jstr, jarr, jobj, Members, mnil, mcons, Member, members_of, Elems, elems_of, field, as_array}
+use Rattle.json_text.specs.Strings.{distinct_names}
 use Rattle.json_access.specs.declared.Kind.TheVariants.{Array}
 use Rattle.json_access.specs.Access.{kind_of}
 use Rattle.json_index.specs.Index.{json_at, first_at, Slot}

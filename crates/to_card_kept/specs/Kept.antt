@@ -1,10 +1,10 @@
--- v_card_props as kept lines.
+-- vCardProps as kept lines.
 use Rattle.std.specs.Prelude.{◌≡◌, Bool, true, false, List, [], ◌∷◌, map, ℕ, ◌≤◌, length}
 use Rattle.std.proofs.Math.Option.{Option, none, some}
 use Rattle.text.specs.Choice.{with-some, is_some, chain, provided}
 use Rattle.text.specs.Bytes.{Bytes, ascii, each}
-use Rattle.json.specs.Tree.{Json, jobj, Members, members_of, Member, name_of, field, as_array}
-use Rattle.json.specs.Strings.{distinct_names}
+use Rattle.json_text.specs.Tree.{Json, jobj, Members, members_of, Member, name_of, field, as_array}
+use Rattle.json_text.specs.Strings.{distinct_names}
 use Rattle.json_index.specs.Index.{json_at, Indexed}
 use Rattle.convert.specs.Table.{maps, reserved}
 use Rattle.convert.specs.Model.{Entry, Kept, has_parts}
@@ -15,18 +15,18 @@ use Rattle.to_card_lines.specs.declared.Lines.{Lines}
 use Rattle.to_card_lines.specs.Lines.{Part, PartAs, no_lines, parts_of}
 use Rattle.card_table.specs.Numbers.{card_slots}
 use Rattle.line_table.specs.Table.{table_length}
-use Rattle.json.specs.Lookup.{room}
+use Rattle.json_text.specs.Lookup.{room}
 
 -- ---- what an entry comes to
 
 abbrev pub kept_part : Kept → Part
 kept_part k = record { lines = kept_as_line k ∷ []; carried = carried_kept k }
 
--- an entry of v_card_props: 12 where no kept line gives it in its place
+-- an entry of vCardProps: 12 where no kept line gives it in its place
 unfoldable pub entry_part : Seen → Json → Option Part
 entry_part seen j = chain (kept_from j) λ k. provided (kept_stands seen k) (some (kept_part k))
 
--- v_card_props, where it is there
+-- vCardProps, where it is there
 unfoldable pub kept_parts : Seen → Option Json → Option Part
 kept_parts seen o = with-some o (λ v. chain (as_array v) (parts_of (entry_part seen))) (some no_lines)
 
@@ -57,7 +57,7 @@ pub record Known (s : Bytes) (slots : List ℕ) (mm : Members) (ess : List (List
   pub indexed : Indexed 15 s reserved slots (members_of mm)
   pub read : each (map_from (members_of mm)) maps ≡ some ess
 
--- 12, or the lines of v_card_props, as far as there is room, how many they are, and whether they can carry it
+-- 12, or the lines of vCardProps, as far as there is room, how many they are, and whether they can carry it
 abbrev pub PutsKept : Bytes → List ℕ → Bool → Bool → Bytes → Lines → Bytes → Type 0
 PutsKept s slots full parts room r after = (mm : Members) (ess : List (List Entry)) → Known s slots mm ess → (n : Name) → is_some n.full ≡ full → has_parts n.parts ≡ parts
     → PartAs room r after (kept_parts (seen_of n ess (members_of mm)) (field (ascii "vCardProps") (members_of mm)))

@@ -1,13 +1,13 @@
--- One entry of v_card_props, and entries one after the other: what is promised on the way to `PutsKept`.
+-- One entry of vCardProps, and entries one after the other: what is promised on the way to `PutsKept`.
 use Rattle.std.specs.Prelude.{◌≡◌, Bool, true, ◌&&◌, List, ℕ, ◌+◌, ◌-◌, ◌≤◌, length, drop}
 use Rattle.std.proofs.Math.Option.{some}
 use borrow.Rule.Slice.PartMut.{mid_of, put_mid}
 use Rattle.text.specs.Choice.{is_some}
 use Rattle.text.specs.Bytes.{Bytes, all}
 use Rattle.text.specs.Reader.{got, loop}
-use Rattle.json.specs.Tree.{Json, Members, members_of, Elems, elems_of}
-use Rattle.json.specs.Syntax.{item, value}
-use Rattle.json.specs.Strings.{decoded_elems, distinct_names}
+use Rattle.json_text.specs.Tree.{Json, Members, members_of, Elems, elems_of}
+use Rattle.json_text.specs.Syntax.{item, value}
+use Rattle.json_text.specs.Strings.{decoded_elems, distinct_names}
 use Rattle.json_index.specs.Index.{json_at}
 use Rattle.to_card_kept_entry.specs.strings.Strings.{size, size_elems}
 use Rattle.line_table.specs.Table.{line_in}

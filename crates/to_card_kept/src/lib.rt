@@ -1,4 +1,4 @@
-// The entries of v_card_props of a JSON text as kept lines of a card. Each is decoded into a lent buffer and laid out as a line's table. The classifier of
+// The entries of vCardProps of a JSON text as kept lines of a card. Each is decoded into a lent buffer and laid out as a line's table. The classifier of
 // card lines then judges it: an entry whose line would convert in its place is 12.
 ghost use Rattle.std.specs.Prelude.{◌≡◌, ◌+◌, ◌≤◌, length};
 ghost use Rattle.line_table.specs.Table.{Sound};
@@ -327,7 +327,7 @@ fn put_from(
     }
 }
 
-// All entries of v_card_props, whose slot is that of the last reserved name; no lines where the text has none. The buffer is as long as the text.
+// All entries of vCardProps, whose slot is that of the last reserved name; no lines where the text has none. The buffer is as long as the text.
 pub fn put_kept(
     out: &mut [u8],
     b: &mut [u8],

@@ -1,4 +1,4 @@
-// An entry of v_card_props, decoded into a lent buffer and laid out as the table of the line that it is.
+// An entry of vCardProps, decoded into a lent buffer and laid out as the table of the line that it is.
 ghost use Rattle.std.specs.Prelude.{◌≤◌, length};
 ghost use Rattle.to_card_kept_entry.specs.strings.Strings.{Bounds};
 ghost use Rattle.to_card_kept_entry.specs.entry.Entry.{FillsRest, FillsKept};

@@ -1,4 +1,4 @@
-// Strings of a JSON text one after the other in a lent buffer, and the values of a parameter of v_card_props as rows of a line's table.
+// Strings of a JSON text one after the other in a lent buffer, and the values of a parameter of vCardProps as rows of a line's table.
 ghost use Rattle.std.specs.Prelude.{◌≡◌, ◌≤◌, ◌<◌, length};
 ghost use Rattle.json_strings.specs.Decoded.{text_at};
 ghost use Rattle.convert.specs.FromJson.{is_lower_word};

@@ -1,4 +1,4 @@
-// An entry of v_card_props, [name, {parameters}, type, value], as the table of the line that it is.
+// An entry of vCardProps, [name, {parameters}, type, value], as the table of the line that it is.
 ghost use Rattle.std.specs.Prelude.{◌≡◌, ◌+◌, ◌≤◌, ◌<◌, length};
 ghost use Rattle.to_card_kept_entry.specs.strings.Strings.{Bounds, RowsIn};
 ghost use Rattle.line_table.specs.Table.{table_length};

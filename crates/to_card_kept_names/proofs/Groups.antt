@@ -16,7 +16,7 @@ use Rattle.text.specs.Choice.{with-some}
 use Rattle.text.specs.Bytes.{Bytes, among}
 use Rattle.text.proofs.Choices.{some_same, map-inv}
 use Rattle.text.proofs.Same.{among_none}
-use Rattle.json.specs.Tree.{Json, Member, name_of, as_object}
+use Rattle.json_text.specs.Tree.{Json, Member, name_of, as_object}
 use Rattle.json_prints.specs.Prints.{Names, SoughtKey}
 use Rattle.json_prints.proofs.Prints.{no_names}
 use Rattle.json_walk.specs.Walk.{json_at}

@@ -8,7 +8,7 @@ use native.Mathlib.Omega.{arith}
 use lib.ListN.{length, take, set}
 use Rattle.text.specs.Choice.{with-some}
 use Rattle.text.specs.Bytes.{Bytes}
-use Rattle.json.specs.Tree.{Json, Member as Named, name_of, as_object}
+use Rattle.json_text.specs.Tree.{Json, Member as Named, name_of, as_object}
 use Rattle.json_strings.specs.Decoded.{decoded_at}
 use Rattle.json_prints.specs.Prints.{print_of, Names}
 use Rattle.json_prints.proofs.Prints.{names-noted, no_names}

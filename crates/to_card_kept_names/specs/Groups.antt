@@ -4,7 +4,7 @@ use Rattle.std.proofs.Math.Option
 use Rattle.std.proofs.Math.Option.{Option, some}
 use Rattle.text.specs.Choice.{pick, with-some}
 use Rattle.text.specs.Bytes.{Bytes, among}
-use Rattle.json.specs.Tree.{Json, name_of, as_object}
+use Rattle.json_text.specs.Tree.{Json, name_of, as_object}
 use Rattle.json_strings.specs.Decoded.{decoded_at}
 use Rattle.json_prints.specs.Prints.{Names}
 use Rattle.json_walk.specs.Walk.{json_at}

@@ -14,7 +14,7 @@ use Rattle.text.proofs.Cases.{by_bool}
 use Rattle.text.proofs.Choices.{some_same, provided-inv, chain-inv, both-inv}
 use Rattle.text.proofs.Lists.{any_append}
 use Rattle.text.proofs.Same.{among_none}
-use Rattle.json.specs.Tree.{Json, Member, member, name_of, as_string, as_number, as_object}
+use Rattle.json_text.specs.Tree.{Json, Member, member, name_of, as_string, as_number, as_object}
 use Rattle.json_index.specs.Index.{first_at}
 use Rattle.json_has.specs.Has.{named, has_name}
 use Rattle.to_card_kept_names.specs.Groups.{names_of, HasName}

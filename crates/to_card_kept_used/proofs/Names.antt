@@ -9,7 +9,7 @@ use Rattle.text.specs.Choice.{with-some}
 use Rattle.text.specs.Bytes.{Bytes, any, same, among, keep}
 use Rattle.text.proofs.Cases.{by_bool, not-both}
 use Rattle.text.proofs.Same.{same_true}
-use Rattle.json.specs.Tree.{Member, member, name_of}
+use Rattle.json_text.specs.Tree.{Member, member, name_of}
 use Rattle.output.specs.declared.Wrote.{Wrote}
 use Rattle.output.specs.declared.Wrote.TheVariants.{Bytes as Wrote-Bytes, Full}
 use Rattle.output.specs.Put.{Puts}

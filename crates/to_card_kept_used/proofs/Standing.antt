@@ -13,7 +13,7 @@ use Rattle.text.specs.Bytes.{Bytes, ascii, among}
 use Rattle.text.proofs.Cases.{and_left, not-true}
 use Rattle.text.proofs.Same.{among_none}
 use Rattle.text.proofs.Choices.{none-some, some_same, provided-inv, chain-inv}
-use Rattle.json.specs.Tree.{name_of}
+use Rattle.json_text.specs.Tree.{name_of}
 use Rattle.line.specs.Grammar.{Param, Line}
 use Rattle.line.specs.Params.{values_named, only_named}
 use Rattle.convert.specs.Table.{maps, reserved}

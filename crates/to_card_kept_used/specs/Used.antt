@@ -3,7 +3,7 @@
 use Rattle.std.specs.Prelude.{◌≡◌, Bool, false, List, map, ℕ, eqb}
 use Rattle.std.proofs.Math.Option.{some}
 use Rattle.text.specs.Bytes.{Bytes, any, among, each}
-use Rattle.json.specs.Tree.{Json, Member, name_of, as_object}
+use Rattle.json_text.specs.Tree.{Json, Member, name_of, as_object}
 use Rattle.json_index.specs.Index.{json_at, Indexed}
 use Rattle.line_table.specs.Table.{part}
 use Rattle.convert.specs.Table.{maps, reserved}

@@ -12,7 +12,7 @@ use lib.Seq.{drop-cons}
 use Rattle.text.specs.Choice.{both}
 use Rattle.text.specs.Bytes.{Bytes, any, all, among, same, each, flat, parts}
 use Rattle.text.proofs.Cases.{in_range}
-use Rattle.json.specs.Tree.{Json, Member, field}
+use Rattle.json_text.specs.Tree.{Json, Member, field}
 use Rattle.line.specs.Grammar.{Line}
 use Rattle.line.specs.Write.{fold, write_line}
 use Rattle.json_index.specs.Index.{first_at, Slot, Indexed}

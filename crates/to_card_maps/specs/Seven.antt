@@ -3,7 +3,7 @@ use Rattle.std.specs.Prelude.{◌≡◌, Bool, List, [], ◌∷◌, ◌++◌, ma
 use Rattle.std.proofs.Math.Option.{Option, none, some}
 use Rattle.text.specs.Choice.{with-some, chain}
 use Rattle.text.specs.Bytes.{Bytes, each, flat}
-use Rattle.json.specs.Tree.{Json, Member, as_object}
+use Rattle.json_text.specs.Tree.{Json, Member, as_object}
 use Rattle.line.specs.Grammar.{Line}
 use Rattle.line.specs.Write.{fold, write_line}
 use Rattle.json_index.specs.Index.{Slot, Indexed}

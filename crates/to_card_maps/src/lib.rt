@@ -1,7 +1,7 @@
 // The seven maps of a JSON card as lines, one after the other in the table's order. A row of the table is data (`card_table`): an eighth map is one more branch here.
 ghost use Rattle.std.specs.Prelude.{◌≡◌, ◌≤◌, length};
 ghost use Rattle.to_card_map.specs.Maps.{LinesIn};
-ghost use Rattle.json.specs.Lookup.{room};
+ghost use Rattle.json_text.specs.Lookup.{room};
 ghost use Rattle.card_table.specs.Numbers.{map_slots};
 ghost use Rattle.to_card_maps.specs.Seven.{PutsNth, PutsMaps};
 

@@ -12,10 +12,10 @@ use Rattle.text.specs.Choice.{both, chain}
 use Rattle.text.specs.Bytes.{Bytes}
 use Rattle.text.specs.Reader.{got, loop}
 use Rattle.text.specs.Places.{byte_at, Passes, GivesT}
-use Rattle.json.specs.Grammar.{is_space}
-use Rattle.json.specs.Tree.{Members, mnil, mcons, Member, member, members_of}
-use Rattle.json.specs.Syntax.{sep, pair, value}
-use Rattle.json.specs.Strings.{decoded_members}
+use Rattle.json_text.specs.Grammar.{is_space}
+use Rattle.json_text.specs.Tree.{Members, mnil, mcons, Member, member, members_of}
+use Rattle.json_text.specs.Syntax.{sep, pair, value}
+use Rattle.json_text.specs.Strings.{decoded_members}
 use Rattle.json_access.specs.declared.Places.{Places}
 use Rattle.json_access.specs.Access.{TellsMember, Inside}
 use Rattle.json_index.proofs.Laws.{Here, pair-here, others-on, others-none, next_of, members-cons, members-nil, nil-decoded}

@@ -11,8 +11,8 @@ use Rattle.text.specs.Choice.{pick, both, provided, is_some}
 use Rattle.text.specs.Bytes.{Bytes, ascii, all, among, same, keep, parts, on_head, uppered, upper, between}
 use Rattle.text.proofs.Cases.{by_bool, not-true, not-false}
 use Rattle.text.proofs.Same.{among_of}
-use Rattle.json.specs.Tree.{Json, jnull, Member, member, name_of}
-use Rattle.json.specs.Compact.{compact}
+use Rattle.json_text.specs.Tree.{Json, jnull, Member, member, name_of}
+use Rattle.json_text.specs.Compact.{compact}
 use Rattle.json_compact.specs.Squeezed.{squeezed}
 use Rattle.json_strings.specs.Decoded.{decoded_at}
 use Rattle.json_index.specs.Index.{placed, first_at}

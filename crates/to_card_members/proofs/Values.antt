@@ -15,11 +15,11 @@ use Rattle.output.specs.declared.Wrote.{Wrote}
 use Rattle.output.specs.declared.Wrote.TheVariants.{Bytes as Wrote-Bytes, Full}
 use Rattle.output.specs.Put.{put, Puts}
 use Rattle.output.proofs.Laws.{put-over, said-bytes, said-full, length-put}
-use Rattle.json.specs.Tree.{Json}
-use Rattle.json.specs.Syntax.{value}
-use Rattle.json.specs.Strings.{decoded}
-use Rattle.json.specs.Compact.{compact}
-use Rattle.json.proofs.Fine.{value-fine}
+use Rattle.json_text.specs.Tree.{Json}
+use Rattle.json_text.specs.Syntax.{value}
+use Rattle.json_text.specs.Strings.{decoded}
+use Rattle.json_text.specs.Compact.{compact}
+use Rattle.json_text.proofs.Fine.{value-fine}
 use Rattle.json_access.specs.Access.{Stands}
 use Rattle.json_access.proofs.Laws.{value-skip}
 use Rattle.json_compact.specs.Squeezed.{squeezed}

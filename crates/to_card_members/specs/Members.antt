@@ -4,10 +4,10 @@ use Rattle.std.proofs.Math.Option.{Option, none, some}
 use Rattle.text.specs.Choice.{pick, chain, provided}
 use Rattle.text.specs.Bytes.{Bytes, ascii, all, among}
 use Rattle.text.specs.Reader.{got, loop}
-use Rattle.json.specs.Tree.{Json, Members, Member, member, members_of, name_of, as_object}
-use Rattle.json.specs.Syntax.{pair, value}
-use Rattle.json.specs.Strings.{decoded_members}
-use Rattle.json.specs.Compact.{compact}
+use Rattle.json_text.specs.Tree.{Json, Members, Member, member, members_of, name_of, as_object}
+use Rattle.json_text.specs.Syntax.{pair, value}
+use Rattle.json_text.specs.Strings.{decoded_members}
+use Rattle.json_text.specs.Compact.{compact}
 use Rattle.json_compact.specs.Squeezed.{squeezed}
 use Rattle.json_strings.specs.Decoded.{decoded_at}
 use Rattle.json_index.specs.Index.{json_at}

@@ -9,7 +9,7 @@ use lib.Dec.{eqb}
 use lib.ListN.{length, get_or}
 use Rattle.text.specs.Choice.{with-some, is_some, both, chain, provided}
 use Rattle.text.specs.Bytes.{Bytes, ascii, parts, each}
-use Rattle.json.specs.Tree.{Json, Member, field, as_string, as_array, as_object}
+use Rattle.json_text.specs.Tree.{Json, Member, field, as_string, as_array, as_object}
 use Rattle.json_index.specs.Index.{first_at, Slot, Indexed, IndexOf, Indexes}
 use Rattle.json_index.proofs.Fields.{first_field}
 use Rattle.convert.specs.FromJson.{only_members, Component, component_of, Name, is_false, name_from, by_kind}

@@ -13,8 +13,8 @@ use Rattle.text.specs.Bytes.{Bytes, all, any, empty, each, between}
 use Rattle.text.specs.Reader.{bad, on, when, past, some_of}
 use Rattle.text.proofs.Readers.{not-bad}
 use Rattle.text.proofs.Same.{among_none}
-use Rattle.json.specs.Tree.{Json, jnull, jtrue, jfalse, jnum, jstr, jarr, jobj, elems_of, as_string, as_array}
-use Rattle.json.specs.Syntax.{skip, scalar, number, opt, int, digits, value}
+use Rattle.json_text.specs.Tree.{Json, jnull, jtrue, jfalse, jnum, jstr, jarr, jobj, elems_of, as_string, as_array}
+use Rattle.json_text.specs.Syntax.{skip, scalar, number, opt, int, digits, value}
 use Rattle.json_access.specs.declared.Kind.{Kind}
 use Rattle.json_access.specs.declared.Kind.TheVariants.{Null, True, False, Number, String, Array, Object}
 use Rattle.json_access.specs.Access.{TellsKind, kind_of}
@@ -34,7 +34,7 @@ use Rattle.to_card_name.specs.declared.Full.TheVariants.{At, Absent, Wrong}
 use Rattle.to_card_name.specs.declared.Listed.TheVariants.{At as ListAt, Nothing, Wrong as NoList}
 use Rattle.to_card_name.specs.Name.{ordered_in, full_in, components_in, TellsUnordered, FullAs, TellsFull, ListedAs, ListsAs, TellsParts, TellsApart}
 
--- ---- is_ordered
+-- ---- isOrdered
 
 abbrev pub is_false_kind : Kind → Bool
 is_false_kind Null = false

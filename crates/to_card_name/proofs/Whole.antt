@@ -12,8 +12,8 @@ use Rattle.text.specs.Choice.{is_some, both, chain, provided}
 use Rattle.text.specs.Bytes.{Bytes, ascii, any, among, same, parts, on_head}
 use Rattle.text.proofs.Cases.{and_left, and_right}
 use Rattle.text.proofs.Readers.{not-bad}
-use Rattle.json.specs.Tree.{Json, Member, field, as_object}
-use Rattle.json.specs.Syntax.{value}
+use Rattle.json_text.specs.Tree.{Json, Member, field, as_object}
+use Rattle.json_text.specs.Syntax.{value}
 use Rattle.json_index.specs.Index.{first_at, Slot, Clear, Indexed, IndexOf, Indexes}
 use Rattle.json_index.proofs.Fields.{first_field, first-other}
 use Rattle.json_index.proofs.Objects.{at-inv}

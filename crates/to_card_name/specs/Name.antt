@@ -3,7 +3,7 @@ use Rattle.std.specs.Prelude.{◌≡◌, Bool, true, false, ◌&&◌, ◌||◌, 
 use Rattle.std.proofs.Math.Option.{Option, none, some, map}
 use Rattle.text.specs.Choice.{with-some, is_some, both, chain, provided}
 use Rattle.text.specs.Bytes.{Bytes, ascii, all, each}
-use Rattle.json.specs.Tree.{Json, as_string, as_array}
+use Rattle.json_text.specs.Tree.{Json, as_string, as_array}
 use Rattle.line.specs.Grammar.{Line}
 use Rattle.line.specs.Text.{write_text}
 use Rattle.line.specs.Write.{fold_from}
@@ -124,7 +124,7 @@ abbrev pub PutsList : Bytes → ℕ → ℕ → Bytes → Lines → Bytes → Ty
 PutsList s full slot room r after = (f : Option Bytes) → StringIs s full f → (o : Option Json) → Slot 14 s slot o
     → PartAs room r after (map (λ cs. name_lines (name_of f cs)) (components_in o))
 
--- by the slots of full, components and is_ordered, and that of any other member
+-- by the slots of full, components and isOrdered, and that of any other member
 unfoldable pub name_from_slots : Option Json → Option Json → Option Json → Option Json → Option Name
 name_from_slots f c i other = provided (not (is_some other) && (is_some f || is_some c)) (chain (ordered_in i) λ ordered. both name_of (full_in f) (components_in c))
 

@@ -52,7 +52,7 @@ pub struct Counted {
     pub carried: bool,
 }
 
-// is_ordered is absent or false.
+// isOrdered is absent or false.
 fn is_unordered(s: &[u8], slot: usize) -> bool
     ensures { TellsUnordered s.now slot result }
 {

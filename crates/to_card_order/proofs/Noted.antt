@@ -14,8 +14,8 @@ use Rattle.text.specs.Bytes.{Bytes, all, among}
 use Rattle.text.specs.Places.{GivesT}
 use Rattle.text.proofs.Choices.{none-some, some_same}
 use Rattle.text.proofs.Same.{among_none, among-append}
-use Rattle.json.specs.Tree.{elems_of}
-use Rattle.json.specs.Syntax.{sep}
+use Rattle.json_text.specs.Tree.{elems_of}
+use Rattle.json_text.specs.Syntax.{sep}
 use Rattle.json_strings.specs.Decoded.{decoded_at}
 use Rattle.json_prints.specs.Prints.{meets, printed, print_of, Names, Sought}
 use Rattle.json_prints.proofs.Prints.{printed-below, meets-among, names-noted, no_names}

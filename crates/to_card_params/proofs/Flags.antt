@@ -14,7 +14,7 @@ use Rattle.text.specs.Choice.{pick, with-some, chain, provided}
 use Rattle.text.specs.Bytes.{Bytes, each, parts, same}
 use Rattle.text.proofs.Cases.{by_bool}
 use Rattle.text.proofs.Same.{same-swap}
-use Rattle.json.specs.Tree.{Json, jnull, jtrue, jfalse, jnum, jstr, jarr, jobj, member, as_object}
+use Rattle.json_text.specs.Tree.{Json, jnull, jtrue, jfalse, jnum, jstr, jarr, jobj, member, as_object}
 use Rattle.json_strings.specs.Decoded.{decoded_at}
 use Rattle.json_access.specs.declared.Kind.{Kind}
 use Rattle.json_access.specs.Access.{EndsAt, TellsKind, kind_of}

@@ -12,8 +12,8 @@ use Rattle.text.specs.Choice.{with-some, chain, provided}
 use Rattle.text.specs.Bytes.{Bytes, ascii, empty}
 use Rattle.text.proofs.Cases.{split, not-both}
 use Rattle.text.proofs.Choices.{some_same}
-use Rattle.json.specs.Tree.{Json, jnull, jtrue, jfalse, jnum, jstr, jarr, jobj, as_number}
-use Rattle.json.specs.Strings.{decoded}
+use Rattle.json_text.specs.Tree.{Json, jnull, jtrue, jfalse, jnum, jstr, jarr, jobj, as_number}
+use Rattle.json_text.specs.Strings.{decoded}
 use Rattle.json_access.specs.declared.Kind.{Kind}
 use Rattle.json_access.specs.declared.Part.{Part}
 use Rattle.json_access.specs.Access.{TellsKind, TellsElement, Inside, kind_of}

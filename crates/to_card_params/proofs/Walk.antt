@@ -12,9 +12,9 @@ use Rattle.text.specs.Bytes.{Bytes, between}
 use Rattle.text.specs.Reader.{bad, on, when, past, some_of}
 use Rattle.text.proofs.Readers.{not-bad}
 use Rattle.text.proofs.Choices.{some_same, map-inv}
-use Rattle.json.specs.Tree.{Json, jnull, jtrue, jfalse, jnum, jstr, jarr, jobj}
-use Rattle.json.specs.Syntax.{skip, scalar, number, opt, int, digits, value}
-use Rattle.json.specs.Strings.{decode, decoded, decoded_elems, decoded_members}
+use Rattle.json_text.specs.Tree.{Json, jnull, jtrue, jfalse, jnum, jstr, jarr, jobj}
+use Rattle.json_text.specs.Syntax.{skip, scalar, number, opt, int, digits, value}
+use Rattle.json_text.specs.Strings.{decode, decoded, decoded_elems, decoded_members}
 use Rattle.json_access.specs.declared.Kind.{Kind}
 use Rattle.json_access.specs.Access.{TellsKind, kind_of}
 use Rattle.json_index.specs.Index.{json_at, Slot}

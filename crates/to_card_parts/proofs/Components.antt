@@ -13,8 +13,8 @@ use Rattle.text.specs.Bytes.{Bytes, ascii, any, same, among, parts, on_head}
 use Rattle.text.specs.Places.{byte_at, Passes}
 use Rattle.text.proofs.Cases.{by_bool}
 use Rattle.text.proofs.Same.{same-swap}
-use Rattle.json.specs.Grammar.{is_space}
-use Rattle.json.specs.Tree.{Json, Member, field, as_object}
+use Rattle.json_text.specs.Grammar.{is_space}
+use Rattle.json_text.specs.Tree.{Json, Member, field, as_object}
 use Rattle.json_strings.specs.Decoded.{decoded_at}
 use Rattle.json_index.specs.Index.{placed, first_at, Slot, Clear, Indexed, IndexOf, Indexes}
 use Rattle.json_index.proofs.Fields.{first_field, first-other}

@@ -18,9 +18,9 @@ use Rattle.text.specs.Reader.{got, loop}
 use Rattle.text.specs.Places.{GivesT}
 use Rattle.text.proofs.Cases.{by_bool}
 use Rattle.text.proofs.Choices.{none-some, some_same}
-use Rattle.json.specs.Tree.{Elems, elems_of}
-use Rattle.json.specs.Syntax.{sep, item, value}
-use Rattle.json.specs.Strings.{decoded_elems}
+use Rattle.json_text.specs.Tree.{Elems, elems_of}
+use Rattle.json_text.specs.Syntax.{sep, item, value}
+use Rattle.json_text.specs.Strings.{decoded_elems}
 use Rattle.json_strings.specs.Decoded.{decoded_at}
 use Rattle.json_access.specs.Access.{EndsAt}
 use Rattle.json_index.specs.Index.{Clear}

@@ -17,8 +17,8 @@ use Rattle.text.specs.declared.Turn.TheVariants.{Go, Stop}
 use Rattle.text.specs.Bytes.{Bytes}
 use Rattle.text.specs.Places.{GivesT}
 use Rattle.text.proofs.Choices.{some_same}
-use Rattle.json.specs.Tree.{elems_of}
-use Rattle.json.specs.Syntax.{sep}
+use Rattle.json_text.specs.Tree.{elems_of}
+use Rattle.json_text.specs.Syntax.{sep}
 use Rattle.json_strings.specs.Decoded.{decoded_at}
 use Rattle.json_access.specs.Access.{EndsAt}
 use Rattle.line_pen.specs.Pen.{Pens}

@@ -4,9 +4,9 @@ use Rattle.std.proofs.Math.Option.{Option, none, some}
 use Rattle.text.specs.Choice.{pick, both, chain}
 use Rattle.text.specs.Bytes.{Bytes, all, empty, each, flat, same}
 use Rattle.text.specs.Reader.{got, loop}
-use Rattle.json.specs.Tree.{Json, Elems, elems_of, as_string, as_array}
-use Rattle.json.specs.Syntax.{item, value}
-use Rattle.json.specs.Strings.{decoded_elems}
+use Rattle.json_text.specs.Tree.{Json, Elems, elems_of, as_string, as_array}
+use Rattle.json_text.specs.Syntax.{item, value}
+use Rattle.json_text.specs.Strings.{decoded_elems}
 use Rattle.json_strings.specs.Decoded.{decoded_at}
 use Rattle.json_index.specs.Index.{json_at, Slot, ValueEnds}
 use Rattle.line_pen.specs.Pen.{Pens}

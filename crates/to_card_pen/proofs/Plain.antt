@@ -16,7 +16,7 @@ use Rattle.text.specs.Bytes.{Bytes, all, is, between}
 use Rattle.text.specs.Places.{byte_at}
 use Rattle.text.proofs.Places.{on-yes, on-no}
 use Rattle.text.proofs.Cases.{by_bool, split, in_between, between-true, and_left, and_right, not-true}
-use Rattle.json.specs.Strings.{before}
+use Rattle.json_text.specs.Strings.{before}
 use Rattle.json_escapes.specs.Units.{unit}
 use Rattle.json_escapes.specs.declared.Piece.TheVariants.{Of}
 use Rattle.json_strings.specs.declared.Byte.{Byte}

@@ -6,7 +6,7 @@ use mathlib.Core.Option
 use mathlib.Core.Option.{Option, none, some}
 use Rattle.text.specs.Choice.{with-some, both, chain, provided}
 use Rattle.text.specs.Bytes.{Bytes, ascii, all, each}
-use Rattle.json.specs.Tree.{Json, Member, name_of, field, as_array}
+use Rattle.json_text.specs.Tree.{Json, Member, name_of, field, as_array}
 use Rattle.line.specs.Grammar.{Line}
 use Rattle.convert.specs.Table.{maps, name_row}
 use Rattle.convert.specs.Model.{Entry, Kept, Card}

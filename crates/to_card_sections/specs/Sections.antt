@@ -4,7 +4,7 @@ use Rattle.std.specs.Prelude.{List}
 use Rattle.std.proofs.Math.Option.{Option, some}
 use Rattle.text.specs.Choice.{both, chain}
 use Rattle.text.specs.Bytes.{ascii, each}
-use Rattle.json.specs.Tree.{Member, field}
+use Rattle.json_text.specs.Tree.{Member, field}
 use Rattle.convert.specs.Table.{maps}
 use Rattle.convert.specs.Model.{Entry, Card}
 use Rattle.convert.specs.Classify.{Seen}

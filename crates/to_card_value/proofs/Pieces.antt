@@ -9,7 +9,7 @@ use lib.Dec.{eqb, leb}
 use borrow.Author.Tests.{eq-eqb, ne_eqb, eqb-true, lt-ltb, le-ltb}
 use Rattle.text.specs.Bytes.{Bytes, ascii, any, empty, begins}
 use Rattle.text.proofs.Cases.{by_bool}
-use Rattle.json.specs.Strings.{before}
+use Rattle.json_text.specs.Strings.{before}
 use Rattle.json_strings.specs.Decoded.{decoded_at}
 use Rattle.line.specs.Class.{is_control}
 use Rattle.line_pen.proofs.Laws.{pens-none}

@@ -16,10 +16,10 @@ use Rattle.text.specs.Places.{byte_at, Passes}
 use Rattle.text.proofs.Cases.{by_bool, not-both}
 use Rattle.text.proofs.Choices.{some_same, map-inv}
 use Rattle.text.proofs.Readers.{got-what, bind_inv, under-inv, on-inv, when-inv}
-use Rattle.json.specs.Grammar.{is_space}
-use Rattle.json.specs.Tree.{Json, jnull, jtrue, jfalse, jnum, jstr, jarr, jobj, Elems, Members, as_string}
-use Rattle.json.specs.Syntax.{characters, number, four, scalar, elements, pairs, value}
-use Rattle.json.specs.Strings.{decode, decoded, decoded_elems, decoded_members}
+use Rattle.json_text.specs.Grammar.{is_space}
+use Rattle.json_text.specs.Tree.{Json, jnull, jtrue, jfalse, jnum, jstr, jarr, jobj, Elems, Members, as_string}
+use Rattle.json_text.specs.Syntax.{characters, number, four, scalar, elements, pairs, value}
+use Rattle.json_text.specs.Strings.{decode, decoded, decoded_elems, decoded_members}
 use Rattle.json_scan.proofs.First.{as-flat, as-scalar, as-array, as-object}
 use Rattle.json_strings.proofs.Laws.{decoded-is}
 use Rattle.text.proofs.Places.{on-yes}

@@ -14,10 +14,10 @@ use Rattle.text.specs.Bytes.{Bytes, ascii, any, all, among, flat, each, parts, o
 use Rattle.text.specs.Reader.{got, loop}
 use Rattle.text.specs.Places.{byte_at, Passes, GivesT}
 use Rattle.text.proofs.Cases.{not-both, not-true, not-false}
-use Rattle.json.specs.Grammar.{is_space}
-use Rattle.json.specs.Tree.{Json, Elems, elems_of, Member, field, as_string, as_array, as_object}
-use Rattle.json.specs.Syntax.{sep, item, value}
-use Rattle.json.specs.Strings.{decoded_elems}
+use Rattle.json_text.specs.Grammar.{is_space}
+use Rattle.json_text.specs.Tree.{Json, Elems, elems_of, Member, field, as_string, as_array, as_object}
+use Rattle.json_text.specs.Syntax.{sep, item, value}
+use Rattle.json_text.specs.Strings.{decoded_elems}
 use Rattle.json_strings.specs.Decoded.{decoded_at}
 use Rattle.json_access.specs.declared.Part.{Part}
 use Rattle.json_access.specs.Access.{TellsElement}

@@ -13,7 +13,7 @@ use borrow.Author.Tests.{eq-eqb, ne_eqb, eqb-true}
 use Rattle.text.specs.Choice.{pick, with-some, chain, provided}
 use Rattle.text.specs.Bytes.{Bytes, ascii, is, any, all, begins, flat, joined, keep}
 use Rattle.text.proofs.Cases.{by_bool, not-true, not-false, and_left, and_right, or_left, or_right}
-use Rattle.json.specs.Tree.{Json, as_string}
+use Rattle.json_text.specs.Tree.{Json, as_string}
 use Rattle.json_strings.specs.Decoded.{decoded_at}
 use Rattle.line.specs.Class.{is_control}
 use Rattle.line.specs.Text.{write_text}

@@ -6,9 +6,9 @@ use Prim.Native.Char.{code}
 use Rattle.text.specs.Choice.{pick, with-some, is_some, chain, provided}
 use Rattle.text.specs.Bytes.{Bytes, ascii, any, all, empty, flat, joined, keep, each}
 use Rattle.text.specs.Reader.{got, loop}
-use Rattle.json.specs.Tree.{Json, Elems, elems_of, as_string, as_array}
-use Rattle.json.specs.Syntax.{item, value}
-use Rattle.json.specs.Strings.{decoded_elems}
+use Rattle.json_text.specs.Tree.{Json, Elems, elems_of, as_string, as_array}
+use Rattle.json_text.specs.Syntax.{item, value}
+use Rattle.json_text.specs.Strings.{decoded_elems}
 use Rattle.json_strings.specs.Decoded.{decoded_at}
 use Rattle.json_index.specs.Index.{json_at, Slot}
 use Rattle.line.specs.Class.{is_control}

@@ -13,7 +13,7 @@ use Rattle.text.specs.Choice.{pick, with-some, provided}
 use Rattle.text.specs.Bytes.{Bytes, ascii, same, lowered, empty}
 use Rattle.text.proofs.Cases.{not-both}
 use Rattle.text.proofs.Choices.{some_same}
-use Rattle.json.specs.Tree.{Json, Member, member}
+use Rattle.json_text.specs.Tree.{Json, Member, member}
 use Rattle.line.specs.Grammar.{Line, read_line}
 use Rattle.line.specs.Params.{besides_value}
 use Rattle.line.specs.Text.{read_text}

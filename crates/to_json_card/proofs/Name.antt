@@ -10,7 +10,7 @@ use lib.ListN.{drop, get_or}
 use Rattle.text.specs.Choice.{with-some, is_some}
 use Rattle.text.specs.Bytes.{Bytes, ascii}
 use Rattle.text.proofs.Cases.{tests}
-use Rattle.json.specs.Tree.{member}
+use Rattle.json_text.specs.Tree.{member}
 use Rattle.line.specs.Grammar.{Line, read_line}
 use Rattle.line.specs.Text.{read_text}
 use Rattle.line_table.specs.Table.{part, Holds}

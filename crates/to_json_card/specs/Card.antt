@@ -3,7 +3,7 @@ use Rattle.std.specs.Prelude.{◌≡◌, List, [], ◌∷◌, ◌++◌, ℕ, ◌
 use Rattle.std.proofs.Math.Option.{some}
 use Prim.Native.Char.{code}
 use Rattle.text.specs.Bytes.{Bytes, flat}
-use Rattle.json.specs.Tree.{Json, Member, member}
+use Rattle.json_text.specs.Tree.{Json, Member, member}
 use Rattle.line.specs.Grammar.{Line, read_line}
 use Rattle.output.specs.declared.Wrote.{Wrote}
 use Rattle.output.specs.Put.{Puts}

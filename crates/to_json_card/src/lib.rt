@@ -149,7 +149,7 @@ fn put_middle(
     Wrote::Bytes(b2)
 }
 
-// v_card_props, and the closing brace.
+// vCardProps, and the closing brace.
 fn put_end(
     out: &mut [u8],
     t: &mut [usize],

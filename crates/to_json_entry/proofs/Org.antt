@@ -13,8 +13,8 @@ use Rattle.text.specs.Bytes.{Bytes, ascii, empty, any, keep, each, flat}
 use Rattle.text.proofs.Cases.{by_bool}
 use Rattle.text.proofs.Choices.{both-inv, some_same}
 use Rattle.line.specs.Text.{read_text, split_text}
-use Rattle.json.specs.Tree.{Json, Member, member, object, array, jstr, from_members}
-use Rattle.json.specs.Compact.{spelled, spelled_all, quoted, written, written_members, members_after}
+use Rattle.json_text.specs.Tree.{Json, Member, member, object, array, jstr, from_members}
+use Rattle.json_text.specs.Compact.{spelled, spelled_all, quoted, written, written_members, members_after}
 use Rattle.line_text.specs.Read.{plain_text}
 use Rattle.line_text.specs.Split.{PartEnds}
 use Rattle.convert.specs.Table.{organization}

@@ -11,7 +11,7 @@ use Rattle.text.specs.Bytes.{Bytes, ascii, same, lowered}
 use Rattle.text.proofs.Same.{same_true}
 use Rattle.text.proofs.Cases.{by_bool}
 use Rattle.text.proofs.Choices.{some_same, none-some}
-use Rattle.json.specs.Compact.{spelled, spelled_all, quoted, written}
+use Rattle.json_text.specs.Compact.{spelled, spelled_all, quoted, written}
 use Rattle.convert.specs.Table.{Map, Slot, maps, position, slot_from, slot_of}
 use Rattle.line_table.specs.Table.{part, line_in}
 use Rattle.convert_put.specs.Pieces.{kind_piece, content_piece, member_bytes, before}

@@ -11,8 +11,8 @@ use Rattle.text.specs.Choice.{pick, is_some, provided}
 use Rattle.text.specs.Bytes.{Bytes, any, each, flat}
 use Rattle.text.proofs.Choices.{provided-inv, chain-inv, some_same}
 use Rattle.line.specs.Text.{read_text, split_text}
-use Rattle.json.specs.Tree.{Member, member, jstr}
-use Rattle.json.specs.Compact.{quoted}
+use Rattle.json_text.specs.Tree.{Member, member, jstr}
+use Rattle.json_text.specs.Compact.{quoted}
 use Rattle.convert.specs.Table.{Form, text, single, uri, phone, organization}
 use Rattle.convert.specs.Value.{filled, read_as, organized}
 use Rattle.convert.specs.ToJson.{content_json}

@@ -12,7 +12,7 @@ use borrow.Author.Tests.{eqb-true}
 use lib.Dec.{eqb}
 use Rattle.line.specs.Grammar.{Param}
 use Rattle.line.specs.Params.{values_named, besides_value, value_type}
-use Rattle.json.specs.Tree.{member, jstr}
+use Rattle.json_text.specs.Tree.{member, jstr}
 use Rattle.convert.specs.Table.{Slot}
 use Rattle.convert.specs.Model.{Entry}
 use Rattle.convert.specs.Classify.{Seen, types_from, entry_of}

@@ -7,8 +7,8 @@ use Rattle.text.specs.Bytes.{Bytes, ascii, empty, lowered, keep, flat}
 use Rattle.line.specs.Grammar.{Line}
 use Rattle.line.specs.Text.{read_text, split_text}
 use Rattle.line_text.specs.Read.{plain_text}
-use Rattle.json.specs.Tree.{member, jstr}
-use Rattle.json.specs.Compact.{quoted}
+use Rattle.json_text.specs.Tree.{member, jstr}
+use Rattle.json_text.specs.Compact.{quoted}
 use Rattle.output.specs.declared.Wrote.{Wrote}
 use Rattle.output.specs.Put.{Puts}
 use Rattle.convert.specs.Table.{Slot, slot_of}

@@ -11,7 +11,7 @@ use Rattle.text.specs.Decimal.{decimal}
 use Rattle.text.proofs.Cases.{between-true}
 use Rattle.text.proofs.Lists.{all_head, all_tail}
 use Rattle.text.proofs.Decimals.{decimal-digits}
-use Rattle.json.specs.Compact.{spelled, spelled_all, quoted, written}
+use Rattle.json_text.specs.Compact.{spelled, spelled_all, quoted, written}
 use Rattle.json_write.specs.Pieces.{bare}
 use Rattle.json_write.proofs.Spelling.{bare-one}
 use Rattle.convert.specs.FromCard.{made_uid}

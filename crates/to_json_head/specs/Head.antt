@@ -3,7 +3,7 @@ use Rattle.std.specs.Prelude.{Bool, [], ◌∷◌, ◌++◌, ℕ}
 use Prim.Native.Char.{code}
 use Rattle.text.specs.Choice.{pick}
 use Rattle.text.specs.Bytes.{Bytes, ascii, lowered}
-use Rattle.json.specs.Tree.{member, jstr}
+use Rattle.json_text.specs.Tree.{member, jstr}
 use Rattle.convert.specs.Value.{filled}
 use Rattle.convert.specs.FromCard.{made_uid}
 use Rattle.convert.specs.ToJson.{where'}

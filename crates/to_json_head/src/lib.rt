@@ -1,7 +1,7 @@
 // How a card's JSON begins: @type, version, uid, kind.
 ghost use Rattle.std.specs.Prelude.{◌∷◌, []};
 ghost use Rattle.text.specs.Bytes.{ascii, flat, lowered};
-ghost use Rattle.json.specs.Compact.{quoted};
+ghost use Rattle.json_text.specs.Compact.{quoted};
 ghost use Rattle.output.specs.Put.{Puts};
 ghost use Rattle.convert.specs.FromCard.{made_uid};
 ghost use Rattle.to_json_head.specs.Head.{uid_of, start_bytes, kind_bytes};

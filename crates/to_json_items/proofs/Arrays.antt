@@ -7,8 +7,8 @@ use native.Mathlib.Omega.{arith}
 use lib.ListN.{length, length-append}
 use Rattle.text.specs.Choice.{pick}
 use Rattle.text.specs.Bytes.{Bytes, empty, flat}
-use Rattle.json.specs.Tree.{Json, from_elems, array}
-use Rattle.json.specs.Compact.{quoted, written, written_elems, elems_after}
+use Rattle.json_text.specs.Tree.{Json, from_elems, array}
+use Rattle.json_text.specs.Compact.{quoted, written, written_elems, elems_after}
 use Rattle.convert_put.proofs.Compact.{written-append}
 use Rattle.to_json_items.specs.Items.{lead, opening, item_head, item_piece, listed, elems}
 

@@ -13,7 +13,7 @@ use Rattle.text.specs.Bytes.{Bytes, ascii, keep, flat}
 use Rattle.text.proofs.Cases.{by_bool}
 use Rattle.line.specs.Text.{split_text}
 use Rattle.convert.specs.Table.{component_kinds}
-use Rattle.json.specs.Compact.{quoted}
+use Rattle.json_text.specs.Compact.{quoted}
 use Rattle.output.specs.Put.{Puts, Rest}
 use Rattle.output.specs.declared.Wrote.{Wrote}
 use Rattle.output.specs.declared.Wrote.TheVariants.{Bytes as Wrote-Bytes, Full}

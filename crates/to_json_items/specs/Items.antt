@@ -3,8 +3,8 @@ use Rattle.std.specs.Prelude.{Bool, true, ◌&&◌, not, List, [], ◌∷◌, �
 use Prim.Native.Char.{code}
 use Rattle.text.specs.Choice.{pick}
 use Rattle.text.specs.Bytes.{Bytes, ascii, among, flat}
-use Rattle.json.specs.Tree.{Json}
-use Rattle.json.specs.Compact.{quoted, written}
+use Rattle.json_text.specs.Tree.{Json}
+use Rattle.json_text.specs.Compact.{quoted, written}
 use Rattle.convert.specs.Table.{component_kinds}
 use Rattle.convert.specs.Value.{filled}
 

@@ -7,8 +7,8 @@ use native.Mathlib.Omega.{arith}
 use lib.ListN.{get_or}
 use Rattle.text.specs.Choice.{pick}
 use Rattle.text.specs.Bytes.{Bytes, ascii, same, lowered, empty, flat, any, keep}
-use Rattle.json.specs.Tree.{Json, Member, member}
-use Rattle.json.specs.Compact.{quoted, written}
+use Rattle.json_text.specs.Tree.{Json, Member, member}
+use Rattle.json_text.specs.Compact.{quoted, written}
 use Rattle.line.specs.Grammar.{param}
 use Rattle.line.specs.Params.{values_named, besides_value, lacking, named}
 use Rattle.convert.specs.FromCard.{kept_line}

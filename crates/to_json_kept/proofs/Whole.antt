@@ -1,4 +1,4 @@
--- The pieces of a kept line as one entry of v_card_props.
+-- The pieces of a kept line as one entry of vCardProps.
 use mathlib.Core.Path.{◌≡◌, refl, sym, ap, ◌∙◌}
 use mathlib.Core.Bool.{Bool, true, false, not}
 use mathlib.Core.List.{List, [], ◌∷◌, ◌++◌, map, append-nil, append_assoc}
@@ -10,8 +10,8 @@ use borrow.Author.Tests.{lt-ltb, le-ltb, ltb-true, ltb-false}
 use Rattle.text.specs.Choice.{pick}
 use Rattle.text.specs.Bytes.{Bytes, ascii, between, same, lower, lowered, empty, flat}
 use Rattle.text.proofs.Cases.{by_bool}
-use Rattle.json.specs.Tree.{jstr, Member, member, object, array, from_elems}
-use Rattle.json.specs.Compact.{spelled, spelled_all, quoted, written, written_elems, elems_after}
+use Rattle.json_text.specs.Tree.{jstr, Member, member, object, array, from_elems}
+use Rattle.json_text.specs.Compact.{spelled, spelled_all, quoted, written, written_elems, elems_after}
 use Rattle.line.specs.Params.{values_named, value_type, first_or}
 use Rattle.line.proofs.Named.{values_named-append, values_named-none}
 use Rattle.convert.specs.Value.{filled}

@@ -1,9 +1,9 @@
--- A kept line as an entry of v_card_props, in the pieces that the code writes.
+-- A kept line as an entry of vCardProps, in the pieces that the code writes.
 use Rattle.std.specs.Prelude.{◌≡◌, Bool, List, [], ◌∷◌, ℕ, ◌≤◌, ltb, get_or}
 use Prim.Native.Char.{code}
 use Rattle.text.specs.Choice.{pick}
 use Rattle.text.specs.Bytes.{Bytes, ascii, empty, lowered, flat}
-use Rattle.json.specs.Compact.{quoted, written}
+use Rattle.json_text.specs.Compact.{quoted, written}
 use Rattle.line.specs.Params.{values_named, value_type}
 use Rattle.convert.specs.ToJson.{values_json}
 use Rattle.line_table.specs.Table.{part, value_at, line_in}

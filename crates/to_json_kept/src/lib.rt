@@ -1,8 +1,8 @@
-// A kept line as an entry of v_card_props, straight from the line's table: name, parameters, type, value.
+// A kept line as an entry of vCardProps, straight from the line's table: name, parameters, type, value.
 ghost use Rattle.std.specs.Prelude.{◌≡◌, ◌∷◌, [], map, ◌<◌, get_or};
 ghost use Rattle.text.specs.Choice.{pick};
 ghost use Rattle.text.specs.Bytes.{ascii, flat, same, lowered};
-ghost use Rattle.json.specs.Compact.{quoted, written};
+ghost use Rattle.json_text.specs.Compact.{quoted, written};
 ghost use Rattle.line.specs.Params.{value_type};
 ghost use Rattle.convert.specs.FromCard.{kept_line};
 ghost use Rattle.convert.specs.ToJson.{kept_json, param_json};
@@ -216,7 +216,7 @@ fn put_tail(out: &mut [u8], value: &[u8], s: &[u8], t: &[usize]) -> Wrote
     Wrote::Bytes(ae)
 }
 
-// The entry of v_card_props that a kept line becomes.
+// The entry of vCardProps that a kept line becomes.
 pub fn put_kept(out: &mut [u8], s: &[u8], t: &[usize]) -> Wrote
     requires { Sound s.now t.now }
     ensures { Puts out.old (written (kept_json (kept_line (line_in s.now t.now))) []) result out.new }

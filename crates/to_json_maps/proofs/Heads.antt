@@ -9,7 +9,7 @@ use lib.ListN.{length, get_or, replicate, length-replicate}
 use borrow.Author.Tests.{leb-true}
 use Rattle.text.proofs.Cases.{in_range}
 use Rattle.text.specs.Bytes.{Bytes, ascii}
-use Rattle.json.specs.Compact.{quoted, spelled_all, spelled}
+use Rattle.json_text.specs.Compact.{quoted, spelled_all, spelled}
 use Rattle.convert.specs.Table.{Map, maps}
 use Rattle.to_json_maps.specs.Maps.{no_map, map_at, prefix_of, head_piece, Unmarked}
 

@@ -9,8 +9,8 @@ use lib.ListN.{length, drop, drop_of_length-le}
 use lib.Seq.{drop-cons}
 use borrow.Author.Tests.{ne_eqb, eq-eqb}
 use Rattle.text.specs.Bytes.{Bytes, empty, flat, keep}
-use Rattle.json.specs.Tree.{member, object}
-use Rattle.json.specs.Compact.{quoted}
+use Rattle.json_text.specs.Tree.{member, object}
+use Rattle.json_text.specs.Compact.{quoted}
 use Rattle.convert.specs.Table.{Map, maps}
 use Rattle.convert.specs.Model.{Entry}
 use Rattle.convert.specs.Classify.{Class, as-version, as-uid, as-kind, as_dropped, as-full, as_parts, as-entry, as_member, as-kept, Classed}

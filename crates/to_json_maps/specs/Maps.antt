@@ -4,8 +4,8 @@ use Rattle.std.proofs.Math.Option.{some}
 use Prim.Native.Char.{code}
 use Rattle.text.specs.Choice.{pick}
 use Rattle.text.specs.Bytes.{Bytes, empty, flat, keep, among, lowered}
-use Rattle.json.specs.Tree.{Member, member, object}
-use Rattle.json.specs.Compact.{quoted}
+use Rattle.json_text.specs.Tree.{Member, member, object}
+use Rattle.json_text.specs.Compact.{quoted}
 use Rattle.line.specs.Grammar.{Line, read_line}
 use Rattle.output.specs.declared.Wrote.{Wrote}
 use Rattle.output.specs.declared.Wrote.TheVariants.{Bytes as Wrote-Bytes, Full}

@@ -15,9 +15,9 @@ use Rattle.text.proofs.Choices.{provided-inv, chain-inv, some_same, none-some}
 use Rattle.line.specs.Grammar.{Param, Line, param_name, param_values}
 use Rattle.line.specs.Params.{named, values_named, only_named, besides_value}
 use Rattle.line.specs.Text.{push, escaped, text_from, read_text}
-use Rattle.json.specs.Tree.{Json, member}
-use Rattle.json.specs.Read.{Reading, tree, refused, reading}
-use Rattle.json.specs.Compact.{spelled_all, quoted, written, compact}
+use Rattle.json_text.specs.Tree.{Json, member}
+use Rattle.json_text.specs.Read.{Reading, tree, refused, reading}
+use Rattle.json_text.specs.Compact.{spelled_all, quoted, written, compact}
 use Rattle.line_text.specs.Read.{plain_text}
 use Rattle.output.specs.Put.{Puts}
 use Rattle.output.specs.declared.Wrote.{Wrote}

@@ -4,7 +4,7 @@ use mathlib.Core.List.{[], ◌++◌}
 use Prim.Native.Nat.{ℕ, ◌≤◌, ◌<◌}
 use lib.ListN.{length, drop}
 use Rattle.text.specs.Bytes.{Bytes}
-use Rattle.json.specs.Compact.{spelled, spelled_all}
+use Rattle.json_text.specs.Compact.{spelled, spelled_all}
 use Rattle.convert_pointer.specs.Name.{name_in, Pointing, pointer_byte, pointer_next}
 use Rattle.convert_pointer.proofs.Pointers.{name-to, name-end}
 

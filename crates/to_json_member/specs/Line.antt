@@ -1,7 +1,7 @@
 -- A JSPROP line that converts, as a top-level member.
 use Rattle.std.specs.Prelude.{◌≡◌, List, ℕ}
 use Rattle.text.specs.Bytes.{Bytes}
-use Rattle.json.specs.Tree.{Json, member}
+use Rattle.json_text.specs.Tree.{Json, member}
 use Rattle.output.specs.declared.Wrote.{Wrote}
 use Rattle.output.specs.Put.{Puts}
 use Rattle.convert.specs.Classify.{Seen, as_member, member_class}

@@ -1,7 +1,7 @@
 // A JSPROP line that converts, written as a top-level member.
 ghost use Rattle.std.specs.Prelude.{◌≡◌, ◌∷◌, [], ◌≤◌, length};
 ghost use Rattle.text.specs.Bytes.{ascii, flat};
-ghost use Rattle.json.specs.Compact.{spelled_all};
+ghost use Rattle.json_text.specs.Compact.{spelled_all};
 ghost use Rattle.output.specs.Put.{Puts};
 ghost use Rattle.json_compact.specs.Squeezed.{squeezed};
 ghost use Rattle.convert_pointer.specs.Name.{name_in, Pointing};

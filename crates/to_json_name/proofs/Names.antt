@@ -13,8 +13,8 @@ use borrow.Rule.Slice.PartMut.{mid_of, put_mid}
 use Rattle.text.specs.Choice.{pick, is_some, with-some}
 use Rattle.text.specs.Bytes.{Bytes, ascii, empty, flat}
 use Rattle.line.specs.Text.{read_text}
-use Rattle.json.specs.Tree.{Json, Member, member, object, array, jstr, from_members}
-use Rattle.json.specs.Compact.{spelled, spelled_all, quoted, written, written_members, members_after}
+use Rattle.json_text.specs.Tree.{Json, Member, member, object, array, jstr, from_members}
+use Rattle.json_text.specs.Compact.{spelled, spelled_all, quoted, written, written_members, members_after}
 use Rattle.output.specs.Put.{Puts, Rest}
 use Rattle.output.specs.declared.Wrote.{Wrote}
 use Rattle.output.specs.declared.Wrote.TheVariants.{Bytes as Wrote-Bytes, Full}

@@ -5,8 +5,8 @@ use Prim.Native.Char.{code}
 use Rattle.text.specs.Choice.{pick, with-some, is_some}
 use Rattle.text.specs.Bytes.{Bytes, ascii, empty, keep, flat}
 use Rattle.line.specs.Text.{read_text, split_text}
-use Rattle.json.specs.Tree.{member}
-use Rattle.json.specs.Compact.{quoted}
+use Rattle.json_text.specs.Tree.{member}
+use Rattle.json_text.specs.Compact.{quoted}
 use Rattle.line_text.specs.Read.{plain_text}
 use Rattle.convert.specs.Model.{no_parts}
 use Rattle.convert.specs.Value.{head_or, read_name}

@@ -3,7 +3,7 @@ ghost use Rattle.std.specs.Prelude.{◌≡◌, true, false, ◌∷◌, [], ◌+�
 ghost use Rattle.text.specs.Choice.{is_some, pick};
 ghost use Rattle.text.specs.Bytes.{ascii, code, flat};
 ghost use Rattle.line.specs.Text.{read_text};
-ghost use Rattle.json.specs.Compact.{quoted};
+ghost use Rattle.json_text.specs.Compact.{quoted};
 ghost use Rattle.output.specs.Put.{Puts};
 ghost use Rattle.line_text.specs.Read.{plain_text};
 ghost use Rattle.line_text.specs.Split.{PartEnds};

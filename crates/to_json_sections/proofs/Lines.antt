@@ -12,7 +12,7 @@ use borrow.Rule.Slice.PartMut.{mid_of, put_mid}
 use Rattle.text.specs.Bytes.{Bytes, flat, lowered}
 use Rattle.text.proofs.Cases.{by_bool}
 use Rattle.text.proofs.Choices.{some_same}
-use Rattle.json.specs.Compact.{written}
+use Rattle.json_text.specs.Compact.{written}
 use Rattle.line.specs.Grammar.{Line, read_line}
 use Rattle.line_table.specs.Table.{line_in, Holds}
 use Rattle.line_unfold.specs.Table.{line_at}
@@ -75,7 +75,7 @@ gathered_none f = refl
 pub fact_of : {scratch starts codes : List ℕ} {k : ℕ} {c : Classed} (h : LineOf scratch starts codes k c) → Fact h.seen c.line c.class
 fact_of {c = c} h = subst (Fact h.seen c.line) (sym h.turn) (class-fact h.seen c.line)
 
--- ---- v_card_props
+-- ---- vCardProps
 
 module _ {scratch starts codes : List ℕ} {n : ℕ} {cs : List Classed} (h : Classified scratch starts codes n cs) where
   pub props-start : (room : Bytes) → Rest room (props_bytes (kept_of cs)) (props_from false (kept_of (drop 0 cs))) 0 room

@@ -3,7 +3,7 @@ use mathlib.Core.Path.{◌≡◌, sym, ap, ◌∙◌}
 use mathlib.Core.List.{List, [], ◌∷◌, append_assoc}
 use Prim.Native.Nat.{ℕ}
 use Rattle.text.specs.Bytes.{Bytes, ascii, flat}
-use Rattle.json.specs.Tree.{member, jstr}
+use Rattle.json_text.specs.Tree.{member, jstr}
 use Rattle.convert.specs.Classify.{Classed}
 use Rattle.convert.specs.FromCard.{card_of_classed}
 use Rattle.convert.specs.ToJson.{print_json}

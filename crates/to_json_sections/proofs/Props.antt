@@ -1,10 +1,10 @@
--- v_card_props as pieces.
+-- vCardProps as pieces.
 use mathlib.Core.Path.{◌≡◌, refl, sym, ap, ◌∙◌}
 use mathlib.Core.Bool.{Bool, true, false}
 use mathlib.Core.List.{List, [], ◌∷◌, ◌++◌, map, append_assoc, append-nil}
 use Rattle.text.specs.Bytes.{Bytes, ascii, flat}
-use Rattle.json.specs.Tree.{Json, from_elems, array}
-use Rattle.json.specs.Compact.{spelled, spelled_all, quoted, written, written_elems, elems_after}
+use Rattle.json_text.specs.Tree.{Json, from_elems, array}
+use Rattle.json_text.specs.Compact.{spelled, spelled_all, quoted, written, written_elems, elems_after}
 use Rattle.convert.specs.Model.{Kept}
 use Rattle.convert.specs.ToJson.{kept_json}
 use Rattle.convert_put.specs.Pieces.{member_bytes, after}

@@ -4,8 +4,8 @@ use Rattle.std.proofs.Math.Option.{Option, some}
 use Prim.Native.Char.{code}
 use Rattle.text.specs.Choice.{pick, is_some}
 use Rattle.text.specs.Bytes.{Bytes, ascii, empty, flat}
-use Rattle.json.specs.Tree.{member, array, jstr}
-use Rattle.json.specs.Compact.{written}
+use Rattle.json_text.specs.Tree.{member, array, jstr}
+use Rattle.json_text.specs.Compact.{written}
 use Rattle.line.specs.Grammar.{Line, read_line}
 use Rattle.output.specs.declared.Wrote.{Wrote}
 use Rattle.output.specs.Put.{Puts}
@@ -19,7 +19,7 @@ use Rattle.convert.specs.ToJson.{where', kept_json, name_json, maps_json}
 use Rattle.convert_put.specs.Pieces.{after}
 use Rattle.from_card_lines.specs.Classified.{Classified}
 
--- ---- v_card_props
+-- ---- vCardProps
 
 unfoldable pub kept_of : List Classed → List Kept
 kept_of cs = gathered (λ (g : Gives). g.kept) cs

@@ -40,7 +40,7 @@ fn put_prop(out: &mut [u8], t: &mut [usize], s: &[u8], begun: bool) -> Wrote
     Wrote::Bytes(ab)
 }
 
-// v_card_props: the kept lines, in their order.
+// vCardProps: the kept lines, in their order.
 pub fn put_props(
     out: &mut [u8],
     t: &mut [usize],

@@ -1,4 +1,6 @@
 // UTF-8, by the rows of RFC 3629.
+#![tactic(auto)]
+
 ghost use Rattle.std.specs.Prelude.{◌≡◌, true, false, ◌+◌, ◌≤◌, ◌<◌, length};
 ghost use Rattle.text.specs.Utf8.{utf8, lead, tails};
 ghost use Rattle.utf8.specs.Due.{due_of};

@@ -4,10 +4,10 @@ use mathlib.Core.List.{List, [], ◌∷◌, ◌++◌, map}
 use Prim.Native.Nat.{ℕ}
 use Prim.Native.String.{String}
 use Rattle.text.specs.Bytes.{Bytes, ascii}
-use Rattle.json.specs.Read.{Reading, tree, refused, reading}
-use Rattle.json.specs.Compact.{compact}
-use Rattle.json.specs.Lookup.{look_up, part_of}
-use Rattle.json.proofs.Opened.{json-opened}
+use Rattle.json_text.specs.Read.{Reading, tree, refused, reading}
+use Rattle.json_text.specs.Compact.{compact}
+use Rattle.json_text.specs.Lookup.{look_up, part_of}
+use Rattle.json_text.proofs.Opened.{json-opened}
 use Rattle.convert.specs.Answers.{Answer, no, yes}
 use Rattle.convert.specs.Worked.{text, worked-opened}
 

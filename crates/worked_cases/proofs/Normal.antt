@@ -95,7 +95,7 @@ normal-jsons =
     (json ",'phones':{'z':{'number':'a','contexts':{'private':true,'work':true},'features':{'fax':true,'mobile':true,'pager':true,'text':true,'textphone':true,'video':true,'voice':true},'pref':1},'b':{'number':'c'}}")
     ∷ settles-as (json ",'emails':{'z':{'pref':1,'contexts':{'work':true},'address':'a'}},'links':{'z':{'pref':2,'contexts':{'work':true,'private':true},'uri':'a'}},'nicknames':{'z':{'contexts':{'private':true},'pref':3,'name':'a'}}")
     (json ",'nicknames':{'z':{'name':'a','contexts':{'private':true},'pref':3}},'emails':{'z':{'address':'a','contexts':{'work':true},'pref':1}},'links':{'z':{'uri':'a','contexts':{'private':true,'work':true},'pref':2}}")
-    -- components stably by kind, kind before value, is_ordered gone, full first
+    -- components stably by kind, kind before value, isOrdered gone, full first
     ∷ settles-as (json ",'name':{'isOrdered':false,'components':[{'value':'1','kind':'generation'},{'kind':'given','value':'2'},{'kind':'surname2','value':'3'},{'kind':'credential','value':'4'},{'kind':'given','value':'5'},{'kind':'title','value':'6'},{'kind':'given2','value':'7'},{'kind':'surname','value':'8'},{'kind':'given','value':'2'}],'full':'f'}")
     (json ",'name':{'full':'f','components':[{'kind':'surname','value':'8'},{'kind':'given','value':'2'},{'kind':'given','value':'5'},{'kind':'given','value':'2'},{'kind':'given2','value':'7'},{'kind':'title','value':'6'},{'kind':'credential','value':'4'},{'kind':'surname2','value':'3'},{'kind':'generation','value':'1'}]}")
     -- empty component values gone, and the list and the name that are left empty

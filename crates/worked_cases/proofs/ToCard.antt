@@ -1,4 +1,4 @@
--- Worked cases of 01's 'To v_card', by hand: what is no card (12), member by member and map by map; what no line can carry (13); and what comes home.
+-- Worked cases of 01's 'To vCard', by hand: what is no card (12), member by member and map by map; what no line can carry (13); and what comes home.
 use mathlib.Core.Path.{◌≡◌, refl}
 use mathlib.Core.List.{List, [], ◌∷◌, ◌++◌, map}
 use Prim.Native.Nat.{ℕ}
@@ -38,7 +38,7 @@ heads =
     -- name: its type, its members
     ∷ all_are 12 (",'name':null" ∷ ",'name':'a'" ∷ ",'name':[]" ∷ ",'name':{'full':1}" ∷ ",'name':{'full':null}" ∷ ",'name':{'full':['a']}" ∷ ",'name':{'full':'a','Full':'b'}" ∷ ",'name':{'full':'a','@type':'Name'}"
     ∷ ",'name':{'full':'a','components':null}" ∷ ",'name':{'components':{}}" ∷ ",'name':{'components':'a'}" ∷ ",'name':{'components':[1]}" ∷ ",'name':{'components':['a']}" ∷ ",'name':{'components':[[]]}" ∷ [])
-    -- a component: kind and value, both strings, nothing more; is_ordered only false
+    -- a component: kind and value, both strings, nothing more; isOrdered only false
     ++ all_are 12 (",'name':{'components':[{}]}" ∷ ",'name':{'components':[{'kind':'given'}]}" ∷ ",'name':{'components':[{'value':'a'}]}" ∷ ",'name':{'components':[{'kind':'given','value':1}]}"
     ∷ ",'name':{'components':[{'kind':'given','value':null}]}" ∷ ",'name':{'components':[{'kind':1,'value':'a'}]}" ∷ ",'name':{'components':[{'kind':'Given','value':'a'}]}" ∷ ",'name':{'components':[{'kind':'suffix','value':'a'}]}"
     ∷ ",'name':{'components':[{'kind':'','value':'a'}]}" ∷ ",'name':{'components':[{'kind':'separator','value':' '}]}" ∷ ",'name':{'components':[{'kind':'given','value':'a'},{'kind':'family','value':'b'}]}"
@@ -121,7 +121,7 @@ pub long-keys-hold : map given long-keys ≡ map wanted long-keys
 unfolding long-keys convert-opened worked-opened
 long-keys-hold = refl
 
--- ---- 12: v_card_props
+-- ---- 12: vCardProps
 
 unfoldable pub unfit-entries : List Case
 unfit-entries =

@@ -11,7 +11,7 @@ use Rattle.text.specs.declared.Turn.TheVariants.{Stop}
 use Rattle.text.proofs.Characters.{lead_high}
 use Rattle.text.proofs.Places.{Between-in, gives_as}
 use Rattle.utf8.specs.Due.{due_of}
-use Rattle.json.specs.Syntax.{is_lead, character}
+use Rattle.json_text.specs.Syntax.{is_lead, character}
 use Rattle.json_escapes.specs.declared.Value.{Value}
 use Rattle.json_escapes.proofs.Laws.{tells_as, place_of, by_place}
 use Rattle.json_chars.proofs.Laws.{turn_of, by-lead, char-end, char-escape, char-plain, char-wide, char-none}

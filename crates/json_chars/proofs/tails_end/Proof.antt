@@ -8,8 +8,8 @@ use Rattle.text.specs.declared.Read.{Read}
 use Rattle.text.specs.Bytes.{between}
 use Rattle.text.specs.Places.{Gives}
 use Rattle.text.proofs.Places.{inside-at}
-use Rattle.json.specs.Syntax.{tail_bytes}
-use Rattle.json.proofs.Fine.{tail-256}
+use Rattle.json_text.specs.Syntax.{tail_bytes}
+use Rattle.json_text.proofs.Fine.{tail-256}
 use Rattle.json_chars.proofs.Laws.{tails-more, tails-bad, tails-none}
 use Rattle.json_chars.proofs.tails_end.Statement.{statement}
 use Rattle.json_chars.proofs.tails_end.Tie as tie

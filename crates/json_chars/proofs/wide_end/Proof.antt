@@ -3,7 +3,7 @@ use mathlib.Core.Path.{sym, ◌∙◌}
 use Rattle.text.specs.Reader.{bad}
 use Rattle.text.specs.Bytes.{between}
 use Rattle.text.proofs.Places.{Between-in, by-on, not_on, by-under, bad-here}
-use Rattle.json.specs.Syntax.{following}
+use Rattle.json_text.specs.Syntax.{following}
 use borrow.Author.Rules.{rules}
 use Rattle.json_chars.proofs.wide_end.Statement.{statement}
 use Rattle.json_chars.proofs.wide_end.Tie as tie

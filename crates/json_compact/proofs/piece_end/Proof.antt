@@ -3,7 +3,7 @@ use native.Mathlib.Omega.{arith}
 use borrow.Author.Tests.{eq-eqb, ne_eqb}
 use Rattle.text.specs.Bytes.{is, between}
 use Rattle.text.proofs.Places.{here, bad-here, by-on, not_on, by-under}
-use Rattle.json.specs.Grammar.{is_space}
+use Rattle.json_text.specs.Grammar.{is_space}
 use Rattle.json_compact.specs.Squeezed.{piece}
 use borrow.Author.Rules.{rules}
 use Rattle.json_compact.proofs.piece_end.Statement.{statement}

@@ -13,7 +13,7 @@ use lib.ListN.{length, drop}
 use borrow.Rule.Slice.PartMut.{same_len_mid, take_put}
 use Rattle.text.specs.Bytes.{parts}
 use Rattle.text.proofs.Places.{turn-as}
-use Rattle.json.specs.Syntax.{pairs, value}
+use Rattle.json_text.specs.Syntax.{pairs, value}
 use Rattle.json_sound.specs.Sound.{is_sound, sound_members}
 use Rattle.json_sound.specs.Noted.{NotesIn}
 use Rattle.json_sound.proofs.Judging.{judged-as, onward-as, onward-sound, onward-unsound}

@@ -1,6 +1,6 @@
 use mathlib.Core.Path.{◌∙◌}
 use lib.ListN.{length}
-use Rattle.json.specs.Syntax.{value}
+use Rattle.json_text.specs.Syntax.{value}
 use Rattle.json_sound.specs.Sound.{is_sound}
 use Rattle.json_sound.proofs.Judging.{judged-as, onward-as}
 use Rattle.json_read.proofs.Laws.{read-bad, read-sound, read-unsound}

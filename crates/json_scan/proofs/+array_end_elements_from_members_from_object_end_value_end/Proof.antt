@@ -4,7 +4,7 @@ use Prim.Native.Nat.{◌+◌, ◌-◌}
 use lib.ListN.{length}
 use Rattle.text.proofs.Places.{gives_as, turn-as, turn-bad, turn-next}
 use Rattle.text.proofs.Runs.{Run, begin, onward, ended}
-use Rattle.json.specs.Syntax.{item, pair, value}
+use Rattle.json_text.specs.Syntax.{item, pair, value}
 use Rattle.json_scan.proofs.Laws.{elements-none, elements-from as elements-begin, pairs-none, pairs-from, item-sep, pair-sep, value-flat, value-array, value-object, value-scalar}
 use Prim.Native.Nat.{ℕ, ◌<◌}
 use borrow.Fn.Kinds.{In}

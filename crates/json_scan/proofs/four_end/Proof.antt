@@ -1,5 +1,5 @@
 use Rattle.text.proofs.Places.{gives_as, then_next, then-bad, then-end}
-use Rattle.json.specs.Syntax.{four}
+use Rattle.json_text.specs.Syntax.{four}
 use borrow.Author.Rules.{rules}
 use Rattle.json_scan.proofs.four_end.Statement.{statement}
 use Rattle.json_scan.proofs.four_end.Tie as tie

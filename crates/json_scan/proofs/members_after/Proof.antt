@@ -1,7 +1,7 @@
 use Rattle.text.specs.Reader.{loop}
 use Rattle.text.proofs.Places.{turn-as}
-use Rattle.json.specs.Tree.{mnil}
-use Rattle.json.specs.Syntax.{pair, value}
+use Rattle.json_text.specs.Tree.{mnil}
+use Rattle.json_text.specs.Syntax.{pair, value}
 use Rattle.json_scan.proofs.After.{later-go, later-stop}
 use borrow.Author.Rules.{rules}
 use Rattle.json_scan.proofs.members_after.Statement.{statement}

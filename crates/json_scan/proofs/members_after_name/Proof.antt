@@ -1,5 +1,5 @@
 use Rattle.text.proofs.Places.{gives_as, by-under, then-bad, then_next}
-use Rattle.json.specs.Tree.{mcons}
+use Rattle.json_text.specs.Tree.{mcons}
 use borrow.Author.Rules.{rules}
 use Rattle.json_scan.proofs.members_after_name.Statement.{statement}
 use Rattle.json_scan.proofs.members_after_name.Tie as tie

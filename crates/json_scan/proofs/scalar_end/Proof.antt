@@ -1,8 +1,8 @@
 use borrow.Author.Tests.{eq-eqb, ne_eqb}
 use Rattle.text.specs.Bytes.{is}
 use Rattle.text.proofs.Places.{by-on, not_on, by-when, not-when, by-under}
-use Rattle.json.specs.Tree.{jtrue, jfalse, jnull}
-use Rattle.json.specs.Syntax.{scalar}
+use Rattle.json_text.specs.Tree.{jtrue, jfalse, jnull}
+use Rattle.json_text.specs.Syntax.{scalar}
 use Rattle.json_scan.proofs.Laws.{four-any}
 use borrow.Author.Rules.{rules}
 use Rattle.json_scan.proofs.scalar_end.Statement.{statement}

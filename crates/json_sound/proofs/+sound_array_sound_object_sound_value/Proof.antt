@@ -7,8 +7,8 @@ use mathlib.Core.List.{[]}
 use lib.ListN.{length, drop}
 use borrow.Rule.Slice.PartMut.{same_len_mid, take_put}
 use Rattle.text.proofs.Places.{turn-as}
-use Rattle.json.specs.Syntax.{elements, pairs, scalar, value}
-use Rattle.json.proofs.Fine.{scalar-fine}
+use Rattle.json_text.specs.Syntax.{elements, pairs, scalar, value}
+use Rattle.json_text.proofs.Fine.{scalar-fine}
 use Rattle.json_scan.proofs.First.{scalar-in}
 use Rattle.json_sound.specs.Sound.{is_sound, sound_elems, sound_members}
 use Rattle.json_sound.specs.Noted.{NotesIn}

@@ -2,7 +2,7 @@ use native.Mathlib.Omega.{arith}
 use Rattle.text.specs.declared.Read.TheVariants.{Next}
 use Rattle.text.proofs.Places.{gives_as, then_next, then-bad, then-end}
 use Prim.Native.Nat.{◌+◌}
-use Rattle.json.specs.Syntax.{name}
+use Rattle.json_text.specs.Syntax.{name}
 use Rattle.json_chars.proofs.Laws.{char-end, string-stop}
 use borrow.Author.Rules.{rules}
 use Rattle.json_sound.proofs.name_rest.Statement.{statement}

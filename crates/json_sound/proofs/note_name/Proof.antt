@@ -6,8 +6,8 @@ use lib.Seq.{get_or-set_same}
 use Rattle.text.specs.Bytes.{Bytes}
 use Rattle.text.specs.Choice.{is_some}
 use Rattle.text.proofs.Places.{gives_as, at_next, at-bad, then-bad}
-use Rattle.json.specs.Syntax.{name}
-use Rattle.json.specs.Strings.{decode}
+use Rattle.json_text.specs.Syntax.{name}
+use Rattle.json_text.specs.Strings.{decode}
 use Rattle.json_prints.specs.Prints.{meets, print_of}
 use Rattle.json_strings.specs.Decoded.{decoded_at}
 use Rattle.json_strings.proofs.Names.{name-string}

@@ -4,8 +4,8 @@ use mathlib.Core.Path.{sym, ◌∙◌}
 use lib.ListN.{drop}
 use Rattle.text.specs.declared.Read.TheVariants.{Next}
 use Rattle.text.proofs.Places.{gives_as, at-bad}
-use Rattle.json.specs.Syntax.{characters}
-use Rattle.json.proofs.Fine.{characters-fine}
+use Rattle.json_text.specs.Syntax.{characters}
+use Rattle.json_text.proofs.Fine.{characters-fine}
 use Rattle.json_sound.proofs.Judging.{onward-fine}
 use Rattle.json_sound.proofs.Plain.{chars-alone, chars-paired}
 use Rattle.json_sound.proofs.sound_twice.Statement.{statement}

@@ -1,7 +1,7 @@
 use native.Mathlib.Omega.{arith}
 use mathlib.Core.Path.{ap, ◌∙◌}
 use lib.ListN.{length}
-use Rattle.json.specs.Strings.{before}
+use Rattle.json_text.specs.Strings.{before}
 use Rattle.json_strings.specs.Decoded.{left, letter_of}
 use Rattle.json_strings.proofs.Laws.{letter-in, left-none, left-held, left-raw, left-code, weight-falls}
 use borrow.Author.Rules.{rules}

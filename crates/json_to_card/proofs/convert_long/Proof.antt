@@ -1,7 +1,7 @@
 use borrow.Author.Rules.{rules}
 use native.Mathlib.Omega.{arith}
 use lib.ListN.{length-take, length-drop}
-use Rattle.json.specs.Read.{reading}
+use Rattle.json_text.specs.Read.{reading}
 use Rattle.json_to_card.specs.Inner.{inner}
 use Rattle.json_to_card.proofs.Serving.{of-refused, of-full, of-card, card-fits}
 use Rattle.json_to_card.proofs.convert_long.Statement.{statement}

@@ -10,10 +10,10 @@ use Rattle.text.specs.declared.Turn.TheVariants.{Go, Stop}
 use Rattle.text.specs.Bytes.{Bytes}
 use Rattle.text.specs.Reader.{got, loop}
 use Rattle.text.specs.Places.{GivesT, byte_at, Passes}
-use Rattle.json.specs.Grammar.{is_space}
-use Rattle.json.specs.Tree.{Json, jnull, jtrue, jfalse, jnum, jstr, jarr, jobj, Elems, enil, elems_of, as_array}
-use Rattle.json.specs.Syntax.{sep, item, value}
-use Rattle.json.specs.Strings.{decoded_elems}
+use Rattle.json_text.specs.Grammar.{is_space}
+use Rattle.json_text.specs.Tree.{Json, jnull, jtrue, jfalse, jnum, jstr, jarr, jobj, Elems, enil, elems_of, as_array}
+use Rattle.json_text.specs.Syntax.{sep, item, value}
+use Rattle.json_text.specs.Strings.{decoded_elems}
 use Rattle.json_access.specs.declared.Part.{Part}
 use Rattle.json_access.specs.declared.Kind.TheVariants.{Array}
 use Rattle.json_access.specs.Access.{place_of, Inside, EndsAt, TellsElement, kind_of}

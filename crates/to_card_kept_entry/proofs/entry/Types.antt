@@ -10,7 +10,7 @@ use lib.Dec.{leb}
 use lib.ListN.{length, take, drop, length-append}
 use Rattle.text.specs.Choice.{pick, chain, provided}
 use Rattle.text.specs.Bytes.{Bytes, ascii, flat}
-use Rattle.json.specs.Tree.{Json, as_string}
+use Rattle.json_text.specs.Tree.{Json, as_string}
 use Rattle.json_strings.specs.Decoded.{decoded_at, spells}
 use Rattle.json_index.specs.Index.{json_at}
 use Rattle.to_card_value.specs.Values.{StringIs, TellsString}

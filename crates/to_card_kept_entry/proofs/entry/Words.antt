@@ -10,7 +10,7 @@ use lib.Dec.{eqb}
 use lib.ListN.{length, take, drop}
 use Rattle.text.specs.Choice.{pick, is_some, chain, provided}
 use Rattle.text.specs.Bytes.{Bytes, ascii, all, among, parts, on_head}
-use Rattle.json.specs.Tree.{jnull, member, as_string}
+use Rattle.json_text.specs.Tree.{jnull, member, as_string}
 use Rattle.json_strings.specs.Decoded.{decoded_at, text_at}
 use Rattle.json_strings.proofs.NextByte.{text-some}
 use Rattle.json_index.specs.Index.{placed, first_at}

@@ -15,8 +15,8 @@ use Rattle.text.proofs.Cases.{by_bool, and_left, and_right, or_left, or_right, n
 use Rattle.text.proofs.Lists.{all_head, all_tail}
 use Rattle.text.proofs.Same.{same_true, same-swap}
 use Rattle.text.proofs.Choices.{chain_same}
-use Rattle.json.specs.Tree.{Json, Member, member, name_of, as_string, as_array, as_object}
-use Rattle.json.specs.Strings.{distinct_names}
+use Rattle.json_text.specs.Tree.{Json, Member, member, name_of, as_string, as_array, as_object}
+use Rattle.json_text.specs.Strings.{distinct_names}
 use Rattle.json_index.specs.Index.{json_at}
 use Rattle.line.specs.Class.{is_lower_name}
 use Rattle.line.specs.Grammar.{Param, param, param_name, value_count, fits}

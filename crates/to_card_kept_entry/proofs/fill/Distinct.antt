@@ -7,8 +7,8 @@ use Rattle.text.specs.Bytes.{Bytes, all, distinct, same}
 use Rattle.text.proofs.Cases.{by_bool, and_left, and_right}
 use Rattle.text.proofs.Choices.{none-some, some_same}
 use Rattle.text.proofs.Lists.{all_head, all_tail, all_cons}
-use Rattle.json.specs.Tree.{Json, jnull, jtrue, jfalse, jnum, jstr, jarr, jobj, Elems, enil, econs, Members, mnil, mcons, Member, member, name_of, value_of, members_of, elems_of, field, as_array, as_object}
-use Rattle.json.specs.Strings.{names, distinct_names, distinct_elems, distinct_members}
+use Rattle.json_text.specs.Tree.{Json, jnull, jtrue, jfalse, jnum, jstr, jarr, jobj, Elems, enil, econs, Members, mnil, mcons, Member, member, name_of, value_of, members_of, elems_of, field, as_array, as_object}
+use Rattle.json_text.specs.Strings.{names, distinct_names, distinct_elems, distinct_members}
 
 elems-all : (es : Elems) → distinct_elems es ≡ true → all distinct_names (elems_of es) ≡ true
 unfolding distinct_elems elems_of all

@@ -9,7 +9,7 @@ use lib.ListN.{length, take}
 use Rattle.text.specs.Choice.{chain}
 use Rattle.text.specs.Bytes.{Bytes, among}
 use Rattle.text.proofs.Choices.{none-some, some_same, chain-inv, provided-inv}
-use Rattle.json.specs.Tree.{Json, jnull, jtrue, jfalse, jnum, jstr, jarr, jobj, Elems, enil, econs, elems_of, as_string, as_array, as_object}
+use Rattle.json_text.specs.Tree.{Json, jnull, jtrue, jfalse, jnum, jstr, jarr, jobj, Elems, enil, econs, elems_of, as_string, as_array, as_object}
 use Rattle.json_index.specs.Index.{json_at, ValueEnds}
 use Rattle.convert.specs.FromJson.{is_lower_word, never_kept}
 use Rattle.to_card_kept_entry.specs.declared.strings.To.{To}

@@ -10,7 +10,7 @@ use lib.Seq.{take-take}
 use Rattle.text.specs.Choice.{pick, chain, provided}
 use Rattle.text.specs.Bytes.{Bytes, ascii}
 use Rattle.text.proofs.Same.{same-swap}
-use Rattle.json.specs.Tree.{Json, as_string}
+use Rattle.json_text.specs.Tree.{Json, as_string}
 use Rattle.json_index.specs.Index.{json_at}
 use Rattle.line.specs.Grammar.{Param, param, value_count}
 use Rattle.line_table.specs.Spread.{spread_line, valued}

@@ -10,8 +10,8 @@ use Rattle.text.specs.Bytes.{Bytes}
 use Rattle.text.specs.Reader.{Got, got, bad, bind, under, on, when, Step, more, last, after, turns, loop}
 use Rattle.text.proofs.Cases.{by_bool}
 use Rattle.text.proofs.Readers.{not-bad, got-what, got-rest, bind_inv, under-inv, when-inv, Takes, past-less}
-use Rattle.json.specs.Grammar.{is_space}
-use Rattle.json.specs.Syntax.{skip}
+use Rattle.json_text.specs.Grammar.{is_space}
+use Rattle.json_text.specs.Syntax.{skip}
 
 abbrev pub Pays : {A : Type 0} → (A → ℕ → Type 0) → ℕ → (Bytes → Got A) → Type 0
 Pays {A} C c R = (s : Bytes) (a : A) (w : Bytes) → R s ≡ got a w → (k : ℕ) × C a k × (k + length w ≤ c + length s)

@@ -11,10 +11,10 @@ use Rattle.text.specs.Reader.{Got, more, last}
 use Rattle.text.proofs.Choices.{some_same, map-inv, both-inv}
 use Rattle.text.proofs.Fine.{fine-takes}
 use Rattle.text.proofs.Readers.{takes_one}
-use Rattle.json.specs.Tree.{Json, jnull, jtrue, jfalse, jnum, jstr, jarr, jobj, Elems, enil, econs, Members, mnil, mcons}
-use Rattle.json.specs.Syntax.{four, scalar, sep, name, item, elements, pair, pairs, value}
-use Rattle.json.specs.Strings.{decode, decoded, decoded_elems, decoded_members}
-use Rattle.json.proofs.Fine.{token-fine, number-fine}
+use Rattle.json_text.specs.Tree.{Json, jnull, jtrue, jfalse, jnum, jstr, jarr, jobj, Elems, enil, econs, Members, mnil, mcons}
+use Rattle.json_text.specs.Syntax.{four, scalar, sep, name, item, elements, pair, pairs, value}
+use Rattle.json_text.specs.Strings.{decode, decoded, decoded_elems, decoded_members}
+use Rattle.json_text.proofs.Fine.{token-fine, number-fine}
 use Rattle.json_index.specs.Index.{json_at}
 use Rattle.json_index.proofs.Laws.{next_of}
 use Rattle.json_index.proofs.Objects.{at-inv}

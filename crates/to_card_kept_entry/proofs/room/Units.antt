@@ -17,10 +17,10 @@ use Rattle.text.proofs.Choices.{none-some, some_same}
 use Rattle.text.proofs.Characters.{lead_high}
 use Rattle.text.proofs.Fine.{fine-takes}
 use Rattle.text.proofs.Readers.{Takes, takes-bind, takes-got}
-use Rattle.json.specs.Grammar.{is_short}
-use Rattle.json.specs.Syntax.{hex4, short, escape, leads, is_lead, tail_bytes, following, push, character, characters}
-use Rattle.json.specs.Strings.{is_high, is_low, joined_pair, before, decode_after, decode}
-use Rattle.json.proofs.Fine.{hex-fine, short-256, plain-256, tail-256, lead-256, due_below, below-256, lead-below}
+use Rattle.json_text.specs.Grammar.{is_short}
+use Rattle.json_text.specs.Syntax.{hex4, short, escape, leads, is_lead, tail_bytes, following, push, character, characters}
+use Rattle.json_text.specs.Strings.{is_high, is_low, joined_pair, before, decode_after, decode}
+use Rattle.json_text.proofs.Fine.{hex-fine, short-256, plain-256, tail-256, lead-256, due_below, below-256, lead-below}
 use Rattle.to_card_kept_entry.proofs.room.Costs.{Pays, Within, Adds, pays-got, pays-bad, pays-on, pays-under, pays-under-one, pays-takes, pays-loop}
 
 -- how many bytes a unit stands for at most: a code of \u is spelled with six

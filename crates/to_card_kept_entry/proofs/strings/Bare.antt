@@ -9,7 +9,7 @@ use lib.ListN.{length, take, drop, get_or}
 use Rattle.text.specs.Bytes.{Bytes}
 use Rattle.output.specs.declared.Wrote.{Wrote}
 use Rattle.output.specs.Put.{Puts}
-use Rattle.json.specs.Strings.{before}
+use Rattle.json_text.specs.Strings.{before}
 use Rattle.json_strings.specs.Decoded.{decoded_at, text_at}
 use Rattle.json_strings.proofs.Laws.{quote-at, bare-at}
 use Rattle.json_strings.proofs.NextByte.{text-some}

@@ -17,11 +17,11 @@ use Rattle.text.proofs.Choices.{some_same, map-inv, both-inv}
 use Rattle.text.proofs.Cases.{by_bool}
 use Rattle.text.proofs.Places.{on-yes, on-no}
 use Rattle.text.proofs.Fine.{Takes, got-what, bind_inv, under-inv, loop-more, loop-split}
-use Rattle.json.specs.Grammar.{is_space}
-use Rattle.json.specs.Tree.{Json, jnull, jtrue, jfalse, jnum, jstr, jarr, jobj, Elems, enil, econs, elems_of}
-use Rattle.json.specs.Syntax.{sep, item, elements, value}
-use Rattle.json.specs.Strings.{decode, decoded, decoded_elems, decoded_members}
-use Rattle.json.proofs.Fine.{value-fine, item-fine}
+use Rattle.json_text.specs.Grammar.{is_space}
+use Rattle.json_text.specs.Tree.{Json, jnull, jtrue, jfalse, jnum, jstr, jarr, jobj, Elems, enil, econs, elems_of}
+use Rattle.json_text.specs.Syntax.{sep, item, elements, value}
+use Rattle.json_text.specs.Strings.{decode, decoded, decoded_elems, decoded_members}
+use Rattle.json_text.proofs.Fine.{value-fine, item-fine}
 use Rattle.json_marks.proofs.Laws.{skip-to}
 use Rattle.json_marks.proofs.Separators.{sep-adds, sep-go, sep-stop}
 use Rattle.json_scan.proofs.First.{as-array}

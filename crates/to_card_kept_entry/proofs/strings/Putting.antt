@@ -13,7 +13,7 @@ use Rattle.output.specs.declared.Wrote.{Wrote}
 use Rattle.output.specs.declared.Wrote.TheVariants.{Bytes as Wrote-Bytes, Full}
 use Rattle.output.specs.Put.{Puts}
 use Rattle.output.proofs.Laws.{said-bytes, said-full, put-fits, length-put}
-use Rattle.json.specs.Tree.{Json, jnull, jtrue, jfalse, jnum, jstr, jarr, jobj, as_string}
+use Rattle.json_text.specs.Tree.{Json, jnull, jtrue, jfalse, jnum, jstr, jarr, jobj, as_string}
 use Rattle.line.specs.Class.{is_lower_name}
 use Rattle.convert.specs.FromJson.{is_lower_word}
 use Rattle.text.proofs.Choices.{none-some, some_same}

@@ -14,9 +14,9 @@ use Rattle.text.specs.Bytes.{Bytes, each, flat}
 use Rattle.text.specs.Reader.{got, loop}
 use Rattle.text.specs.Places.{GivesT}
 use Rattle.text.proofs.Lists.{flat_append}
-use Rattle.json.specs.Tree.{Json, Elems, enil, econs, elems_of, as_string}
-use Rattle.json.specs.Syntax.{sep, item, value}
-use Rattle.json.specs.Strings.{decoded_elems}
+use Rattle.json_text.specs.Tree.{Json, Elems, enil, econs, elems_of, as_string}
+use Rattle.json_text.specs.Syntax.{sep, item, value}
+use Rattle.json_text.specs.Strings.{decoded_elems}
 use Rattle.json_access.specs.declared.Part.{Part}
 use Rattle.json_access.specs.Access.{TellsElement}
 use Rattle.line_table.specs.Table.{stored}

@@ -12,10 +12,10 @@ use Rattle.text.specs.Choice.{chain, provided, both}
 use Rattle.text.specs.Bytes.{Bytes, each, flat, empty}
 use Rattle.text.specs.Places.{GivesT, byte_at, Passes}
 use Rattle.text.proofs.Choices.{none-some, some_same, chain-inv, provided-inv}
-use Rattle.json.specs.Grammar.{is_space}
-use Rattle.json.specs.Tree.{Json, jnull, jtrue, jfalse, jnum, jstr, jarr, jobj, Elems, enil, econs, elems_of, as_string}
-use Rattle.json.specs.Syntax.{sep}
-use Rattle.json.specs.Strings.{decoded_elems}
+use Rattle.json_text.specs.Grammar.{is_space}
+use Rattle.json_text.specs.Tree.{Json, jnull, jtrue, jfalse, jnum, jstr, jarr, jobj, Elems, enil, econs, elems_of, as_string}
+use Rattle.json_text.specs.Syntax.{sep}
+use Rattle.json_text.specs.Strings.{decoded_elems}
 use Rattle.json_strings.specs.Decoded.{decoded_at, text_at}
 use Rattle.json_strings.proofs.NextByte.{text-some}
 use Rattle.json_access.specs.declared.Part.{Part}

@@ -13,11 +13,11 @@ use Rattle.text.specs.Choice.{pick, chain, provided}
 use Rattle.text.specs.Bytes.{Bytes, ascii, flat}
 use Rattle.text.specs.Reader.{got, loop}
 use Rattle.text.specs.Places.{GivesT, byte_at, Passes}
-use Rattle.json.specs.Grammar.{is_space}
-use Rattle.json.proofs.Listed.{listed-members}
-use Rattle.json.specs.Tree.{Json, jnull, jtrue, jfalse, jnum, jstr, jarr, jobj, from_members, Members, mnil, mcons, Member, member, members_of, as_object}
-use Rattle.json.specs.Syntax.{sep, pair, value}
-use Rattle.json.specs.Strings.{decoded_members}
+use Rattle.json_text.specs.Grammar.{is_space}
+use Rattle.json_text.proofs.Listed.{listed-members}
+use Rattle.json_text.specs.Tree.{Json, jnull, jtrue, jfalse, jnum, jstr, jarr, jobj, from_members, Members, mnil, mcons, Member, member, members_of, as_object}
+use Rattle.json_text.specs.Syntax.{sep, pair, value}
+use Rattle.json_text.specs.Strings.{decoded_members}
 use Rattle.json_strings.specs.Decoded.{decoded_at, spells}
 use Rattle.json_access.specs.declared.Places.{Places}
 use Rattle.json_access.specs.Access.{TellsMember}

@@ -13,7 +13,7 @@ use Rattle.text.specs.Bytes.{Bytes, ascii, empty, each, flat, same}
 use Rattle.text.proofs.Cases.{and_left, and-true}
 use Rattle.text.proofs.Same.{same-swap}
 use Rattle.text.proofs.Choices.{none-some, some_same, chain-inv, provided-inv}
-use Rattle.json.specs.Tree.{Json, jnull, jtrue, jfalse, jnum, jstr, jarr, jobj, elems_of, as_string}
+use Rattle.json_text.specs.Tree.{Json, jnull, jtrue, jfalse, jnum, jstr, jarr, jobj, elems_of, as_string}
 use Rattle.json_strings.specs.Decoded.{decoded_at, text_at, spells}
 use Rattle.json_strings.proofs.NextByte.{text-some}
 use Rattle.line.specs.Grammar.{Param, param}

@@ -1,9 +1,9 @@
--- An entry of v_card_props, [name, {parameters}, type, value], as the table of the line that it is.
+-- An entry of vCardProps, [name, {parameters}, type, value], as the table of the line that it is.
 use Rattle.std.specs.Prelude.{◌≡◌, Bool, true, false, ◌&&◌, not, List, [], ◌∷◌, ◌++◌, ℕ, ◌+◌, ◌≤◌, ◌<◌, leb, length, take, get_or, set}
 use Rattle.std.proofs.Math.Option.{Option, none, some}
 use Rattle.text.specs.Choice.{pick, with-some, chain, provided}
 use Rattle.text.specs.Bytes.{Bytes, ascii, among, same}
-use Rattle.json.specs.Tree.{Json, as_string, as_array, as_object}
+use Rattle.json_text.specs.Tree.{Json, as_string, as_array, as_object}
 use Rattle.json_strings.specs.Decoded.{decoded_at}
 use Rattle.json_index.specs.Index.{json_at, ValueEnds}
 use Rattle.line.specs.Grammar.{Param, param, value_count}

@@ -1,4 +1,4 @@
--- An entry of v_card_props that a table holds.
+-- An entry of vCardProps that a table holds.
 use Rattle.std.specs.Prelude.{Bool, true, false, ℕ}
 use Rattle.text.specs.Bytes.{Bytes}
 use Rattle.json_index.specs.Index.{ValueEnds}

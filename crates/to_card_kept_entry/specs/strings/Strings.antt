@@ -4,9 +4,9 @@ use Rattle.std.proofs.Math.Option.{Option, none, some, map}
 use Rattle.text.specs.Choice.{pick, chain, provided}
 use Rattle.text.specs.Bytes.{Bytes, empty, each, flat}
 use Rattle.text.specs.Reader.{got, loop}
-use Rattle.json.specs.Tree.{Json, jnull, jtrue, jfalse, jnum, jstr, jarr, jobj, Elems, enil, econs, Members, mnil, mcons, elems_of, as_string}
-use Rattle.json.specs.Syntax.{item, value}
-use Rattle.json.specs.Strings.{decoded_elems}
+use Rattle.json_text.specs.Tree.{Json, jnull, jtrue, jfalse, jnum, jstr, jarr, jobj, Elems, enil, econs, Members, mnil, mcons, elems_of, as_string}
+use Rattle.json_text.specs.Syntax.{item, value}
+use Rattle.json_text.specs.Strings.{decoded_elems}
 use Rattle.json_strings.specs.Decoded.{decoded_at, text_at}
 use Rattle.json_index.specs.Index.{json_at}
 use Rattle.line.specs.Grammar.{Param, param, param_name, param_values}

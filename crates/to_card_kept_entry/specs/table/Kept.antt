@@ -1,12 +1,12 @@
--- An entry of v_card_props as a line's table: what its form must be, its parameters one after the other, and what the table then holds.
+-- An entry of vCardProps as a line's table: what its form must be, its parameters one after the other, and what the table then holds.
 use Rattle.std.specs.Prelude.{◌≡◌, Bool, true, false, ◌&&◌, not, List, [], ◌∷◌, ◌++◌, ℕ, zero, suc, ◌+◌, ◌≤◌, ◌<◌, length, take, drop, get_or}
 use Rattle.std.proofs.Math.Option.{Option, none, some, map}
 use Rattle.text.specs.Choice.{pick, with-some, chain, provided}
 use Rattle.text.specs.Bytes.{Bytes, ascii, all, among, empty, same, flat}
 use Rattle.text.specs.Reader.{got, loop}
-use Rattle.json.specs.Tree.{Json, Members, Member, member, members_of, as_string, as_object}
-use Rattle.json.specs.Syntax.{pair, value}
-use Rattle.json.specs.Strings.{decoded_members}
+use Rattle.json_text.specs.Tree.{Json, Members, Member, member, members_of, as_string, as_object}
+use Rattle.json_text.specs.Syntax.{pair, value}
+use Rattle.json_text.specs.Strings.{decoded_members}
 use Rattle.json_strings.specs.Decoded.{decoded_at}
 use Rattle.json_index.specs.Index.{json_at}
 use Rattle.line.specs.Grammar.{Param, param, param_name, Line, value_count, fits}

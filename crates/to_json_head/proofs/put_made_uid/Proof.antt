@@ -3,7 +3,7 @@
 -- byte by byte. Full comes from the first call (`none`) or from one of the four others (`stop!`).
 use Rattle.to_json_head.proofs.Uids.{made_bytes}
 use Rattle.output.proofs.Laws.{puts-as}
-use Rattle.json.specs.Compact.{spelled_all}
+use Rattle.json_text.specs.Compact.{spelled_all}
 use Rattle.text.specs.Decimal.{decimal}
 use native.Mathlib.Nat.{le_refl}
 use mathlib.Core.List.{[], ◌∷◌}

@@ -1,6 +1,6 @@
 use Rattle.to_json_head.proofs.Uids.{start-bytes}
 use Rattle.output.proofs.Laws.{puts-as}
-use Rattle.json.specs.Compact.{quoted}
+use Rattle.json_text.specs.Compact.{quoted}
 use Rattle.to_json_head.specs.Head.{uid_of}
 use native.Mathlib.Nat.{le_refl}
 use mathlib.Core.List.{[], ◌∷◌}

@@ -1,7 +1,7 @@
 -- Four pieces in a row: what stands before the item, its `lead` with the kind or the name, the string of the TEXT, the brace; `s₁` to `s₄` say
 -- after each call what is written and which pieces are still to come. They are item_piece by its definition, so nothing is said anew at the end
 -- (`all`). Full comes from the first call (`none`) or from one of the three others (`stop!`).
-use Rattle.json.specs.Compact.{quoted}
+use Rattle.json_text.specs.Compact.{quoted}
 use Rattle.line_text.specs.Read.{plain_text}
 use Rattle.to_json_items.specs.Items.{lead}
 use native.Mathlib.Nat.{le_refl}

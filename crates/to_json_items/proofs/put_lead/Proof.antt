@@ -1,6 +1,6 @@
 use borrow.Author.Rules.{rules}
 use mathlib.Core.Path.{sym, ap}
-use Rattle.json.specs.Compact.{spelled, spelled_all, quoted}
+use Rattle.json_text.specs.Compact.{spelled, spelled_all, quoted}
 use Rattle.text.specs.Bytes.{flat}
 use Rattle.output.proofs.Laws.{puts-as}
 use Rattle.to_json_items.specs.Items.{lead}

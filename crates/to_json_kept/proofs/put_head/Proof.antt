@@ -1,7 +1,7 @@
 -- Four pieces in a row: a bracket, the name in lower case, a comma and a brace, the group's member or nothing. `s₁` to `s₄` say after each call
 -- what is written and which pieces are still to come; they are head_piece by its definition (`all`). Full comes from the bracket (`none`) or from
 -- one of the three others (`stop!`).
-use Rattle.json.specs.Compact.{quoted}
+use Rattle.json_text.specs.Compact.{quoted}
 use Rattle.text.specs.Bytes.{lowered}
 use Rattle.to_json_kept.specs.Entry.{group_piece}
 use native.Mathlib.Nat.{le_refl}

@@ -1,11 +1,11 @@
 -- Four pieces in a row: a comma where a member came before, the name in lower case, a colon, all values of that name. `s₁` to `s₄` say after each
 -- call what is written and which pieces are still to come; they are param_piece by its definition (`all`). The name is the part of s from a to b,
 -- which is within s by its Span. Full comes from the comma (`none`) or from one of the three others (`stop!`).
-use Rattle.json.specs.Compact.{written}
+use Rattle.json_text.specs.Compact.{written}
 use Rattle.line_table.specs.Table.{part, line_in}
 use native.Mathlib.Omega.{arith}
 use Rattle.convert.specs.ToJson.{values_json}
-use Rattle.json.specs.Compact.{quoted}
+use Rattle.json_text.specs.Compact.{quoted}
 use Rattle.line.specs.Params.{values_named}
 use Rattle.text.specs.Bytes.{lowered}
 use native.Mathlib.Nat.{le_refl}

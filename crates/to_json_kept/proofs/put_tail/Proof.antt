@@ -1,7 +1,7 @@
 -- Five pieces in a row: a brace and a comma, the type, a comma, the value's string, a bracket. `s₁` to `s₅` say after each call what is written and
 -- which pieces are still to come; they are tail_piece by its definition (`all`). The type is VALUE in lower case, or unknown (put_type, by
 -- `value_type`). Full comes from the first call (`none`) or from one of the four others (`stop!`).
-use Rattle.json.specs.Compact.{quoted}
+use Rattle.json_text.specs.Compact.{quoted}
 use Rattle.line.specs.Params.{value_type}
 use Rattle.line_table.specs.Table.{line_in}
 use native.Mathlib.Nat.{le_refl}

@@ -1,4 +1,4 @@
-use Rattle.json.specs.Compact.{spelled_all}
+use Rattle.json_text.specs.Compact.{spelled_all}
 use Rattle.json_compact.specs.Squeezed.{squeezed}
 use Rattle.convert_pointer.specs.Name.{name_in}
 use native.Mathlib.Nat.{le_refl}

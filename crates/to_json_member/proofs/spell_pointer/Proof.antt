@@ -4,7 +4,7 @@ use Prim.Native.Nat.{◌-◌, ◌≤◌}
 use native.Mathlib.Nat.{le_refl}
 use native.Mathlib.Omega.{arith}
 use lib.ListN.{length, drop}
-use Rattle.json.specs.Compact.{spelled_all}
+use Rattle.json_text.specs.Compact.{spelled_all}
 use Rattle.output.specs.Put.{Rest}
 use Rattle.output.proofs.Rests.{rest_all, rest-as, rest-next, rest-stop, rest-done, rest_in, rest-fit, rest-same}
 use Rattle.convert_pointer.specs.Name.{name_in, Pointing}

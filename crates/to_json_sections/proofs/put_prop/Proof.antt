@@ -3,7 +3,7 @@ use mathlib.Core.Path.{sym, ◌∙◌}
 use mathlib.Core.List.{[]}
 use native.Mathlib.Nat.{le_refl, lt_of_le_of_lt}
 use borrow.Author.Tests.{not-true, not-false}
-use Rattle.json.specs.Compact.{written}
+use Rattle.json_text.specs.Compact.{written}
 use Rattle.convert.specs.ToJson.{kept_json}
 use Rattle.output.proofs.Laws.{first, first-full, next, stop, more, done, within, puts-as}
 use Rattle.output.proofs.Rows.{length-puts}

@@ -1,1 +1,0 @@
-// JSON as RFC 8259 has it: trees, grammar, reader, compact writing, look-up. Definitions and laws; nothing here knows of v_card.

@@ -1,0 +1,22 @@
+use native.Mathlib.Omega.{arith}
+use mathlib.Core.Path.{sym, ◌∙◌}
+use Prim.Native.Nat.{◌-◌}
+use Rattle.text.proofs.Places.{passing-from, passing-in, passing-on, passing-end}
+use Rattle.json_text.specs.Grammar.{is_space}
+use Rattle.json_text.proofs.Fine.{space-256}
+use Rattle.json_marks.proofs.skip_space.Goals as goal
+
+pub loop-i-init : goal.loop-i-init
+loop-i-init c = passing-from is_space c.args.s.now c.args.at c.requires
+
+pub look-requires : goal.look-requires
+look-requires c = c.loop-i.invariant.to
+
+pub loop-i-smaller : goal.loop-i-smaller
+loop-i-smaller c = let h = passing-in c.loop-i.invariant c.look.result c.look.ensures.0 space-256 (sym c.is_space.ensures ∙ c.loop-i-test.true) in omega arith
+
+pub loop-i-preserved : goal.loop-i-preserved
+loop-i-preserved c = passing-on c.loop-i.invariant c.look.result c.look.ensures.0 space-256 (sym c.is_space.ensures ∙ c.loop-i-test.true)
+
+pub returns : goal.returns
+returns c = passing-end c.loop-i.invariant c.look.result c.look.ensures.0 (sym c.is_space.ensures ∙ c.loop-i-test.false)

@@ -1,0 +1,33 @@
+use mathlib.Core.Path.{refl, sym, ◌∙◌}
+use Prim.Native.Nat.{◌-◌}
+use native.Mathlib.Omega.{arith}
+use Rattle.text_words.specs.Words.{soft}
+use Rattle.text_words.proofs.Runs.{run_on, run-stops, run_out}
+use Rattle.text_words.proofs.soft_from.Goals as goal
+
+pub loop-i-init : goal.loop-i-init
+loop-i-init c = refl
+
+pub bounds-s-i : goal.bounds-s-i
+bounds-s-i c = omega (arith, c.loop-i-test.true)
+
+pub returns-then-not-is_soft : goal.returns-then-not-is_soft
+returns-then-not-is_soft c =
+    let loop = c.loop-i in
+    let s = c.args.s.now in
+    sym (loop.invariant ∙ run-stops soft s loop.i c.loop-i-test.true (sym c.is_soft.ensures ∙ c.if-not-is_soft.true))
+
+pub overflow_add-i : goal.overflow_add-i
+overflow_add-i c = omega (arith, c.loop-i-test.true)
+
+pub loop-i-smaller : goal.loop-i-smaller
+loop-i-smaller c = omega (arith, c.loop-i-test.true)
+
+pub loop-i-preserved : goal.loop-i-preserved
+loop-i-preserved c =
+    let loop = c.loop-i in
+    let s = c.args.s.now in
+    loop.invariant ∙ run_on soft s loop.i c.loop-i-test.true (sym c.is_soft.ensures ∙ c.if-not-is_soft.false)
+
+pub returns : goal.returns
+returns c = let loop = c.loop-i in sym (loop.invariant ∙ run_out soft c.args.s.now loop.i c.loop-i-test.false)
