@@ -1,4 +1,6 @@
 // FN and N of a parsed line, for a card's line and for an entry of vCardProps alike.
+#![tactic(auto)]
+
 ghost use Rattle.std.specs.Prelude.{◌≡◌, ◌∷◌, [], ◌≤◌, length};
 ghost use Rattle.text.specs.Choice.{is_some};
 ghost use Rattle.line.specs.Params.{besides_value};

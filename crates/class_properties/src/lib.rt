@@ -1,4 +1,6 @@
 // Which property a line's name is, as a number that the converter goes by, and the rows of the table of maps.
+#![tactic(auto)]
+
 ghost use Rattle.std.specs.Prelude.{◌≡◌, ◌<◌, length, get_or};
 ghost use Rattle.text.specs.Bytes.{lowered};
 ghost use Rattle.class_properties.specs.Names.{name_number, types_of, form_of};

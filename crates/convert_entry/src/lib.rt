@@ -1,4 +1,6 @@
 // The tests on a line of one of the maps (`entry_of`): its parameters, VALUE, PREF, and whether its value reads.
+#![tactic(auto)]
+
 ghost use Rattle.std.specs.Prelude.{◌≡◌, ◌≤◌, ◌<◌, length};
 ghost use Rattle.text.specs.Choice.{is_some};
 ghost use Rattle.text.specs.Bytes.{ascii, begins};

@@ -1,4 +1,6 @@
 // Lists of TEXT values, split at bare separators: whether one stands for the same as one of a list, by a walk over it or by the prints of its values.
+#![tactic(auto)]
+
 ghost use Rattle.std.specs.Prelude.{◌≡◌, true, false, ◌+◌, ◌*◌, ◌≤◌, ◌<◌, ltb, length, drop, take};
 ghost use Rattle.text.specs.Choice.{is_some, pick};
 ghost use Rattle.text.specs.Bytes.{code, empty, same, among};

@@ -1,4 +1,6 @@
 // Refusal 4: the first unfolded line that is not UTF-8 or has a control.
+#![tactic(auto)]
+
 ghost use Rattle.std.specs.Prelude.{◌≡◌, ◌||◌, ◌&&◌, not};
 ghost use Rattle.text.specs.Bytes.{any, flat};
 ghost use Rattle.text.specs.Utf8.{utf8};

@@ -1,4 +1,6 @@
 // Refusals 6 to 10 of a card: each line is judged by its table, what matters of the lines so far is carried by value.
+#![tactic(auto)]
+
 ghost use Rattle.std.specs.Prelude.{◌≡◌, []};
 ghost use Rattle.text.specs.Bytes.{ascii};
 ghost use Rattle.line.specs.Params.{values_named};

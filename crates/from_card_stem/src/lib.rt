@@ -1,4 +1,6 @@
 // The stem and the card number of a made UID (refusal 15).
+#![tactic(auto)]
+
 ghost use Rattle.std.specs.Prelude.{◌≡◌};
 ghost use Rattle.convert.specs.Answers.{is_stem_text, is_card_number};
 

@@ -24,7 +24,7 @@ module _ {A : Type 0} where
   into-swap : {x y : A} {xs ys zs : List A} → Into x xs ys → Into y ys zs → (ws : List A) × Into y xs ws × Into x ws zs
   into-swap {x} {y} {xs} i here = (y ∷ xs, here, later i)
   into-swap {xs = xs} here (later {xs = us} {ys = vs} j) = (vs, j, here)
-  into-swap (later {y = z} i) (later j) = let k = into-swap i j in (z ∷ k.0, later k.1, later k.2)
+  into-swap {x = x} {y = y} (later {y = z} {xs = xs} i) (later {xs = us} {ys = vs} j) = let k = into-swap {xs = xs} i j in (z ∷ k.0, later k.1, later k.2)
 
   into-length : {x : A} {xs ys : List A} → Into x xs ys → length ys ≡ suc (length xs)
   into-length here = refl
@@ -72,7 +72,7 @@ pub data Reordered {A : Type 0} : List A → List A → Type 0 where
   one_placed : {x : A} {xs ys zs : List A} → Reordered xs ys → Into x ys zs → Reordered (x ∷ xs) zs
 
 -- a line of those that stand, taken out
-taken_out : {new ls ms hs : List Line} {l : Line} → Into l ls ms → AllStand new ms hs → (h : Line) × (gs : List Line) × Converted l h × AllStand new ls gs × Into h gs hs
+taken_out : {new : List Line} {l : Line} {ls ms hs : List Line} → Into l ls ms → AllStand new ms hs → (h : Line) × (gs : List Line) × Converted l h × AllStand new ls gs × Into h gs hs
 taken_out here (one_more {h = h} {hs = gs} a s i) = (h, gs, a, s, i)
 taken_out (later j) (one_more a s i) =
     let t = taken_out j s in

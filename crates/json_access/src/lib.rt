@@ -1,5 +1,7 @@
 // The members of an object and the elements of an array of a JSON text, one after the other: after each, `json_marks::separator`
 // tells whether another one follows. Where the grammar does not hold, as past the end, the places are of no use, and within the text.
+#![tactic(auto)]
+
 ghost use Rattle.std.specs.Prelude.{◌≡◌, ◌≤◌, length};
 ghost use Rattle.json_access.specs.Access.{place_of, Inside, TellsHead, TellsMember, TellsElement, TellsKind};
 

@@ -1,4 +1,6 @@
 // A JSON text in its compact form, piece by piece.
+#![tactic(auto)]
+
 ghost use Rattle.std.specs.Prelude.{◌≡◌, ◌≤◌, ◌<◌, length, drop};
 ghost use Rattle.text.specs.Bytes.{code};
 ghost use Rattle.text.specs.Places.{byte_at, Gives};

@@ -1,5 +1,7 @@
 // Strings of a JSON text by their prints: whether one stands for the same as one of those that are noted, by their places and their prints. Every pair of prints
 // is met, many at a time; bytes are compared only where prints are equal.
+#![tactic(auto)]
+
 ghost use Rattle.std.specs.Prelude.{◌≡◌, false, ◌+◌, ◌*◌, ◌≤◌, ◌<◌, length};
 ghost use Rattle.json_strings.specs.Decoded.{decoded_at};
 ghost use Rattle.json_prints.specs.Prints.{stir, printed, print_of, Absent, Sought, SoughtKey};

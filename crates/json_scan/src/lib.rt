@@ -1,4 +1,6 @@
 // The JSON grammar by place: where a value ends, or the first byte that does not fit.
+#![tactic(auto)]
+
 ghost use Rattle.std.specs.Prelude.{◌≤◌, ◌<◌, length, drop};
 ghost use Rattle.text.specs.Reader.{loop};
 ghost use Rattle.text.specs.Places.{Gives};

@@ -1,5 +1,7 @@
 // Passing over a value of a text that is known to read: by its quotes and brackets, with no look at UTF-8 or grammar and no recursion.
 // Where no value is read, the place is of no use, and within the text.
+#![tactic(auto)]
+
 ghost use Rattle.std.specs.Prelude.{◌≡◌, false, ◌≤◌, length, drop};
 ghost use Rattle.json_skip.specs.Skip.{quoted, opens, shuts, outside, closed, Leaves, Skips};
 

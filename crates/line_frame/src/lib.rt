@@ -1,4 +1,6 @@
 // Physical lines, and the frame of one card.
+#![tactic(auto)]
+
 ghost use Rattle.std.specs.Prelude.{◌≡◌, true, false, ◌+◌, ◌≤◌, ◌<◌, length, drop};
 ghost use Rattle.text.specs.Reader.{taken};
 ghost use Rattle.line.specs.Physical.{size_of, is_begin, is_end};

@@ -1,4 +1,6 @@
 // TEXT values split at bare separators: how many parts there are, and whether one of them is filled.
+#![tactic(auto)]
+
 ghost use Rattle.std.specs.Prelude.{◌≡◌, ◌&&◌, not, eqb, leb, length};
 ghost use Rattle.text.specs.Bytes.{any};
 ghost use Rattle.line.specs.Text.{split_text};

@@ -1,4 +1,6 @@
 // Pieces of the line grammar, by place: a parameter value, and the names that no line has.
+#![tactic(auto)]
+
 ghost use Rattle.std.specs.Prelude.{◌≡◌, ◌≤◌, length};
 ghost use Rattle.line_scan.specs.Places.{ValueAt};
 ghost use Rattle.line.specs.Grammar.{is_frame_name};

@@ -1,4 +1,6 @@
 // Unfolding: the lines between BEGIN and END into a lent scratch, and where each begins into a table.
+#![tactic(auto)]
+
 ghost use Rattle.std.specs.Prelude.{◌≡◌, ◌+◌, ◌≤◌, ◌<◌};
 ghost use Rattle.std.proofs.Math.ListN.{length};
 ghost use Rattle.text.specs.Reader.{first};

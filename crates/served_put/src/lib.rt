@@ -1,4 +1,6 @@
 // A service's result to its lent output.
+#![tactic(auto)]
+
 ghost use Rattle.std.specs.Prelude.{length};
 ghost use Rattle.served.specs.Served.{Serves};
 ghost use Rattle.served_put.specs.Lent.{fit_lent};

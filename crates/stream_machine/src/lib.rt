@@ -1,1 +1,3 @@
 // What a call of the stream gives: definitions alone.
+
+#![tactic(auto)]

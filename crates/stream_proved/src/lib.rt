@@ -1,1 +1,3 @@
 // Demand 3 of the stream: theorems alone.
+
+#![tactic(auto)]

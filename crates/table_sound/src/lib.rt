@@ -1,5 +1,7 @@
 // Whether a table of places is one that code may read: every place is within the buffer. Asked where the table was filled from a text of which nothing
 // is known yet.
+#![tactic(auto)]
+
 ghost use Rattle.std.specs.Prelude.{◌+◌, ◌≤◌, ◌<◌, length, get_or};
 ghost use Rattle.line_table.specs.Table.{table_length};
 ghost use Rattle.table_sound.specs.Sound.{TellsSpan, TellsSound};

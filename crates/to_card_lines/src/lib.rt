@@ -1,4 +1,6 @@
 // What every part of a card answers, and a line whose value is one string of the JSON text.
+#![tactic(auto)]
+
 ghost use Rattle.to_card_lines.specs.Lines.{StringLine};
 
 use line_pen::{fill, pen_bytes};

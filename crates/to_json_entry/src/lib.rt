@@ -1,4 +1,6 @@
 // A line of a map that converts, written as an entry straight from the line's table.
+#![tactic(auto)]
+
 ghost use Rattle.std.specs.Prelude.{◌≡◌, true, false, [], ◌≤◌, length};
 ghost use Rattle.text.specs.Choice.{is_some, pick};
 ghost use Rattle.text.specs.Bytes.{code, keep};

@@ -1,4 +1,6 @@
 // How a card's JSON begins: @type, version, uid, kind.
+#![tactic(auto)]
+
 ghost use Rattle.std.specs.Prelude.{◌∷◌, []};
 ghost use Rattle.text.specs.Bytes.{ascii, flat, lowered};
 ghost use Rattle.json_text.specs.Compact.{quoted};

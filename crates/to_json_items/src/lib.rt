@@ -1,4 +1,6 @@
 // Lists of TEXT values as JSON, straight from a line's value: the components of a name, the units of an organization.
+#![tactic(auto)]
+
 ghost use Rattle.std.specs.Prelude.{◌≡◌, true, [], ◌≤◌, length};
 ghost use Rattle.text.specs.Choice.{is_some, pick};
 ghost use Rattle.text.specs.Bytes.{code, keep};

@@ -1,4 +1,6 @@
 // A kept line as an entry of vCardProps, straight from the line's table: name, parameters, type, value.
+#![tactic(auto)]
+
 ghost use Rattle.std.specs.Prelude.{◌≡◌, ◌∷◌, [], map, ◌<◌, get_or};
 ghost use Rattle.text.specs.Choice.{pick};
 ghost use Rattle.text.specs.Bytes.{ascii, flat, same, lowered};

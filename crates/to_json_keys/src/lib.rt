@@ -1,4 +1,6 @@
 // Keys made for entries without a PROP-ID: prefix, hyphen and the next number that no PROP-ID of the map takes. Made numbers only grow within a map.
+#![tactic(auto)]
+
 ghost use Rattle.std.specs.Prelude.{◌≡◌, ◌∷◌, [], ◌+◌, ◌≤◌, ◌<◌, length};
 ghost use Rattle.text.specs.Bytes.{code};
 ghost use Rattle.output.specs.Put.{Puts};

@@ -1,4 +1,6 @@
 // A JSPROP line that converts, written as a top-level member.
+#![tactic(auto)]
+
 ghost use Rattle.std.specs.Prelude.{◌≡◌, ◌∷◌, [], ◌≤◌, length};
 ghost use Rattle.text.specs.Bytes.{ascii, flat};
 ghost use Rattle.json_text.specs.Compact.{spelled_all};

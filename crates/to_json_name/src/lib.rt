@@ -1,4 +1,6 @@
 // The member `name` of a card: FN as full, N as components, straight from the lines' values.
+#![tactic(auto)]
+
 ghost use Rattle.std.specs.Prelude.{◌≡◌, true, false, ◌∷◌, [], ◌+◌, ◌≤◌, ◌<◌, length};
 ghost use Rattle.text.specs.Choice.{is_some, pick};
 ghost use Rattle.text.specs.Bytes.{ascii, code, flat};

@@ -1,0 +1,15 @@
+use Rattle.text.specs.Reader.{loop}
+use Rattle.text.proofs.Places.{turn-as}
+use Rattle.json_text.specs.Tree.{mnil}
+use Rattle.json_text.specs.Syntax.{pair, value}
+use Rattle.json_scan.proofs.After.{later-go, later-stop}
+use Rattle.json_scan.proofs.members_after.Goals as goal
+
+pub members_from-requires : goal.members_from-requires
+members_from-requires c = (turn-as c.separator.ensures c.in-Go.is).within.1
+
+pub returns-in-Stop : goal.returns-in-Stop
+returns-in-Stop c = later-stop mnil (loop (pair (value c.args.depth))) 125 c.args.s.now c.args.at (turn-as c.separator.ensures c.in-Stop.is)
+
+pub returns-in-Go : goal.returns-in-Go
+returns-in-Go c = later-go mnil (loop (pair (value c.args.depth))) 125 c.args.s.now c.args.at (turn-as c.separator.ensures c.in-Go.is) c.members_from.ensures

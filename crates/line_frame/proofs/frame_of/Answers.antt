@@ -1,0 +1,26 @@
+use mathlib.Core.Path.{sym, ◌∙◌}
+use Rattle.line_frame.proofs.Frames.{no-card, not-begun, not-ended, one-card}
+use Rattle.line_frame.proofs.frame_of.Goals as goal
+
+pub returns-then-s-eq0 : goal.returns-then-s-eq0
+returns-then-s-eq0 c = no-card c.args.s.now c.if-s-eq0.true
+
+pub returns-then-not-is_begin : goal.returns-then-not-is_begin
+returns-then-not-is_begin c = not-begun c.args.s.now _ c.next_line-first.ensures (sym c.is_begin.ensures ∙ c.if-not-is_begin.true)
+
+pub returns-in_default : goal.returns-in_default
+returns-in_default c =
+    let args = c.args in
+    let next-line = c.next_line-first in
+    let is-begin = c.is_begin in
+    not-ended args.s.now _ next-line.ensures (sym is-begin.ensures ∙ c.if-not-is_begin.false)
+    (rw c.in_default.is at c.end_from.ensures)
+
+pub returns : goal.returns
+returns c =
+    let args = c.args in
+    let next-line = c.next_line-first in
+    let is-begin = c.is_begin in
+    let end-from = c.end_from in
+    one-card args.s.now _ next-line.ensures _ (sym is-begin.ensures ∙ c.if-not-is_begin.false)
+    (rw c.in-At.is at end-from.ensures)
