@@ -1,5 +1,7 @@
 // What a parsed line becomes, for a card's line and for an entry of vCardProps alike: as far as the line itself says. What is left open is one
 // question to what was seen before (a PROP-ID of the map, a member's name), which is the caller's.
+#![tactic(auto)]
+
 ghost use Rattle.std.specs.Prelude.{◌≡◌, ◌+◌};
 ghost use Rattle.table_entry.specs.Key.{Rowed};
 ghost use Rattle.class_member.specs.Member.{Room};

@@ -1,4 +1,6 @@
 // JSPROP of a parsed line, for a card's line and for an entry of vCardProps alike.
+#![tactic(auto)]
+
 ghost use Rattle.std.specs.Prelude.{◌≡◌, ◌≤◌, length, take, drop};
 ghost use Rattle.text.specs.Choice.{is_some};
 ghost use Rattle.text.specs.Bytes.{among};

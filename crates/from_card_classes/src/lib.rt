@@ -1,4 +1,6 @@
 // The pass over a card's unfolded lines: refusals 5 to 10, and the class of each line by number.
+#![tactic(auto)]
+
 ghost use Rattle.std.specs.Prelude.{◌≡◌, ◌+◌, ◌≤◌, ◌<◌, length};
 ghost use Rattle.convert.specs.Answers.{misused, emptied, is_version_line, line_room};
 ghost use Rattle.line_table.specs.Table.{line_in, Sound};

@@ -19,7 +19,7 @@ use line_table::table;
 use table_entry::has_group;
 
 // Of the lines so far: the first of refusals 7, 8 and 9 (0: none), which names have come, whether the first line is VERSION:4.0.
-#[derive(Drop)]
+#[derive(Clone, Copy)]
 pub struct Judged {
     pub misused: usize,
     pub second: usize,

@@ -1,4 +1,6 @@
 // PROP-IDs and JSPROP pointers of the converted lines so far, in one table with prints, and the number of a line's class settled by it.
+#![tactic(auto)]
+
 ghost use Rattle.std.specs.Prelude.{◌≡◌, ◌+◌, ◌≤◌, ◌<◌, length, set};
 ghost use Rattle.text.specs.Bytes.{any};
 ghost use Rattle.json_prints.specs.Prints.{printed};

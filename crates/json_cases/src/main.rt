@@ -1,43 +1,38 @@
 // Reads each file that an argument names, and writes its name and the reader's verdict on it, with depth 16.
+#![tactic(auto)]
+
 use json_limits::{DEPTH, OVER};
 use json_read::{Verdict, read};
-use libc::STDOUT_FILENO;
-use named_file::read_named;
+use named_file::{is_given, read_named};
+use std::io;
 
-fn tell(v: Verdict) {
+fn tell(rt: &impl Print, v: Verdict) -> io::Result<()> {
     match v {
-        Verdict::Sound => {
-            io::write_all(STDOUT_FILENO, b"json\n");
-        }
-        Verdict::Large => {
-            io::write_all(STDOUT_FILENO, b"3\n");
-        }
-        Verdict::NotJson(at) => {
-            io::write_all(STDOUT_FILENO, b"11 at ");
-            io::print_decimal(STDOUT_FILENO, at as u64);
-            io::write_all(STDOUT_FILENO, b"\n");
-        }
+        Verdict::Sound => println!(rt; "json"),
+        Verdict::Large => println!(rt; "3"),
+        Verdict::NotJson(at) => println!(rt; "11 at {at}"),
     }
 }
 
 // One text: the file that the argument k names.
-fn case(k: usize) {
-    let mut path = io::buffer();
+fn case(rt: &HostRuntime, k: usize) -> io::Result<()> {
+    let mut path = [0u8; 4096];
     let mut buf = [0u8; OVER];
-    let file = read_named(k, &mut path, &mut buf);
+    let file = read_named(rt, k, &mut path, &mut buf);
     if !file.found {
-        return;
+        return Ok(());
     }
-    io::write_all(STDOUT_FILENO, &path[..file.path]);
-    io::write_all(STDOUT_FILENO, b": ");
-    tell(read(&buf[..file.text], DEPTH));
+    rt.write_all(&path[..file.path])?;
+    rt.write_all(b": ")?;
+    tell(rt, read(&buf[..file.text], DEPTH))
 }
 
-fn main() {
-    let n = os::arg_count();
-    let mut k = 1;
-    while k < n {
-        case(k);
-        k += 1;
+fn main(rt: HostRuntime) -> io::Result<()> {
+    for k in 1..usize::MAX {
+        if !is_given(&rt, k) {
+            break;
+        }
+        case(&rt, k)?;
     }
+    Ok(())
 }

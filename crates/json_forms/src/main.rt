@@ -1,5 +1,7 @@
 // Reads each JSON text that an argument names, and writes it in its compact form. Of an object or an array then each member or element:
 // its name and its kind, a string decoded and written again, a number as it stands in the text.
+#![tactic(auto)]
+
 ghost use Rattle.std.specs.Prelude.{◌≤◌, length};
 
 use json_access::{Kind, kind_at};
@@ -11,188 +13,161 @@ use json_skip::skip_value;
 use json_strings::decode_into;
 use json_walk::{Element, Member, first_element, first_member, next_element, next_member};
 use json_write::{put_member, put_number, put_string};
-use libc::STDOUT_FILENO;
-use named_file::read_named;
+use named_file::{is_given, read_named};
 use output::Wrote;
+use std::io;
 use text::{QUOTE, Read};
 
-fn say(text: &[u8]) {
-    io::write_all(STDOUT_FILENO, text);
+fn say(rt: &impl Print, text: &[u8]) -> io::Result<()> {
+    rt.write_all(text)
 }
 
-fn send(out: &[u8], m: usize) {
+fn send(rt: &impl Print, out: &[u8], m: usize) -> io::Result<()> {
     if m <= out.len() {
-        io::write_all(STDOUT_FILENO, &out[0..m]);
+        say(rt, &out[..m])?;
     }
+    Ok(())
 }
 
 // The first n bytes as a string.
-fn say_quoted(bytes: &[u8], n: usize) {
+fn say_quoted(rt: &impl Print, bytes: &[u8], n: usize) -> io::Result<()> {
     if n > bytes.len() {
-        return;
+        return Ok(());
     }
     let mut out = [0u8; ROOM];
-    let Wrote::Bytes(m) = put_string(&mut out, &bytes[0..n]) else {
-        say(b"no room");
-        return;
+    let Wrote::Bytes(m) = put_string(&mut out, &bytes[..n]) else {
+        return say(rt, b"no room");
     };
-    send(&out, m);
+    send(rt, &out, m)
 }
 
 // The string from a place on (after its first quote), decoded and written again.
-fn say_string(s: &[u8], at: usize) {
+fn say_string(rt: &impl Print, s: &[u8], at: usize) -> io::Result<()> {
     let mut bytes = [0u8; ROOM];
     let Wrote::Bytes(n) = decode_into(&mut bytes, s, at) else {
-        say(b"no room");
-        return;
+        return say(rt, b"no room");
     };
-    say_quoted(&bytes, n);
+    say_quoted(rt, &bytes, n)
 }
 
-fn say_kind(k: Kind) {
+fn say_kind(rt: &impl Print, k: &Kind) -> io::Result<()> {
     match k {
-        Kind::Null => {
-            say(b"null");
-        }
-        Kind::True => {
-            say(b"true");
-        }
-        Kind::False => {
-            say(b"false");
-        }
-        Kind::Number => {
-            say(b"number");
-        }
-        Kind::String => {
-            say(b"string");
-        }
-        Kind::Array => {
-            say(b"array");
-        }
-        Kind::Object => {
-            say(b"object");
-        }
+        Kind::Null => say(rt, b"null"),
+        Kind::True => say(rt, b"true"),
+        Kind::False => say(rt, b"false"),
+        Kind::Number => say(rt, b"number"),
+        Kind::String => say(rt, b"string"),
+        Kind::Array => say(rt, b"array"),
+        Kind::Object => say(rt, b"object"),
     }
 }
 
 // The kind of a value that stands from `start` to `end`, and a string or a number itself.
-fn say_value(s: &[u8], start: usize, end: usize)
+fn say_value(rt: &impl Print, s: &[u8], start: usize, end: usize) -> io::Result<()>
     requires start_le_end { start ≤ end }
     requires end_in_bounds { end ≤ length s.now }
 {
     let k = kind_at(s, start);
-    say_kind(k);
+    say_kind(rt, &k)?;
     if let Kind::Number = k {
-        say(b" ");
-        say(&s[start..end]);
+        say(rt, b" ")?;
+        say(rt, &s[start..end])?;
     }
     if let Kind::String = k {
         if let Read::Next(q) = mark(s, start, QUOTE) {
-            say(b" ");
-            say_string(s, q);
+            say(rt, b" ")?;
+            say_string(rt, s, q)?;
         }
     }
-    say(b"\n");
+    say(rt, b"\n")
 }
 
 // The members of the text, where it is an object.
-fn say_members(s: &[u8]) {
+fn say_members(rt: &impl Print, s: &[u8]) -> io::Result<()> {
     let mut m = first_member(s, 0);
-    loop {
-        let Member::At { name: q, start: a } = m else {
-            return;
-        };
-        let e = skip_value(s, a);
-        say(b"  ");
-        say_string(s, q);
-        say(b" ");
-        say_value(s, a, e);
-        m = next_member(s, e);
+    while let Member::At { name, start } = m {
+        let end = skip_value(s, start);
+        say(rt, b"  ")?;
+        say_string(rt, s, name)?;
+        say(rt, b" ")?;
+        say_value(rt, s, start, end)?;
+        m = next_member(s, end);
     }
+    Ok(())
 }
 
 // Its elements, where it is an array.
-fn say_elements(s: &[u8]) {
+fn say_elements(rt: &impl Print, s: &[u8]) -> io::Result<()> {
     let mut m = first_element(s, 0);
-    loop {
-        let Element::At { start: a } = m else {
-            return;
-        };
-        let e = skip_value(s, a);
-        say(b"  ");
-        say_value(s, a, e);
-        m = next_element(s, e);
+    while let Element::At { start } = m {
+        let end = skip_value(s, start);
+        say(rt, b"  ")?;
+        say_value(rt, s, start, end)?;
+        m = next_element(s, end);
     }
+    Ok(())
 }
 
-fn say_named(name: &[u8], text: &[u8]) {
+fn say_named(rt: &impl Print, name: &[u8], text: &[u8]) -> io::Result<()> {
     let mut out = [0u8; 32768];
     let Wrote::Bytes(m) = put_member(&mut out, name, text) else {
-        say(b"no room");
-        return;
+        return say(rt, b"no room");
     };
-    send(&out, m);
+    send(rt, &out, m)
 }
 
-fn say_number(n: usize) {
+fn say_number(rt: &impl Print, n: usize) -> io::Result<()> {
     let mut out = [0u8; 20];
     let Wrote::Bytes(m) = put_number(&mut out, n) else {
-        say(b"no room");
-        return;
+        return say(rt, b"no room");
     };
-    send(&out, m);
+    send(rt, &out, m)
 }
 
 // A text that is JSON, and last its file and how long its compact form is.
-fn show(file: &[u8], s: &[u8]) {
+fn show(rt: &impl Print, file: &[u8], s: &[u8]) -> io::Result<()> {
     let mut out = [0u8; ROOM];
     let Wrote::Bytes(m) = put_compact(&mut out, s) else {
-        say(b"no room\n");
-        return;
+        return say(rt, b"no room\n");
     };
-    send(&out, m);
-    say(b"\n");
-    say_members(s);
-    say_elements(s);
-    say(b"{");
-    say_named(b"file", file);
-    say(b",\"bytes\":");
-    say_number(m);
-    say(b"}\n");
+    send(rt, &out, m)?;
+    say(rt, b"\n")?;
+    say_members(rt, s)?;
+    say_elements(rt, s)?;
+    say(rt, b"{")?;
+    say_named(rt, b"file", file)?;
+    say(rt, b",\"bytes\":")?;
+    say_number(rt, m)?;
+    say(rt, b"}\n")
 }
 
-fn tell(file: &[u8], s: &[u8]) {
+fn tell(rt: &impl Print, file: &[u8], s: &[u8]) -> io::Result<()> {
     match read(s, DEPTH) {
-        Verdict::Sound => {
-            show(file, s);
-        }
-        Verdict::Large => {
-            say(b"refused\n");
-        }
-        Verdict::NotJson(at) => {
-            say(b"refused\n");
-        }
+        Verdict::Sound => show(rt, file, s),
+        Verdict::Large | Verdict::NotJson(_) => say(rt, b"refused\n"),
     }
 }
 
 // One text: the file that the argument k names.
-fn case(k: usize) {
-    let mut path = io::buffer();
+fn case(rt: &HostRuntime, k: usize) -> io::Result<()> {
+    let mut path = [0u8; 4096];
     let mut buf = [0u8; OVER];
-    let file = read_named(k, &mut path, &mut buf);
+    let file = read_named(rt, k, &mut path, &mut buf);
     if !file.found {
-        return;
+        return Ok(());
     }
-    say(&path[..file.path]);
-    say(b"\n");
-    tell(&path[..file.path], &buf[..file.text]);
+    let name = &path[..file.path];
+    say(rt, name)?;
+    say(rt, b"\n")?;
+    tell(rt, name, &buf[..file.text])
 }
 
-fn main() {
-    let n = os::arg_count();
-    let mut k = 1;
-    while k < n {
-        case(k);
-        k += 1;
+fn main(rt: HostRuntime) -> io::Result<()> {
+    for k in 1..usize::MAX {
+        if !is_given(&rt, k) {
+            break;
+        }
+        case(&rt, k)?;
     }
+    Ok(())
 }

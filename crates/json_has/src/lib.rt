@@ -1,4 +1,6 @@
 // Whether an object has a member of a name.
+#![tactic(auto)]
+
 ghost use Rattle.json_has.specs.Has.{HasMember};
 
 use json_skip::skip_value;

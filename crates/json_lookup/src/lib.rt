@@ -1,4 +1,6 @@
 // The look-up service: a top-level member's value as that very part of the caller's JSON.
+#![tactic(auto)]
+
 ghost use Rattle.std.specs.Prelude.{◌≡◌, ◌≤◌, length};
 ghost use Rattle.json_text.specs.Lookup.{look_up, part_of};
 ghost use Rattle.json_lookup.specs.Finds.{Bounds, FindsIn, place_of, stands_at};

@@ -1,4 +1,6 @@
 // The validating reader of a text whose top-level object is wanted by a list of names: its members are indexed while they are read, in one pass over the text.
+#![tactic(auto)]
+
 ghost use Rattle.std.specs.Prelude.{◌≡◌, [], ◌+◌, ◌*◌, ◌≤◌, ◌<◌, length, drop};
 ghost use Rattle.text.specs.Bytes.{code, parts};
 ghost use Rattle.json_text.specs.Syntax.{pairs, value};

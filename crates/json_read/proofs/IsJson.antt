@@ -75,7 +75,7 @@ from-decode (u ∷ []) e =
     (λ h. by_bool (low_unit u) (λ l. none-some (rw (b, high_is u w, h, low-is u w, l) at e)) (λ l. one_unit h l no-unit)))
 from-decode (u ∷ (v ∷ us)) e =
     by_bool (ltb u 256)
-    (λ b. let p = byte-plain u b in let i = before-inv _ (decode_after 0 (v ∷ us)) (rw b at e) in one_unit p.0 p.1 (from-decode (v ∷ us) i.1))
+    (λ b. let p = byte-plain u b in let i = before-inv (u ∷ []) (decode_after 0 (v ∷ us)) (rw b at e) in one_unit p.0 p.1 (from-decode (v ∷ us) i.1))
     (λ b. let w : 256 ≤ u = ltb-false u 256 b in
     by_bool (high_unit u)
     (λ h. by_bool (low_unit v)

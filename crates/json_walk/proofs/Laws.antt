@@ -2,17 +2,13 @@
 -- it ended. Its invariant is `InText` of m, and of whatever value stands there: some members o that m tells of (`TellsMembers d s o t m`), with what has
 -- been done beside them. Its measure is `ahead`. Where m is a member, `told-member` gives it and what is left after it; at the end, `told-end` and `told_none`.
 use mathlib.Core.Path.{◌≡◌, refl, sym, subst}
-use mathlib.Core.Logic.{◌⊎◌, inl, inr}
 use mathlib.Core.List.{List, []}
 use mathlib.Core.Option.{Option, none, some}
 use Prim.Native.Nat.{ℕ, suc, ◌-◌, ◌≤◌, ◌<◌}
 use native.Mathlib.Omega.{arith}
 use lib.ListN.{drop}
-use denote.Enum.Declared.{tag_of}
 use Rattle.text.specs.Bytes.{Bytes}
 use Rattle.json_text.specs.Tree.{Json, Member as Named}
-use Rattle.json_walk.specs.contracts.Member.{the_type as member-type}
-use Rattle.json_walk.specs.contracts.Element.{the_type as element-type}
 use Rattle.json_walk.specs.declared.Member.{Member}
 use Rattle.json_walk.specs.declared.Member.TheVariants.{At as Member-At, End as Member-End, NoObject}
 use Rattle.json_walk.specs.declared.Element.{Element}
@@ -42,9 +38,8 @@ Over (Member-At q a) = ⊥
 Over (Member-End x) = Unit {0}
 Over NoObject = Unit {0}
 
-pub is-over : (r : Member) → (tag_of member-type r ≡ 1) ⊎ (tag_of member-type r ≡ 2) → Over r
-is-over (Member-At q a) (inl e) = omega (arith, e)
-is-over (Member-At q a) (inr e) = omega (arith, e)
+pub is-over : (r : Member) → ((q a : ℕ) → r ≡ Member-At q a → ⊥) → Over r
+is-over (Member-At q a) h = absurd (h q a refl)
 is-over (Member-End x) h = tt
 is-over NoObject h = tt
 
@@ -93,9 +88,8 @@ OverArray (Element-At a) = ⊥
 OverArray (Element-End x) = Unit {0}
 OverArray NoArray = Unit {0}
 
-pub is-over-array : (r : Element) → (tag_of element-type r ≡ 1) ⊎ (tag_of element-type r ≡ 2) → OverArray r
-is-over-array (Element-At a) (inl e) = omega (arith, e)
-is-over-array (Element-At a) (inr e) = omega (arith, e)
+pub is-over-array : (r : Element) → ((a : ℕ) → r ≡ Element-At a → ⊥) → OverArray r
+is-over-array (Element-At a) h = absurd (h a refl)
 is-over-array (Element-End x) h = tt
 is-over-array NoArray h = tt
 

@@ -1,6 +1,8 @@
 // The walk over a JSON text that is known to read: the members of an object and the elements of an array, one after the other, first to last.
 // A step passes over no value: where one ends is what `json_skip::skip_value` gives, or the walk inside it. So each byte is passed over once, however
 // deep it stands. Where the grammar does not hold, as past the end, the places are of no use, and within the text.
+#![tactic(auto)]
+
 ghost use Rattle.std.specs.Prelude.{length};
 ghost use Rattle.json_walk.specs.Walk.{FirstOf, NextOf, FirstElementOf, NextElementOf, FirstReads, NextReads, MemberIn, ElementIn};
 

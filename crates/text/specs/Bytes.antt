@@ -1,6 +1,6 @@
 -- Byte strings as lists of numbers, and tests on them. Nothing here knows of vCard or JSON.
 use Rattle.std.specs.Prelude.{Bool, true, false, ◌&&◌, ◌||◌, not, List, [], ◌∷◌, ◌++◌, map, ℕ, ◌+◌, ◌-◌, leb, eqb}
-use Rattle.std.proofs.Math.Option.{Option, none, some}
+use Rattle.std.proofs.Math.Option.{Option, some}
 pub use Prim.Native.Char.{code}  -- contracts in .rt files can only take it from here
 use Prim.Native.String.{String, [] as []ˢ, ◌∷◌ as ◌∷ˢ◌}
 use Rattle.text.specs.Choice.{pick, both}

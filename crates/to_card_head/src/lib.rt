@@ -1,4 +1,6 @@
 // The first lines of a card from the members of the JSON: BEGIN, VERSION, UID and KIND. A slot is the place of a member's value, 0 where it is absent.
+#![tactic(auto)]
+
 ghost use Rattle.std.specs.Prelude.{◌≡◌, length};
 ghost use Rattle.json_strings.specs.Decoded.{decoded_at};
 ghost use Rattle.line.specs.Class.{is_lower_name};

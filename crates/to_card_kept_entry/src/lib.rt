@@ -1,4 +1,6 @@
 // Strings of a JSON text one after the other in a lent buffer, and the values of a parameter of vCardProps as rows of a line's table.
+#![tactic(auto)]
+
 pub mod strings;
 
 // An entry of vCardProps, [name, {parameters}, type, value], as the table of the line that it is.

@@ -1,4 +1,6 @@
 // The names of a JSON card's maps and members, noted once by their places and prints: then whether one is there is asked without a walk over the text.
+#![tactic(auto)]
+
 ghost use Rattle.std.specs.Prelude.{◌≡◌, ◌≤◌, ◌<◌, length, take};
 ghost use Rattle.card_table.specs.Numbers.{group_count, map_slots};
 ghost use Rattle.to_card_kept_names.specs.Groups.{NotesName, NotedIn, NotesNames, NotesGroup, Indexes, HasName};

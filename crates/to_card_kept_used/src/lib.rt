@@ -1,5 +1,7 @@
 // Whether a line is kept after all converted lines of a JSON card. `class_line` leaves one question open, to what was seen: whether a PROP-ID is used
 // in its map, or a member's name in the card. Both are answered by the JSON text, by what is noted of its names where that is.
+#![tactic(auto)]
+
 ghost use Rattle.std.specs.Prelude.{◌≡◌, ◌≤◌, ◌<◌, length};
 ghost use Rattle.class_line.specs.Class.{ClassIn};
 ghost use Rattle.convert_pointer.specs.Name.{Pointing};

@@ -1,4 +1,6 @@
 // The seven maps of a JSON card as lines, one after the other in the table's order. A row of the table is data (`card_table`): an eighth map is one more branch here.
+#![tactic(auto)]
+
 ghost use Rattle.std.specs.Prelude.{◌≡◌, ◌≤◌, length};
 ghost use Rattle.to_card_map.specs.Maps.{LinesIn};
 ghost use Rattle.json_text.specs.Lookup.{room};

@@ -1,4 +1,6 @@
 // Top-level members that no other line of a card says, each as a JSPROP line: a pointer to the member, and its value as compact JSON in TEXT.
+#![tactic(auto)]
+
 ghost use Rattle.std.specs.Prelude.{◌≡◌, [], ◌∷◌, ◌-◌, ◌≤◌, length, take, drop, false};
 ghost use Rattle.line.specs.Text.{write_text};
 ghost use Rattle.json_compact.specs.Squeezed.{squeezed};

@@ -1,4 +1,6 @@
 // FN and N from the member `name` of the JSON: judged (12), written, and told whether lines can carry them (13).
+#![tactic(auto)]
+
 ghost use Rattle.std.specs.Prelude.{◌≡◌, ◌≤◌, ◌<◌, length};
 ghost use Rattle.json_index.specs.Index.{Clear};
 ghost use Rattle.to_card_lines.specs.Lines.{LinesIn};

@@ -1,4 +1,6 @@
 // The values of a name's components in an order of kinds that is given as data, and whether two kinds have no value in common.
+#![tactic(auto)]
+
 ghost use Rattle.std.specs.Prelude.{◌≡◌, ◌&&◌, ◌≤◌, length};
 ghost use Rattle.json_strings.specs.Decoded.{decoded_at, agree};
 ghost use Rattle.to_card_parts.specs.Parts.{RowsFrom};

@@ -1,5 +1,7 @@
 // The contexts, features and pref of an entry: judged (12), and written as the parameters TYPE and PREF.
 // Contexts and features are marks in a row of nine, one for each place of the table of TYPE: 1 where the entry has it.
+#![tactic(auto)]
+
 ghost use Rattle.std.specs.Prelude.{◌≡◌, false, ◌≤◌, ◌+◌, length};
 ghost use Rattle.text.specs.Bytes.{code, parts};
 ghost use Rattle.line_pen.specs.Pen.{Pens};

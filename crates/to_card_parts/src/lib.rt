@@ -1,4 +1,6 @@
 // The components of a name: judged in one pass, and written kind by kind, in an order that is given as data.
+#![tactic(auto)]
+
 ghost use Rattle.std.specs.Prelude.{◌≡◌, true, ◌≤◌, ◌<◌, length};
 ghost use Rattle.json_index.specs.Index.{Clear};
 ghost use Rattle.card_table.specs.Numbers.{part_count};

@@ -1,5 +1,7 @@
 // The strings of an entry as a line's value, in one pass: judged (12), written by the map's form, and told whether a line can carry them (13).
 // Forms are numbers (`card_table::forms`), here as bytes.
+#![tactic(auto)]
+
 ghost use Rattle.std.specs.Prelude.{◌≡◌, ◌&&◌, ◌≤◌, eqb, length};
 ghost use Rattle.json_strings.specs.Decoded.{decoded_at};
 ghost use Rattle.to_card_value.specs.Values.{TellsString, TellsText, TellsUnit, blank_of, tel_byte, on_tel, tel_of, Inks, UnitInks, InkIn, UnitsFrom, TellsUnits, TellsName, PutIn, TellsOrg, TellsValue};

@@ -1,4 +1,6 @@
 // The maps of a card's JSON, from its classified lines. A map's row is its member's name, its keys' prefix, and the rows of `class_properties`.
+#![tactic(auto)]
+
 ghost use Rattle.std.specs.Prelude.{◌≡◌, false, ◌∷◌, [], ◌+◌, ◌≤◌, ◌<◌, eqb, length};
 ghost use Rattle.text.specs.Bytes.{code, is, any};
 ghost use Rattle.output.specs.Put.{Puts};

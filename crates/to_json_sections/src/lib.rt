@@ -1,4 +1,6 @@
 // The sections of a card's JSON besides the maps, from its classified lines.
+#![tactic(auto)]
+
 ghost use Rattle.std.specs.Prelude.{◌≡◌, ◌≤◌, length};
 ghost use Rattle.output.specs.Put.{Puts};
 ghost use Rattle.to_json_maps.specs.Maps.{HasLines};

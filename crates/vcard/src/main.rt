@@ -1,32 +1,27 @@
 // JSON to card as a program: the JSON comes on standard input, its card goes out; or a refusal's number and place, and one LF.
+#![tactic(auto)]
+
 use json_to_card::json_to_card;
-use libc::{STDIN_FILENO, STDOUT_FILENO};
 use served::Outcome;
+use std::io;
+use std::io::Read;
 
-fn say_card(out: &[u8], n: usize) {
+fn say_card(rt: &impl Print, out: &[u8], n: usize) -> io::Result<()> {
     if n <= out.len() {
-        io::write_all(STDOUT_FILENO, &out[0..n]);
+        rt.write_all(&out[..n])?;
     }
+    Ok(())
 }
 
-fn say_refusal(number: u8, place: usize) {
-    io::print_decimal(STDOUT_FILENO, number as u64);
-    io::write_all(STDOUT_FILENO, b" ");
-    io::print_decimal(STDOUT_FILENO, place as u64);
-    io::write_all(STDOUT_FILENO, b"\n");
-}
-
-fn main() {
+fn main(rt: HostRuntime) -> io::Result<()> {
     // one byte more than the room, so that a longer text is seen to be longer
-    let mut json = [0u8; json_limits::OVER];
-    let n = io::read_full(STDIN_FILENO, &mut json);
+    let mut json = Vec::new(rt.alloc());
+    rt.stdin()
+        .take(json_limits::OVER as u64)
+        .read_to_end(&mut json)?;
     let mut out = [0u8; line_limits::CARD];
-    match json_to_card(&json[..n], &mut out) {
-        Outcome::Written(k) => {
-            say_card(&out, k);
-        }
-        Outcome::Refused { number: r, place } => {
-            say_refusal(r, place);
-        }
+    match json_to_card(json.as_slice(), &mut out) {
+        Outcome::Written(k) => say_card(&rt, &out, k),
+        Outcome::Refused { number, place } => println!(rt; "{number} {place}"),
     }
 }

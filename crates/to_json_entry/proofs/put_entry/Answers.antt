@@ -155,7 +155,7 @@ returns-in_default-put_flags-2 c = stop! (s₅ (goal.at.returns-in_default-put_f
 
 pub overflow_add-b6 : goal.overflow_add-b6
 overflow_add-b6 c =
-    fit! (s₆ c) c.??good.0.0
+    fit! (s₆ c) c.well_formed.0.0
 
 pub slice_bounds-put_pref-count : goal.slice_bounds-put_pref-count
 slice_bounds-put_pref-count c = in! (s₆ c)
@@ -174,7 +174,7 @@ returns-in_default-put_pref c = stop! (s₆ (goal.at.returns-in_default-put_pref
 
 pub overflow_add-b7 : goal.overflow_add-b7
 overflow_add-b7 c =
-    fit! (s₇ c) c.??good.0.0
+    fit! (s₇ c) c.well_formed.0.0
 
 pub slice_bounds-put_byte-count-2 : goal.slice_bounds-put_byte-count-2
 slice_bounds-put_byte-count-2 c = in! (s₇ c)
@@ -193,7 +193,7 @@ returns-in_default-put_byte-2 c = stop! (s₇ (goal.at.returns-in_default-put_by
 
 pub overflow_add-b8 : goal.overflow_add-b8
 overflow_add-b8 c =
-    fit! (s₈ c) c.??good.0.0
+    fit! (s₈ c) c.well_formed.0.0
 
 pub shape_of-out : goal.shape_of-out
 shape_of-out c = same! (s₈ c)

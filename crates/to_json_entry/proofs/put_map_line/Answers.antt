@@ -7,7 +7,6 @@ use Rattle.line_table.specs.Table.{line_in, part}
 use Rattle.convert_entry.proofs.Tests.{first-pref}
 use Rattle.to_json_entry.proofs.Whole.{nine-long, strings-good, no-pref, the-pref, line-bytes}
 use Rattle.to_json_entry.proofs.put_map_line.Goals as goal
-use Rattle.to_json_entry.proofs.put_map_line.Goals.{After-value_kind-vk}
 
 pub value_kind-vk-requires : goal.value_kind-vk-requires
 value_kind-vk-requires c =
@@ -53,10 +52,9 @@ put_entry-requires c = (
 
 pub returns-then-k-eq0 : goal.returns-then-k-eq0
 returns-then-k-eq0 c =
-    let c4
-    = (goal.at.returns-then-k-eq0 c).After-value_kind-vk in let c5 = c4.before.before.before.before.before.before.before.before in λ seen w e is rd q. let r = c5.pre.rowed.row in puts-as
-    (line-bytes c5.args.s.now c5.args.t.now seen w e is q c5.args.kind c4.value-kind.result c5.args.key.now [] _ _ rd
-    (c4.value-kind.ensures _ r) c.mark_rows.ensures (no-pref c5.args.s.now c5.args.t.now seen w e is q r c.if-k-eq0.true))
+    λ seen w e is rd q. let r = c.requires.rowed.row in puts-as
+    (line-bytes c.args.s.now c.args.t.now seen w e is q c.args.kind c.value_kind-vk.result c.args.key.now [] _ _ rd
+    (c.value_kind-vk.ensures _ r) c.mark_rows.ensures (no-pref c.args.s.now c.args.t.now seen w e is q r c.if-k-eq0.true))
     c.put_entry.ensures
 
 pub bounds-froms-1 : goal.bounds-froms-1
@@ -100,8 +98,7 @@ put_entry-requires-2 c = (
 
 pub returns : goal.returns
 returns c =
-    λ seen w e is rd q. let r
-    = c.??pre.rowed.row in puts-as
+    λ seen w e is rd q. let r = c.requires.rowed.row in puts-as
     (line-bytes c.args.s.now c.args.t.now seen w e is q c.args.kind c.value_kind-vk.result c.args.key.now
     (part c.args.s.now (get_or c.args.froms.now 1 0) (get_or c.args.tos.now 1 0)) _ _ rd (c.value_kind-vk.ensures _ r)
     c.mark_rows.ensures (the-pref c.args.s.now c.args.t.now seen w e is q r c.if-k-eq0.false))

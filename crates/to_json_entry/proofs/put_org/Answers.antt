@@ -12,7 +12,7 @@ use native.Mathlib.Nat.{le_refl}
 use mathlib.Core.List.{[], ◌∷◌}
 use Rattle.output.proofs.Rows.{Here, first!, next!, none, stop!, all, in!, fit!, same!, length-puts}
 use Rattle.to_json_entry.proofs.put_org.Goals as goal
-use Rattle.to_json_entry.proofs.put_org.Goals.{After-part_end-e, In-Bytes, In-Bytes-put_units_after}
+use Rattle.to_json_entry.proofs.put_org.Goals.{In-Bytes, In-Bytes-put_units_after}
 
 abbrev s₁ : In-Bytes → Here
 s₁ c =
@@ -64,13 +64,12 @@ shape_of-out-in_default-put_units_after c = length-puts (stop! (s₁ (goal.at.sh
 
 pub returns-in_default-put_units_after : goal.returns-in_default-put_units_after
 returns-in_default-put_units_after c =
-    let
-    c3 = (goal.at.returns-in_default-put_units_after c).After-part_end-e in let c4 = c3.before.before.before in puts-as
+    puts-as
     (ap
     (λ k. flat
-    (org_name c4.args.i (take (c3.part-end.result - 0) c4.args.v.now) ∷ units_piece k
-    (units_after c4.args.v.now c3.part-end.result) ∷ []))
-    c.unit_kind-k.ensures ∙ org-parts c4.args.i c4.args.v.now c3.part-end.result c3.part-end.ensures)
+    (org_name c.args.i (take (c.part_end-e.result - 0) c.args.v.now) ∷ units_piece k
+    (units_after c.args.v.now c.part_end-e.result) ∷ []))
+    c.unit_kind-k.ensures ∙ org-parts c.args.i c.args.v.now c.part_end-e.result c.part_end-e.ensures)
     (stop! (s₁ (goal.at.returns-in_default-put_units_after c).In-Bytes) c.put_units_after.ensures c.in_default-put_units_after.is)
 
 pub overflow_add-ab : goal.overflow_add-ab

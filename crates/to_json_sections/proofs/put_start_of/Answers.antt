@@ -1,0 +1,58 @@
+use mathlib.Core.Path.{ap}
+use native.Mathlib.Omega.{arith}
+use Rattle.to_json_maps.proofs.Marking.{filled-holds, filled_none}
+use Rattle.output.proofs.Laws.{puts-as}
+use Rattle.to_json_head.specs.Head.{start_bytes}
+use Rattle.to_json_sections.proofs.Firsts.{uid-made, uid-given, found-unread}
+use Rattle.to_json_sections.proofs.put_start_of.Goals as goal
+
+pub first_of-k-requires : goal.first_of-k-requires
+first_of-k-requires c = c.requires.1.1.wide
+
+pub returns-then-k-n : goal.returns-then-k-n
+returns-then-k-n c =
+    let args = c.args in
+    let first_of = c.first_of-k in
+    let if1 = c.if-k-n in
+    λ cs h. puts-as (ap start_bytes (uid-made h first_of.ensures args.stem.now args.number args.stem.now if1.true))
+    c.put_start.ensures
+
+pub fill-requires : goal.fill-requires
+fill-requires c = c.requires.0
+
+pub returns-then-not-fill : goal.returns-then-not-fill
+returns-then-not-fill c =
+    let first_of = c.first_of-k in
+    let if1 = c.if-k-n in
+    let line_at_lem = c.line_at-s in
+    let fill = c.fill in
+    λ cs h. found-unread h first_of.ensures if1.false line_at_lem.ensures
+    (filled_none _ _ fill.result fill.ensures c.if-not-fill.true)
+
+pub bounds-t-4 : goal.bounds-t-4
+bounds-t-4 c = omega (arith, (filled-holds c.fill.result c.fill.ensures c.if-not-fill.false).sound.wide)
+
+pub bounds-t-5 : goal.bounds-t-5
+bounds-t-5 c = omega (arith, (filled-holds c.fill.result c.fill.ensures c.if-not-fill.false).sound.wide)
+
+pub slice_bounds-put_start-count : goal.slice_bounds-put_start-count
+slice_bounds-put_start-count c = let v = (filled-holds c.fill.result c.fill.ensures c.if-not-fill.false).sound.value in omega (arith, v.ordered, v.within)
+
+pub slice_bounds-put_start-start : goal.slice_bounds-put_start-start
+slice_bounds-put_start-start c = let v = (filled-holds c.fill.result c.fill.ensures c.if-not-fill.false).sound.value in omega (arith, v.ordered, v.within)
+
+pub slice_bounds-put_start-end : goal.slice_bounds-put_start-end
+slice_bounds-put_start-end c = let v = (filled-holds c.fill.result c.fill.ensures c.if-not-fill.false).sound.value in omega (arith, v.ordered, v.within)
+
+pub returns : goal.returns
+returns c =
+    let args = c.args in
+    let first_of = c.first_of-k in
+    let if1 = c.if-k-n in
+    let line_at_lem = c.line_at-s in
+    let fill = c.fill in
+    λ cs h. puts-as
+    (ap start_bytes
+    (uid-given h first_of.ensures args.stem.now args.number if1.false line_at_lem.ensures
+    (filled-holds fill.result fill.ensures c.if-not-fill.false)))
+    c.put_start-2.ensures
