@@ -26,7 +26,7 @@ FILLED := $(BUILD)/thymebarrel.pc $(BUILD)/thymebarrel-config-version.cmake
 all: $(SHARED) $(FILLED)
 
 target/staticlib/libthymebarrel.a:
-	rt staticlib thymebarrel
+	tools/prove-library
 
 $(SHARED): $(STATIC) packaging/thymebarrel.map include/thymebarrel.h
 	mkdir -p $(BUILD)

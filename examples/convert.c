@@ -1,6 +1,6 @@
 /* Converts the card on standard input to JSON on standard output; with the word home, JSON to a card. Build it at the top of the repository:
  *
- *     rt staticlib thymebarrel
+ *     tools/prove-library
  *     cc -Iinclude examples/convert.c target/staticlib/libthymebarrel.a -o convert
  *     ./convert < examples/ada.vcf | ./convert home
  */

@@ -1,7 +1,7 @@
 /* Reads a stream of cards from standard input and writes a line for each answer: its JSON, or a refusal's number and place. Build it at the top of
  * the repository:
  *
- *     rt staticlib thymebarrel
+ *     tools/prove-library
  *     cc -Iinclude examples/stream.c target/staticlib/libthymebarrel.a -o stream
  *     cat examples/ada.vcf examples/zoe.vcf | ./stream
  */

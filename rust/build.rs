@@ -1,4 +1,4 @@
-//! Links the proved library, which `rt staticlib thymebarrel` writes to
+//! Links the proved library, which `tools/prove-library` writes to
 //! target/staticlib of the repository; THYMEBARREL_LIB names another folder, seen from
 //! where cargo was started. Without the library `cargo check` and `cargo doc` work, and
 //! what must be linked fails with the warning below.
@@ -19,7 +19,7 @@ fn main() {
     println!("cargo:rerun-if-changed={}", library.display());
     if !library.exists() {
         println!("cargo:warning={} is not there.", library.display());
-        println!("cargo:warning=At the top of the repository run: rt staticlib thymebarrel");
+        println!("cargo:warning=At the top of the repository run: tools/prove-library");
     }
     println!("cargo:rustc-link-search=native={}", folder.display());
     println!("cargo:rustc-link-lib=static=thymebarrel");

@@ -1,8 +1,17 @@
 // A stream of cards as a program: standard input, of any length, goes to the stream in pieces; the stem is the argument, `reg` where there is none. One line
 // goes out for each answer but more: the JSON, or a refusal's number and place.
-use libc::{STDIN_FILENO, STDOUT_FILENO};
+#![tactic(auto)]
+
+ghost use Rattle.std.specs.Prelude.{◌≤◌, length};
+
+use named_file::{argument, is_given};
 use served::Outcome;
+use std::io;
+use std::io::Read;
 use stream_cards::{Answered, Said, Stream};
+
+// How many bytes a piece has, but for the last.
+const PIECE: u64 = 65536;
 
 // The stream after a piece, and whether all of the piece was consumed.
 #[derive(Drop)]
@@ -11,107 +20,104 @@ struct Run {
     whole: bool,
 }
 
-fn say_result(out: &[u8], n: usize) {
+fn say_result(rt: &impl Print, out: &[u8], n: usize) -> io::Result<()> {
     if n <= out.len() {
-        io::write_all(STDOUT_FILENO, &out[0..n]);
+        rt.write_all(&out[..n])?;
     }
-    io::write_all(STDOUT_FILENO, b"\n");
+    rt.write_all(b"\n")
 }
 
-fn say_refusal(number: u8, place: usize) {
-    io::print_decimal(STDOUT_FILENO, number as u64);
-    io::write_all(STDOUT_FILENO, b" ");
-    io::print_decimal(STDOUT_FILENO, place as u64);
-    io::write_all(STDOUT_FILENO, b"\n");
-}
-
-fn say_outcome(r: Outcome, out: &[u8]) {
-    match r {
-        Outcome::Written(n) => {
-            say_result(out, n);
-        }
-        Outcome::Refused { number, place } => {
-            say_refusal(number, place);
-        }
+fn say(rt: &impl Print, said: Said, out: &[u8]) -> io::Result<()> {
+    match said {
+        Said::More => Ok(()),
+        Said::Answer(Outcome::Written(n)) => say_result(rt, out, n),
+        Said::Answer(Outcome::Refused { number, place }) => println!(rt; "{number} {place}"),
     }
 }
 
-fn say(said: Said, out: &[u8]) {
-    if let Said::Answer(r) = said {
-        say_outcome(r, out);
-    }
+// A call with a piece: what it consumes is of the piece.
+fn step_within(s: Stream, stem: &[u8], piece: &[u8], buffer: &mut [u8], out: &mut [u8]) -> Answered
+    ensures { result.used ≤ length piece.now }
+{
+    s.step(stem, piece, buffer, out)
 }
 
 // Calls with the rest of the piece until nothing of it is left. A bad stem (15) consumes nothing: then that one answer is enough.
-fn feed(first: Stream, stem: &[u8], piece: &[u8], buffer: &mut [u8], out: &mut [u8]) -> Run {
+fn feed(
+    rt: &impl Print,
+    first: Stream,
+    stem: &[u8],
+    piece: &[u8],
+    buffer: &mut [u8],
+    out: &mut [u8],
+) -> io::Result<Run> {
     let mut s = first;
     let mut at = 0;
     while at < piece.len() {
-        let a = s.step(stem, &piece[at..], buffer, out);
-        let said = a.said;
-        say(said, out);
+        let a = step_within(s, stem, &piece[at..], buffer, out);
+        say(rt, a.said, out)?;
         s = a.next;
         let used = a.used;
         if used == 0 {
-            return Run {
+            return Ok(Run {
                 stream: s,
                 whole: false,
-            };
+            });
         }
         at += used;
     }
-    Run {
+    Ok(Run {
         stream: s,
         whole: true,
-    }
+    })
 }
 
 // End calls until the stream is fresh. One that leaves no card open leaves it fresh, and two always do.
-fn finish(last: Stream, stem: &[u8], buffer: &mut [u8], out: &mut [u8]) {
+fn finish(
+    rt: &impl Print,
+    last: Stream,
+    stem: &[u8],
+    buffer: &mut [u8],
+    out: &mut [u8],
+) -> io::Result<()> {
     let a = last.end(stem, buffer, out);
-    let said = a.said;
-    say(said, out);
+    say(rt, a.said, out)?;
     let s = a.next;
-    let state = s.state;
-    if state.inside {
+    if s.state.inside {
         let b = s.end(stem, buffer, out);
-        let again = b.said;
-        say(again, out);
+        say(rt, b.said, out)?;
     }
+    Ok(())
 }
 
-fn serve(stem: &[u8]) {
-    let mut piece = [0u8; 65536];
+fn serve(rt: &HostRuntime, stem: &[u8]) -> io::Result<()> {
+    let mut piece = Vec::new(rt.alloc());
     let mut buffer = [0u8; line_limits::CARD];
     let mut out = [0u8; json_limits::ROOM];
     let mut s = Stream::fresh();
     // every loop ends: this one after more pieces than any input has
-    let mut left = 18446744073709551615u64;
-    while left > 0 {
-        let n = io::read_full(STDIN_FILENO, &mut piece);
-        if n == 0 {
-            finish(s, stem, &mut buffer, &mut out);
-            return;
+    for _ in 0..u64::MAX {
+        piece.clear();
+        rt.stdin().take(PIECE).read_to_end(&mut piece)?;
+        if piece.is_empty() {
+            return finish(rt, s, stem, &mut buffer, &mut out);
         }
-        let run = feed(s, stem, &piece[..n], &mut buffer, &mut out);
+        let run = feed(rt, s, stem, piece.as_slice(), &mut buffer, &mut out)?;
         if !run.whole {
-            return;
+            break;
         }
         s = run.stream;
-        left -= 1;
     }
+    Ok(())
 }
 
-fn main() {
-    if os::arg_count() < 2 {
-        serve(b"reg");
-        return;
+fn main(rt: HostRuntime) -> io::Result<()> {
+    if !is_given(&rt, 1) {
+        return serve(&rt, b"reg");
     }
-    let mut stem = io::buffer();
-    let length = os::arg(1, &mut stem);
-    if os::errno() != 0 {
-        os::fail(b"cards: the stem");
-        return;
-    }
-    serve(&stem[..length]);
+    let mut stem = [0u8; 4096];
+    let Some(length) = argument(&rt, 1, "cards: the stem", &mut stem) else {
+        return Ok(());
+    };
+    serve(&rt, &stem[..length])
 }

@@ -14,7 +14,7 @@ use class_properties::{form_of, name_code, types_of};
 use line_table::table;
 use table_entry::{Key, entry_key};
 
-#[derive(Drop)]
+#[derive(Clone, Copy)]
 pub enum Class {
     // to vCardProps
     Kept,

@@ -1,6 +1,8 @@
 // For measuring alone (`tools/bench --pieces`), and not delivered: the pieces that the services are made of, under C names. Each function does one piece's work
 // over a whole input, so that a call is long enough to be timed, and promises what it gives (specs/Given). A part of the bytes is what stands from one of the
 // starts to the next.
+#![tactic(auto)]
+
 ghost use Rattle.std.specs.Prelude.{◌≡◌};
 ghost use Rattle.output.specs.Put.{Puts};
 ghost use Rattle.line_table.specs.Table.{Sound, line_in};

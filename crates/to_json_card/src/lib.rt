@@ -1,4 +1,6 @@
 // name, the members of JSPROP, and the whole JSON of a card's classified lines.
+#![tactic(auto)]
+
 ghost use Rattle.std.specs.Prelude.{◌≡◌, ◌≤◌, length};
 ghost use Rattle.to_json_maps.specs.Maps.{HasLines};
 ghost use Rattle.line_table.specs.Table.{table_length};

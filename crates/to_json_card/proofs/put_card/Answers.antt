@@ -1,0 +1,93 @@
+use borrow.Author.Rules.{rules}
+use mathlib.Core.List.{List, [], ◌∷◌}
+use native.Mathlib.Nat.{le_refl}
+use Rattle.output.proofs.Rows.{Here, first!, next!, none, stop!, all, in!, fit!, same!, length-puts}
+use Rattle.convert.specs.Classify.{Classed}
+use Rattle.from_card_lines.specs.Classified.{Classified}
+use Rattle.text.specs.Bytes.{flat}
+use Rattle.output.proofs.Laws.{puts-as}
+use Rattle.to_json_card.specs.Card.{rest_pieces}
+use Rattle.to_json_card.proofs.Groups.{groups-print}
+use Rattle.to_json_card.proofs.put_card.Goals as goal
+use Rattle.to_json_card.proofs.put_card.Goals.{In-Bytes, In-Bytes-put_rest}
+
+-- the card's classified lines, as they came
+abbrev Lines : In-Bytes → List Classed → Type 0
+Lines c cs =
+    let args = c.args in
+    Classified args.scratch.now args.starts.now args.codes.now args.n cs
+
+abbrev s₁ : (c : In-Bytes) (cs : List Classed) → Lines c cs → Here
+s₁ c cs h = first! (flat (rest_pieces cs) ∷ []) (c.put_top.ensures cs h) c.in-Bytes.is
+
+abbrev told₁ : In-Bytes-put_rest → In-Bytes
+told₁ c = (goal.at.In-Bytes-put_rest c).In-Bytes
+
+abbrev s₂ : (c : In-Bytes-put_rest) (cs : List Classed) → Lines (told₁ c) cs → Here
+s₂ c cs h = next! (s₁ (told₁ c) cs h) (c.put_rest.ensures cs h) c.in-Bytes-put_rest.is
+
+pub put_top-requires : goal.put_top-requires
+put_top-requires c = (c.requires.parts, c.requires.lines)
+
+pub shape_of-out-in_default : goal.shape_of-out-in_default
+shape_of-out-in_default c =
+    let pre = c.requires in
+    let put-top = c.put_top in
+    length-puts (none (flat (rest_pieces pre.lines.0) ∷ []) (put-top.ensures pre.lines.0 pre.lines.1) c.in_default.is)
+
+pub returns-in_default : goal.returns-in_default
+returns-in_default c =
+    let args = c.args in
+    let put-top = c.put_top in
+    λ cs h. puts-as (groups-print args.stem.now args.number cs)
+    (none (flat (rest_pieces cs) ∷ []) (put-top.ensures cs h) c.in_default.is)
+
+pub slice_bounds-put_rest-count : goal.slice_bounds-put_rest-count
+slice_bounds-put_rest-count c =
+    let pre = c.requires in
+    in! (s₁ c pre.lines.0 pre.lines.1)
+
+pub slice_bounds-put_rest-start : goal.slice_bounds-put_rest-start
+slice_bounds-put_rest-start c =
+    let pre = c.requires in
+    in! (s₁ c pre.lines.0 pre.lines.1)
+
+pub slice_bounds-put_rest-end : goal.slice_bounds-put_rest-end
+slice_bounds-put_rest-end c = le_refl _
+
+pub put_rest-requires : goal.put_rest-requires
+put_rest-requires c = record { parts = search rules; room = search rules; lines = c.requires.lines }
+
+pub shape_of-out-in_default-put_rest : goal.shape_of-out-in_default-put_rest
+shape_of-out-in_default-put_rest c =
+    let pre = c.requires in
+    let put_rest = c.put_rest in
+    length-puts
+    (stop!
+    (s₁ (goal.at.shape_of-out-in_default-put_rest c).In-Bytes pre.lines.0
+    pre.lines.1)
+    (put_rest.ensures pre.lines.0 pre.lines.1) c.in_default-put_rest.is)
+
+pub returns-in_default-put_rest : goal.returns-in_default-put_rest
+returns-in_default-put_rest c =
+    let args = c.args in
+    let put_rest = c.put_rest in
+    λ cs h. puts-as (groups-print args.stem.now args.number cs)
+    (stop! (s₁ (goal.at.returns-in_default-put_rest c).In-Bytes cs h)
+    (put_rest.ensures cs h) c.in_default-put_rest.is)
+
+pub overflow_add-b2 : goal.overflow_add-b2
+overflow_add-b2 c =
+    let pre = c.requires in
+    let good = c.well_formed in
+    fit! (s₂ c pre.lines.0 pre.lines.1) good.0.0
+
+pub shape_of-out : goal.shape_of-out
+shape_of-out c =
+    let pre = c.requires in
+    same! (s₂ c pre.lines.0 pre.lines.1)
+
+pub returns : goal.returns
+returns c =
+    let args = c.args in
+    λ cs h. puts-as (groups-print args.stem.now args.number cs) (all (s₂ c cs h).left)
