@@ -22,5 +22,8 @@ pub returns-else-k-e : goal.returns-else-k-e
 returns-else-k-e c =
     let args = c.args in
     let look = c.look in
-    let w = (tells_as c.escape_at.ensures c.in-Of.is).within in record { lower_bound = (omega (arith, w.0, c.low_end-k.ensures.lower_bound.0), c.low_end-k.ensures.lower_bound.1); follows = follows-pair args.s.now args.at look.result look.ensures.0 c.if-look-ne-BACKSLASH.false c.escape_at.ensures _ _ c.in-Of.is (omega (arith, c.if-u-lt-FIRST_HIGH.false)) (omega (arith, c.if-u-ge-FIRST_LOW.false))
-          c.low_end-k.result (omega (arith, c.low_end-k.ensures.lower_bound.0, c.if-k-e.false)) c.low_end-k.ensures.low }
+    let w = (tells_as c.escape_at.ensures c.in-Of.is).within in record {
+      lower_bound = (omega (arith, w.0, c.low_end-k.ensures.lower_bound.0), c.low_end-k.ensures.lower_bound.1);
+      follows = follows-pair args.s.now args.at look.result look.ensures.0 c.if-look-ne-BACKSLASH.false c.escape_at.ensures _ _ c.in-Of.is (omega (arith, c.if-u-lt-FIRST_HIGH.false)) (omega (arith, c.if-u-ge-FIRST_LOW.false))
+          c.low_end-k.result (omega (arith, c.low_end-k.ensures.lower_bound.0, c.if-k-e.false)) c.low_end-k.ensures.low;
+    }

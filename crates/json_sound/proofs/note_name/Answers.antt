@@ -67,9 +67,12 @@ returns-then-is_noted c =
     let z = name-string s at a.0 _ a.1 from g in
     let w = name-takes s at c.requires.at_in_bounds _ _ g h in
     let ps = take args.count args.places.now in
-    let fs = take args.count args.prints.now in record { notes = λ ns k.
+    let fs = take args.count args.prints.now in record {
+      notes = λ ns k.
           let m = ap (λ (o : Option Bytes). meets s o ps) (sym z) ∙ sym (c.is_noted.ensures ns k) ∙ c.if-is_noted.true in
-          (a.0, a.1, already s (decode a.0) ps fs ns k m); notes_in = (omega (arith, w.0, w.1), h.within.1) }
+          (a.0, a.1, already s (decode a.0) ps fs ns k m);
+      notes_in = (omega (arith, w.0, w.1), h.within.1);
+    }
 
 pub overflow_cast-places : goal.overflow_cast-places
 overflow_cast-places c =
@@ -122,7 +125,10 @@ returns-else-is_noted c =
     let p = c.print_rest-m.ensures.value ∙ sym name-start.ensures.3 in
     let ps = take args.count args.places.now in
     let fs = take args.count args.prints.now in
-    let n = a-print _ (λ x. if1.false (p ∙ x)) in record { notes = λ ns k.
+    let n = a-print _ (λ x. if1.false (p ∙ x)) in record {
+      notes = λ ns k.
           let m = ap (λ (o : Option Bytes). meets s o ps) (sym n.1) ∙ sym (c.is_noted.ensures ns k) ∙ c.if-is_noted.false in
           let y = names-noted s n.0 args.places.now args.prints.now args.count _ _ ns c.requires.count_in_bounds c.requires.count_in_bounds_2 k n.1 (p ∙ ap (print_of 0) n.1) in
-          (a.0, n.0, a.1, sym z ∙ n.1, sym (meets-among s n.0 _ fs ns k) ∙ m, y, ap (decoded_at s) (get_or-set_same args.places.now args.count from 0 c.requires.count_in_bounds) ∙ n.1); notes_in = (omega (arith, w.0, w.1), h.within.1) }
+          (a.0, n.0, a.1, sym z ∙ n.1, sym (meets-among s n.0 _ fs ns k) ∙ m, y, ap (decoded_at s) (get_or-set_same args.places.now args.count from 0 c.requires.count_in_bounds) ∙ n.1);
+      notes_in = (omega (arith, w.0, w.1), h.within.1);
+    }

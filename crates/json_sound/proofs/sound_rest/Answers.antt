@@ -56,9 +56,8 @@ pub loop-at-smaller : goal.loop-at-smaller
 loop-at-smaller c = omega (arith, c.text_end-from.ensures.lower_bound.0, c.escape_end-e.ensures.lower_bound, c.if-e-from.false)
 
 pub loop-at-preserved : goal.loop-at-preserved
-loop-at-preserved c =
-    (
-      omega (arith, c.loop-at.invariant.0, c.text_end-from.ensures.lower_bound.0, c.escape_end-e.ensures.lower_bound.0),
-      c.escape_end-e.ensures.lower_bound.1,
-      follows_then c.args.s.now (past (goal.at.loop-at-preserved c).After-text_end-from) c.escape_end-e.ensures.follows,
-    )
+loop-at-preserved c = (
+  omega (arith, c.loop-at.invariant.0, c.text_end-from.ensures.lower_bound.0, c.escape_end-e.ensures.lower_bound.0),
+  c.escape_end-e.ensures.lower_bound.1,
+  follows_then c.args.s.now (past (goal.at.loop-at-preserved c).After-text_end-from) c.escape_end-e.ensures.follows,
+)
