@@ -1,4 +1,4 @@
-/* thymebarrel.h: the proved library for C and C++. Build target/staticlib/libthymebarrel.a by `rt staticlib thymebarrel` and link it.
+/* thymebarrel.h: the proved library for C and C++. Build target/staticlib/libthymebarrel.a by tools/prove-library and link it.
  *
  * What is proved of these functions is proved for every input; what C can break is this: each pointer must lead to as many readable (or, where
  * it is not const, writable) bytes as the length beside it says, for the time of the call, and nothing that is written may overlap anything else

@@ -1,4 +1,6 @@
 // Card to JSON: the service.
+#![tactic(auto)]
+
 ghost use Rattle.std.specs.Prelude.{◌≡◌, ◌≤◌, ◌<◌, length};
 ghost use Rattle.convert.specs.Answers.{card_room, json_room, line_room, yes};
 ghost use Rattle.services.specs.Promises.{CardGives};

@@ -1,4 +1,6 @@
 // JSON to card: the service.
+#![tactic(auto)]
+
 ghost use Rattle.std.specs.Prelude.{◌≡◌, true, ◌*◌, ◌≤◌, length};
 ghost use Rattle.json_text.specs.Read.{reading};
 ghost use Rattle.json_index.specs.Index.{Clear, Indexes};

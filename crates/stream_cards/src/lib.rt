@@ -1,4 +1,6 @@
 // A stream of cards, each to JSON: a call with a piece and an end call, the state by value.
+#![tactic(auto)]
+
 ghost use Rattle.std.specs.Prelude.{◌≡◌, length};
 ghost use Rattle.stream_machine.specs.Turn.{unfit, answered, output_after, given_by};
 ghost use Rattle.stream_cards.specs.Promise.{FreshGives, StepGives, EndGives, said_of, answer_of, refused_as, InBuffer};

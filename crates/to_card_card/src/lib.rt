@@ -1,4 +1,6 @@
 // The whole card from JSON that was read as sound: its sections one after the other, each lent the rest of the room.
+#![tactic(auto)]
+
 ghost use Rattle.std.specs.Prelude.{◌≡◌, true, ◌≤◌, length};
 ghost use Rattle.json_index.specs.Index.{Indexes};
 ghost use Rattle.to_card_lines.specs.Lines.{LinesIn};

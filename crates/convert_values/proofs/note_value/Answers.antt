@@ -8,7 +8,10 @@ use Rattle.convert_values.proofs.note_value.Goals as goal
 pub returns-then-i-e : goal.returns-then-i-e
 returns-then-i-e c =
     let args = c.args in
-    record { value = counted-off args.i args.e args.n c.if-i-e.true; noting_2 = noted-not args.o.now args.i args.e c.requires.readable.1 args.places.now args.prints.now args.n c.requires.noting c.if-i-e.true }
+    record {
+      value = counted-off args.i args.e args.n c.if-i-e.true;
+      noting_2 = noted-not args.o.now args.i args.e c.requires.readable.1 args.places.now args.prints.now args.n c.requires.noting c.if-i-e.true;
+    }
 
 pub print_text-p-requires : goal.print_text-p-requires
 print_text-p-requires c =

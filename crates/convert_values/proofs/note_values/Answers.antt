@@ -10,7 +10,11 @@ loop-n-init c = (walk_start c.args.o.now c.args.places.now c.args.prints.now c.r
 pub note_value-n-requires : goal.note_value-n-requires
 note_value-n-requires c =
     let loop = c.loop-n in
-    let part-end = c.part_end-e in record { readable = (loop.invariant.0.good, part-end.ensures, part-end.ensures.within loop.invariant.0.upto, c.requires.o_len_bound); n_in_bounds = walk-room loop.invariant.0 part-end.result part-end.ensures; noting = loop.invariant.0.noting }
+    let part-end = c.part_end-e in record {
+      readable = (loop.invariant.0.good, part-end.ensures, part-end.ensures.within loop.invariant.0.upto, c.requires.o_len_bound);
+      n_in_bounds = walk-room loop.invariant.0 part-end.result part-end.ensures;
+      noting = loop.invariant.0.noting;
+    }
 
 pub shape_of-places-then-e-o : goal.shape_of-places-then-e-o
 shape_of-places-then-e-o c = c.places-1.given ∙ c.loop-n.invariant.1

@@ -4,7 +4,11 @@ use Rattle.json_access.proofs.Past.{head-past}
 use Rattle.json_access.proofs.head_at.Goals as goal
 
 pub returns-then-at-s : goal.returns-then-at-s
-returns-then-at-s c = record { name_in_bounds = omega arith; at_le_start = ((λ l. absurd (omega (arith, c.if-at-s.true))), omega arith); tells_head = head-past c.args.s.now c.args.at c.if-at-s.true (record { name = 0; start = 0 }) }
+returns-then-at-s c = record {
+  name_in_bounds = omega arith;
+  at_le_start = ((λ l. absurd (omega (arith, c.if-at-s.true))), omega arith);
+  tells_head = head-past c.args.s.now c.args.at c.if-at-s.true (record { name = 0; start = 0 });
+}
 
 pub string_stop-z-requires : goal.string_stop-z-requires
 string_stop-z-requires c = let p = place_in c.args.s.now c.args.at _ _ c.mark.ensures in omega (arith, p.1, c.place-q.ensures)
@@ -23,4 +27,8 @@ returns c =
     let z = c.string_stop-z in
     let b = c.skip_space-a.ensures in
     let p = place_in a.s.now a.at _ _ c.mark.ensures in
-    let q = place_in a.s.now z.result _ _ c.mark-2.ensures in record { name_in_bounds = omega (arith, p.1, f); at_le_start = ((λ l. omega (arith, p.0, f, z.ensures.from, q.0, g, b.from)), b.to); tells_head = λ k t e. (name-is _ _ c.mark.ensures k t e f, value-begins _ _ c.mark.ensures k t e f _ z.ensures _ c.mark-2.ensures g b) }
+    let q = place_in a.s.now z.result _ _ c.mark-2.ensures in record {
+      name_in_bounds = omega (arith, p.1, f);
+      at_le_start = ((λ l. omega (arith, p.0, f, z.ensures.from, q.0, g, b.from)), b.to);
+      tells_head = λ k t e. (name-is _ _ c.mark.ensures k t e f, value-begins _ _ c.mark.ensures k t e f _ z.ensures _ c.mark-2.ensures g b);
+    }

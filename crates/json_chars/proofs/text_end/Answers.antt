@@ -18,7 +18,11 @@ look-requires c = c.plain_end-from.ensures.lower_bound.1
 pub returns-then-look-lt128 : goal.returns-then-look-lt128
 returns-then-look-lt128 c =
     let loop = c.loop-at in
-    record { lower_bound = (omega (arith, loop.invariant.0, c.plain_end-from.ensures.lower_bound.0), c.plain_end-from.ensures.lower_bound.1); to_end = λ r x. loop.invariant.2 r (c.plain_end-from.ensures.to_end r x); unmarked = unmarked-join c.args.s.now loop.invariant.3 c.plain_end-from.ensures.unmarked }
+    record {
+      lower_bound = (omega (arith, loop.invariant.0, c.plain_end-from.ensures.lower_bound.0), c.plain_end-from.ensures.lower_bound.1);
+      to_end = λ r x. loop.invariant.2 r (c.plain_end-from.ensures.to_end r x);
+      unmarked = unmarked-join c.args.s.now loop.invariant.3 c.plain_end-from.ensures.unmarked;
+    }
 
 pub next_character-requires : goal.next_character-requires
 next_character-requires c = c.plain_end-from.ensures.lower_bound.1
@@ -44,4 +48,8 @@ loop-at-preserved c =
 pub returns-in-Stop : goal.returns-in-Stop
 returns-in-Stop c =
     let loop = c.loop-at in
-    record { lower_bound = (omega (arith, loop.invariant.0, c.plain_end-from.ensures.lower_bound.0), c.plain_end-from.ensures.lower_bound.1); to_end = λ r x. loop.invariant.2 r (c.plain_end-from.ensures.to_end r x); unmarked = unmarked-join c.args.s.now loop.invariant.3 c.plain_end-from.ensures.unmarked }
+    record {
+      lower_bound = (omega (arith, loop.invariant.0, c.plain_end-from.ensures.lower_bound.0), c.plain_end-from.ensures.lower_bound.1);
+      to_end = λ r x. loop.invariant.2 r (c.plain_end-from.ensures.to_end r x);
+      unmarked = unmarked-join c.args.s.now loop.invariant.3 c.plain_end-from.ensures.unmarked;
+    }

@@ -67,4 +67,8 @@ returns-in-Stop c =
     let in-k : c.member_called-m.result.number < length l.slots = omega (arith, p, listed.2, c.requires.names_in_bounds, l.invariant.2) in
     let not-0 : 0 < c.member_called-m.result.start = omega (arith, c.requires.at_nonzero, l.invariant.1, c.member_called-m.ensures.inside.from l.invariant.0) in
     let q = c.place.ensures in
-    let w = place-within h _ q in record { lower_bound = (omega (arith, w.0, l.invariant.1, c.member_called-m.ensures.inside.from l.invariant.0, c.member_called-m.ensures.inside.ordered), w.1); ends_from = rest-last a.depth a.s.now a.at l.i l.invariant.4 places listed.1 _ h _ q; indexes_from = todo-last a.depth a.s.now a.at a.names.now l.slots l.i l.invariant.3 places listed.1 c.member_called-m.result.number listed.2 in-k not-0 _ c.note.ensures _ h }
+    let w = place-within h _ q in record {
+      lower_bound = (omega (arith, w.0, l.invariant.1, c.member_called-m.ensures.inside.from l.invariant.0, c.member_called-m.ensures.inside.ordered), w.1);
+      ends_from = rest-last a.depth a.s.now a.at l.i l.invariant.4 places listed.1 _ h _ q;
+      indexes_from = todo-last a.depth a.s.now a.at a.names.now l.slots l.i l.invariant.3 places listed.1 c.member_called-m.result.number listed.2 in-k not-0 _ c.note.ensures _ h;
+    }

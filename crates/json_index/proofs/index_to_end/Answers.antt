@@ -24,7 +24,10 @@ returns-then-look-eq-RIGHT_BRACE c =
     let d = c.look-2 in
     let q = c.if-look-ne-LEFT_BRACE.false in
     let w = empty-ends a.depth a.s.now a.at a.names.now [] i.result b.result i.ensures b.ensures.0 q j.result d.result j.ensures d.ensures.0 c.if-look-eq-RIGHT_BRACE.true in
-    let m = no_member a.depth a.s.now a.at a.names.now a.slots.now i.result b.result i.ensures b.ensures.0 q j.result d.result j.ensures d.ensures.0 c.if-look-eq-RIGHT_BRACE.true c.requires.clear in record { value_ends = (λ n. record { from = omega (arith, i.ensures.from, j.ensures.from); within = omega (arith, d.ensures.1, c.if-look-eq-RIGHT_BRACE.true); ends = w }); indexes = by_place a.depth a.s.now a.at a.names.now _ (j.result + 1) (λ z. omega arith) m }
+    let m = no_member a.depth a.s.now a.at a.names.now a.slots.now i.result b.result i.ensures b.ensures.0 q j.result d.result j.ensures d.ensures.0 c.if-look-eq-RIGHT_BRACE.true c.requires.clear in record {
+      value_ends = (λ n. record { from = omega (arith, i.ensures.from, j.ensures.from); within = omega (arith, d.ensures.1, c.if-look-eq-RIGHT_BRACE.true); ends = w });
+      indexes = by_place a.depth a.s.now a.at a.names.now _ (j.result + 1) (λ z. omega arith) m;
+    }
 
 pub index_from-requires : goal.index_from-requires
 index_from-requires c =
@@ -40,4 +43,7 @@ returns c =
     let d = c.look-2 in
     let q = c.if-look-ne-LEFT_BRACE.false in
     let w = members-end a.depth a.s.now a.at a.names.now [] i.result b.result i.ensures b.ensures.0 q j.result d.result j.ensures d.ensures.0 c.if-look-eq-RIGHT_BRACE.false c.index_from.result c.index_from.ensures.ends_from in
-    let m = members-in a.depth a.s.now a.at a.names.now c.index_from.new.slots i.result b.result i.ensures b.ensures.0 q j.result d.result j.ensures d.ensures.0 c.if-look-eq-RIGHT_BRACE.false c.index_from.ensures.indexes_from in record { value_ends = (λ n. record { from = omega (arith, i.ensures.from, j.ensures.from, c.index_from.ensures.lower_bound.0); within = c.index_from.ensures.lower_bound.1; ends = w }); indexes = by_place a.depth a.s.now a.at a.names.now _ c.index_from.result (λ z. omega (arith, j.ensures.from, c.index_from.ensures.lower_bound.0)) m }
+    let m = members-in a.depth a.s.now a.at a.names.now c.index_from.new.slots i.result b.result i.ensures b.ensures.0 q j.result d.result j.ensures d.ensures.0 c.if-look-eq-RIGHT_BRACE.false c.index_from.ensures.indexes_from in record {
+      value_ends = (λ n. record { from = omega (arith, i.ensures.from, j.ensures.from, c.index_from.ensures.lower_bound.0); within = c.index_from.ensures.lower_bound.1; ends = w });
+      indexes = by_place a.depth a.s.now a.at a.names.now _ c.index_from.result (λ z. omega (arith, j.ensures.from, c.index_from.ensures.lower_bound.0)) m;
+    }

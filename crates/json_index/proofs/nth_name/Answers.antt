@@ -8,10 +8,18 @@ pub loop-j-init : goal.loop-j-init
 loop-j-init c = (omega arith, refl)
 
 pub returns-then-j-eq0 : goal.returns-then-j-eq0
-returns-then-j-eq0 c = record { ordered = c.name_stop-e.ensures.from; inside = c.name_stop-e.ensures.within c.loop-j.invariant.0; is = nth-this c.args.names.now c.loop-j.a c.name_stop-e.result c.name_stop-e.ensures c.loop-j.j _ c.loop-j.invariant.1 c.if-j-eq0.true }
+returns-then-j-eq0 c = record {
+  ordered = c.name_stop-e.ensures.from;
+  inside = c.name_stop-e.ensures.within c.loop-j.invariant.0;
+  is = nth-this c.args.names.now c.loop-j.a c.name_stop-e.result c.name_stop-e.ensures c.loop-j.j _ c.loop-j.invariant.1 c.if-j-eq0.true;
+}
 
 pub returns-then-e-names : goal.returns-then-e-names
-returns-then-e-names c = record { ordered = omega arith; inside = omega arith; is = nth-none c.args.names.now c.loop-j.a c.name_stop-e.result c.name_stop-e.ensures c.loop-j.j _ c.loop-j.invariant.1 c.if-j-eq0.false c.if-e-names.true }
+returns-then-e-names c = record {
+  ordered = omega arith;
+  inside = omega arith;
+  is = nth-none c.args.names.now c.loop-j.a c.name_stop-e.result c.name_stop-e.ensures c.loop-j.j _ c.loop-j.invariant.1 c.if-j-eq0.false c.if-e-names.true;
+}
 
 pub overflow_add-a : goal.overflow_add-a
 overflow_add-a c = omega (arith, c.if-e-names.false)

@@ -12,13 +12,19 @@ loop-m-init c =
 pub returns-in_default : goal.returns-in_default
 returns-in_default c =
     let a = c.args in
-    record { bounds = record { ordered = omega arith; inside = omega arith }; finds_in = not_found a.s.now a.name.now c.loop-m.m (is-over c.loop-m.m c.in_default.not-At) c.loop-m.invariant.1 }
+    record {
+      bounds = record { ordered = omega arith; inside = omega arith };
+      finds_in = not_found a.s.now a.name.now c.loop-m.m (is-over c.loop-m.m c.in_default.not-At) c.loop-m.invariant.1;
+    }
 
 pub returns-then-equals : goal.returns-then-equals
 returns-then-equals c =
     let a = c.args in
     let q = c.equals in
-    let l = c.skip_value-e.ensures.lower_bound.0 (in-text (length a.s.now) c.loop-m.m c.in-At.q c.in-At.a c.in-At.is c.loop-m.invariant.0).1 in record { bounds = record { ordered = l; inside = c.skip_value-e.ensures.lower_bound.1 }; finds_in = found_here a.s.now a.name.now c.loop-m.m c.loop-m.invariant.1 c.in-At.q c.in-At.a c.in-At.is q.result q.ensures c.skip_value-e.result (c.skip_value-e.ensures.skips 15) c.if-equals.true l c.skip_value-e.ensures.lower_bound.1 }
+    let l = c.skip_value-e.ensures.lower_bound.0 (in-text (length a.s.now) c.loop-m.m c.in-At.q c.in-At.a c.in-At.is c.loop-m.invariant.0).1 in record {
+      bounds = record { ordered = l; inside = c.skip_value-e.ensures.lower_bound.1 };
+      finds_in = found_here a.s.now a.name.now c.loop-m.m c.loop-m.invariant.1 c.in-At.q c.in-At.a c.in-At.is q.result q.ensures c.skip_value-e.result (c.skip_value-e.ensures.skips 15) c.if-equals.true l c.skip_value-e.ensures.lower_bound.1;
+    }
 
 pub loop-m-smaller : goal.loop-m-smaller
 loop-m-smaller c =

@@ -29,7 +29,11 @@ pub returns-then-look-eq-RIGHT_BRACE : goal.returns-then-look-eq-RIGHT_BRACE
 returns-then-look-eq-RIGHT_BRACE c =
     let a = c.args in
     let k = c.skip_space-from.ensures in
-    let s = a.s.now in record { judged = members-none a.depth s a.at _ k _ c.look.ensures.0 c.if-look-eq-RIGHT_BRACE.true; onward = (omega (arith, k.from), omega (arith, c.look.ensures.1, c.if-look-eq-RIGHT_BRACE.true)); indexed_if = pairs-none a.depth s a.at _ k _ c.look.ensures.0 a.names.now a.slots.now c.if-look-eq-RIGHT_BRACE.true c.requires.clear }
+    let s = a.s.now in record {
+      judged = members-none a.depth s a.at _ k _ c.look.ensures.0 c.if-look-eq-RIGHT_BRACE.true;
+      onward = (omega (arith, k.from), omega (arith, c.look.ensures.1, c.if-look-eq-RIGHT_BRACE.true));
+      indexed_if = pairs-none a.depth s a.at _ k _ c.look.ensures.0 a.names.now a.slots.now c.if-look-eq-RIGHT_BRACE.true c.requires.clear;
+    }
 
 pub loop-v-init : goal.loop-v-init
 loop-v-init c =
@@ -187,7 +191,11 @@ returns-in-Stop c =
     let all = member-last a.depth s a.at i loop.places loop.prints loop.k loop.invariant.3 ps fs c.note_name.result c.note_name.ensures.notes _ c.in-Sound.is _ judged sp.result a.names.now loop.slots loop.invariant.6 room (omega (arith, w.0)) c.note_member.new.slots c.note_member.ensures _ h in
     let look = c.look in
     let if1 = c.if-look-eq-RIGHT_BRACE in
-    let indexed = pairs-some a.depth s a.at _ sp.ensures _ look.ensures.0 a.names.now c.note_member.new.slots if1.false all in record { judged = judged-as s (pairs (value a.depth) (drop a.at s)) (sound_members []) last (sym sound.ensures); onward = onward-as a.at n bounds (sym sound.ensures); indexed_if = indexed-as a.depth s a.at a.names.now c.note_member.new.slots sound.ensures (indexed-sound a.depth s a.at a.names.now c.note_member.new.slots c.in-Stop.r indexed) }
+    let indexed = pairs-some a.depth s a.at _ sp.ensures _ look.ensures.0 a.names.now c.note_member.new.slots if1.false all in record {
+      judged = judged-as s (pairs (value a.depth) (drop a.at s)) (sound_members []) last (sym sound.ensures);
+      onward = onward-as a.at n bounds (sym sound.ensures);
+      indexed_if = indexed-as a.depth s a.at a.names.now c.note_member.new.slots sound.ensures (indexed-sound a.depth s a.at a.names.now c.note_member.new.slots c.in-Stop.r indexed);
+    }
 
 pub members_after-requires : goal.members_after-requires
 members_after-requires c =
@@ -229,7 +237,11 @@ returns-in-Unsound-sound_value c =
     let after = c.members_after in
     let unsound = c.unsound in
     let rest = members-rest a.depth s a.at i loop.places loop.prints loop.k loop.invariant.3 ps fs c.note_name.result c.note_name.ensures.notes _ c.in-Sound.is _ judged _ after.ensures in
-    let bounds = onward-unsound a.at c.in-Unsound-sound_value.e n after.result (omega (arith, w.0, o.0, loop.invariant.0)) after.ensures.within in record { judged = judged-as s (pairs (value a.depth) (drop a.at s)) (sound_members []) rest (sym unsound.ensures); onward = onward-as a.at n bounds (sym unsound.ensures); indexed_if = indexed-as a.depth s a.at a.names.now _ unsound.ensures (indexed-unsound a.depth s a.at a.names.now _ after.result) }
+    let bounds = onward-unsound a.at c.in-Unsound-sound_value.e n after.result (omega (arith, w.0, o.0, loop.invariant.0)) after.ensures.within in record {
+      judged = judged-as s (pairs (value a.depth) (drop a.at s)) (sound_members []) rest (sym unsound.ensures);
+      onward = onward-as a.at n bounds (sym unsound.ensures);
+      indexed_if = indexed-as a.depth s a.at a.names.now _ unsound.ensures (indexed-unsound a.depth s a.at a.names.now _ after.result);
+    }
 
 pub shape_of-slots-in-Bad-sound_value : goal.shape_of-slots-in-Bad-sound_value
 shape_of-slots-in-Bad-sound_value c = c.note_member.auto.slots ∙ c.loop-v.invariant.5
@@ -261,7 +273,11 @@ returns-in-Bad-sound_value c =
     let w = subst (NotesIn i n) c.in-Sound.is c.note_name.ensures.notes_in in
     let judged = judged-as s (value a.depth (drop from s)) is_sound c.sound_value.ensures.judged c.in-Bad-sound_value.is in
     let o = onward-as from n c.sound_value.ensures.onward c.in-Bad-sound_value.is in
-    record { judged = members-bad a.depth s a.at i loop.places loop.prints loop.k loop.invariant.3 ps fs c.note_name.result c.note_name.ensures.notes _ c.in-Sound.is c.in-Bad-sound_value.b judged; onward = (omega (arith, w.0, o.0, loop.invariant.0), o.1); indexed_if = tt }
+    record {
+      judged = members-bad a.depth s a.at i loop.places loop.prints loop.k loop.invariant.3 ps fs c.note_name.result c.note_name.ensures.notes _ c.in-Sound.is c.in-Bad-sound_value.b judged;
+      onward = (omega (arith, w.0, o.0, loop.invariant.0), o.1);
+      indexed_if = tt;
+    }
 
 pub members_after_name-requires : goal.members_after_name-requires
 members_after_name-requires c =
@@ -291,7 +307,11 @@ returns-in-Unsound c =
     let after = c.members_after_name in
     let unsound = c.unsound-in-Unsound in
     let rest = name-rest a.depth s a.at i loop.places loop.prints loop.k loop.invariant.3 ps fs c.note_name.result c.note_name.ensures.notes _ c.in-Unsound.is _ after.ensures in
-    let bounds = onward-unsound a.at c.in-Unsound.v n after.result (omega (arith, w.0, loop.invariant.0)) (after.ensures []).within in record { judged = judged-as s (pairs (value a.depth) (drop a.at s)) (sound_members []) rest (sym unsound.ensures); onward = onward-as a.at n bounds (sym unsound.ensures); indexed_if = indexed-as a.depth s a.at a.names.now _ unsound.ensures (indexed-unsound a.depth s a.at a.names.now _ after.result) }
+    let bounds = onward-unsound a.at c.in-Unsound.v n after.result (omega (arith, w.0, loop.invariant.0)) (after.ensures []).within in record {
+      judged = judged-as s (pairs (value a.depth) (drop a.at s)) (sound_members []) rest (sym unsound.ensures);
+      onward = onward-as a.at n bounds (sym unsound.ensures);
+      indexed_if = indexed-as a.depth s a.at a.names.now _ unsound.ensures (indexed-unsound a.depth s a.at a.names.now _ after.result);
+    }
 
 pub shape_of-slots-in-Bad : goal.shape_of-slots-in-Bad
 shape_of-slots-in-Bad c = c.loop-v.invariant.5
@@ -312,4 +332,8 @@ returns-in-Bad c =
     let ps = c.note_name.new.places in
     let fs = c.note_name.new.prints in
     let w = subst (NotesIn i n) c.in-Bad.is c.note_name.ensures.notes_in in
-    record { judged = name-bad a.depth s a.at i loop.places loop.prints loop.k loop.invariant.3 ps fs c.note_name.result c.note_name.ensures.notes _ c.in-Bad.is; onward = (omega (arith, w.0, loop.invariant.0), w.1); indexed_if = tt }
+    record {
+      judged = name-bad a.depth s a.at i loop.places loop.prints loop.k loop.invariant.3 ps fs c.note_name.result c.note_name.ensures.notes _ c.in-Bad.is;
+      onward = (omega (arith, w.0, loop.invariant.0), w.1);
+      indexed_if = tt;
+    }

@@ -20,7 +20,10 @@ returns-in-Alone c =
 pub returns-in-End : goal.returns-in-End
 returns-in-End c =
     let args = c.args in
-    let loop = c.loop-b in record { value = sym (loop.invariant.2 ∙ ap (print_of loop.p) (is-end args.s.now c.next_byte.ensures.0 c.in-End.is) ∙ print-end loop.p); upper_bound = omega (arith, loop.invariant.1) }
+    let loop = c.loop-b in record {
+      value = sym (loop.invariant.2 ∙ ap (print_of loop.p) (is-end args.s.now c.next_byte.ensures.0 c.in-End.is) ∙ print-end loop.p);
+      upper_bound = omega (arith, loop.invariant.1);
+    }
 
 pub stirred-p-requires : goal.stirred-p-requires
 stirred-p-requires c = c.loop-b.invariant.1

@@ -34,7 +34,10 @@ pub sound_array-returns-then-look-eq-RIGHT_BRACKET : goal.sound_array-returns-th
 sound_array-returns-then-look-eq-RIGHT_BRACKET t c =
     let args = c.args in
     let skip-space = c.skip_space-from in
-    let s = args.s.now in record { judged = elems-none args.depth s args.at _ skip-space.ensures _ c.look.ensures.0 c.if-look-eq-RIGHT_BRACKET.true; onward = (omega (arith, skip-space.ensures.from), omega arith) }
+    let s = args.s.now in record {
+      judged = elems-none args.depth s args.at _ skip-space.ensures _ c.look.ensures.0 c.if-look-eq-RIGHT_BRACKET.true;
+      onward = (omega (arith, skip-space.ensures.from), omega arith);
+    }
 
 pub sound_array-loop-e-init : goal.sound_array-loop-e-init
 sound_array-loop-e-init t c =
@@ -107,7 +110,10 @@ sound_array-returns-in-Stop t c =
     let o = onward-as i n c.sound_value.ensures.onward c.in-Sound.is in
     let h = turn-as separator.ensures c.in-Stop.is in
     let last = elems-last args.depth s args.at i loop.invariant.3 _ judged _ h in
-    let bounds = onward-sound args.at c.in-Sound.e n c.in-Stop.r (omega (arith, o.0, loop.invariant.0)) h.within in record { judged = judged-as s (elements (value args.depth) (drop args.at s)) sound_elems last (sym sound.ensures); onward = onward-as args.at n bounds (sym sound.ensures) }
+    let bounds = onward-sound args.at c.in-Sound.e n c.in-Stop.r (omega (arith, o.0, loop.invariant.0)) h.within in record {
+      judged = judged-as s (elements (value args.depth) (drop args.at s)) sound_elems last (sym sound.ensures);
+      onward = onward-as args.at n bounds (sym sound.ensures);
+    }
 
 pub sound_array-elements_after-requires : goal.sound_array-elements_after-requires
 sound_array-elements_after-requires t c =
@@ -137,7 +143,10 @@ sound_array-returns-in-Unsound t c =
     let judged = judged-as s (value args.depth (drop i s)) is_sound c.sound_value.ensures.judged c.in-Unsound.is in
     let o = onward-as i n c.sound_value.ensures.onward c.in-Unsound.is in
     let rest = elems-rest args.depth s args.at i loop.invariant.3 _ judged _ elements-after.ensures in
-    let bounds = onward-unsound args.at c.in-Unsound.e n elements-after.result (omega (arith, o.0, loop.invariant.0)) elements-after.ensures.within in record { judged = judged-as s (elements (value args.depth) (drop args.at s)) sound_elems rest (sym unsound.ensures); onward = onward-as args.at n bounds (sym unsound.ensures) }
+    let bounds = onward-unsound args.at c.in-Unsound.e n elements-after.result (omega (arith, o.0, loop.invariant.0)) elements-after.ensures.within in record {
+      judged = judged-as s (elements (value args.depth) (drop args.at s)) sound_elems rest (sym unsound.ensures);
+      onward = onward-as args.at n bounds (sym unsound.ensures);
+    }
 
 pub sound_array-shape_of-places-in-Bad : goal.sound_array-shape_of-places-in-Bad
 sound_array-shape_of-places-in-Bad t c =
@@ -175,7 +184,10 @@ pub sound_object-returns-then-look-eq-RIGHT_BRACE : goal.sound_object-returns-th
 sound_object-returns-then-look-eq-RIGHT_BRACE t c =
     let args = c.args in
     let skip-space = c.skip_space-from in
-    let s = args.s.now in record { judged = members-none args.depth s args.at _ skip-space.ensures _ c.look.ensures.0 c.if-look-eq-RIGHT_BRACE.true; onward = (omega (arith, skip-space.ensures.from), omega arith) }
+    let s = args.s.now in record {
+      judged = members-none args.depth s args.at _ skip-space.ensures _ c.look.ensures.0 c.if-look-eq-RIGHT_BRACE.true;
+      onward = (omega (arith, skip-space.ensures.from), omega arith);
+    }
 
 pub sound_object-loop-v-init : goal.sound_object-loop-v-init
 sound_object-loop-v-init t c =
@@ -302,7 +314,10 @@ sound_object-returns-in-Stop t c =
     let o = onward-as from n c.sound_value.ensures.onward c.in-Sound-sound_value.is in
     let h = turn-as separator.ensures c.in-Stop.is in
     let last = members-last args.depth s args.at i loop.places loop.prints loop.k loop.invariant.3 ps fs c.note_name.result c.note_name.ensures.notes _ c.in-Sound.is _ judged _ h in
-    let bounds = onward-sound args.at c.in-Sound-sound_value.e n c.in-Stop.r (omega (arith, w.0, o.0, loop.invariant.0)) h.within in record { judged = judged-as s (pairs (value args.depth) (drop args.at s)) (sound_members []) last (sym sound.ensures); onward = onward-as args.at n bounds (sym sound.ensures) }
+    let bounds = onward-sound args.at c.in-Sound-sound_value.e n c.in-Stop.r (omega (arith, w.0, o.0, loop.invariant.0)) h.within in record {
+      judged = judged-as s (pairs (value args.depth) (drop args.at s)) (sound_members []) last (sym sound.ensures);
+      onward = onward-as args.at n bounds (sym sound.ensures);
+    }
 
 pub sound_object-members_after-requires : goal.sound_object-members_after-requires
 sound_object-members_after-requires t c =
@@ -337,7 +352,10 @@ sound_object-returns-in-Unsound-sound_value t c =
     let judged = judged-as s (value args.depth (drop from s)) is_sound c.sound_value.ensures.judged c.in-Unsound-sound_value.is in
     let o = onward-as from n c.sound_value.ensures.onward c.in-Unsound-sound_value.is in
     let rest = members-rest args.depth s args.at i loop.places loop.prints loop.k loop.invariant.3 ps fs c.note_name.result c.note_name.ensures.notes _ c.in-Sound.is _ judged _ members-after.ensures in
-    let bounds = onward-unsound args.at c.in-Unsound-sound_value.e n members-after.result (omega (arith, w.0, o.0, loop.invariant.0)) members-after.ensures.within in record { judged = judged-as s (pairs (value args.depth) (drop args.at s)) (sound_members []) rest (sym unsound.ensures); onward = onward-as args.at n bounds (sym unsound.ensures) }
+    let bounds = onward-unsound args.at c.in-Unsound-sound_value.e n members-after.result (omega (arith, w.0, o.0, loop.invariant.0)) members-after.ensures.within in record {
+      judged = judged-as s (pairs (value args.depth) (drop args.at s)) (sound_members []) rest (sym unsound.ensures);
+      onward = onward-as args.at n bounds (sym unsound.ensures);
+    }
 
 pub sound_object-shape_of-places-in-Bad-sound_value : goal.sound_object-shape_of-places-in-Bad-sound_value
 sound_object-shape_of-places-in-Bad-sound_value t c =
@@ -364,7 +382,10 @@ sound_object-returns-in-Bad-sound_value t c =
     let w = subst (NotesIn i n) c.in-Sound.is c.note_name.ensures.notes_in in
     let judged = judged-as s (value args.depth (drop from s)) is_sound c.sound_value.ensures.judged c.in-Bad-sound_value.is in
     let o = onward-as from n c.sound_value.ensures.onward c.in-Bad-sound_value.is in
-    record { judged = members-bad args.depth s args.at i loop.places loop.prints loop.k loop.invariant.3 ps fs c.note_name.result c.note_name.ensures.notes _ c.in-Sound.is c.in-Bad-sound_value.b judged; onward = (omega (arith, w.0, o.0, loop.invariant.0), o.1) }
+    record {
+      judged = members-bad args.depth s args.at i loop.places loop.prints loop.k loop.invariant.3 ps fs c.note_name.result c.note_name.ensures.notes _ c.in-Sound.is c.in-Bad-sound_value.b judged;
+      onward = (omega (arith, w.0, o.0, loop.invariant.0), o.1);
+    }
 
 pub sound_object-members_after_name-requires : goal.sound_object-members_after_name-requires
 sound_object-members_after_name-requires t c =
@@ -395,7 +416,10 @@ sound_object-returns-in-Unsound t c =
     let fs = c.note_name.new.prints in
     let w = subst (NotesIn i n) c.in-Unsound.is c.note_name.ensures.notes_in in
     let rest = name-rest args.depth s args.at i loop.places loop.prints loop.k loop.invariant.3 ps fs c.note_name.result c.note_name.ensures.notes _ c.in-Unsound.is _ members-after-name.ensures in
-    let bounds = onward-unsound args.at c.in-Unsound.v n members-after-name.result (omega (arith, w.0, loop.invariant.0)) (members-after-name.ensures []).within in record { judged = judged-as s (pairs (value args.depth) (drop args.at s)) (sound_members []) rest (sym unsound2.ensures); onward = onward-as args.at n bounds (sym unsound2.ensures) }
+    let bounds = onward-unsound args.at c.in-Unsound.v n members-after-name.result (omega (arith, w.0, loop.invariant.0)) (members-after-name.ensures []).within in record {
+      judged = judged-as s (pairs (value args.depth) (drop args.at s)) (sound_members []) rest (sym unsound2.ensures);
+      onward = onward-as args.at n bounds (sym unsound2.ensures);
+    }
 
 pub sound_object-shape_of-places-in-Bad : goal.sound_object-shape_of-places-in-Bad
 sound_object-shape_of-places-in-Bad t c =
@@ -417,7 +441,10 @@ sound_object-returns-in-Bad t c =
     let ps = c.note_name.new.places in
     let fs = c.note_name.new.prints in
     let w = subst (NotesIn i n) c.in-Bad.is c.note_name.ensures.notes_in in
-    record { judged = name-bad args.depth s args.at i loop.places loop.prints loop.k loop.invariant.3 ps fs c.note_name.result c.note_name.ensures.notes _ c.in-Bad.is; onward = (omega (arith, w.0, loop.invariant.0), w.1) }
+    record {
+      judged = name-bad args.depth s args.at i loop.places loop.prints loop.k loop.invariant.3 ps fs c.note_name.result c.note_name.ensures.notes _ c.in-Bad.is;
+      onward = (omega (arith, w.0, loop.invariant.0), w.1);
+    }
 
 pub sound_value-skip_space-i-requires : goal.sound_value-skip_space-i-requires
 sound_value-skip_space-i-requires t c = omega arith
@@ -440,7 +467,10 @@ sound_value-returns-then-b-eq-QUOTE t c =
     let look = c.look-b in
     let s = args.s.now in
     let i = skip-space.result in
-    let h = string-in s (i + 1) c.sound_string.result (c.sound_string.ensures.judged, c.sound_string.ensures.onward) in record { judged = judges-string s i look.result look.ensures.0 args.at skip-space.ensures args.depth c.if-b-eq-QUOTE.true c.sound_string.result h.0; onward = onward-up args.at (i + 1) (length s) c.sound_string.result (omega (arith, skip-space.ensures.from)) h.1 }
+    let h = string-in s (i + 1) c.sound_string.result (c.sound_string.ensures.judged, c.sound_string.ensures.onward) in record {
+      judged = judges-string s i look.result look.ensures.0 args.at skip-space.ensures args.depth c.if-b-eq-QUOTE.true c.sound_string.result h.0;
+      onward = onward-up args.at (i + 1) (length s) c.sound_string.result (omega (arith, skip-space.ensures.from)) h.1;
+    }
 
 pub sound_value-scalar_end-requires : goal.sound_value-scalar_end-requires
 sound_value-scalar_end-requires t c =
@@ -460,7 +490,10 @@ sound_value-returns-then-depth-eq0 t c =
     let i = skip-space.result in
     let g = scalar-in s i scalar-end.ensures in
     let judged = judges-flat s i look.result look.ensures.0 args.at skip-space.ensures args.depth if2.true if1.false _ g in
-    let bounds = onward-fine scalar scalar-fine s i skip-space.ensures.to _ g in record { judged = judged-as s (value args.depth (drop args.at s)) is_sound judged (sym sound.ensures); onward = onward-up args.at i (length s) sound.result skip-space.ensures.from (onward-as i (length s) bounds (sym sound.ensures)) }
+    let bounds = onward-fine scalar scalar-fine s i skip-space.ensures.to _ g in record {
+      judged = judged-as s (value args.depth (drop args.at s)) is_sound judged (sym sound.ensures);
+      onward = onward-up args.at i (length s) sound.result skip-space.ensures.from (onward-as i (length s) bounds (sym sound.ensures));
+    }
 
 pub sound_value-overflow_add-i-then-b-eq-LEFT_BRACKET : goal.sound_value-overflow_add-i-then-b-eq-LEFT_BRACKET
 sound_value-overflow_add-i-then-b-eq-LEFT_BRACKET t c =
@@ -490,7 +523,10 @@ sound_value-returns-then-b-eq-LEFT_BRACKET t c =
     let if2 = c.if-depth-eq0 in
     let if3 = c.if-b-eq-LEFT_BRACKET in
     let s = args.s.now in
-    let i = skip-space.result in record { judged = judges-array s i look.result look.ensures.0 args.at skip-space.ensures args.depth if2.false if3.true c.sound_array.result c.sound_array.ensures.judged; onward = onward-up args.at (i + 1) (length s) c.sound_array.result (omega (arith, skip-space.ensures.from)) c.sound_array.ensures.onward }
+    let i = skip-space.result in record {
+      judged = judges-array s i look.result look.ensures.0 args.at skip-space.ensures args.depth if2.false if3.true c.sound_array.result c.sound_array.ensures.judged;
+      onward = onward-up args.at (i + 1) (length s) c.sound_array.result (omega (arith, skip-space.ensures.from)) c.sound_array.ensures.onward;
+    }
 
 pub sound_value-overflow_add-i-then-b-eq-LEFT_BRACE : goal.sound_value-overflow_add-i-then-b-eq-LEFT_BRACE
 sound_value-overflow_add-i-then-b-eq-LEFT_BRACE t c =
@@ -523,7 +559,10 @@ sound_value-returns-then-b-eq-LEFT_BRACE t c =
     let if3 = c.if-b-eq-LEFT_BRACKET in
     let if4 = c.if-b-eq-LEFT_BRACE in
     let s = args.s.now in
-    let i = skip-space.result in record { judged = judges-object s i look.result look.ensures.0 args.at skip-space.ensures args.depth if2.false if3.false if4.true c.sound_object.result c.sound_object.ensures.judged; onward = onward-up args.at (i + 1) (length s) c.sound_object.result (omega (arith, skip-space.ensures.from)) c.sound_object.ensures.onward }
+    let i = skip-space.result in record {
+      judged = judges-object s i look.result look.ensures.0 args.at skip-space.ensures args.depth if2.false if3.false if4.true c.sound_object.result c.sound_object.ensures.judged;
+      onward = onward-up args.at (i + 1) (length s) c.sound_object.result (omega (arith, skip-space.ensures.from)) c.sound_object.ensures.onward;
+    }
 
 pub sound_value-scalar_end-requires-2 : goal.sound_value-scalar_end-requires-2
 sound_value-scalar_end-requires-2 t c =
@@ -544,4 +583,7 @@ sound_value-returns t c =
     let i = skip-space.result in
     let g = scalar-in s i scalar-end2.ensures in
     let judged = judges-scalar s i look.result look.ensures.0 args.at skip-space.ensures args.depth if1.false if3.false if4.false _ g in
-    let bounds = onward-fine scalar scalar-fine s i skip-space.ensures.to _ g in record { judged = judged-as s (value args.depth (drop args.at s)) is_sound judged (sym sound2.ensures); onward = onward-up args.at i (length s) sound2.result skip-space.ensures.from (onward-as i (length s) bounds (sym sound2.ensures)) }
+    let bounds = onward-fine scalar scalar-fine s i skip-space.ensures.to _ g in record {
+      judged = judged-as s (value args.depth (drop args.at s)) is_sound judged (sym sound2.ensures);
+      onward = onward-up args.at i (length s) sound2.result skip-space.ensures.from (onward-as i (length s) bounds (sym sound2.ensures));
+    }

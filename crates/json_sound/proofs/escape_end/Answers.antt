@@ -7,13 +7,19 @@ pub returns-then-u-lt-FIRST_HIGH : goal.returns-then-u-lt-FIRST_HIGH
 returns-then-u-lt-FIRST_HIGH c =
     let args = c.args in
     let look = c.look in
-    let w = (tells_as c.escape_at.ensures c.in-Of.is).within in record { lower_bound = (omega (arith, w.0), w.1); follows = follows-below args.s.now args.at look.result look.ensures.0 c.if-look-ne-BACKSLASH.false c.escape_at.ensures _ _ c.in-Of.is (omega (arith, c.if-u-lt-FIRST_HIGH.true)) }
+    let w = (tells_as c.escape_at.ensures c.in-Of.is).within in record {
+      lower_bound = (omega (arith, w.0), w.1);
+      follows = follows-below args.s.now args.at look.result look.ensures.0 c.if-look-ne-BACKSLASH.false c.escape_at.ensures _ _ c.in-Of.is (omega (arith, c.if-u-lt-FIRST_HIGH.true));
+    }
 
 pub returns-then-u-gt-LAST_LOW : goal.returns-then-u-gt-LAST_LOW
 returns-then-u-gt-LAST_LOW c =
     let args = c.args in
     let look = c.look in
-    let w = (tells_as c.escape_at.ensures c.in-Of.is).within in record { lower_bound = (omega (arith, w.0), w.1); follows = follows-above args.s.now args.at look.result look.ensures.0 c.if-look-ne-BACKSLASH.false c.escape_at.ensures _ _ c.in-Of.is (omega (arith, c.if-u-gt-LAST_LOW.true)) }
+    let w = (tells_as c.escape_at.ensures c.in-Of.is).within in record {
+      lower_bound = (omega (arith, w.0), w.1);
+      follows = follows-above args.s.now args.at look.result look.ensures.0 c.if-look-ne-BACKSLASH.false c.escape_at.ensures _ _ c.in-Of.is (omega (arith, c.if-u-gt-LAST_LOW.true));
+    }
 
 pub low_end-k-requires : goal.low_end-k-requires
 low_end-k-requires c = (tells_as c.escape_at.ensures c.in-Of.is).within.1

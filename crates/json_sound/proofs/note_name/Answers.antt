@@ -42,7 +42,10 @@ returns-then-m-eq65536 c =
     let a = at_next (name (drop at s)) h in
     let z = name-string s at a.0 _ a.1 from g in
     let w = name-takes s at c.requires.at_in_bounds _ _ g h in
-    let p = c.print_rest-m.ensures.value ∙ sym name-start.ensures.3 in record { notes = λ ns k. (a.0, a.1, not-paired (decode a.0) ns (ap is_some (sym z) ∙ no-print (decoded_at s from) (sym p ∙ c.if-m-eq65536.true))); notes_in = (omega (arith, w.0, w.1), h.within.1) }
+    let p = c.print_rest-m.ensures.value ∙ sym name-start.ensures.3 in record {
+      notes = λ ns k. (a.0, a.1, not-paired (decode a.0) ns (ap is_some (sym z) ∙ no-print (decoded_at s from) (sym p ∙ c.if-m-eq65536.true)));
+      notes_in = (omega (arith, w.0, w.1), h.within.1);
+    }
 
 pub overflow_cast-p : goal.overflow_cast-p
 overflow_cast-p c = omega (arith, c.print_rest-m.ensures.upper_bound, c.if-m-eq65536.false)
@@ -50,7 +53,11 @@ overflow_cast-p c = omega (arith, c.print_rest-m.ensures.upper_bound, c.if-m-eq6
 pub is_noted-requires : goal.is_noted-requires
 is_noted-requires c =
     let name-start = c.name_start-w in
-    record { count_in_bounds = omega (arith, c.requires.count_in_bounds); count_in_bounds_2 = omega (arith, c.requires.count_in_bounds_2); p_value = c.print_rest-m.ensures.value ∙ sym name-start.ensures.3 }
+    record {
+      count_in_bounds = omega (arith, c.requires.count_in_bounds);
+      count_in_bounds_2 = omega (arith, c.requires.count_in_bounds_2);
+      p_value = c.print_rest-m.ensures.value ∙ sym name-start.ensures.3;
+    }
 
 pub returns-then-is_noted : goal.returns-then-is_noted
 returns-then-is_noted c =

@@ -37,7 +37,10 @@ returns-then-look-eq-QUOTE c =
     let s = args.s.now in
     let from = c.text_end-from.result in
     let look = c.look in
-    let w : from < length s = omega (arith, look.ensures.1, c.if-look-eq-QUOTE.true) in record { judged = follows-judged s args.at from (past (goal.at.returns-then-look-eq-QUOTE c).After-text_end-from) (Sound (from + 1)) (omega arith) (chars-end s from look.result look.ensures.0 c.if-look-eq-QUOTE.true); onward = (omega (arith, c.loop-at.invariant.0, c.text_end-from.ensures.lower_bound.0), omega arith) }
+    let w : from < length s = omega (arith, look.ensures.1, c.if-look-eq-QUOTE.true) in record {
+      judged = follows-judged s args.at from (past (goal.at.returns-then-look-eq-QUOTE c).After-text_end-from) (Sound (from + 1)) (omega arith) (chars-end s from look.result look.ensures.0 c.if-look-eq-QUOTE.true);
+      onward = (omega (arith, c.loop-at.invariant.0, c.text_end-from.ensures.lower_bound.0), omega arith);
+    }
 
 pub escape_end-e-requires : goal.escape_end-e-requires
 escape_end-e-requires c = c.text_end-from.ensures.lower_bound.1
@@ -50,7 +53,10 @@ returns-then-e-from c =
     let args = c.args in
     let s = args.s.now in
     let from = c.text_end-from.result in
-    record { judged = follows-judged s args.at from (past (goal.at.returns-then-e-from c).After-text_end-from) c.sound_twice.result c.sound_twice.ensures.onward c.sound_twice.ensures.judged; onward = onward-up args.at from (length s) c.sound_twice.result (omega (arith, c.loop-at.invariant.0, c.text_end-from.ensures.lower_bound.0)) c.sound_twice.ensures.onward }
+    record {
+      judged = follows-judged s args.at from (past (goal.at.returns-then-e-from c).After-text_end-from) c.sound_twice.result c.sound_twice.ensures.onward c.sound_twice.ensures.judged;
+      onward = onward-up args.at from (length s) c.sound_twice.result (omega (arith, c.loop-at.invariant.0, c.text_end-from.ensures.lower_bound.0)) c.sound_twice.ensures.onward;
+    }
 
 pub loop-at-smaller : goal.loop-at-smaller
 loop-at-smaller c = omega (arith, c.text_end-from.ensures.lower_bound.0, c.escape_end-e.ensures.lower_bound, c.if-e-from.false)

@@ -14,7 +14,10 @@ returns-then-not-is_paired c =
     let s = args.s.now in
     let g = gives_as c.string_end.ensures c.in-Next.is in
     let to = c.in-Next.e in
-    record { judged = chars-alone s args.at (Next to) g (sym c.is_paired.ensures ∙ c.if-not-is_paired.true); onward = onward-fine characters characters-fine s args.at c.requires (Next to) g }
+    record {
+      judged = chars-alone s args.at (Next to) g (sym c.is_paired.ensures ∙ c.if-not-is_paired.true);
+      onward = onward-fine characters characters-fine s args.at c.requires (Next to) g;
+    }
 
 pub returns-in-Bad : goal.returns-in-Bad
 returns-in-Bad c =
@@ -27,4 +30,7 @@ returns-else-not-is_paired c =
     let s = args.s.now in
     let g = gives_as c.string_end.ensures c.in-Next.is in
     let to = c.in-Next.e in
-    record { judged = chars-paired s args.at (Next to) g (sym c.is_paired.ensures ∙ c.if-not-is_paired.false); onward = onward-fine characters characters-fine s args.at c.requires (Next to) g }
+    record {
+      judged = chars-paired s args.at (Next to) g (sym c.is_paired.ensures ∙ c.if-not-is_paired.false);
+      onward = onward-fine characters characters-fine s args.at c.requires (Next to) g;
+    }

@@ -20,7 +20,10 @@ returns-then-look-eq-RIGHT_BRACKET c =
     let i = c.skip_space-i in
     let j = c.skip_space-j in
     let o = opens-here args.s.now args.at i.result look.result i.ensures look.ensures.0 91 c.if-look-ne-LEFT_BRACKET.false j.result j.ensures in
-    record { element_in = ((λ l. omega (arith, i.ensures.from, j.ensures.from)), omega (arith, look2.ensures.1, c.if-look-eq-RIGHT_BRACKET.true)); first_element_of = element-none args.s.now args.at j.result o (sym look2.ensures.0 ∙ c.if-look-eq-RIGHT_BRACKET.true) }
+    record {
+      element_in = ((λ l. omega (arith, i.ensures.from, j.ensures.from)), omega (arith, look2.ensures.1, c.if-look-eq-RIGHT_BRACKET.true));
+      first_element_of = element-none args.s.now args.at j.result o (sym look2.ensures.0 ∙ c.if-look-eq-RIGHT_BRACKET.true);
+    }
 
 pub returns : goal.returns
 returns c =
@@ -29,4 +32,7 @@ returns c =
     let i = c.skip_space-i in
     let j = c.skip_space-j in
     let o = opens-here args.s.now args.at i.result look.result i.ensures look.ensures.0 91 c.if-look-ne-LEFT_BRACKET.false j.result j.ensures in
-    record { element_in = (omega (arith, i.ensures.from, j.ensures.from), j.ensures.to); first_element_of = element-first args.s.now args.at j.result o (λ x. c.if-look-eq-RIGHT_BRACKET.false (c.look-2.ensures.0 ∙ x)) }
+    record {
+      element_in = (omega (arith, i.ensures.from, j.ensures.from), j.ensures.to);
+      first_element_of = element-first args.s.now args.at j.result o (λ x. c.if-look-eq-RIGHT_BRACKET.false (c.look-2.ensures.0 ∙ x));
+    }

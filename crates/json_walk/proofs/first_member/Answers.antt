@@ -26,7 +26,11 @@ returns-then-look-eq-RIGHT_BRACE c =
     let j = c.skip_space-j in
     let o = opens-here args.s.now args.at i.result look.result i.ensures look.ensures.0 123 c.if-look-ne-LEFT_BRACE.false j.result j.ensures in
     let z : FirstReads args.s.now args.at (End (j.result + 1)) = (j.result, o, sym look2.ensures.0 ∙ c.if-look-eq-RIGHT_BRACE.true, refl) in
-    record { member_in = ((λ l. omega (arith, i.ensures.from, j.ensures.from)), omega (arith, look2.ensures.1, c.if-look-eq-RIGHT_BRACE.true)); first_of = first-told args.s.now args.at (End _) z; first_reads = z }
+    record {
+      member_in = ((λ l. omega (arith, i.ensures.from, j.ensures.from)), omega (arith, look2.ensures.1, c.if-look-eq-RIGHT_BRACE.true));
+      first_of = first-told args.s.now args.at (End _) z;
+      first_reads = z;
+    }
 
 pub returns : goal.returns
 returns c =
@@ -36,4 +40,8 @@ returns c =
     let j = c.skip_space-j in
     let o = opens-here args.s.now args.at i.result look.result i.ensures look.ensures.0 123 c.if-look-ne-LEFT_BRACE.false j.result j.ensures in
     let z : FirstReads args.s.now args.at (At c.head_at-h.result.name c.head_at-h.result.start) = (j.result, o, (λ x. c.if-look-eq-RIGHT_BRACE.false (c.look-2.ensures.0 ∙ x)), c.head_at-h.ensures.tells_head) in
-    record { member_in = (c.head_at-h.ensures.name_in_bounds, omega (arith, i.ensures.from, j.ensures.from, c.head_at-h.ensures.at_le_start.0 j.ensures.to), c.head_at-h.ensures.at_le_start.1); first_of = first-told args.s.now args.at (At _ _) z; first_reads = z }
+    record {
+      member_in = (c.head_at-h.ensures.name_in_bounds, omega (arith, i.ensures.from, j.ensures.from, c.head_at-h.ensures.at_le_start.0 j.ensures.to), c.head_at-h.ensures.at_le_start.1);
+      first_of = first-told args.s.now args.at (At _ _) z;
+      first_reads = z;
+    }

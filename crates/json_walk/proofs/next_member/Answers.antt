@@ -11,7 +11,11 @@ use Rattle.json_walk.proofs.next_member.Goals as goal
 pub returns-then-at-s : goal.returns-then-at-s
 returns-then-at-s c =
     let a = c.args in
-    record { member_in = ((λ l. absurd (omega (arith, c.if-at-s.true))), omega arith); next_of = next_past a.s.now a.at (End (length a.s.now)) c.if-at-s.true; next_reads = λ l. absurd (omega (arith, c.if-at-s.true)) }
+    record {
+      member_in = ((λ l. absurd (omega (arith, c.if-at-s.true))), omega arith);
+      next_of = next_past a.s.now a.at (End (length a.s.now)) c.if-at-s.true;
+      next_reads = λ l. absurd (omega (arith, c.if-at-s.true));
+    }
 
 pub returns-in-Go : goal.returns-in-Go
 returns-in-Go c =
@@ -19,7 +23,11 @@ returns-in-Go c =
     let g = turn-as c.separator.ensures c.in-Go.is in
     let z : NextReads a.s.now a.at (At c.head_at-h.result.name c.head_at-h.result.start) = (c.in-Go.j, g, c.head_at-h.ensures.tells_head) in
     let l : a.at ≤ length a.s.now = omega (arith, c.if-at-s.false) in
-    record { member_in = (c.head_at-h.ensures.name_in_bounds, omega (arith, g.within.0, c.head_at-h.ensures.at_le_start.0 g.within.1), c.head_at-h.ensures.at_le_start.1); next_of = next-told a.s.now a.at (At _ _) l z; next_reads = z }
+    record {
+      member_in = (c.head_at-h.ensures.name_in_bounds, omega (arith, g.within.0, c.head_at-h.ensures.at_le_start.0 g.within.1), c.head_at-h.ensures.at_le_start.1);
+      next_of = next-told a.s.now a.at (At _ _) l z;
+      next_reads = z;
+    }
 
 pub returns-in-Stop : goal.returns-in-Stop
 returns-in-Stop c =

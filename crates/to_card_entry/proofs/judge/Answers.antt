@@ -8,14 +8,20 @@ use Rattle.to_card_entry.proofs.judge.Goals as goal
 pub returns-then-other-ne0 : goal.returns-then-other-ne0
 returns-then-other-ne0 c =
     let args = c.args in
-    let pre = c.requires in record { row_len = pre; judges_slots = judged-strange args.s.now args.kind args.contexts args.pref args.features args.other args.kinds.now args.count _ _ c.if-other-ne0.true }
+    let pre = c.requires in record {
+      row_len = pre;
+      judges_slots = judged-strange args.s.now args.kind args.contexts args.pref args.features args.other args.kinds.now args.count _ _ c.if-other-ne0.true;
+    }
 
 pub returns-in_default : goal.returns-in_default
 returns-in_default c =
     let pre = c.requires in
     let args = c.args in
     let if1 = c.if-other-ne0 in
-    let kind-in = c.kind_in in record { row_len = pre; judges_slots = judged-kind args.s.now args.kind args.contexts args.pref args.features args.other args.kinds.now args.count _ if1.false kind-in.result kind-in.ensures _ c.in_default.is }
+    let kind-in = c.kind_in in record {
+      row_len = pre;
+      judges_slots = judged-kind args.s.now args.kind args.contexts args.pref args.features args.other args.kinds.now args.count _ if1.false kind-in.result kind-in.ensures _ c.in_default.is;
+    }
 
 pub flags_in-requires : goal.flags_in-requires
 flags_in-requires c = record { count_value = two; count_in_bounds = omega (arith, c.requires) }
@@ -26,7 +32,10 @@ returns-then-not-flags_in c =
     let pre = c.requires in
     let if1 = c.if-other-ne0 in
     let kind-in = c.kind_in in
-    record { row_len = c.flags_in.ensures.row_len_unchanged ∙ pre; judges_slots = judged-contexts args.s.now args.kind args.contexts args.pref args.features args.other args.kinds.now args.count _ if1.false kind-in.result kind-in.ensures _ c.in-At.is c.flags_in.result _ c.flags_in.ensures.tells_flags _ (ap not c.if-not-flags_in.true) }
+    record {
+      row_len = c.flags_in.ensures.row_len_unchanged ∙ pre;
+      judges_slots = judged-contexts args.s.now args.kind args.contexts args.pref args.features args.other args.kinds.now args.count _ if1.false kind-in.result kind-in.ensures _ c.in-At.is c.flags_in.result _ c.flags_in.ensures.tells_flags _ (ap not c.if-not-flags_in.true);
+    }
 
 pub flags_in-requires-2 : goal.flags_in-requires-2
 flags_in-requires-2 c = record { count_value = seven; count_in_bounds = omega (arith, c.requires, c.flags_in.ensures.row_len_unchanged) }
@@ -37,7 +46,10 @@ returns-then-not-flags_in-2 c =
     let pre = c.requires in
     let if1 = c.if-other-ne0 in
     let kind-in = c.kind_in in
-    record { row_len = c.flags_in-2.ensures.row_len_unchanged ∙ c.flags_in.ensures.row_len_unchanged ∙ pre; judges_slots = judged-features args.s.now args.kind args.contexts args.pref args.features args.other args.kinds.now args.count _ if1.false kind-in.result kind-in.ensures _ c.in-At.is c.flags_in.result _ c.flags_in.ensures.tells_flags (ap not c.if-not-flags_in.false) c.flags_in-2.result _ c.flags_in-2.ensures.tells_flags _ (ap not c.if-not-flags_in-2.true) }
+    record {
+      row_len = c.flags_in-2.ensures.row_len_unchanged ∙ c.flags_in.ensures.row_len_unchanged ∙ pre;
+      judges_slots = judged-features args.s.now args.kind args.contexts args.pref args.features args.other args.kinds.now args.count _ if1.false kind-in.result kind-in.ensures _ c.in-At.is c.flags_in.result _ c.flags_in.ensures.tells_flags (ap not c.if-not-flags_in.false) c.flags_in-2.result _ c.flags_in-2.ensures.tells_flags _ (ap not c.if-not-flags_in-2.true);
+    }
 
 pub returns-in_default-pref_in : goal.returns-in_default-pref_in
 returns-in_default-pref_in c =
@@ -45,7 +57,10 @@ returns-in_default-pref_in c =
     let args = c.args in
     let if1 = c.if-other-ne0 in
     let kind-in = c.kind_in in
-    let pref-in = c.pref_in in record { row_len = c.flags_in-2.ensures.row_len_unchanged ∙ c.flags_in.ensures.row_len_unchanged ∙ pre; judges_slots = judged-pref args.s.now args.kind args.contexts args.pref args.features args.other args.kinds.now args.count _ if1.false kind-in.result kind-in.ensures _ c.in-At.is c.flags_in.result _ c.flags_in.ensures.tells_flags (ap not c.if-not-flags_in.false) c.flags_in-2.result _ c.flags_in-2.ensures.tells_flags (ap not c.if-not-flags_in-2.false) pref-in.result pref-in.ensures _ c.in_default-pref_in.is }
+    let pref-in = c.pref_in in record {
+      row_len = c.flags_in-2.ensures.row_len_unchanged ∙ c.flags_in.ensures.row_len_unchanged ∙ pre;
+      judges_slots = judged-pref args.s.now args.kind args.contexts args.pref args.features args.other args.kinds.now args.count _ if1.false kind-in.result kind-in.ensures _ c.in-At.is c.flags_in.result _ c.flags_in.ensures.tells_flags (ap not c.if-not-flags_in.false) c.flags_in-2.result _ c.flags_in-2.ensures.tells_flags (ap not c.if-not-flags_in-2.false) pref-in.result pref-in.ensures _ c.in_default-pref_in.is;
+    }
 
 pub returns : goal.returns
 returns c =
@@ -53,4 +68,7 @@ returns c =
     let args = c.args in
     let if1 = c.if-other-ne0 in
     let kind-in = c.kind_in in
-    let pref-in = c.pref_in in record { row_len = c.flags_in-2.ensures.row_len_unchanged ∙ c.flags_in.ensures.row_len_unchanged ∙ pre; judges_slots = judged-fit args.s.now args.kind args.contexts args.pref args.features args.other args.kinds.now args.count _ if1.false kind-in.result kind-in.ensures _ c.in-At.is c.flags_in.result _ c.flags_in.ensures.tells_flags (ap not c.if-not-flags_in.false) c.flags_in-2.result _ c.flags_in-2.ensures.tells_flags (ap not c.if-not-flags_in-2.false) pref-in.result pref-in.ensures _ _ c.in-At-pref_in.is }
+    let pref-in = c.pref_in in record {
+      row_len = c.flags_in-2.ensures.row_len_unchanged ∙ c.flags_in.ensures.row_len_unchanged ∙ pre;
+      judges_slots = judged-fit args.s.now args.kind args.contexts args.pref args.features args.other args.kinds.now args.count _ if1.false kind-in.result kind-in.ensures _ c.in-At.is c.flags_in.result _ c.flags_in.ensures.tells_flags (ap not c.if-not-flags_in.false) c.flags_in-2.result _ c.flags_in-2.ensures.tells_flags (ap not c.if-not-flags_in-2.false) pref-in.result pref-in.ensures _ _ c.in-At-pref_in.is;
+    }

@@ -9,7 +9,11 @@ pub returns-then-not-key_fits : goal.returns-then-not-key_fits
 returns-then-not-key_fits c =
     let a = c.args in
     let k = c.key_fits in
-    record { entered_in = tt; out_len_unchanged = refl; puts = puts-key a.s.now a.key a.value a.names.now a.kinds.now a.count a.heads.now a.form _ k.result k.ensures _ (ap not c.if-not-key_fits.true) }
+    record {
+      entered_in = tt;
+      out_len_unchanged = refl;
+      puts = puts-key a.s.now a.key a.value a.names.now a.kinds.now a.count a.heads.now a.form _ k.result k.ensures _ (ap not c.if-not-key_fits.true);
+    }
 
 pub index_to_end-end-requires : goal.index_to_end-end-requires
 index_to_end-end-requires c = record { at_in_bounds = c.requires.value_in_bounds; names_in_bounds = omega (arith, c.requires.names_len); clear = clear-seven }
@@ -18,7 +22,11 @@ pub returns-then-end-eq0 : goal.returns-then-end-eq0
 returns-then-end-eq0 c =
     let a = c.args in
     let k = c.key_fits in
-    record { entered_in = tt; out_len_unchanged = refl; puts = puts-object a.s.now a.key a.value a.names.now a.kinds.now a.count a.heads.now a.form _ k.result k.ensures _ c.index_to_end-end.result c.index_to_end-end.ensures.indexes _ c.if-end-eq0.true }
+    record {
+      entered_in = tt;
+      out_len_unchanged = refl;
+      puts = puts-object a.s.now a.key a.value a.names.now a.kinds.now a.count a.heads.now a.form _ k.result k.ensures _ c.index_to_end-end.result c.index_to_end-end.ensures.indexes _ c.if-end-eq0.true;
+    }
 
 pub returns-in_default : goal.returns-in_default
 returns-in_default c =
@@ -26,7 +34,11 @@ returns-in_default c =
     let k = c.key_fits in
     let b = (ap not c.if-not-key_fits.false) in
     let q = c.if-end-eq0.false in
-    record { entered_in = tt; out_len_unchanged = refl; puts = puts-bad a.s.now a.key a.value a.names.now a.kinds.now a.count a.heads.now a.form _ k.result k.ensures _ c.index_to_end-end.result c.index_to_end-end.ensures.indexes b q _ c.judge.result c.judge.ensures.judges_slots _ c.in_default.is }
+    record {
+      entered_in = tt;
+      out_len_unchanged = refl;
+      puts = puts-bad a.s.now a.key a.value a.names.now a.kinds.now a.count a.heads.now a.form _ k.result k.ensures _ c.index_to_end-end.result c.index_to_end-end.ensures.indexes b q _ c.judge.result c.judge.ensures.judges_slots _ c.in_default.is;
+    }
 
 pub returns-in_default-put_line : goal.returns-in_default-put_line
 returns-in_default-put_line c =
@@ -35,7 +47,11 @@ returns-in_default-put_line c =
     let b = (ap not c.if-not-key_fits.false) in
     let q = c.if-end-eq0.false in
     let l = puts-line a.s.now a.key a.value a.names.now a.kinds.now a.count a.heads.now a.form _ k.result k.ensures _ c.index_to_end-end.result c.index_to_end-end.ensures.indexes b q _ c.judge.result c.judge.ensures.judges_slots _ _ _ c.in-Fit.is _ _ c.put_line.ensures.tells_line in
-    record { entered_in = tt; out_len_unchanged = c.put_line.ensures.out_len_unchanged; puts = puts-as a.s.now a.key a.value a.names.now a.kinds.now a.count a.heads.now a.form _ _ l c.in_default-put_line.is }
+    record {
+      entered_in = tt;
+      out_len_unchanged = c.put_line.ensures.out_len_unchanged;
+      puts = puts-as a.s.now a.key a.value a.names.now a.kinds.now a.count a.heads.now a.form _ _ l c.in_default-put_line.is;
+    }
 
 pub returns : goal.returns
 returns c =
@@ -44,4 +60,8 @@ returns c =
     let b = (ap not c.if-not-key_fits.false) in
     let q = c.if-end-eq0.false in
     let l = puts-line a.s.now a.key a.value a.names.now a.kinds.now a.count a.heads.now a.form _ k.result k.ensures _ c.index_to_end-end.result c.index_to_end-end.ensures.indexes b q _ c.judge.result c.judge.ensures.judges_slots _ _ _ c.in-Fit.is _ _ c.put_line.ensures.tells_line in
-    record { entered_in = (put_in c.put_line.ensures.put_in c.in-Line.is, c.index_to_end-end.ensures.value_ends q); out_len_unchanged = c.put_line.ensures.out_len_unchanged; puts = puts-as a.s.now a.key a.value a.names.now a.kinds.now a.count a.heads.now a.form _ _ l c.in-Line.is }
+    record {
+      entered_in = (put_in c.put_line.ensures.put_in c.in-Line.is, c.index_to_end-end.ensures.value_ends q);
+      out_len_unchanged = c.put_line.ensures.out_len_unchanged;
+      puts = puts-as a.s.now a.key a.value a.names.now a.kinds.now a.count a.heads.now a.form _ _ l c.in-Line.is;
+    }

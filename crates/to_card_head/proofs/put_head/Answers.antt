@@ -11,16 +11,28 @@ use Rattle.to_card_head.proofs.put_head.Goals as goal
 pub returns-then-not-holds : goal.returns-then-not-holds
 returns-then-not-holds c =
     let args = c.args in
-    let holds = c.holds in record { lines_in = tt; out_len_unchanged = refl; puts_head = no-card args.s.now args.card args.version args.uid args.kind args.out.now holds.result holds.ensures c.if-not-holds.true _ }
+    let holds = c.holds in record {
+      lines_in = tt;
+      out_len_unchanged = refl;
+      puts_head = no-card args.s.now args.card args.version args.uid args.kind args.out.now holds.result holds.ensures c.if-not-holds.true _;
+    }
 
 pub returns-then-not-holds-2 : goal.returns-then-not-holds-2
 returns-then-not-holds-2 c =
     let args = c.args in
-    let holds2 = c.holds-2 in record { lines_in = tt; out_len_unchanged = refl; puts_head = no-version args.s.now args.card args.version args.uid args.kind args.out.now holds2.result holds2.ensures c.if-not-holds-2.true _ }
+    let holds2 = c.holds-2 in record {
+      lines_in = tt;
+      out_len_unchanged = refl;
+      puts_head = no-version args.s.now args.card args.version args.uid args.kind args.out.now holds2.result holds2.ensures c.if-not-holds-2.true _;
+    }
 
 pub returns-then-u-eq0 : goal.returns-then-u-eq0
 returns-then-u-eq0 c =
-    let args = c.args in record { lines_in = tt; out_len_unchanged = refl; puts_head = no-uid args.s.now args.card args.version args.uid args.kind args.out.now (subst (λ (q : ℕ). FilledIn args.s.now args.uid q) c.if-u-eq0.true c.filled_in-u.ensures) _ }
+    let args = c.args in record {
+      lines_in = tt;
+      out_len_unchanged = refl;
+      puts_head = no-uid args.s.now args.card args.version args.uid args.kind args.out.now (subst (λ (q : ℕ). FilledIn args.s.now args.uid q) c.if-u-eq0.true c.filled_in-u.ensures) _;
+    }
 
 pub returns-then-kind-eq0 : goal.returns-then-kind-eq0
 returns-then-kind-eq0 c =
@@ -41,7 +53,11 @@ returns-then-kind-eq0 c =
 
 pub returns-then-k-eq0 : goal.returns-then-k-eq0
 returns-then-k-eq0 c =
-    let args = c.args in record { lines_in = tt; out_len_unchanged = refl; puts_head = no_kind args.s.now args.card args.version args.uid args.kind args.out.now c.if-kind-eq0.false (subst (λ (q : ℕ). WordIn args.s.now args.kind q) c.if-k-eq0.true c.word_in-k.ensures) _ }
+    let args = c.args in record {
+      lines_in = tt;
+      out_len_unchanged = refl;
+      puts_head = no_kind args.s.now args.card args.version args.uid args.kind args.out.now c.if-kind-eq0.false (subst (λ (q : ℕ). WordIn args.s.now args.kind q) c.if-k-eq0.true c.word_in-k.ensures) _;
+    }
 
 pub overflow_add-m : goal.overflow_add-m
 overflow_add-m c =

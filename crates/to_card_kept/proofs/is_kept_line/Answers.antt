@@ -14,7 +14,10 @@ class_line-class-requires c =
 
 pub is_kept_class-kept-requires : goal.is_kept_class-kept-requires
 is_kept_class-kept-requires c =
-    record { map_slots_in_bounds = (omega (arith, c.requires.sound.2), omega (arith, c.requires.sound.1.fits, c.class_line-class.auto.scratch), c.class_line-class.ensures.within); indexes = c.requires.indexes }
+    record {
+      map_slots_in_bounds = (omega (arith, c.requires.sound.2), omega (arith, c.requires.sound.1.fits, c.class_line-class.auto.scratch), c.class_line-class.ensures.within);
+      indexes = c.requires.indexes;
+    }
 
 pub returns : goal.returns
 returns c =

@@ -1,3 +1,4 @@
+use borrow.Author.Tests.{not-true, not-false}
 use mathlib.Core.Path.{refl, ap}
 use native.Mathlib.Omega.{arith}
 use Rattle.to_card_kept_entry.specs.fill.Held.{is_entry}
@@ -12,7 +13,12 @@ fill_kept-requires c =
 pub returns-in_default : goal.returns-in_default
 returns-in_default c =
     let args = c.args in
-    record { entered_in = tt; out_len_unchanged = refl; puts_entry = entry-unfilled args.s.now args.slots.now args.at args.full args.parts args.out.now args.b.now c.requires.lent.all.buffer _ _ _ c.fill_kept.ensures.fills_kept (ap is_entry c.in_default.is) _; asked_once = tt }
+    record {
+      entered_in = tt;
+      out_len_unchanged = refl;
+      puts_entry = entry-unfilled args.s.now args.slots.now args.at args.full args.parts args.out.now args.b.now c.requires.lent.all.buffer _ _ _ c.fill_kept.ensures.fills_kept (ap is_entry c.in_default.is) _;
+      asked_once = tt;
+    }
 
 pub is_sound-requires : goal.is_sound-requires
 is_sound-requires c =
@@ -21,17 +27,30 @@ is_sound-requires c =
 pub returns-then-not-is_sound : goal.returns-then-not-is_sound
 returns-then-not-is_sound c =
     let args = c.args in
-    let is-sound = c.is_sound in record { entered_in = tt; out_len_unchanged = refl; puts_entry = entry-unsound args.s.now args.slots.now args.at args.full args.parts args.out.now args.b.now c.requires.lent.all.buffer _ _ _ c.fill_kept.ensures.fills_kept (sound-not is-sound.result is-sound.ensures c.if-not-is_sound.true) _; asked_once = tt }
+    let is-sound = c.is_sound in record {
+      entered_in = tt;
+      out_len_unchanged = refl;
+      puts_entry = entry-unsound args.s.now args.slots.now args.at args.full args.parts args.out.now args.b.now c.requires.lent.all.buffer _ _ _ c.fill_kept.ensures.fills_kept (sound-not is-sound.result is-sound.ensures c.if-not-is_sound.true) _;
+      asked_once = tt;
+    }
 
 pub is_kept_line-judged-requires : goal.is_kept_line-judged-requires
 is_kept_line-judged-requires c =
     let is-sound = c.is_sound in
-    record { sound = (sound-is is-sound.result is-sound.ensures c.if-not-is_sound.false, lent-room c.requires.lent.all c.fill_kept.ensures.bounds.long, c.requires.lent.index); indexes = c.requires.indexes }
+    record {
+      sound = (sound-is is-sound.result is-sound.ensures c.if-not-is_sound.false, lent-room c.requires.lent.all c.fill_kept.ensures.bounds.long, c.requires.lent.index);
+      indexes = c.requires.indexes;
+    }
 
 pub returns-then-not-judged : goal.returns-then-not-judged
 returns-then-not-judged c =
     let args = c.args in
-    record { entered_in = tt; out_len_unchanged = refl; puts_entry = entry-converts args.s.now args.slots.now args.at args.full args.parts args.out.now args.b.now c.requires.lent.all.buffer _ _ _ c.fill_kept.ensures.fills_kept c.is_kept_line-judged.result.kept c.is_kept_line-judged.ensures.tells_kept c.if-not-judged.true _; asked_once = tt }
+    record {
+      entered_in = tt;
+      out_len_unchanged = refl;
+      puts_entry = entry-converts args.s.now args.slots.now args.at args.full args.parts args.out.now args.b.now c.requires.lent.all.buffer _ _ _ c.fill_kept.ensures.fills_kept c.is_kept_line-judged.result.kept c.is_kept_line-judged.ensures.tells_kept (not-true _ c.if-not-judged.true) _;
+      asked_once = tt;
+    }
 
 pub put_kept_line-p-requires : goal.put_kept_line-p-requires
 put_kept_line-p-requires c =
@@ -45,7 +64,7 @@ returns c =
       entered_in = (c.put_kept_line-p.ensures.bytes_in_bounds, held_in args.s.now args.at c.fill_kept.ensures.held_in c.in-Entry.is);
       out_len_unchanged = c.put_kept_line-p.ensures.out_len_unchanged;
       puts_entry = entry-put args.s.now args.slots.now args.at args.full args.parts args.out.now args.b.now c.requires.lent.all.buffer _ _ _
-          c.fill_kept.ensures.fills_kept c.is_kept_line-judged.result.kept c.is_kept_line-judged.ensures.tells_kept (ap is_entry c.in-Entry.is) c.if-not-judged.false
+          c.fill_kept.ensures.fills_kept c.is_kept_line-judged.result.kept c.is_kept_line-judged.ensures.tells_kept (ap is_entry c.in-Entry.is) (not-false _ c.if-not-judged.false)
           c.put_kept_line-p.result _ c.put_kept_line-p.ensures.puts_kept;
       asked_once = c.is_kept_line-judged.ensures.asked_bound;
     }

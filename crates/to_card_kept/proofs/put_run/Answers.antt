@@ -64,7 +64,11 @@ pub returns-in_default : goal.returns-in_default
 returns-in_default c =
     let args = c.args in
     let loop = c.loop-k in
-    record { run_in = tt; out_len_unchanged = part_length loop.n loop.out c.put_entry.new.out loop.invariant.1 c.put_entry.ensures.out_len_unchanged ∙ loop.invariant.2; puts_run = puts-wrong args.s.now args.slots.now args.at args.full args.parts args.out.now loop.i loop.n loop.lines loop.ok loop.out loop.invariant.8 (as_lines (as_entered c.put_entry.result)) _ c.put_entry.ensures.puts_entry _ (ap as_lines (ap as_entered c.in_default.is)) }
+    record {
+      run_in = tt;
+      out_len_unchanged = part_length loop.n loop.out c.put_entry.new.out loop.invariant.1 c.put_entry.ensures.out_len_unchanged ∙ loop.invariant.2;
+      puts_run = puts-wrong args.s.now args.slots.now args.at args.full args.parts args.out.now loop.i loop.n loop.lines loop.ok loop.out loop.invariant.8 (as_lines (as_entered c.put_entry.result)) _ c.put_entry.ensures.puts_entry _ (ap as_lines (ap as_entered c.in_default.is));
+    }
 
 pub overflow_add-n : goal.overflow_add-n
 overflow_add-n c =

@@ -20,4 +20,7 @@ returns c =
     let args = c.args in
     let if1 = c.if-i-eq-POINTERS in
     let if2 = c.if-at-eq0 in
-    record { noted_in = c.note_names-2.ensures.noted_in; notes_group = notes-slot args.s.now args.slots.now args.i c.note_names-2.result _ _ if1.false if2.false c.note_names-2.ensures.notes_names }
+    record {
+      noted_in = c.note_names-2.ensures.noted_in;
+      notes_group = notes-slot args.s.now args.slots.now args.i c.note_names-2.result _ _ if1.false if2.false c.note_names-2.ensures.notes_names;
+    }

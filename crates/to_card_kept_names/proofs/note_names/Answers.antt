@@ -20,7 +20,10 @@ pub returns-in_default : goal.returns-in_default
 returns-in_default c =
     let a = c.args in
     let l = c.loop-m in
-    record { noted_in = omega (arith, l.invariant.2, l.invariant.4); notes_names = noting-last a.depth a.s.now a.at l.places l.prints l.k l.m l.invariant.5 (is-over l.m c.in_default.not-At) }
+    record {
+      noted_in = omega (arith, l.invariant.2, l.invariant.4);
+      notes_names = noting-last a.depth a.s.now a.at l.places l.prints l.k l.m l.invariant.5 (is-over l.m c.in_default.not-At);
+    }
 
 pub note_name-requires : goal.note_name-requires
 note_name-requires c =

@@ -46,7 +46,10 @@ slice_bounds-pointer_used-end c =
 pub pointer_used-requires : goal.pointer_used-requires
 pointer_used-requires c =
     let w = subst (ClassIn c.args.b.now) c.in-Member.is c.requires.map_slots_in_bounds.2 in
-    record { pointing = (is-pointing _ w.name w.is, part-fits c.args.b.now c.in-Member.start c.in-Member.end _ c.requires.map_slots_in_bounds.1, c.requires.map_slots_in_bounds.0); indexes = c.requires.indexes }
+    record {
+      pointing = (is-pointing _ w.name w.is, part-fits c.args.b.now c.in-Member.start c.in-Member.end _ c.requires.map_slots_in_bounds.1, c.requires.map_slots_in_bounds.0);
+      indexes = c.requires.indexes;
+    }
 
 pub returns-in-Kept : goal.returns-in-Kept
 returns-in-Kept c = let a = c.args in kept-as a.s.now a.slots.now a.b.now _ c.in-Kept.is (λ k w u. refl)

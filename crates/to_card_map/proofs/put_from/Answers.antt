@@ -36,7 +36,11 @@ returns-in_default c =
     let a = c.args in
     let l = c.loop-k in
     let n = part_length l.n l.out c.put_entry.new.out l.invariant.1 c.put_entry.ensures.out_len_unchanged in
-    record { lines_in = tt; out_len_unchanged = n ∙ l.invariant.2; puts_from = puts-wrong a.s.now a.at a.names.now a.kinds.now a.count a.heads.now a.form a.out.now l.i l.n l.lines l.ok l.out l.invariant.4 c.head_at-m.result c.head_at-m.ensures.tells_head (line_of c.put_entry.result) _ c.put_entry.ensures.puts _ (ap line_of c.in_default.is) }
+    record {
+      lines_in = tt;
+      out_len_unchanged = n ∙ l.invariant.2;
+      puts_from = puts-wrong a.s.now a.at a.names.now a.kinds.now a.count a.heads.now a.form a.out.now l.i l.n l.lines l.ok l.out l.invariant.4 c.head_at-m.result c.head_at-m.ensures.tells_head (line_of c.put_entry.result) _ c.put_entry.ensures.puts _ (ap line_of c.in_default.is);
+    }
 
 pub overflow_add-n : goal.overflow_add-n
 overflow_add-n c =
@@ -88,4 +92,8 @@ returns-in-Stop c =
     let l = c.loop-k in
     let n = part_length l.n l.out c.put_entry.new.out l.invariant.1 c.put_entry.ensures.out_len_unchanged in
     let e = entered-in a.s.now c.head_at-m.result.start c.put_entry.ensures.entered_in c.in-Line.is in
-    let h = turn-as c.separator.ensures c.in-Stop.is in record { lines_in = (omega (arith, part_in l.n l.out l.invariant.1 e.0, l.invariant.2), omega (arith, l.invariant.3, l.invariant.0)); out_len_unchanged = n ∙ l.invariant.2; puts_from = puts-all a.s.now a.at a.names.now a.kinds.now a.count a.heads.now a.form a.out.now l.i l.n l.lines l.ok l.out l.invariant.4 c.head_at-m.result c.head_at-m.ensures.tells_head (line_of c.put_entry.result) _ c.put_entry.ensures.puts _ _ (ap line_of c.in-Line.is) _ e.1.ends _ h }
+    let h = turn-as c.separator.ensures c.in-Stop.is in record {
+      lines_in = (omega (arith, part_in l.n l.out l.invariant.1 e.0, l.invariant.2), omega (arith, l.invariant.3, l.invariant.0));
+      out_len_unchanged = n ∙ l.invariant.2;
+      puts_from = puts-all a.s.now a.at a.names.now a.kinds.now a.count a.heads.now a.form a.out.now l.i l.n l.lines l.ok l.out l.invariant.4 c.head_at-m.result c.head_at-m.ensures.tells_head (line_of c.put_entry.result) _ c.put_entry.ensures.puts _ _ (ap line_of c.in-Line.is) _ e.1.ends _ h;
+    }

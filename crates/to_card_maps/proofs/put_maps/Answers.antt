@@ -40,7 +40,11 @@ returns-in_default c =
     let args = c.args in
     let loop = c.loop-k in
     let loop-test = c.loop-k-test in
-    record { lines_in = tt; out_len_unchanged = (in-part loop.n args.out.now loop.out c.put_nth.new.out {m = 0} loop.invariant.1 loop.invariant.2 (omega arith) c.put_nth.ensures.out_len_unchanged).1; puts_maps = maps-wrong args.s.now args.slots.now args.out.now loop.k loop.n loop.lines loop.ok loop.out loop.invariant.4 loop-test.true c.put_nth.result _ c.put_nth.ensures.puts_nth _ c.in_default.is }
+    record {
+      lines_in = tt;
+      out_len_unchanged = (in-part loop.n args.out.now loop.out c.put_nth.new.out {m = 0} loop.invariant.1 loop.invariant.2 (omega arith) c.put_nth.ensures.out_len_unchanged).1;
+      puts_maps = maps-wrong args.s.now args.slots.now args.out.now loop.k loop.n loop.lines loop.ok loop.out loop.invariant.4 loop-test.true c.put_nth.result _ c.put_nth.ensures.puts_nth _ c.in_default.is;
+    }
 
 pub overflow_add-n : goal.overflow_add-n
 overflow_add-n c =
@@ -86,4 +90,8 @@ shape_of-out c = c.loop-k.invariant.2
 pub returns : goal.returns
 returns c =
     let args = c.args in
-    let loop = c.loop-k in record { lines_in = (omega (arith, loop.invariant.1, loop.invariant.2), omega (arith, loop.invariant.3, loop.invariant.0)); out_len_unchanged = loop.invariant.2; puts_maps = maps-all args.s.now args.slots.now args.out.now loop.k loop.n loop.lines loop.ok loop.out loop.invariant.4 c.loop-k-test.false loop.invariant.0 }
+    let loop = c.loop-k in record {
+      lines_in = (omega (arith, loop.invariant.1, loop.invariant.2), omega (arith, loop.invariant.3, loop.invariant.0));
+      out_len_unchanged = loop.invariant.2;
+      puts_maps = maps-all args.s.now args.slots.now args.out.now loop.k loop.n loop.lines loop.ok loop.out loop.invariant.4 c.loop-k-test.false loop.invariant.0;
+    }

@@ -22,7 +22,11 @@ slice_bounds-put_other-end c = le_refl _
 pub put_other-requires : goal.put_other-requires
 put_other-requires c =
     let loop = c.loop-k in
-    record { a_le_e = c.member_at-m.ensures.inside.ordered; e_in_bounds = c.member_at-m.ensures.inside.end-in; out_in_bounds = omega (arith, loop.invariant.2, loop.invariant.4, c.requires.out_in_bounds, mid-length loop.n loop.out) }
+    record {
+      a_le_e = c.member_at-m.ensures.inside.ordered;
+      e_in_bounds = c.member_at-m.ensures.inside.end-in;
+      out_in_bounds = omega (arith, loop.invariant.2, loop.invariant.4, c.requires.out_in_bounds, mid-length loop.n loop.out);
+    }
 
 pub shape_of-out-in_default : goal.shape_of-out-in_default
 shape_of-out-in_default c =

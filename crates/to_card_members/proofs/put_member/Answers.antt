@@ -105,4 +105,7 @@ returns c =
     let pen-pointer = c.pen_pointer-q in
     let pen-bytes2 = c.pen_bytes-t in
     let put-value = c.put_value-m in
-    let pen-text = c.pen_text-u in record { member_line = member-line args.s.now args.name args.a args.e args.out.now pen-pointer.ensures.text pen-pointer.ensures.is _ pen-pointer.ensures.carried _ _ _ c.requires.out_in_bounds put-value.ensures _ _ (then (filled (next! (next! (next! (first! pen-bytes.ensures) pen-pointer.ensures.pens) pen-bytes2.ensures) pen-text.ensures).so) c.fill-z.ensures); buffer_len_unchanged = fills-length put-value.ensures }
+    let pen-text = c.pen_text-u in record {
+      member_line = member-line args.s.now args.name args.a args.e args.out.now pen-pointer.ensures.text pen-pointer.ensures.is _ pen-pointer.ensures.carried _ _ _ c.requires.out_in_bounds put-value.ensures _ _ (then (filled (next! (next! (next! (first! pen-bytes.ensures) pen-pointer.ensures.pens) pen-bytes2.ensures) pen-text.ensures).so) c.fill-z.ensures);
+      buffer_len_unchanged = fills-length put-value.ensures;
+    }

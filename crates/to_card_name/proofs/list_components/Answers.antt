@@ -17,13 +17,22 @@ open_array-requires c = omega (arith, c.if-slot-s.false)
 
 pub list_rows-n-requires : goal.list_rows-n-requires
 list_rows-n-requires c =
-    record { at_in_bounds = array-in c.open_array.result c.open_array.ensures.array_in c.in-At.is; part_count_in_bounds = c.requires.part_count_in_bounds; clear = c.requires.clear; in_bounds = c.requires.in_bounds; in_bounds_2 = c.requires.in_bounds_2 }
+    record {
+      at_in_bounds = array-in c.open_array.result c.open_array.ensures.array_in c.in-At.is;
+      part_count_in_bounds = c.requires.part_count_in_bounds;
+      clear = c.requires.clear;
+      in_bounds = c.requires.in_bounds;
+      in_bounds_2 = c.requires.in_bounds_2;
+    }
 
 pub returns-then-n-eq0 : goal.returns-then-n-eq0
 returns-then-n-eq0 c =
     let args = c.args in
     let if1 = c.if-slot-eq0 in
-    record { listed_in = tt; lists_as = list-bad args.s.now args.slot _ if1.false c.open_array.result c.open_array.ensures.opens_as _ c.in-At.is c.list_rows-n.result c.list_rows-n.ensures.checks_from c.if-n-eq0.true }
+    record {
+      listed_in = tt;
+      lists_as = list-bad args.s.now args.slot _ if1.false c.open_array.result c.open_array.ensures.opens_as _ c.in-At.is c.list_rows-n.result c.list_rows-n.ensures.checks_from c.if-n-eq0.true;
+    }
 
 pub returns-in-Wrong : goal.returns-in-Wrong
 returns-in-Wrong c =
@@ -41,4 +50,7 @@ pub returns-else-n-eq0 : goal.returns-else-n-eq0
 returns-else-n-eq0 c =
     let args = c.args in
     let if1 = c.if-slot-eq0 in
-    record { listed_in = (array-in c.open_array.result c.open_array.ensures.array_in c.in-At.is, c.list_rows-n.ensures.rows_from); lists_as = list_at args.s.now args.slot _ if1.false c.open_array.result c.open_array.ensures.opens_as _ c.in-At.is c.list_rows-n.result c.list_rows-n.ensures.checks_from c.if-n-eq0.false }
+    record {
+      listed_in = (array-in c.open_array.result c.open_array.ensures.array_in c.in-At.is, c.list_rows-n.ensures.rows_from);
+      lists_as = list_at args.s.now args.slot _ if1.false c.open_array.result c.open_array.ensures.opens_as _ c.in-At.is c.list_rows-n.result c.list_rows-n.ensures.checks_from c.if-n-eq0.false;
+    }

@@ -14,7 +14,13 @@ returns-then-full-ne0 c =
     put-string-line.ensures
 
 pub put_order_line-p-requires : goal.put_order_line-p-requires
-put_order_line-p-requires c = record { at_in_bounds = c.requires.at_in_bounds; part_count_in_bounds = c.requires.part_count_in_bounds; in_bounds = c.requires.in_bounds; in_bounds_2 = c.requires.in_bounds_2; rows_from = c.requires.rows_from }
+put_order_line-p-requires c = record {
+  at_in_bounds = c.requires.at_in_bounds;
+  part_count_in_bounds = c.requires.part_count_in_bounds;
+  in_bounds = c.requires.in_bounds;
+  in_bounds_2 = c.requires.in_bounds_2;
+  rows_from = c.requires.rows_from;
+}
 
 pub shape_of-out : goal.shape_of-out
 shape_of-out c = fills-length c.put_order_line-p.ensures.fills

@@ -13,15 +13,37 @@ returns-then-not-has_parts c =
     n-none args.s.now args.at args.marks.now args.out.now has_parts.result has_parts.ensures c.if-not-has_parts.true
 
 pub put_order_line-p-requires : goal.put_order_line-p-requires
-put_order_line-p-requires c = record { at_in_bounds = c.requires.at_in_bounds; part_count_in_bounds = c.requires.part_count_in_bounds; in_bounds = c.requires.in_bounds; in_bounds_2 = c.requires.in_bounds_2; rows_from = c.requires.rows_from }
+put_order_line-p-requires c = record {
+  at_in_bounds = c.requires.at_in_bounds;
+  part_count_in_bounds = c.requires.part_count_in_bounds;
+  in_bounds = c.requires.in_bounds;
+  in_bounds_2 = c.requires.in_bounds_2;
+  rows_from = c.requires.rows_from;
+}
 
 pub apart_in-a-requires : goal.apart_in-a-requires
 apart_in-a-requires c =
-    record { at_in_bounds = c.requires.at_in_bounds; part_count_in_bounds = c.requires.part_count_in_bounds; in_bounds = c.requires.in_bounds; in_bounds_2 = c.requires.in_bounds_2; rows_from = c.requires.rows_from; one_lt_part_count = omega arith; other_lt_part_count = omega arith }
+    record {
+      at_in_bounds = c.requires.at_in_bounds;
+      part_count_in_bounds = c.requires.part_count_in_bounds;
+      in_bounds = c.requires.in_bounds;
+      in_bounds_2 = c.requires.in_bounds_2;
+      rows_from = c.requires.rows_from;
+      one_lt_part_count = omega arith;
+      other_lt_part_count = omega arith;
+    }
 
 pub apart_in-b-requires : goal.apart_in-b-requires
 apart_in-b-requires c =
-    record { at_in_bounds = c.requires.at_in_bounds; part_count_in_bounds = c.requires.part_count_in_bounds; in_bounds = c.requires.in_bounds; in_bounds_2 = c.requires.in_bounds_2; rows_from = c.requires.rows_from; one_lt_part_count = omega arith; other_lt_part_count = omega arith }
+    record {
+      at_in_bounds = c.requires.at_in_bounds;
+      part_count_in_bounds = c.requires.part_count_in_bounds;
+      in_bounds = c.requires.in_bounds;
+      in_bounds_2 = c.requires.in_bounds_2;
+      rows_from = c.requires.rows_from;
+      one_lt_part_count = omega arith;
+      other_lt_part_count = omega arith;
+    }
 
 pub shape_of-out : goal.shape_of-out
 shape_of-out c = fills-length c.put_order_line-p.ensures.fills

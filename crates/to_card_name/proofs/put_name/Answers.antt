@@ -20,7 +20,12 @@ returns-then-slot-eq0 c =
     let args = c.args in
     let puts = name-absent args.s.now args.slot args.out.now c.if-slot-eq0.true c.put_alone.result c.put_alone.new.out c.put_alone.ensures.puts_alone in
     let said = subst (λ (x : Lines). PutsName args.s.now args.slot args.out.now x c.put_alone.new.out) c.in-All.is puts in
-    record { lines_in = lines-in c.put_alone.ensures.lines_in c.in-All.is; out_len_unchanged = c.put_alone.ensures.out_len_unchanged; puts_name = said; says_full = full-absent args.s.now args.slot c.if-slot-eq0.true }
+    record {
+      lines_in = lines-in c.put_alone.ensures.lines_in c.in-All.is;
+      out_len_unchanged = c.put_alone.ensures.out_len_unchanged;
+      puts_name = said;
+      says_full = full-absent args.s.now args.slot c.if-slot-eq0.true;
+    }
 
 pub returns-then-slot-s : goal.returns-then-slot-s
 returns-then-slot-s c =
@@ -34,7 +39,12 @@ pub returns-then-not-index_object : goal.returns-then-not-index_object
 returns-then-not-index_object c =
     let args = c.args in
     let index-object = c.index_object in
-    record { lines_in = tt; out_len_unchanged = refl; puts_name = name-object args.s.now args.slot args.out.now c.if-slot-eq0.false _ index-object.result index-object.ensures c.if-not-index_object.true _; says_full = tt }
+    record {
+      lines_in = tt;
+      out_len_unchanged = refl;
+      puts_name = name-object args.s.now args.slot args.out.now c.if-slot-eq0.false _ index-object.result index-object.ensures c.if-not-index_object.true _;
+      says_full = tt;
+    }
 
 pub returns-in_default-put_slots : goal.returns-in_default-put_slots
 returns-in_default-put_slots c =

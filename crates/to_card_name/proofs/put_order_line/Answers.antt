@@ -14,7 +14,13 @@ pub slice_bounds-pen_order-end : goal.slice_bounds-pen_order-end
 slice_bounds-pen_order-end c = le_refl _
 
 pub pen_order-q-requires : goal.pen_order-q-requires
-pen_order-q-requires c = record { at_in_bounds = c.requires.at_in_bounds; part_count_in_bounds = c.requires.part_count_in_bounds; in_bounds = c.requires.in_bounds; in_bounds_2 = c.requires.in_bounds_2; rows_from = c.requires.rows_from }
+pen_order-q-requires c = record {
+  at_in_bounds = c.requires.at_in_bounds;
+  part_count_in_bounds = c.requires.part_count_in_bounds;
+  in_bounds = c.requires.in_bounds;
+  in_bounds_2 = c.requires.in_bounds_2;
+  rows_from = c.requires.rows_from;
+}
 
 pub overflow_add-n2 : goal.overflow_add-n2
 overflow_add-n2 c =

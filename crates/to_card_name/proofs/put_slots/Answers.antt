@@ -10,17 +10,29 @@ returns-then-other-ne0 c =
 pub returns-then-full-components : goal.returns-then-full-components
 returns-then-full-components c =
     let args = c.args in
-    record { lines_in = tt; out_len_unchanged = refl; puts_slots = slots-neither args.s.now args.full args.components args.ordered args.other args.out.now c.if-full-components.true _ }
+    record {
+      lines_in = tt;
+      out_len_unchanged = refl;
+      puts_slots = slots-neither args.s.now args.full args.components args.ordered args.other args.out.now c.if-full-components.true _;
+    }
 
 pub returns-then-not-is_unordered : goal.returns-then-not-is_unordered
 returns-then-not-is_unordered c =
     let args = c.args in
-    let is-unordered = c.is_unordered in record { lines_in = tt; out_len_unchanged = refl; puts_slots = slots-ordered args.s.now args.full args.components args.ordered args.other args.out.now is-unordered.result is-unordered.ensures c.if-not-is_unordered.true _ }
+    let is-unordered = c.is_unordered in record {
+      lines_in = tt;
+      out_len_unchanged = refl;
+      puts_slots = slots-ordered args.s.now args.full args.components args.ordered args.other args.out.now is-unordered.result is-unordered.ensures c.if-not-is_unordered.true _;
+    }
 
 pub returns-in-Wrong : goal.returns-in-Wrong
 returns-in-Wrong c =
     let args = c.args in
-    let full-in = c.full_in in record { lines_in = tt; out_len_unchanged = refl; puts_slots = slots-full args.s.now args.full args.components args.ordered args.other args.out.now full-in.result full-in.ensures c.in-Wrong.is _ }
+    let full-in = c.full_in in record {
+      lines_in = tt;
+      out_len_unchanged = refl;
+      puts_slots = slots-full args.s.now args.full args.components args.ordered args.other args.out.now full-in.result full-in.ensures c.in-Wrong.is _;
+    }
 
 pub returns-in-Absent : goal.returns-in-Absent
 returns-in-Absent c =

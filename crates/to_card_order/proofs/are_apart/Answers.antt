@@ -32,7 +32,13 @@ bounds-values-i c =
 
 pub clashes-requires : goal.clashes-requires
 clashes-requires c =
-    record { at_in_bounds = c.requires.at_in_bounds; in_bounds = c.requires.in_bounds; in_bounds_2 = c.requires.in_bounds_2; rows_bound = omega (arith, c.if-rows-gt-ROWS.false); rows_from = c.requires.rows_from }
+    record {
+      at_in_bounds = c.requires.at_in_bounds;
+      in_bounds = c.requires.in_bounds;
+      in_bounds_2 = c.requires.in_bounds_2;
+      rows_bound = omega (arith, c.if-rows-gt-ROWS.false);
+      rows_from = c.requires.rows_from;
+    }
 
 pub overflow_add-i : goal.overflow_add-i
 overflow_add-i c = omega (arith, c.loop-i-test.true, c.if-rows-gt-ROWS.false)

@@ -10,7 +10,13 @@ returns-then-not-is_filled c =
     clash-empty args.s.now args.at args.wanted args.value args.kind c.is_filled.result c.is_filled.ensures c.if-not-is_filled.true
 
 pub is_listed-requires : goal.is_listed-requires
-is_listed-requires c = record { at_in_bounds = c.requires.at_in_bounds; in_bounds = c.requires.in_bounds; in_bounds_2 = c.requires.in_bounds_2; rows_bound = c.requires.rows_bound; rows_from = c.requires.rows_from }
+is_listed-requires c = record {
+  at_in_bounds = c.requires.at_in_bounds;
+  in_bounds = c.requires.in_bounds;
+  in_bounds_2 = c.requires.in_bounds_2;
+  rows_bound = c.requires.rows_bound;
+  rows_from = c.requires.rows_from;
+}
 
 pub returns : goal.returns
 returns c =

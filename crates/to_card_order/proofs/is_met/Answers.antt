@@ -8,7 +8,11 @@ returns-then-m-eq-NO_PRINT c =
     args.count c.if-m-eq-NO_PRINT.true
 
 pub is_noted_wide-requires : goal.is_noted_wide-requires
-is_noted_wide-requires c = record { count_in_bounds = c.requires.count_in_bounds; count_in_bounds_2 = c.requires.count_in_bounds_2; p_value = c.value_print-m.ensures.print-is c.if-m-eq-NO_PRINT.false }
+is_noted_wide-requires c = record {
+  count_in_bounds = c.requires.count_in_bounds;
+  count_in_bounds_2 = c.requires.count_in_bounds_2;
+  p_value = c.value_print-m.ensures.print-is c.if-m-eq-NO_PRINT.false;
+}
 
 pub returns : goal.returns
 returns c =

@@ -29,7 +29,12 @@ returns-in_default c =
 pub note_value-t-requires : goal.note_value-t-requires
 note_value-t-requires c =
     let loop = c.loop-k in
-    record { at_in_bounds = c.requires.at_in_bounds; in_bounds = omega (arith, loop.invariant.2, c.requires.in_bounds); in_bounds_2 = omega (arith, loop.invariant.3, c.requires.in_bounds_2); count_bound = loop.invariant.1 }
+    record {
+      at_in_bounds = c.requires.at_in_bounds;
+      in_bounds = omega (arith, loop.invariant.2, c.requires.in_bounds);
+      in_bounds_2 = omega (arith, loop.invariant.3, c.requires.in_bounds_2);
+      count_bound = loop.invariant.1;
+    }
 
 pub separator-requires : goal.separator-requires
 separator-requires c =
@@ -67,7 +72,11 @@ none_met-requires c =
     let note-value = c.note_value-t in
     let loop = c.loop-k in
     let note = note-value.ensures in
-    record { at_in_bounds = c.requires.at_in_bounds; count_in_bounds = omega (arith, note.few, note.long-places, loop.invariant.2, c.requires.in_bounds); count_in_bounds_2 = omega (arith, note.few, note.long-prints, loop.invariant.3, c.requires.in_bounds_2) }
+    record {
+      at_in_bounds = c.requires.at_in_bounds;
+      count_in_bounds = omega (arith, note.few, note.long-places, loop.invariant.2, c.requires.in_bounds);
+      count_in_bounds_2 = omega (arith, note.few, note.long-prints, loop.invariant.3, c.requires.in_bounds_2);
+    }
 
 pub shape_of-places-in-Stop : goal.shape_of-places-in-Stop
 shape_of-places-in-Stop c =

@@ -23,7 +23,13 @@ pub bounds-order-i : goal.bounds-order-i
 bounds-order-i c = c.loop-i-test.true
 
 pub pen_place-t-requires : goal.pen_place-t-requires
-pen_place-t-requires c = record { at_in_bounds = c.requires.at_in_bounds; part_count_in_bounds = c.requires.part_count_in_bounds; in_bounds = c.requires.in_bounds; in_bounds_2 = c.requires.in_bounds_2; rows_from = c.requires.rows_from }
+pen_place-t-requires c = record {
+  at_in_bounds = c.requires.at_in_bounds;
+  part_count_in_bounds = c.requires.part_count_in_bounds;
+  in_bounds = c.requires.in_bounds;
+  in_bounds_2 = c.requires.in_bounds_2;
+  rows_from = c.requires.rows_from;
+}
 
 pub overflow_add-n : goal.overflow_add-n
 overflow_add-n c = record { fits = omega (arith, pens-in (pens-then c.loop-i.invariant.1.pens c.pen_place-t.ensures.pens), c.well_formed.0.0) }

@@ -25,7 +25,10 @@ returns-then-v-ne-TRUE c =
     let kind-code = c.kind_code-v in
     let a = c.args in
     let l = c.loop-m in
-    record { row_len_unchanged = l.invariant.1; tells_flags = flags-not a.s.now a.slot a.base a.names.now a.row.now c.if-slot-eq0.false l.m l.row l.invariant.2 c.in-At.q c.in-At.a c.in-At.is kind_at.result kind_at.ensures kind-code.result kind-code.ensures c.if-v-ne-TRUE.true _ }
+    record {
+      row_len_unchanged = l.invariant.1;
+      tells_flags = flags-not a.s.now a.slot a.base a.names.now a.row.now c.if-slot-eq0.false l.m l.row l.invariant.2 c.in-At.q c.in-At.a c.in-At.is kind_at.result kind_at.ensures kind-code.result kind-code.ensures c.if-v-ne-TRUE.true _;
+    }
 
 pub shape_of-row-then-k-count : goal.shape_of-row-then-k-count
 shape_of-row-then-k-count c = c.loop-m.invariant.1
@@ -73,7 +76,10 @@ pub returns-in-End : goal.returns-in-End
 returns-in-End c =
     let a = c.args in
     let l = c.loop-m in
-    record { row_len_unchanged = l.invariant.1; tells_flags = flags-all a.s.now a.slot a.base a.names.now a.row.now c.if-slot-eq0.false l.m l.row l.invariant.2 c.in-End.x c.in-End.is }
+    record {
+      row_len_unchanged = l.invariant.1;
+      tells_flags = flags-all a.s.now a.slot a.base a.names.now a.row.now c.if-slot-eq0.false l.m l.row l.invariant.2 c.in-End.x c.in-End.is;
+    }
 
 pub shape_of-row-in-NoObject : goal.shape_of-row-in-NoObject
 shape_of-row-in-NoObject c = c.loop-m.invariant.1
@@ -82,4 +88,7 @@ pub returns-in-NoObject : goal.returns-in-NoObject
 returns-in-NoObject c =
     let a = c.args in
     let l = c.loop-m in
-    record { row_len_unchanged = l.invariant.1; tells_flags = flags-none a.s.now a.slot a.base a.names.now a.row.now c.if-slot-eq0.false l.m l.row l.invariant.2 c.in-NoObject.is _ }
+    record {
+      row_len_unchanged = l.invariant.1;
+      tells_flags = flags-none a.s.now a.slot a.base a.names.now a.row.now c.if-slot-eq0.false l.m l.row l.invariant.2 c.in-NoObject.is _;
+    }

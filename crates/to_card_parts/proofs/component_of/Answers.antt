@@ -21,7 +21,10 @@ returns-then-k-ge-COUNT c =
     let if1 = c.if-kind-eq0 in
     let string-in = c.string_in-q in
     let if3 = c.if-q-eq0 in
-    let which-name = c.which_name-k in record { kind_in = tt; tells_slots = slots-strange args.s.now args.kind args.value if1.false string-in.result string-in.ensures if3.false which-name.result _ kinds-are which-name.ensures c.if-k-ge-COUNT.true }
+    let which-name = c.which_name-k in record {
+      kind_in = tt;
+      tells_slots = slots-strange args.s.now args.kind args.value if1.false string-in.result string-in.ensures if3.false which-name.result _ kinds-are which-name.ensures c.if-k-ge-COUNT.true;
+    }
 
 pub returns-then-v-eq0 : goal.returns-then-v-eq0
 returns-then-v-eq0 c =
@@ -31,7 +34,10 @@ returns-then-v-eq0 c =
     let string-in = c.string_in-q in
     let if3 = c.if-q-eq0 in
     let which-name = c.which_name-k in
-    let string-in2 = c.string_in-v in record { kind_in = tt; tells_slots = slots-no-value args.s.now args.kind args.value if1.false string-in.result string-in.ensures if3.false which-name.result _ kinds-are which-name.ensures (omega (arith, c.if-k-ge-COUNT.false)) if2.false string-in2.result string-in2.ensures c.if-v-eq0.true }
+    let string-in2 = c.string_in-v in record {
+      kind_in = tt;
+      tells_slots = slots-no-value args.s.now args.kind args.value if1.false string-in.result string-in.ensures if3.false which-name.result _ kinds-are which-name.ensures (omega (arith, c.if-k-ge-COUNT.false)) if2.false string-in2.result string-in2.ensures c.if-v-eq0.true;
+    }
 
 pub returns : goal.returns
 returns c =
@@ -42,4 +48,7 @@ returns c =
     let if3 = c.if-q-eq0 in
     let which-name = c.which_name-k in
     let if4 = c.if-k-ge-COUNT in
-    let string-in2 = c.string_in-v in record { kind_in = omega (arith, if4.false); tells_slots = slots-of args.s.now args.kind args.value if1.false string-in.result string-in.ensures if3.false which-name.result _ kinds-are which-name.ensures (omega (arith, if4.false)) if2.false string-in2.result string-in2.ensures c.if-v-eq0.false }
+    let string-in2 = c.string_in-v in record {
+      kind_in = omega (arith, if4.false);
+      tells_slots = slots-of args.s.now args.kind args.value if1.false string-in.result string-in.ensures if3.false which-name.result _ kinds-are which-name.ensures (omega (arith, if4.false)) if2.false string-in2.result string-in2.ensures c.if-v-eq0.false;
+    }

@@ -18,7 +18,11 @@ returns-then-end-eq0 c =
 pub returns-then-other-ne0 : goal.returns-then-other-ne0
 returns-then-other-ne0 c =
     let args = c.args in
-    record { kind_in = tt; tells_component = object-strange args.s.now args.at _ _ c.index_to_end-end.ensures.indexes (ap not (ne_eqb _ 0 c.if-end-eq0.false)) c.if-other-ne0.true; end_in = tt }
+    record {
+      kind_in = tt;
+      tells_component = object-strange args.s.now args.at _ _ c.index_to_end-end.ensures.indexes (ap not (ne_eqb _ 0 c.if-end-eq0.false)) c.if-other-ne0.true;
+      end_in = tt;
+    }
 
 pub returns-in_default : goal.returns-in_default
 returns-in_default c =
@@ -38,4 +42,8 @@ returns c =
     let if1 = c.if-end-eq0 in
     let if2 = c.if-other-ne0 in
     let told = object_of args.s.now args.at _ _ c.index_to_end-end.ensures.indexes (ap not (ne_eqb _ 0 if1.false)) if2.false c.component_of.result c.component_of.ensures.tells_slots in
-    record { kind_in = subst KindIn c.in-Of.is c.component_of.ensures.kind_in; tells_component = subst (TellsComponent args.s.now args.at) c.in-Of.is told; end_in = c.index_to_end-end.ensures.value_ends if1.false }
+    record {
+      kind_in = subst KindIn c.in-Of.is c.component_of.ensures.kind_in;
+      tells_component = subst (TellsComponent args.s.now args.at) c.in-Of.is told;
+      end_in = c.index_to_end-end.ensures.value_ends if1.false;
+    }

@@ -120,4 +120,7 @@ returns-in-Stop c =
     let h = turn-as separator.ensures c.in-Stop.is in
     let low : c.in-Of.k < length l.marks = omega (arith, kind-in _ c.component_to_end.ensures.kind_in (ended-found c.in-Of.is), l.invariant.1, c.requires.part_count_in_bounds) in
     let lk : 16 ≤ length l.kinds = omega (arith, l.invariant.2, c.requires.in_bounds) in
-    let lv : 16 ≤ length l.values = omega (arith, l.invariant.3, c.requires.in_bounds_2) in record { checks_from = checks-all s at l.i l.marks l.invariant.4 _ tells _ _ is _ low mark-kind.ensures _ ends _ h row.result row.ensures.some-row; rows_from = lists-all s at l.i l.kinds l.values l.n l.invariant.5 _ tells _ ends _ _ is lk lv _ _ row.result row.ensures _ h }
+    let lv : 16 ≤ length l.values = omega (arith, l.invariant.3, c.requires.in_bounds_2) in record {
+      checks_from = checks-all s at l.i l.marks l.invariant.4 _ tells _ _ is _ low mark-kind.ensures _ ends _ h row.result row.ensures.some-row;
+      rows_from = lists-all s at l.i l.kinds l.values l.n l.invariant.5 _ tells _ ends _ _ is lk lv _ _ row.result row.ensures _ h;
+    }

@@ -14,7 +14,11 @@ shape_of-out-in_default c = c.put_name.ensures.out_len_unchanged
 pub returns-in_default : goal.returns-in_default
 returns-in_default c =
     let args = c.args in
-    record { put_in = tt; out_len_unchanged = c.put_name.ensures.out_len_unchanged; tells_org = org-no-name args.s.now args.name args.units _ args.column _ c.put_name.result c.put_name.ensures.tells_name _ c.in_default.is }
+    record {
+      put_in = tt;
+      out_len_unchanged = c.put_name.ensures.out_len_unchanged;
+      tells_org = org-no-name args.s.now args.name args.units _ args.column _ c.put_name.result c.put_name.ensures.tells_name _ c.in_default.is;
+    }
 
 pub slice_bounds-put_units-count : goal.slice_bounds-put_units-count
 slice_bounds-put_units-count c = omega (arith, ink-in c.put_name.ensures.ink_in c.in-Done.is, c.put_name.ensures.out_len_unchanged)

@@ -19,7 +19,11 @@ pub returns-then-q-eq0 : goal.returns-then-q-eq0
 returns-then-q-eq0 c =
     let args = c.args in
     let loop = c.loop-column in
-    let unit-in = c.unit_in-q in record { ink_in = tt; out_len_unchanged = pens-length loop.invariant.1.pens; units_from = units-wrong args.s.now args.at args.out.now args.column loop.i loop.n loop.k loop.ok loop.filled loop.out loop.invariant.1 c.element_at-p.result c.element_at-p.ensures.tells_element unit-in.result unit-in.ensures _ c.if-q-eq0.true }
+    let unit-in = c.unit_in-q in record {
+      ink_in = tt;
+      out_len_unchanged = pens-length loop.invariant.1.pens;
+      units_from = units-wrong args.s.now args.at args.out.now args.column loop.i loop.n loop.k loop.ok loop.filled loop.out loop.invariant.1 c.element_at-p.result c.element_at-p.ensures.tells_element unit-in.result unit-in.ensures _ c.if-q-eq0.true;
+    }
 
 pub slice_bounds-pen_unit-count : goal.slice_bounds-pen_unit-count
 slice_bounds-pen_unit-count c = omega (arith, pens-in c.loop-column.invariant.1.pens, pens-length c.loop-column.invariant.1.pens)

@@ -19,7 +19,10 @@ returns-in_default c =
     let a = c.args in
     let s = a.s.now in
     let o = opens s a.at _ _ c.skip_space-i.ensures c.look.ensures.0 c.if-look-ne-LEFT_BRACKET.false _ _ c.skip_space-j.ensures c.look-2.ensures.0 c.if-look-eq-RIGHT_BRACKET.false in
-    record { four_in = tt; tells_four = by-elems o Bad (four-1 s _ c.element_at-p.result (c.element_at-p.ensures.inside, c.element_at-p.ensures.tells_element) _ (turn-as c.separator.ensures c.in_default.is)) }
+    record {
+      four_in = tt;
+      tells_four = by-elems o Bad (four-1 s _ c.element_at-p.result (c.element_at-p.ensures.inside, c.element_at-p.ensures.tells_element) _ (turn-as c.separator.ensures c.in_default.is));
+    }
 
 pub returns-in_default-separator : goal.returns-in_default-separator
 returns-in_default-separator c =
@@ -27,7 +30,10 @@ returns-in_default-separator c =
     let s = a.s.now in
     let o = opens s a.at _ _ c.skip_space-i.ensures c.look.ensures.0 c.if-look-ne-LEFT_BRACKET.false _ _ c.skip_space-j.ensures c.look-2.ensures.0 c.if-look-eq-RIGHT_BRACKET.false in
     let w1 = turn-as c.separator.ensures c.in-Go.is in
-    record { four_in = tt; tells_four = by-elems o Bad (four-2 s _ c.element_at-p.result (c.element_at-p.ensures.inside, c.element_at-p.ensures.tells_element) _ w1 c.element_at-p2.result (c.element_at-p2.ensures.inside, c.element_at-p2.ensures.tells_element) _ (turn-as c.separator-2.ensures c.in_default-separator.is)) }
+    record {
+      four_in = tt;
+      tells_four = by-elems o Bad (four-2 s _ c.element_at-p.result (c.element_at-p.ensures.inside, c.element_at-p.ensures.tells_element) _ w1 c.element_at-p2.result (c.element_at-p2.ensures.inside, c.element_at-p2.ensures.tells_element) _ (turn-as c.separator-2.ensures c.in_default-separator.is));
+    }
 
 pub returns-in_default-separator-2 : goal.returns-in_default-separator-2
 returns-in_default-separator-2 c =
@@ -36,7 +42,10 @@ returns-in_default-separator-2 c =
     let o = opens s a.at _ _ c.skip_space-i.ensures c.look.ensures.0 c.if-look-ne-LEFT_BRACKET.false _ _ c.skip_space-j.ensures c.look-2.ensures.0 c.if-look-eq-RIGHT_BRACKET.false in
     let w1 = turn-as c.separator.ensures c.in-Go.is in
     let w2 = turn-as c.separator-2.ensures c.in-Go-separator.is in
-    record { four_in = tt; tells_four = by-elems o Bad (four-3 s _ c.element_at-p.result (c.element_at-p.ensures.inside, c.element_at-p.ensures.tells_element) _ w1 c.element_at-p2.result (c.element_at-p2.ensures.inside, c.element_at-p2.ensures.tells_element) _ w2 c.element_at-p3.result (c.element_at-p3.ensures.inside, c.element_at-p3.ensures.tells_element) _ (turn-as c.separator-3.ensures c.in_default-separator-2.is)) }
+    record {
+      four_in = tt;
+      tells_four = by-elems o Bad (four-3 s _ c.element_at-p.result (c.element_at-p.ensures.inside, c.element_at-p.ensures.tells_element) _ w1 c.element_at-p2.result (c.element_at-p2.ensures.inside, c.element_at-p2.ensures.tells_element) _ w2 c.element_at-p3.result (c.element_at-p3.ensures.inside, c.element_at-p3.ensures.tells_element) _ (turn-as c.separator-3.ensures c.in_default-separator-2.is));
+    }
 
 pub returns-in_default-separator-3 : goal.returns-in_default-separator-3
 returns-in_default-separator-3 c =
@@ -46,7 +55,10 @@ returns-in_default-separator-3 c =
     let w1 = turn-as c.separator.ensures c.in-Go.is in
     let w2 = turn-as c.separator-2.ensures c.in-Go-separator.is in
     let w3 = turn-as c.separator-3.ensures c.in-Go-separator-2.is in
-    record { four_in = tt; tells_four = by-elems o Bad (four-more s _ c.element_at-p.result (c.element_at-p.ensures.inside, c.element_at-p.ensures.tells_element) _ w1 c.element_at-p2.result (c.element_at-p2.ensures.inside, c.element_at-p2.ensures.tells_element) _ w2 c.element_at-p3.result (c.element_at-p3.ensures.inside, c.element_at-p3.ensures.tells_element) _ w3 c.element_at-p4.result (c.element_at-p4.ensures.inside, c.element_at-p4.ensures.tells_element) _ (turn-as c.separator-4.ensures c.in_default-separator-3.is)) }
+    record {
+      four_in = tt;
+      tells_four = by-elems o Bad (four-more s _ c.element_at-p.result (c.element_at-p.ensures.inside, c.element_at-p.ensures.tells_element) _ w1 c.element_at-p2.result (c.element_at-p2.ensures.inside, c.element_at-p2.ensures.tells_element) _ w2 c.element_at-p3.result (c.element_at-p3.ensures.inside, c.element_at-p3.ensures.tells_element) _ w3 c.element_at-p4.result (c.element_at-p4.ensures.inside, c.element_at-p4.ensures.tells_element) _ (turn-as c.separator-4.ensures c.in_default-separator-3.is));
+    }
 
 pub returns : goal.returns
 returns c =

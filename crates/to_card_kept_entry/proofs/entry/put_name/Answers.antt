@@ -13,7 +13,11 @@ returns-then-which_name-ne-UNKEPT_COUNT c =
     let args = c.args in
     let string-in = c.string_in-q in
     let if1 = c.if-q-eq0 in
-    let which-name = c.which_name in record { b_len_unchanged = refl; within = tt; puts_name = name-never args.b.now args.n args.s.now args.at string-in.result string-in.ensures if1.false which-name.result which-name.ensures c.if-which_name-ne-UNKEPT_COUNT.true _ }
+    let which-name = c.which_name in record {
+      b_len_unchanged = refl;
+      within = tt;
+      puts_name = name-never args.b.now args.n args.s.now args.at string-in.result string-in.ensures if1.false which-name.result which-name.ensures c.if-which_name-ne-UNKEPT_COUNT.true _;
+    }
 
 pub returns : goal.returns
 returns c =
@@ -22,4 +26,8 @@ returns c =
     let if1 = c.if-q-eq0 in
     let which-name = c.which_name in
     let if2 = c.if-which_name-ne-UNKEPT_COUNT in
-    record { b_len_unchanged = c.put_word.ensures.b_len_unchanged; within = c.put_word.ensures.within; puts_name = name-word args.b.now args.n args.s.now args.at string-in.result string-in.ensures if1.false which-name.result which-name.ensures if2.false c.put_word.result _ c.put_word.ensures.puts_word }
+    record {
+      b_len_unchanged = c.put_word.ensures.b_len_unchanged;
+      within = c.put_word.ensures.within;
+      puts_name = name-word args.b.now args.n args.s.now args.at string-in.result string-in.ensures if1.false which-name.result which-name.ensures if2.false c.put_word.result _ c.put_word.ensures.puts_word;
+    }

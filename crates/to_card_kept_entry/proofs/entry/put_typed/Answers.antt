@@ -10,7 +10,11 @@ pub returns-in_default : goal.returns-in_default
 returns-in_default c =
     let args = c.args in
     let put-text = c.put_text in
-    let z = no_room args.b.now args.n c.requires.n_in_bounds (ascii "value") _ put-text.result put-text.ensures c.in_default.is in record { bounds = record { long = z.0; wide = refl }; rows_in = tt; puts_typed = typed-full args.b.now args.n args.t.now args.m args.s.now args.at z.1 _ _ }
+    let z = no_room args.b.now args.n c.requires.n_in_bounds (ascii "value") _ put-text.result put-text.ensures c.in_default.is in record {
+      bounds = record { long = z.0; wide = refl };
+      rows_in = tt;
+      puts_typed = typed-full args.b.now args.n args.t.now args.m args.s.now args.at z.1 _ _;
+    }
 
 pub overflow_add-a : goal.overflow_add-a
 overflow_add-a c =

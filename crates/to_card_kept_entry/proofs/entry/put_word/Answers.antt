@@ -9,7 +9,11 @@ pub returns-in_default : goal.returns-in_default
 returns-in_default c =
     let args = c.args in
     let pre = c.requires in
-    let put-decoded = c.put_decoded in record { b_len_unchanged = puts-long args.b.now args.n (text_at args.s.now args.q) put-decoded.result _ put-decoded.ensures; within = tt; puts_word = word-full args.b.now args.n args.s.now args.q (pre) put-decoded.result _ put-decoded.ensures c.in_default.is }
+    let put-decoded = c.put_decoded in record {
+      b_len_unchanged = puts-long args.b.now args.n (text_at args.s.now args.q) put-decoded.result _ put-decoded.ensures;
+      within = tt;
+      puts_word = word-full args.b.now args.n args.s.now args.q (pre) put-decoded.result _ put-decoded.ensures c.in_default.is;
+    }
 
 pub slice_bounds-is_word-count : goal.slice_bounds-is_word-count
 slice_bounds-is_word-count c =
@@ -40,11 +44,19 @@ returns-then-not-is_word c =
     let args = c.args in
     let pre = c.requires in
     let put-decoded = c.put_decoded in
-    record { b_len_unchanged = puts-long args.b.now args.n (text_at args.s.now args.q) put-decoded.result _ put-decoded.ensures; within = tt; puts_word = word-other args.b.now args.n args.s.now args.q (pre) put-decoded.result _ put-decoded.ensures _ c.in-End.is (sym c.is_word.ensures ∙ c.if-not-is_word.true) }
+    record {
+      b_len_unchanged = puts-long args.b.now args.n (text_at args.s.now args.q) put-decoded.result _ put-decoded.ensures;
+      within = tt;
+      puts_word = word-other args.b.now args.n args.s.now args.q (pre) put-decoded.result _ put-decoded.ensures _ c.in-End.is (sym c.is_word.ensures ∙ c.if-not-is_word.true);
+    }
 
 pub returns : goal.returns
 returns c =
     let args = c.args in
     let pre = c.requires in
     let put-decoded = c.put_decoded in
-    let g = word_in args.b.now args.n args.s.now args.q (pre) put-decoded.result _ put-decoded.ensures _ c.in-End.is in record { b_len_unchanged = puts-long args.b.now args.n (text_at args.s.now args.q) put-decoded.result _ put-decoded.ensures; within = (omega (arith, g.to), g.within); puts_word = word-is args.b.now args.n args.s.now args.q (pre) put-decoded.result _ put-decoded.ensures _ c.in-End.is (sym c.is_word.ensures ∙ c.if-not-is_word.false) }
+    let g = word_in args.b.now args.n args.s.now args.q (pre) put-decoded.result _ put-decoded.ensures _ c.in-End.is in record {
+      b_len_unchanged = puts-long args.b.now args.n (text_at args.s.now args.q) put-decoded.result _ put-decoded.ensures;
+      within = (omega (arith, g.to), g.within);
+      puts_word = word-is args.b.now args.n args.s.now args.q (pre) put-decoded.result _ put-decoded.ensures _ c.in-End.is (sym c.is_word.ensures ∙ c.if-not-is_word.false);
+    }

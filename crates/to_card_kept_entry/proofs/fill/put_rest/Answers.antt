@@ -9,7 +9,10 @@ use Rattle.to_card_kept_entry.proofs.fill.put_rest.Goals as goal
 pub returns-in_default : goal.returns-in_default
 returns-in_default c =
     let a = c.args in
-    record { bounds = c.put_type.ensures.bounds; fills_rest = rest-untyped a.b.now a.t.now a.f a.e a.s.now a.kind a.value c.put_type.result _ _ c.put_type.ensures.puts_type c.in_default.is }
+    record {
+      bounds = c.put_type.ensures.bounds;
+      fills_rest = rest-untyped a.b.now a.t.now a.f a.e a.s.now a.kind a.value c.put_type.result _ _ c.put_type.ensures.puts_type c.in_default.is;
+    }
 
 pub put_string-requires : goal.put_string-requires
 put_string-requires c =
@@ -19,11 +22,17 @@ put_string-requires c =
 pub returns-in_default-put_string : goal.returns-in_default-put_string
 returns-in_default-put_string c =
     let a = c.args in
-    record { bounds = record { long = c.put_string.ensures.b_len_unchanged ∙ c.put_type.ensures.bounds.long; wide = c.put_type.ensures.bounds.wide }; fills_rest = rest-valueless a.b.now a.t.now a.f a.e a.s.now a.kind a.value c.put_type.result _ _ c.put_type.ensures.puts_type _ _ c.in-More.is c.put_string.result _ c.put_string.ensures.puts_at c.in_default-put_string.is }
+    record {
+      bounds = record { long = c.put_string.ensures.b_len_unchanged ∙ c.put_type.ensures.bounds.long; wide = c.put_type.ensures.bounds.wide };
+      fills_rest = rest-valueless a.b.now a.t.now a.f a.e a.s.now a.kind a.value c.put_type.result _ _ c.put_type.ensures.puts_type _ _ c.in-More.is c.put_string.result _ c.put_string.ensures.puts_at c.in_default-put_string.is;
+    }
 
 pub returns : goal.returns
 returns c =
     let a = c.args in
     let h = c.put_head.ensures in
     let wide = c.put_type.ensures.bounds.wide in
-    let g = rows_in c.put_type.ensures.rows_in c.in-More.is in record { bounds = record { long = c.put_string.ensures.b_len_unchanged ∙ c.put_type.ensures.bounds.long; wide = ap length h ∙ headed-length _ _ _ _ _ _ _ ∙ wide }; fills_rest = rest-whole a.b.now a.t.now a.f a.e a.s.now a.kind a.value c.put_type.result _ _ c.put_type.ensures.puts_type _ _ c.in-More.is c.put_string.result _ c.put_string.ensures.puts_at c.requires.end_in_bounds c.requires.e_le_end (omega (arith, wide, c.requires.table_length_in_bounds)) g.2 _ c.in-End.is h }
+    let g = rows_in c.put_type.ensures.rows_in c.in-More.is in record {
+      bounds = record { long = c.put_string.ensures.b_len_unchanged ∙ c.put_type.ensures.bounds.long; wide = ap length h ∙ headed-length _ _ _ _ _ _ _ ∙ wide };
+      fills_rest = rest-whole a.b.now a.t.now a.f a.e a.s.now a.kind a.value c.put_type.result _ _ c.put_type.ensures.puts_type _ _ c.in-More.is c.put_string.result _ c.put_string.ensures.puts_at c.requires.end_in_bounds c.requires.e_le_end (omega (arith, wide, c.requires.table_length_in_bounds)) g.2 _ c.in-End.is h;
+    }

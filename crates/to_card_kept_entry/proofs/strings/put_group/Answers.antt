@@ -16,7 +16,11 @@ returns-in_default c =
     let args = c.args in
     let sole-string = c.sole_string-q in
     let if1 = c.if-q-eq0 in
-    let put-decoded = c.put_decoded in record { b_len_unchanged = puts-long args.b.now args.n (text_at args.s.now sole-string.result) put-decoded.result _ put-decoded.ensures; within = tt; puts_group = group-full args.b.now args.n args.s.now args.at sole-string.result sole-string.ensures if1.false put-decoded.result _ put-decoded.ensures c.in_default.is }
+    let put-decoded = c.put_decoded in record {
+      b_len_unchanged = puts-long args.b.now args.n (text_at args.s.now sole-string.result) put-decoded.result _ put-decoded.ensures;
+      within = tt;
+      puts_group = group-full args.b.now args.n args.s.now args.at sole-string.result sole-string.ensures if1.false put-decoded.result _ put-decoded.ensures c.in_default.is;
+    }
 
 pub slice_bounds-is_word-count : goal.slice_bounds-is_word-count
 slice_bounds-is_word-count c =
@@ -51,7 +55,11 @@ returns-then-not-is_word c =
     let sole-string = c.sole_string-q in
     let if1 = c.if-q-eq0 in
     let put-decoded = c.put_decoded in
-    record { b_len_unchanged = puts-long args.b.now args.n (text_at args.s.now sole-string.result) put-decoded.result _ put-decoded.ensures; within = tt; puts_group = group-other args.b.now args.n args.s.now args.at sole-string.result sole-string.ensures if1.false put-decoded.result _ put-decoded.ensures _ c.in-End.is c.requires.n_in_bounds (sym c.is_word.ensures ∙ c.if-not-is_word.true) }
+    record {
+      b_len_unchanged = puts-long args.b.now args.n (text_at args.s.now sole-string.result) put-decoded.result _ put-decoded.ensures;
+      within = tt;
+      puts_group = group-other args.b.now args.n args.s.now args.at sole-string.result sole-string.ensures if1.false put-decoded.result _ put-decoded.ensures _ c.in-End.is c.requires.n_in_bounds (sym c.is_word.ensures ∙ c.if-not-is_word.true);
+    }
 
 pub returns : goal.returns
 returns c =
@@ -60,4 +68,8 @@ returns c =
     let if1 = c.if-q-eq0 in
     let put-decoded = c.put_decoded in
     let g = group-in args.b.now args.n args.s.now args.at sole-string.result sole-string.ensures if1.false
-    put-decoded.result _ put-decoded.ensures _ c.in-End.is in record { b_len_unchanged = puts-long args.b.now args.n (text_at args.s.now sole-string.result) put-decoded.result _ put-decoded.ensures; within = (omega (arith, g.to), g.within); puts_group = group-is args.b.now args.n args.s.now args.at sole-string.result sole-string.ensures if1.false put-decoded.result _ put-decoded.ensures _ c.in-End.is c.requires.n_in_bounds (sym c.is_word.ensures ∙ c.if-not-is_word.false) }
+    put-decoded.result _ put-decoded.ensures _ c.in-End.is in record {
+      b_len_unchanged = puts-long args.b.now args.n (text_at args.s.now sole-string.result) put-decoded.result _ put-decoded.ensures;
+      within = (omega (arith, g.to), g.within);
+      puts_group = group-is args.b.now args.n args.s.now args.at sole-string.result sole-string.ensures if1.false put-decoded.result _ put-decoded.ensures _ c.in-End.is c.requires.n_in_bounds (sym c.is_word.ensures ∙ c.if-not-is_word.false);
+    }

@@ -13,4 +13,8 @@ returns c =
     let args = c.args in
     let string-in = c.string_in-q in
     let if1 = c.if-q-eq0 in
-    let put-decoded = c.put_decoded in record { b_len_unchanged = puts-long args.b.now args.n _ put-decoded.result _ put-decoded.ensures; within = puts-within args.b.now args.n _ put-decoded.result _ put-decoded.ensures; puts_at = a-string args.b.now args.n args.s.now args.at string-in.result string-in.ensures if1.false put-decoded.result _ put-decoded.ensures }
+    let put-decoded = c.put_decoded in record {
+      b_len_unchanged = puts-long args.b.now args.n _ put-decoded.result _ put-decoded.ensures;
+      within = puts-within args.b.now args.n _ put-decoded.result _ put-decoded.ensures;
+      puts_at = a-string args.b.now args.n args.s.now args.at string-in.result string-in.ensures if1.false put-decoded.result _ put-decoded.ensures;
+    }

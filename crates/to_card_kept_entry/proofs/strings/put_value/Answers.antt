@@ -5,13 +5,21 @@ use Rattle.to_card_kept_entry.proofs.strings.put_value.Goals as goal
 
 pub returns-then-m-ge-VALUES : goal.returns-then-m-ge-VALUES
 returns-then-m-ge-VALUES c =
-    let args = c.args in record { bounds = record { long = refl; wide = refl }; rows_in = tt; adds_value = value-over args.b.now args.n args.t.now args.m args.a args.e args.s.now args.at c.if-m-ge-VALUES.true }
+    let args = c.args in record {
+      bounds = record { long = refl; wide = refl };
+      rows_in = tt;
+      adds_value = value-over args.b.now args.n args.t.now args.m args.a args.e args.s.now args.at c.if-m-ge-VALUES.true;
+    }
 
 pub returns-in_default : goal.returns-in_default
 returns-in_default c =
     let args = c.args in
     let if1 = c.if-m-ge-VALUES in
-    record { bounds = record { long = c.put_string.ensures.b_len_unchanged; wide = refl }; rows_in = tt; adds_value = value_none args.b.now args.n args.t.now args.m args.a args.e args.s.now args.at if1.false c.put_string.result _ c.put_string.ensures.puts_at c.in_default.is }
+    record {
+      bounds = record { long = c.put_string.ensures.b_len_unchanged; wide = refl };
+      rows_in = tt;
+      adds_value = value_none args.b.now args.n args.t.now args.m args.a args.e args.s.now args.at if1.false c.put_string.result _ c.put_string.ensures.puts_at c.in_default.is;
+    }
 
 pub returns : goal.returns
 returns c =

@@ -21,7 +21,13 @@ loop-g-init c =
 pub put_member-requires : goal.put_member-requires
 put_member-requires c =
     let loop = c.loop-g in
-    record { end_in_bounds = loop.invariant.1; table_length_in_bounds = omega (arith, loop.invariant.3, c.requires.table_length_in_bounds); at_in_bounds = omega (arith, c.member_at-m.ensures.inside.ordered, c.member_at-m.ensures.inside.end-in); count_in_bounds = omega (arith, loop.invariant.6, loop.invariant.0); rows_bound = loop.invariant.5 }
+    record {
+      end_in_bounds = loop.invariant.1;
+      table_length_in_bounds = omega (arith, loop.invariant.3, c.requires.table_length_in_bounds);
+      at_in_bounds = omega (arith, c.member_at-m.ensures.inside.ordered, c.member_at-m.ensures.inside.end-in);
+      count_in_bounds = omega (arith, loop.invariant.6, loop.invariant.0);
+      rows_bound = loop.invariant.5;
+    }
 
 pub shape_of-b-in_default : goal.shape_of-b-in_default
 shape_of-b-in_default c = c.put_member.ensures.bounds.long ∙ c.loop-g.invariant.2
@@ -33,7 +39,11 @@ pub returns-in_default : goal.returns-in_default
 returns-in_default c =
     let args = c.args in
     let loop = c.loop-g in
-    record { bounds = record { long = c.put_member.ensures.bounds.long ∙ loop.invariant.2; wide = c.put_member.ensures.bounds.wide ∙ loop.invariant.3 }; step_in = tt; puts_from = from-bad args.b.now args.n args.s.now args.at loop.i loop.f loop.b loop.t loop.invariant.7 c.member_at-m.result c.member_at-m.ensures.tells_member c.put_member.result _ _ c.put_member.ensures.puts_member c.in_default.is _ _ }
+    record {
+      bounds = record { long = c.put_member.ensures.bounds.long ∙ loop.invariant.2; wide = c.put_member.ensures.bounds.wide ∙ loop.invariant.3 };
+      step_in = tt;
+      puts_from = from-bad args.b.now args.n args.s.now args.at loop.i loop.f loop.b loop.t loop.invariant.7 c.member_at-m.result c.member_at-m.ensures.tells_member c.put_member.result _ _ c.put_member.ensures.puts_member c.in_default.is _ _;
+    }
 
 pub separator-requires : goal.separator-requires
 separator-requires c = record { at_in_bounds = c.member_at-m.ensures.inside.end-in; close_bound = omega arith }

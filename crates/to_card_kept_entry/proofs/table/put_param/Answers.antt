@@ -9,7 +9,11 @@ use Rattle.to_card_kept_entry.proofs.table.put_param.Goals as goal
 pub returns-in_default : goal.returns-in_default
 returns-in_default c =
     let args = c.args in
-    let put-decoded = c.put_decoded in record { bounds = record { long = puts-long args.b.now args.n (text_at args.s.now args.q) put-decoded.result _ put-decoded.ensures; wide = refl }; rows_in = tt; puts_param = param-full args.b.now args.n args.t.now args.m args.s.now args.q args.at c.requires.n_in_bounds put-decoded.result _ put-decoded.ensures c.in_default.is }
+    let put-decoded = c.put_decoded in record {
+      bounds = record { long = puts-long args.b.now args.n (text_at args.s.now args.q) put-decoded.result _ put-decoded.ensures; wide = refl };
+      rows_in = tt;
+      puts_param = param-full args.b.now args.n args.t.now args.m args.s.now args.q args.at c.requires.n_in_bounds put-decoded.result _ put-decoded.ensures c.in_default.is;
+    }
 
 pub slice_bounds-is_word-count : goal.slice_bounds-is_word-count
 slice_bounds-is_word-count c =
@@ -36,20 +40,32 @@ pub returns-then-not-is_word : goal.returns-then-not-is_word
 returns-then-not-is_word c =
     let args = c.args in
     let put-decoded = c.put_decoded in
-    record { bounds = record { long = puts-long args.b.now args.n (text_at args.s.now args.q) put-decoded.result _ put-decoded.ensures; wide = refl }; rows_in = tt; puts_param = param-other args.b.now args.n args.t.now args.m args.s.now args.q args.at c.requires.n_in_bounds put-decoded.result _ put-decoded.ensures _ c.in-End.is (sym c.is_word.ensures ∙ c.if-not-is_word.true) }
+    record {
+      bounds = record { long = puts-long args.b.now args.n (text_at args.s.now args.q) put-decoded.result _ put-decoded.ensures; wide = refl };
+      rows_in = tt;
+      puts_param = param-other args.b.now args.n args.t.now args.m args.s.now args.q args.at c.requires.n_in_bounds put-decoded.result _ put-decoded.ensures _ c.in-End.is (sym c.is_word.ensures ∙ c.if-not-is_word.true);
+    }
 
 pub returns-then-equals : goal.returns-then-equals
 returns-then-equals c =
     let args = c.args in
     let put-decoded = c.put_decoded in
-    record { bounds = record { long = puts-long args.b.now args.n (text_at args.s.now args.q) put-decoded.result _ put-decoded.ensures; wide = refl }; rows_in = tt; puts_param = param-value args.b.now args.n args.t.now args.m args.s.now args.q args.at c.requires.n_in_bounds put-decoded.result _ put-decoded.ensures _ c.in-End.is (sym c.equals.ensures ∙ c.if-equals.true) }
+    record {
+      bounds = record { long = puts-long args.b.now args.n (text_at args.s.now args.q) put-decoded.result _ put-decoded.ensures; wide = refl };
+      rows_in = tt;
+      puts_param = param-value args.b.now args.n args.t.now args.m args.s.now args.q args.at c.requires.n_in_bounds put-decoded.result _ put-decoded.ensures _ c.in-End.is (sym c.equals.ensures ∙ c.if-equals.true);
+    }
 
 pub put_values-requires : goal.put_values-requires
 put_values-requires c =
     let args = c.args in
     let put-decoded = c.put_decoded in
     let g = name_in args.b.now args.n args.t.now args.m args.s.now args.q args.at c.requires.n_in_bounds put-decoded.result _
-    put-decoded.ensures _ c.in-End.is in record { n_in_bounds = omega (arith, g.within, g.long); table_length_in_bounds = c.requires.table_length_in_bounds; at_in_bounds = c.requires.at_in_bounds }
+    put-decoded.ensures _ c.in-End.is in record {
+      n_in_bounds = omega (arith, g.within, g.long);
+      table_length_in_bounds = c.requires.table_length_in_bounds;
+      at_in_bounds = c.requires.at_in_bounds;
+    }
 
 pub returns : goal.returns
 returns c =

@@ -1,0 +1,14 @@
+use Rattle.convert.specs.Answers.{yes}
+use Rattle.card_to_json.proofs.Inner.{fit-long, serves-refused, serves-written, never-full}
+use Rattle.card_to_json.proofs.finish.Goals as goal
+
+pub returns-then-text-out : goal.returns-then-text-out
+returns-then-text-out c =
+    serves-refused c.args.out.now (yes c.args.text.now) 14 0 (fit-long _ c.args.text.now c.requires c.if-text-out.true)
+
+pub returns-in_default : goal.returns-in_default
+returns-in_default c = never-full _ _ _ _ c.put_text.ensures c.in_default.is c.if-text-out.false
+
+pub returns : goal.returns
+returns c =
+    serves-written c.args.out.now c.args.text.now _ _ _ c.requires c.if-text-out.false c.put_text.ensures c.in-Bytes.is

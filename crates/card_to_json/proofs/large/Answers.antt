@@ -1,0 +1,24 @@
+use lib.ListN.{replicate}
+use borrow.Author.Rules.{rules}
+use Rattle.card_to_json.proofs.Serving.{of-refused, of-full, of-json, json-fits, front-short}
+use Rattle.card_to_json.proofs.large.Goals as goal
+
+pub returns-in-Refused : goal.returns-in-Refused
+returns-in-Refused c =
+    of-refused c.args.stem.now c.args.number c.args.card.now _ (replicate 65536 0) c.convert.result c.convert.new.res c.convert.ensures c.args.out.now _ _ c.in-Refused.is
+
+pub returns-in-Full : goal.returns-in-Full
+returns-in-Full c =
+    of-full c.args.stem.now c.args.number c.args.card.now _ (replicate 65536 0) c.convert.result c.convert.new.res c.convert.ensures (search rules) (search rules) c.args.out.now c.in-Full.is
+
+pub slice_bounds-finish-end : goal.slice_bounds-finish-end
+slice_bounds-finish-end c =
+    json-fits c.args.stem.now c.args.number c.args.card.now _ (replicate 65536 0) c.convert.result c.convert.new.res c.convert.ensures _ c.in-Json.is
+
+pub finish-requires : goal.finish-requires
+finish-requires c =
+    front-short c.convert.new.res c.in-Json.k (search rules)
+
+pub returns-in-Json : goal.returns-in-Json
+returns-in-Json c =
+    of-json c.args.stem.now c.args.number c.args.card.now _ (replicate 65536 0) c.convert.result c.convert.new.res c.convert.ensures c.args.out.now _ c.finish.result _ c.in-Json.is c.finish.ensures
