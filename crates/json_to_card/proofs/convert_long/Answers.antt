@@ -1,3 +1,4 @@
+use lib.ListN.{replicate}
 use borrow.Author.Rules.{rules}
 use native.Mathlib.Omega.{arith}
 use lib.ListN.{length-take, length-drop}
@@ -13,20 +14,20 @@ convert-requires c =
 pub returns-in-Refused : goal.returns-in-Refused
 returns-in-Refused c =
     let a = c.args in
-    of-refused a.out.now (inner (reading 16 a.json.now)) _ c.convert.result c.convert.new.res c.convert.ensures _ _ c.in-Refused.is
+    of-refused a.out.now (inner (reading 16 a.json.now)) (replicate 32769 0) c.convert.result c.convert.new.res c.convert.ensures _ _ c.in-Refused.is
 
 pub returns-in-Full : goal.returns-in-Full
 returns-in-Full c =
     let a = c.args in
-    of-full a.out.now (inner (reading 16 a.json.now)) _ c.convert.result c.convert.new.res c.convert.ensures c.in-Full.is (search rules)
+    of-full a.out.now (inner (reading 16 a.json.now)) (replicate 32769 0) c.convert.result c.convert.new.res c.convert.ensures c.in-Full.is (search rules)
 
 pub slice_bounds-put_served-end : goal.slice_bounds-put_served-end
 slice_bounds-put_served-end c =
     let a = c.args in
-    card-fits a.out.now (inner (reading 16 a.json.now)) _ c.convert.result c.convert.new.res c.convert.ensures _ c.in-Card.is
+    card-fits a.out.now (inner (reading 16 a.json.now)) (replicate 32769 0) c.convert.result c.convert.new.res c.convert.ensures _ c.in-Card.is
 
 pub returns-in-Card : goal.returns-in-Card
 returns-in-Card c =
     let a = c.args in
     let p = c.put_served in
-    of-card a.out.now (inner (reading 16 a.json.now)) _ c.convert.result c.convert.new.res c.convert.ensures _ c.in-Card.is p.result _ (search rules) p.ensures
+    of-card a.out.now (inner (reading 16 a.json.now)) (replicate 32769 0) c.convert.result c.convert.new.res c.convert.ensures _ c.in-Card.is p.result _ (search rules) p.ensures

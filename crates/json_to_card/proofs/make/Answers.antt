@@ -46,4 +46,4 @@ returns-in-Object c =
     let s = a.json.now in
     let v = as_verdict c.read_members.result in
     let object = read-object s v c.read_members.ensures.result_value c.read_members.ensures.in_words (ap as_verdict c.in-Object.is) in
-    subst (λ x. Makes x a.result.now c.convert.result c.convert.new.res) (sym object) c.convert.ensures
+    subst (λ x. Makes x a.res.now c.convert.result c.convert.new.res) (sym object) c.convert.ensures
