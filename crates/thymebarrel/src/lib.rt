@@ -1,5 +1,7 @@
 // The C interface: the services under C names. What a pointer or a length from C can break is said in include/thymebarrel.h; all else is promised as of
 // every other function.
+#![tactic(auto)]
+
 ghost use Rattle.std.specs.Prelude.{◌≡◌};
 ghost use Rattle.json_text.specs.Lookup.{look_up};
 ghost use Rattle.json_lookup.specs.Finds.{place_of};
