@@ -4,7 +4,7 @@
 
 use card_to_json::card_to_json;
 use named_file::{argument, is_given};
-use served::Outcome;
+use served::Refusal;
 use std::io;
 use std::io::Read;
 
@@ -35,8 +35,8 @@ fn serve(rt: &HostRuntime, stem: &[u8], number: usize) -> io::Result<()> {
         .read_to_end(&mut card)?;
     let mut out = [0u8; json_limits::ROOM];
     match card_to_json(stem, number, card.as_slice(), &mut out) {
-        Outcome::Written(k) => say_result(rt, &out, k),
-        Outcome::Refused { number, place } => println!(rt; "{number} {place}"),
+        Ok(k) => say_result(rt, &out, k),
+        Err(Refusal { number, place }) => println!(rt; "{number} {place}"),
     }
 }
 

@@ -10,17 +10,17 @@ use lib.ListN.{length}
 use borrow.Author.Tests.{lt-ltb, le-ltb}
 use Rattle.text.specs.Choice.{pick, with-some}
 use Rattle.text.specs.Bytes.{Bytes}
-use Rattle.output.specs.declared.Wrote.{Wrote}
-use Rattle.output.specs.declared.Wrote.TheVariants.{Bytes as Wrote-Bytes, Full}
+use Rattle.output.specs.Put.{Wrote, full}
+use Rattle.std.specs.Prelude.{Ok, Err}
 use Rattle.output.specs.Put.{Puts}
 use Rattle.output.proofs.Laws.{put-fits, first, said-full}
 use Rattle.line.specs.Physical.{size_of}
-use Rattle.convert.specs.Answers.{Answer, no, yes, Test, fine, fails, seek, fitted, json_room, card_room, line_tests, lines_of, raw_lines, convert_lines, convert_card, card_to_json, is_stem_text, is_card_number}
+use Rattle.convert.specs.Answers.{Answer, no, yes, Test, fine, fails, seek, fitted, json_room, card_room, line_tests, lines_of, raw_lines}
+use Rattle.convert.specs.Answers.{convert_lines, convert_card, card_to_json, is_stem_text, is_card_number}
 use Rattle.convert.specs.FromCard.{card_of_lines}
 use Rattle.convert.specs.ToJson.{print_json}
 use Rattle.convert.specs.Served.{left_by}
-use Rattle.served.specs.declared.Outcome.TheVariants.{Written, Refused}
-use Rattle.served.specs.Served.{outcome_of}
+use Rattle.served.specs.Served.{refused, outcome_of}
 use Rattle.card_to_json.specs.Inner.{inner, fit, Serves}
 
 seek-fit : (lent : ℕ) (ts : List Test) (r : Bytes) → seek ts (fitted json_room lent r) ≡ fit lent (seek ts (yes r))
@@ -59,15 +59,15 @@ fit-whole lent r h l = rw (le-ltb json_room (length r) h, le-ltb lent (length r)
 
 -- ---- what the caller sees
 
-pub serves-refused : (out : Bytes) (a : Answer) (n p : ℕ) → fit (length out) a ≡ no n p → Serves out a (Refused n p) out
+pub serves-refused : (out : Bytes) (a : Answer) (n p : ℕ) → fit (length out) a ≡ no n p → Serves out a (refused n p) out
 serves-refused out a n p e = record { said = sym (ap outcome_of e); left = sym (ap (left_by out) e) }
 
-pub serves-written : (out text : Bytes) (r : Wrote) (after : Bytes) (k : ℕ) → length text ≤ json_room → length text ≤ length out → Puts out text r after → r ≡ Wrote-Bytes k
-    → Serves out (yes text) (Written k) after
+pub serves-written : (out text : Bytes) (r : Wrote) (after : Bytes) (k : ℕ) → length text ≤ json_room → length text ≤ length out → Puts out text r after → r ≡ Ok k
+    → Serves out (yes text) (Ok k) after
 serves-written out text r after k h l p e =
     let s = first p e in
     let f = fit-whole (length out) text h l in
-    record { said = ap Written s.is ∙ sym (ap outcome_of f); left = s.left ∙ put-fits out text l ∙ sym (ap (left_by out) f) }
+    record { said = ap Ok s.is ∙ sym (ap outcome_of f); left = s.left ∙ put-fits out text l ∙ sym (ap (left_by out) f) }
 
-pub never-full : {P : Type 0} (room x : Bytes) (r : Wrote) (out : Bytes) → Puts room x r out → r ≡ Full → length x ≤ length room → P
+pub never-full : {P : Type 0} (room x : Bytes) (r : Wrote) (out : Bytes) → Puts room x r out → r ≡ (Err full) → length x ≤ length room → P
 never-full room x r out p e l = absurd (omega (arith, said-full room x (sym p.said ∙ e)))

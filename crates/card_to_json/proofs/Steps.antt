@@ -2,26 +2,24 @@
 use mathlib.Core.Path.{◌≡◌, subst, ◌∙◌}
 use mathlib.Core.List.{List}
 use mathlib.Core.Option.{none, some}
-use Prim.Native.Nat.{ℕ, ◌-◌, ◌≤◌, ◌<◌}
+use Rattle.std.specs.Prelude.{Option, Some, None, Ok, Err}
+use Prim.Native.Nat.{ℕ, ◌≤◌, ◌<◌}
 use native.Mathlib.Omega.{arith}
-use lib.ListN.{length, take, drop, length-take, length-drop}
+use lib.ListN.{length}
 use borrow.Author.Tests.{lt-ltb}
 use Rattle.text.specs.Bytes.{Bytes}
 use Rattle.line.specs.Physical.{physical, framed}
 use Rattle.line.specs.Unfold.{unfold'}
-use Rattle.line_frame.specs.declared.Frame.{Frame}
-use Rattle.line_frame.specs.declared.Frame.TheVariants.{Body, NotOne}
+use Rattle.line_frame.specs.declared.Body.{Body}
 use Rattle.line_frame.specs.Frame.{Framed}
-use Rattle.line_unfold.specs.declared.Unfolded.{Unfolded}
-use Rattle.line_unfold.specs.declared.Unfolded.TheVariants.{Lines as Unfolded-Lines, TooMany}
-use Rattle.line_unfold.specs.Table.{Unfolds}
+use Rattle.line_unfold.specs.declared.TooMany.{TooMany}
+use Rattle.line_unfold.specs.Table.{Unfolded, Unfolds}
 use Rattle.convert.specs.Answers.{Answer, no, yes, seek, line_tests, line_room, lines_of, raw_lines}
 use Rattle.convert.specs.FromCard.{card_of_lines}
 use Rattle.convert.specs.ToJson.{print_json}
 use Rattle.card_to_json.specs.Inner.{inner}
-use Rattle.card_to_json.specs.Laying.{Many, Lays}
-use Rattle.card_to_json.specs.declared.Lines.{Lines}
-use Rattle.card_to_json.specs.declared.Lines.TheVariants.{Count}
+use Rattle.std.specs.Prelude.{Ok}
+use Rattle.card_to_json.specs.Laying.{Many, Lines, Lays}
 
 -- ---- 1 and 3 (lines)
 
@@ -46,14 +44,11 @@ many : (raw : List Bytes) (a : Answer) → line_room < length raw → seek (line
 unfolding seek line_tests
 many raw a h = rw (lt-ltb line_room (length raw) h)
 
-pub inner-1 : (s : Bytes) (r : Frame) → r ≡ NotOne → Framed s r → (stem : Bytes) (n : ℕ) → inner stem n s ≡ no 1 0
+pub inner-1 : (s : Bytes) (r : Option Body) → r ≡ None → Framed s r → (stem : Bytes) (n : ℕ) → inner stem n s ≡ no 1 0
 inner-1 s r e f stem n = inner-none stem n s (raw-none s (subst (Framed s) e f))
 
-pub body : (s : Bytes) (r : Frame) (a b : ℕ) → r ≡ Body a b → Framed s r → Framed s (Body a b)
-body s r a b e f = subst (Framed s) e f
-
-pub part_length : (s : Bytes) (a b : ℕ) → length (take (b - a) (drop a s)) ≤ length s
-part_length s a b = simp (length-take, length-drop) (omega arith)
+pub body : (s : Bytes) (r : Option Body) (b : Body) → r ≡ Some b → Framed s r → Framed s (Some b)
+body s r b e f = subst (Framed s) e f
 
 -- 3 (lines), where as many are taken as a card may have
 pub inner-3 : (s : Bytes) (most : ℕ) → line_room ≤ most → Many most s → (stem : Bytes) (n : ℕ) → inner stem n s ≡ no 3 0
@@ -64,12 +59,12 @@ module _ (most : ℕ) (s x : Bytes) (r : Unfolded) (scratch starts : List ℕ) (
   unfolds : (o : Unfolded) → r ≡ o → Unfolds most (unfold' (physical x)) o scratch starts
   unfolds o e = subst (λ o. Unfolds most (unfold' (physical x)) o scratch starts) e u
 
-  pub lays-many : r ≡ TooMany → Many most s
-  lays-many e = (unfold' (physical x), raw-some s (physical x) f, unfolds TooMany e)
+  pub lays-many : (o : TooMany) → r ≡ Err o → Many most s
+  lays-many o e = (unfold' (physical x), raw-some s (physical x) f, unfolds (Err o) e)
 
-  pub lays : (k : ℕ) → r ≡ Unfolded-Lines k → Lays most s (Count k) scratch starts
+  pub lays : (k : ℕ) → r ≡ Ok k → Lays most s (Ok k) scratch starts
   lays k e =
-      let l = unfolds (Unfolded-Lines k) e in
+      let l = unfolds (Ok k) e in
       (unfold' (physical x), raw-some s (physical x) f, l.0, l.1)
 
 pub lays-as : (most : ℕ) (s : Bytes) (r r' : Lines) (scratch starts : List ℕ) → r ≡ r' → Lays most s r scratch starts → Lays most s r' scratch starts

@@ -6,8 +6,7 @@ use Rattle.convert.specs.Answers.{Answer, no, yes, seek, fitted, json_room, line
 use Rattle.convert.specs.FromCard.{card_of_lines}
 use Rattle.convert.specs.ToJson.{print_json}
 use Rattle.convert.specs.Served.{left_by}
-use Rattle.served.specs.declared.Outcome.{Outcome}
-use Rattle.served.specs.Served.{outcome_of}
+use Rattle.served.specs.Served.{Outcome, outcome_of}
 
 -- refusals 1, 3 (lines) and 4 to 10, else the JSON however long it is
 unfoldable pub inner : Bytes → ℕ → Bytes → Answer

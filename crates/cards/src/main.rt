@@ -5,20 +5,13 @@
 ghost use Rattle.std.specs.Prelude.{◌≤◌, length};
 
 use named_file::{argument, is_given};
-use served::Outcome;
+use served::Refusal;
 use std::io;
 use std::io::Read;
 use stream_cards::{Answered, Said, Stream};
 
 // How many bytes a piece has, but for the last.
 const PIECE: u64 = 65536;
-
-// The stream after a piece, and whether all of the piece was consumed.
-#[derive(Drop)]
-struct Run {
-    stream: Stream,
-    whole: bool,
-}
 
 fn say_result(rt: &impl Print, out: &[u8], n: usize) -> io::Result<()> {
     if n <= out.len() {
@@ -30,8 +23,8 @@ fn say_result(rt: &impl Print, out: &[u8], n: usize) -> io::Result<()> {
 fn say(rt: &impl Print, said: Said, out: &[u8]) -> io::Result<()> {
     match said {
         Said::More => Ok(()),
-        Said::Answer(Outcome::Written(n)) => say_result(rt, out, n),
-        Said::Answer(Outcome::Refused { number, place }) => println!(rt; "{number} {place}"),
+        Said::Answer(Ok(n)) => say_result(rt, out, n),
+        Said::Answer(Err(Refusal { number, place })) => println!(rt; "{number} {place}"),
     }
 }
 
@@ -42,7 +35,8 @@ fn step_within(s: Stream, stem: &[u8], piece: &[u8], buffer: &mut [u8], out: &mu
     s.step(stem, piece, buffer, out)
 }
 
-// Calls with the rest of the piece until nothing of it is left. A bad stem (15) consumes nothing: then that one answer is enough.
+// Calls with the rest of the piece until nothing of it is left: the stream after it. A bad stem (15) consumes nothing: then that one answer is enough, and
+// no stream is given.
 fn feed(
     rt: &impl Print,
     first: Stream,
@@ -50,7 +44,7 @@ fn feed(
     piece: &[u8],
     buffer: &mut [u8],
     out: &mut [u8],
-) -> io::Result<Run> {
+) -> io::Result<Option<Stream>> {
     let mut s = first;
     let mut at = 0;
     while at < piece.len() {
@@ -59,17 +53,11 @@ fn feed(
         s = a.next;
         let used = a.used;
         if used == 0 {
-            return Ok(Run {
-                stream: s,
-                whole: false,
-            });
+            return Ok(None);
         }
         at += used;
     }
-    Ok(Run {
-        stream: s,
-        whole: true,
-    })
+    Ok(Some(s))
 }
 
 // End calls until the stream is fresh. One that leaves no card open leaves it fresh, and two always do.
@@ -102,11 +90,10 @@ fn serve(rt: &HostRuntime, stem: &[u8]) -> io::Result<()> {
         if piece.is_empty() {
             return finish(rt, s, stem, &mut buffer, &mut out);
         }
-        let run = feed(rt, s, stem, piece.as_slice(), &mut buffer, &mut out)?;
-        if !run.whole {
+        let Some(next) = feed(rt, s, stem, piece.as_slice(), &mut buffer, &mut out)? else {
             break;
-        }
-        s = run.stream;
+        };
+        s = next;
     }
     Ok(())
 }

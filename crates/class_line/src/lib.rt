@@ -8,9 +8,10 @@ ghost use Rattle.class_member.specs.Member.{Room};
 ghost use Rattle.class_line.specs.Class.{Numbered, Classes, AnyFlags, FullFlags, PartsFlags};
 
 use card_table::{classes, names};
-use class_member::{Member, member_class};
+use class_member::member_class;
 use class_name_lines::{full_class, parts_class};
 use class_properties::{form_of, name_code, types_of};
+use convert_params::Rows;
 use line_table::table;
 use table_entry::{Key, entry_key};
 
@@ -43,20 +44,13 @@ pub enum Class {
 }
 
 // A line of the map i.
-fn map_class(
-    counts: &[usize],
-    froms: &[usize],
-    tos: &[usize],
-    s: &[u8],
-    t: &[usize],
-    i: usize,
-) -> Class
-    requires { Rowed s.now t.now counts.now froms.now tos.now × Numbered s.now t.now (16 + i) }
+fn map_class(rows: Rows<'_>, s: &[u8], t: &[usize], i: usize) -> Class
+    requires { Rowed s.now t.now rows × Numbered s.now t.now (16 + i) }
     ensures { AnyFlags s.now t.now result }
 {
     let types = types_of(i);
     let form = form_of(i);
-    match entry_key(counts, froms, tos, s, t, types, form) {
+    match entry_key(rows, s, t, types, form) {
         Key::Bad => {
             return Class::Kept;
         }
@@ -74,18 +68,11 @@ fn map_class(
 }
 
 // FN.
-fn fn_class(
-    counts: &[usize],
-    froms: &[usize],
-    tos: &[usize],
-    s: &[u8],
-    t: &[usize],
-    full: bool,
-) -> Class
-    requires { Rowed s.now t.now counts.now froms.now tos.now × Numbered s.now t.now 4 }
+fn fn_class(rows: Rows<'_>, s: &[u8], t: &[usize], full: bool) -> Class
+    requires { Rowed s.now t.now rows × Numbered s.now t.now 4 }
     ensures { FullFlags s.now t.now full result }
 {
-    let k = full_class(counts, froms, tos, s, t, full);
+    let k = full_class(rows, s, t, full);
     if k == classes::FULL {
         return Class::Full;
     }
@@ -96,18 +83,11 @@ fn fn_class(
 }
 
 // N.
-fn n_class(
-    counts: &[usize],
-    froms: &[usize],
-    tos: &[usize],
-    s: &[u8],
-    t: &[usize],
-    parts: bool,
-) -> Class
-    requires { Rowed s.now t.now counts.now froms.now tos.now × Numbered s.now t.now 5 }
+fn n_class(rows: Rows<'_>, s: &[u8], t: &[usize], parts: bool) -> Class
+    requires { Rowed s.now t.now rows × Numbered s.now t.now 5 }
     ensures { PartsFlags s.now t.now parts result }
 {
-    let k = parts_class(counts, froms, tos, s, t, parts);
+    let k = parts_class(rows, s, t, parts);
     if k == classes::PARTS {
         return Class::Parts;
     }
@@ -115,24 +95,16 @@ fn n_class(
 }
 
 // JSPROP.
-fn jsprop_class(
-    counts: &[usize],
-    froms: &[usize],
-    tos: &[usize],
-    s: &[u8],
-    t: &[usize],
-    scratch: &mut [u8],
-) -> Class
-    requires { Rowed s.now t.now counts.now froms.now tos.now × Room s.now scratch.old × Numbered s.now t.now 6 }
+fn jsprop_class(rows: Rows<'_>, s: &[u8], t: &[usize], scratch: &mut [u8]) -> Class
+    requires { Rowed s.now t.now rows × Room s.now scratch.old × Numbered s.now t.now 6 }
     ensures { AnyFlags s.now t.now result }
 {
-    match member_class(counts, froms, tos, s, t, scratch) {
-        Member::Kept => {
-            return Class::Kept;
-        }
-        Member::At { start: a, end: b } => {
-            return Class::Member { start: a, end: b };
-        }
+    match member_class(rows, s, t, scratch) {
+        None => Class::Kept,
+        Some(p) => Class::Member {
+            start: p.start,
+            end: p.end,
+        },
     }
 }
 
@@ -140,32 +112,30 @@ fn jsprop_class(
 // The scratch is for the value of JSPROP.
 pub fn class_numbered(
     k: usize,
-    counts: &[usize],
-    froms: &[usize],
-    tos: &[usize],
+    rows: Rows<'_>,
     s: &[u8],
     t: &[usize],
     scratch: &mut [u8],
     full: bool,
     parts: bool,
 ) -> Class
-    requires { Rowed s.now t.now counts.now froms.now tos.now × Room s.now scratch.old × Numbered s.now t.now k }
+    requires { Rowed s.now t.now rows × Room s.now scratch.old × Numbered s.now t.now k }
     ensures { Classes s.now t.now full parts result }
 {
     if k >= names::OF_MAPS {
-        return map_class(counts, froms, tos, s, t, k - names::OF_MAPS);
+        return map_class(rows, s, t, k - names::OF_MAPS);
     }
     if k == names::OTHER {
         return Class::Kept;
     }
     if k == names::FN {
-        return fn_class(counts, froms, tos, s, t, full);
+        return fn_class(rows, s, t, full);
     }
     if k == names::N {
-        return n_class(counts, froms, tos, s, t, parts);
+        return n_class(rows, s, t, parts);
     }
     if k == names::JSPROP {
-        return jsprop_class(counts, froms, tos, s, t, scratch);
+        return jsprop_class(rows, s, t, scratch);
     }
     if k == names::VERSION {
         return Class::Version;
@@ -178,20 +148,18 @@ pub fn class_numbered(
 
 // The same where the number is not known.
 pub fn class_line(
-    counts: &[usize],
-    froms: &[usize],
-    tos: &[usize],
+    rows: Rows<'_>,
     s: &[u8],
     t: &[usize],
     scratch: &mut [u8],
     full: bool,
     parts: bool,
 ) -> Class
-    requires { Rowed s.now t.now counts.now froms.now tos.now × Room s.now scratch.old }
+    requires { Rowed s.now t.now rows × Room s.now scratch.old }
     ensures { Classes s.now t.now full parts result }
 {
     let a = t[table::NAME];
     let b = t[table::NAME_END];
     let k = name_code(&s[a..b]);
-    class_numbered(k, counts, froms, tos, s, t, scratch, full, parts)
+    class_numbered(k, rows, s, t, scratch, full, parts)
 }

@@ -22,7 +22,7 @@ use Rattle.convert_entry.specs.Rows.{zeros}
 use Rattle.convert_entry.proofs.Named.{only-kinds, values-kind, values-besides}
 use Rattle.convert_entry.proofs.Tests.{held_one}
 use Rattle.class_member.specs.Member.{besides_pointer}
-use Rattle.class_member.specs.declared.Member.TheVariants.{Kept, At}
+use Rattle.std.specs.Prelude.{None, Some}
 use Rattle.class_member.specs.Member.{MemberIs}
 use Rattle.class_member.proofs.Pointing.{among-reserved}
 
@@ -109,14 +109,14 @@ module _ (s : Bytes) (t : List ℕ) where
     pointers : values_named (ascii "jsptr") (besides_value l.params) ≡ values_kind 4 l.params
     pointers = values-besides (ascii "jsptr") not-value l.params ∙ sym (values-kind 4 (ascii "jsptr") (omega arith) kind-4 refl l.params)
 
-    pub member-many : (get_or C 4 0 ≡ 1 → ⊥) → MemberIs s t Kept
+    pub member-many : (get_or C 4 0 ≡ 1 → ⊥) → MemberIs s t None
     member-many n seen =
         nameless seen l (no_pointer seen l (ap sole pointers ∙ not-sole (values_kind 4 l.params) (λ e. n ((r.held 4 (omega arith)).count ∙ e))))
 
-    pub member-others : zeros besides_pointer C ≡ false → MemberIs s t Kept
+    pub member-others : zeros besides_pointer C ≡ false → MemberIs s t None
     member-others e seen = nameless seen l (others seen l (only-pointer ∙ e))
 
-    pub member-unbare : bare l ≡ false → MemberIs s t Kept
+    pub member-unbare : bare l ≡ false → MemberIs s t None
     member-unbare b seen = unbare seen l b
 
     module _ (one : get_or C 4 0 ≡ 1) (z : zeros besides_pointer C ≡ true) where
@@ -126,7 +126,7 @@ module _ (s : Bytes) (t : List ℕ) where
       value-is : values_named (ascii "jsptr") (besides_value l.params) ≡ p ∷ []
       value-is = pointers ∙ held_one (r.held 4 (omega arith)) one
 
-      pub member-unpointed : is_some (pointed p) ≡ false → MemberIs s t Kept
+      pub member-unpointed : is_some (pointed p) ≡ false → MemberIs s t None
       member-unpointed e seen = nameless seen l (unpointed seen l (only-pointer ∙ z) p value-is (is_none (pointed p) e))
 
       module _ (there : is_some (pointed p) ≡ true) (h b : Bool) (head : h ≡ among p (take 5 reserved)) where
@@ -142,20 +142,20 @@ module _ (s : Bytes) (t : List ℕ) where
         taken : (seen : Seen) → among name reserved ≡ true → member_class seen l ≡ as-kept
         taken seen e = nameless seen l (named seen ∙ rw e)
 
-        pub member-head : h ≡ true → MemberIs s t Kept
+        pub member-head : h ≡ true → MemberIs s t None
         member-head e seen = taken seen (among-reserved p name points ∙ rw (sym head ∙ e))
 
         module _ (f : h ≡ false) (section : b ≡ among p (drop 5 reserved)) where
           reserved-is : among name reserved ≡ b
           reserved-is = among-reserved p name points ∙ rw (sym head ∙ f) (sym section)
 
-          pub member-section : b ≡ true → MemberIs s t Kept
+          pub member-section : b ≡ true → MemberIs s t None
           member-section e seen = taken seen (reserved-is ∙ e)
 
-          pub member-invalid : is_some (member_value l.value) ≡ false → MemberIs s t Kept
+          pub member-invalid : is_some (member_value l.value) ≡ false → MemberIs s t None
           member-invalid e seen = no_value seen l (is_none (member_value l.value) e)
 
-          pub member-at : b ≡ false → bare l ≡ true → is_some (member_value l.value) ≡ true → Span s (get_or F 4 0) (get_or T 4 0) → MemberIs s t (At (get_or F 4 0) (get_or T 4 0))
+          pub member-at : b ≡ false → bare l ≡ true → is_some (member_value l.value) ≡ true → Span s (get_or F 4 0) (get_or T 4 0) → MemberIs s t (Some (record { start = get_or F 4 0; end = get_or T 4 0 }))
           member-at g e v w = record {
             span = w;
             name = name;

@@ -15,17 +15,15 @@ use Rattle.text.specs.Reader.{on, when, past, some_of}
 use Rattle.text.proofs.Cases.{by_bool}
 use Rattle.text.proofs.Choices.{none-some, some_same}
 use Rattle.output.specs.Put.{Puts, answer}
-use Rattle.output.specs.declared.Wrote.{Wrote}
-use Rattle.output.specs.declared.Wrote.TheVariants.{Bytes as Wrote-Bytes, Full}
+use Rattle.output.specs.Put.{Wrote, full}
+use Rattle.std.specs.Prelude.{Ok, Err}
 use Rattle.output.proofs.Laws.{put-fits, said-bytes, said-full}
 use Rattle.line.specs.Text.{push, escaped, text_from, read_text}
 use Rattle.line_text.specs.Read.{plain_text}
 use Rattle.json_text.specs.Read.{Reading, tree, refused, reading}
 use Rattle.json_text.specs.Lookup.{is_tree}
 use Rattle.json_text.specs.Syntax.{skip, value, text, scalar, number, int, opt, digits}
-use Rattle.json_read.specs.Verdict.{verdict_of, verdict}
-use Rattle.json_read.specs.declared.Verdict.{Verdict}
-use Rattle.json_read.specs.declared.Verdict.TheVariants.{Sound, Large, NotJson}
+use Rattle.json_read.specs.Verdict.{Verdict, verdict_of, verdict}
 use Rattle.convert.specs.Classify.{tree_of, member_value}
 
 -- ---- TEXT is no longer than its bytes
@@ -66,10 +64,10 @@ plain-shorter s = plain_of (text_from false s) (length s) (shorter false s)
 
 -- ---- what was written
 
-pub never-full : (v room : Bytes) → length v ≤ length room → answer room (plain_text v) ≡ Full → ⊥
+pub never-full : (v room : Bytes) → length v ≤ length room → answer room (plain_text v) ≡ (Err full) → ⊥
 never-full v room l e = omega (arith, said-full room (plain_text v) e, plain-shorter v)
 
-pub written : {room x after : Bytes} {r : Wrote} (n : ℕ) → Puts room x r after → r ≡ Wrote-Bytes n → (n ≤ length after) × (take (n - 0) (drop 0 after) ≡ x)
+pub written : {room x after : Bytes} {r : Wrote} (n : ℕ) → Puts room x r after → r ≡ Ok n → (n ≤ length after) × (take (n - 0) (drop 0 after) ≡ x)
 written {room} {x} {after} n p e =
     let q = said-bytes room x n (sym p.said ∙ e) in
     let is : after ≡ x ++ drop (length x) room = p.left ∙ put-fits room x (omega arith) in (
@@ -102,9 +100,8 @@ unfolding verdict
 verdict-small s l = rw (le-leb (length s) 65536 l)
 
 abbrev pub soundly : Verdict → Bool
-soundly Sound = true
-soundly Large = false
-soundly (NotJson n) = false
+soundly (Ok u) = true
+soundly (Err f) = false
 
 judged : (r : Reading) → is_tree r ≡ soundly (verdict_of r)
 judged (tree j) = refl

@@ -1,5 +1,5 @@
 -- What JSPROP of a parsed line answers, against `member_class` of 01.
-use Rattle.std.specs.Prelude.{◌≡◌, Bool, true, false, ◌||◌, not, List, [], ◌∷◌, ℕ, ◌≤◌, eqb, length}
+use Rattle.std.specs.Prelude.{◌≡◌, Bool, true, false, ◌||◌, not, List, [], ◌∷◌, ℕ, ◌≤◌, eqb, length, Option, None, Some}
 use Rattle.std.proofs.Math.Option.{some}
 use Prim.Native.Char.{code}
 use Rattle.text.specs.Choice.{pick}
@@ -9,8 +9,7 @@ use Rattle.convert.specs.Pointer.{pointed}
 use Rattle.convert.specs.Classify.{Seen, as_member, as-kept, member_value, member_class}
 use Rattle.line_table.specs.Table.{part, Span, line_in}
 use Rattle.json_text.specs.Lookup.{room}
-use Rattle.class_member.specs.declared.Member.{Member as Answer}
-use Rattle.class_member.specs.declared.Member.TheVariants.{Kept, At}
+use Rattle.class_member.specs.declared.Pointer.{Pointer}
 
 -- all kinds of parameters but VALUE and JSPTR
 abbrev pub besides_pointer : List ℕ
@@ -43,6 +42,6 @@ pub record MemberAt (s : Bytes) (t : List ℕ) (a b : ℕ) : Type 0 where
   pub class : (seen : Seen) → member_class seen (line_in s t) ≡ pick (among name seen.members) as-kept (as_member name json)
 
 -- for everything seen before
-abbrev pub MemberIs : Bytes → List ℕ → Answer → Type 0
-MemberIs s t Kept = (seen : Seen) → member_class seen (line_in s t) ≡ as-kept
-MemberIs s t (At a b) = MemberAt s t a b
+abbrev pub MemberIs : Bytes → List ℕ → Option Pointer → Type 0
+MemberIs s t None = (seen : Seen) → member_class seen (line_in s t) ≡ as-kept
+MemberIs s t (Some p) = MemberAt s t p.start p.end

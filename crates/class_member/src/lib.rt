@@ -14,17 +14,17 @@ ghost use Rattle.class_member.specs.Member.{besides_pointer, points_on, Room, Me
 
 use card_table::{emails, links, members, nicknames, notes, organizations, params, phones, titles};
 use class_name_lines::is_bare;
+use convert_params::Rows;
 use convert_tests::same_bytes;
-use json_read::{Verdict, read};
+use json_read::read;
 use line_table::table;
 use line_text::read_text;
-use output::Wrote;
 
-// Kept; or a member, unless the name that the pointer points at is used.
-#[derive(Drop)]
-pub enum Member {
-    Kept,
-    At { start: usize, end: usize },
+// Where the pointer of a JSPROP line stands in it.
+#[derive(Clone, Copy)]
+pub struct Pointer {
+    pub start: usize,
+    pub end: usize,
 }
 
 // After a tilde 0 or 1, and else no slash.
@@ -45,14 +45,11 @@ fn is_pointer(p: &[u8]) -> bool
         return false;
     }
     let mut tilde = false;
-    let mut i = 0;
-    while i < p.len() {
-        let c = p[i];
+    for &c in p {
         if !points_on(tilde, c) {
             return false;
         }
         tilde = !tilde & (c == b'~');
-        i += 1;
     }
     !tilde
 }
@@ -121,57 +118,48 @@ fn is_json(scratch: &mut [u8], v: &[u8]) -> bool
     requires { Room v.now scratch.old }
     ensures { result ≡ is_some (member_value v.now) }
 {
-    let Wrote::Bytes(n) = read_text(scratch, v) else {
+    let Ok(n) = read_text(scratch, v) else {
         return false;
     };
     match read(&scratch[0..n], members::DEPTH) {
-        Verdict::Sound => {
+        Ok(_) => {
             return true;
         }
-        Verdict::Large => {
-            return false;
-        }
-        Verdict::NotJson(_) => {
+        Err(_) => {
             return false;
         }
     }
 }
 
-pub fn member_class(
-    counts: &[usize],
-    froms: &[usize],
-    tos: &[usize],
-    s: &[u8],
-    t: &[usize],
-    scratch: &mut [u8],
-) -> Member
-    requires { Rowed s.now t.now counts.now froms.now tos.now × Room s.now scratch.old }
+// A member, unless the name that the pointer points at is used; none where the line is kept.
+pub fn member_class(rows: Rows<'_>, s: &[u8], t: &[usize], scratch: &mut [u8]) -> Option<Pointer>
+    requires { Rowed s.now t.now rows × Room s.now scratch.old }
     ensures { MemberIs s.now t.now result }
 {
-    if counts[params::JSPTR] != 1 {
-        return Member::Kept;
+    if rows.counts[params::JSPTR] != 1 {
+        return None;
     }
-    if !none_but_pointer(counts) {
-        return Member::Kept;
+    if !none_but_pointer(rows.counts) {
+        return None;
     }
-    if !is_bare(counts, froms, tos, s, t) {
-        return Member::Kept;
+    if !is_bare(rows, s, t) {
+        return None;
     }
-    let a = froms[params::JSPTR];
-    let b = tos[params::JSPTR];
+    let a = rows.froms[params::JSPTR];
+    let b = rows.tos[params::JSPTR];
     if !is_pointer(&s[a..b]) {
-        return Member::Kept;
+        return None;
     }
     if is_head(&s[a..b]) {
-        return Member::Kept;
+        return None;
     }
     if is_section(&s[a..b]) {
-        return Member::Kept;
+        return None;
     }
     let c = t[table::VALUE];
     let d = t[table::VALUE_END];
     if !is_json(scratch, &s[c..d]) {
-        return Member::Kept;
+        return None;
     }
-    Member::At { start: a, end: b }
+    Some(Pointer { start: a, end: b })
 }

@@ -14,6 +14,7 @@ ghost use Rattle.class_name_lines.specs.Name.{all_kinds, besides_derived, FullCl
 
 use card_table::{classes, params, parts, values};
 use convert_entry::value_kind;
+use convert_params::Rows;
 use line_name::is_named;
 use line_parts::{few_parts, has_other};
 use line_table::table;
@@ -21,14 +22,14 @@ use line_text::is_text;
 use table_entry::has_group;
 
 // A line that may convert as FN, N or JSPROP: no group, and VALUE absent.
-pub fn is_bare(counts: &[usize], froms: &[usize], tos: &[usize], s: &[u8], t: &[usize]) -> bool
-    requires { Rowed s.now t.now counts.now froms.now tos.now }
+pub fn is_bare(rows: Rows<'_>, s: &[u8], t: &[usize]) -> bool
+    requires { Rowed s.now t.now rows }
     ensures { bare (line_in s.now t.now) ≡ result }
 {
     if has_group(s, t) {
         return false;
     }
-    value_kind(counts, froms, tos, s) == values::UNKNOWN
+    value_kind(rows, s) == values::UNKNOWN
 }
 
 // No parameter but VALUE.
@@ -56,43 +57,36 @@ fn none_but_derived(counts: &[usize]) -> bool
 }
 
 // The sole parameter DERIVED=TRUE, in any case.
-fn is_derived(counts: &[usize], froms: &[usize], tos: &[usize], s: &[u8], t: &[usize]) -> bool
-    requires { Rowed s.now t.now counts.now froms.now tos.now }
+fn is_derived(rows: Rows<'_>, s: &[u8], t: &[usize]) -> bool
+    requires { Rowed s.now t.now rows }
     ensures { is_derived (besides_value (line_in s.now t.now).params) ≡ result }
 {
-    if counts[params::DERIVED] != 1 {
+    if rows.counts[params::DERIVED] != 1 {
         return false;
     }
-    if !none_but_derived(counts) {
+    if !none_but_derived(rows.counts) {
         return false;
     }
-    let a = froms[params::DERIVED];
-    let b = tos[params::DERIVED];
+    let a = rows.froms[params::DERIVED];
+    let b = rows.tos[params::DERIVED];
     is_named(&s[a..b], &params::TRUE)
 }
 
 // FN by the number of its class: kept, dropped or the full name. `full`: an earlier line is it.
-pub fn full_class(
-    counts: &[usize],
-    froms: &[usize],
-    tos: &[usize],
-    s: &[u8],
-    t: &[usize],
-    full: bool,
-) -> usize
-    requires { Rowed s.now t.now counts.now froms.now tos.now }
+pub fn full_class(rows: Rows<'_>, s: &[u8], t: &[usize], full: bool) -> usize
+    requires { Rowed s.now t.now rows }
     ensures { FullClass s.now t.now full result }
 {
-    if !is_bare(counts, froms, tos, s, t) {
+    if !is_bare(rows, s, t) {
         return classes::KEPT;
     }
-    if is_derived(counts, froms, tos, s, t) {
+    if is_derived(rows, s, t) {
         return classes::DROPPED;
     }
     if full {
         return classes::KEPT;
     }
-    if !no_params(counts) {
+    if !no_params(rows.counts) {
         return classes::KEPT;
     }
     let a = t[table::VALUE];
@@ -117,24 +111,17 @@ fn is_name(v: &[u8]) -> bool
 }
 
 // N by the number of its class: kept, or the components. `parts`: an earlier line has them.
-pub fn parts_class(
-    counts: &[usize],
-    froms: &[usize],
-    tos: &[usize],
-    s: &[u8],
-    t: &[usize],
-    parts: bool,
-) -> usize
-    requires { Rowed s.now t.now counts.now froms.now tos.now }
+pub fn parts_class(rows: Rows<'_>, s: &[u8], t: &[usize], parts: bool) -> usize
+    requires { Rowed s.now t.now rows }
     ensures { PartsClass s.now t.now parts result }
 {
     if parts {
         return classes::KEPT;
     }
-    if !is_bare(counts, froms, tos, s, t) {
+    if !is_bare(rows, s, t) {
         return classes::KEPT;
     }
-    if !no_params(counts) {
+    if !no_params(rows.counts) {
         return classes::KEPT;
     }
     let a = t[table::VALUE];

@@ -8,7 +8,7 @@ use lib.ListN.{length, take}
 use lib.Dec.{eqb, leb}
 use borrow.Author.Tests.{leb-true, le-leb, eqb-false}
 use Rattle.text.specs.Choice.{pick}
-use Rattle.text.specs.Bytes.{Bytes, ascii, is, is_digit, between, any, all, same, begins, empty, lowered}
+use Rattle.text.specs.Bytes.{Bytes, ascii, is_digit, between, any, all, same, begins, empty, lowered}
 use Rattle.text.specs.Decimal.{digits_before, decimal, value_from, number}
 use Rattle.text.specs.Listed.{of_bytes}
 use Rattle.text.specs.Reader.{first}

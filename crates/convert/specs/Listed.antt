@@ -12,7 +12,7 @@ use Rattle.convert.specs.FromJson.{is_lower_word}
 use Rattle.convert.specs.Carry.{carried_raw, carried_text, carried_param}
 use Rattle.convert.specs.Answers.{is_stem_text, is_card_number, garbled, value_fits, emptied}
 use Rattle.convert.specs.InWords.{controls}
-use Rattle.convert.specs.Worked.{text, card, lines, made, json, home_lines, Case, converts, refuses, comes_home, turns-away, returns_as, given, wanted}
+use Rattle.convert.specs.Worked.{card, lines, made, json, home_lines, Case, converts, refuses, comes_home, turns-away, returns_as, given, wanted}
 
 -- all strings of digits one longer than these
 abbrev pub longer : List Bytes → List Bytes

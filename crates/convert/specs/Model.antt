@@ -1,6 +1,6 @@
 -- The middle of both conversions: what a card says, in one form for all that is equal.
 use Rattle.std.specs.Prelude.{Bool, not, List, [], ◌∷◌, map, ℕ, get_or}
-use Rattle.std.proofs.Math.Option.{Option, none}
+use Rattle.std.proofs.Math.Option.{Option}
 use Rattle.text.specs.Bytes.{Bytes, any, empty}
 use Rattle.json_text.specs.Tree.{Member}
 use Rattle.line.specs.Grammar.{Param}

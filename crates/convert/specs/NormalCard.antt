@@ -1,14 +1,12 @@
 -- A card's normal form, from 01's section 'Normal forms' alone: which lines, in which order, and each line's own normal form.
 -- It goes from lines to lines and knows neither the model nor JSON's members; that the way home gives it is a theorem.
-use Rattle.std.specs.Prelude.{Bool, true, false, ◌&&◌, not, List, [], ◌∷◌, ◌++◌, map, ℕ, suc, ◌+◌, get_or, eqb}
-use Rattle.std.proofs.Math.Option.{none}
+use Rattle.std.specs.Prelude.{Bool, true, false, not, List, [], ◌∷◌, ◌++◌, map, ℕ, suc, ◌+◌, eqb}
 use Prim.Native.Char.{code}
 use Rattle.text.specs.Choice.{pick, with-some}
-use Rattle.text.specs.Bytes.{Bytes, ascii, empty, any, same, among, lowered, begins, parts, joined, flat, keep}
+use Rattle.text.specs.Bytes.{Bytes, ascii, empty, same, among, lowered, parts, joined, flat, keep}
 use Rattle.text.specs.Decimal.{decimal}
 use Rattle.json_text.specs.Compact.{compact}
-use Rattle.line.specs.Class.{is_control}
-use Rattle.line.specs.Grammar.{Param, param, Line}
+use Rattle.line.specs.Grammar.{param, Line}
 use Rattle.line.specs.Params.{values_named, value_type, besides_value, merged}
 use Rattle.line.specs.Text.{read_text, split_text, write_text}
 use Rattle.line.specs.Write.{write_card}

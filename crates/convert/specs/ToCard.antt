@@ -4,7 +4,7 @@ use Rattle.text.specs.Choice.{pick, with-some}
 use Rattle.text.specs.Bytes.{Bytes, ascii, empty, joined, flat}
 use Rattle.json_text.specs.Tree.{Member, member}
 use Rattle.json_text.specs.Compact.{compact}
-use Rattle.line.specs.Grammar.{Param, param, Line}
+use Rattle.line.specs.Grammar.{param, Line}
 use Rattle.line.specs.Text.{write_text}
 use Rattle.line.specs.Write.{write_card}
 use Rattle.convert.specs.Table.{Map, maps, type_names, vcard_type, feature-type}

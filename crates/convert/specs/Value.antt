@@ -2,7 +2,7 @@
 use Rattle.std.specs.Prelude.{Bool, true, false, ◌&&◌, not, ℕ, suc, length, eqb, leb}
 use mathlib.Core.List.{List, [], ◌∷◌, ◌++◌, map, tail}
 use Rattle.std.proofs.Math.Option
-use Rattle.std.proofs.Math.Option.{Option, none, some}
+use Rattle.std.proofs.Math.Option.{Option, some}
 use Prim.Native.Char.{code}
 use Rattle.text.specs.Choice.{pick, chain, provided, with-some}
 use Rattle.text.specs.Bytes.{Bytes, ascii, is, any, all, empty, same, among, begins, is_digit, joined, keep, each}

@@ -10,6 +10,7 @@ ghost use Rattle.card_table.specs.Numbers.{param_kinds};
 ghost use Rattle.convert_entry.specs.Rows.{type_number, takes, kinds_out, zeros, OfRow, HasRow, ReadsAs};
 
 use card_table::{forms, params, values};
+use convert_params::Rows;
 use convert_tests::is_pref;
 use line_name::is_named;
 use line_parts::has_other;
@@ -33,15 +34,15 @@ pub fn only_of(typed: bool, counts: &[usize]) -> bool
 }
 
 // What VALUE says, by number (`values`).
-pub fn value_kind(counts: &[usize], froms: &[usize], tos: &[usize], s: &[u8]) -> usize
-    requires { HasRow s.now counts.now froms.now tos.now }
-    ensures { OfRow s.now counts.now froms.now tos.now (λ ps. result ≡ type_number (value_type ps)) }
+pub fn value_kind(rows: Rows<'_>, s: &[u8]) -> usize
+    requires { HasRow s.now rows }
+    ensures { OfRow s.now rows.entry (λ ps. result ≡ type_number (value_type ps)) }
 {
-    if counts[params::VALUE] == 0 {
+    if rows.counts[params::VALUE] == 0 {
         return values::UNKNOWN;
     }
-    let a = froms[params::VALUE];
-    let b = tos[params::VALUE];
+    let a = rows.froms[params::VALUE];
+    let b = rows.tos[params::VALUE];
     if is_named(&s[a..b], &values::UNKNOWN_NAME) {
         return values::UNKNOWN;
     }
@@ -59,19 +60,19 @@ pub fn takes_kind(form: usize, kind: usize) -> bool
 }
 
 // PREF: absent, or one valid value.
-pub fn pref_fits(counts: &[usize], froms: &[usize], tos: &[usize], s: &[u8]) -> bool
-    requires { HasRow s.now counts.now froms.now tos.now }
-    ensures { OfRow s.now counts.now froms.now tos.now (λ ps. result ≡ is_some (pref_from (values_named (ascii "pref") (besides_value ps)))) }
+pub fn pref_fits(rows: Rows<'_>, s: &[u8]) -> bool
+    requires { HasRow s.now rows }
+    ensures { OfRow s.now rows.entry (λ ps. result ≡ is_some (pref_from (values_named (ascii "pref") (besides_value ps)))) }
 {
-    let k = counts[params::PREF];
+    let k = rows.counts[params::PREF];
     if k == 0 {
         return true;
     }
     if k != 1 {
         return false;
     }
-    let a = froms[params::PREF];
-    let b = tos[params::PREF];
+    let a = rows.froms[params::PREF];
+    let b = rows.tos[params::PREF];
     is_pref(&s[a..b])
 }
 

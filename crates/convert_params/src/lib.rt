@@ -1,4 +1,4 @@
-// The parameters that the converter looks at, by number. Rows of eight (`Row`) say how many values those of each number have, and where the first of them stands.
+// The parameters that the converter looks at, by number.
 #![tactic(auto)]
 
 ghost use Rattle.std.specs.Prelude.{◌≡◌, ◌<◌};
@@ -8,6 +8,14 @@ ghost use Rattle.convert_params.specs.Row.{kind_of};
 
 use card_table::params;
 use line_name::is_named;
+
+// What a line's parameters are, by number: how many values those of each have, and where the first of these begins and ends.
+#[derive(Clone, Copy)]
+pub struct Rows<'a> {
+    pub counts: &'a [usize],
+    pub froms: &'a [usize],
+    pub tos: &'a [usize],
+}
 
 // Which of the parameters that the converter looks at it is.
 pub fn kind_of(name: &[u8]) -> usize

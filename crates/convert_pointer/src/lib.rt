@@ -5,7 +5,7 @@ ghost use Rattle.std.specs.Prelude.{◌≡◌, ◌<◌, length, drop};
 ghost use Rattle.output.specs.Put.{Puts};
 ghost use Rattle.convert_pointer.specs.Name.{name_in, Pointing, pointer_byte, pointer_next};
 
-use output::{Wrote, put_byte};
+use output::{Full, put_byte};
 
 // `~1` is a slash, `~0` a tilde.
 pub fn pointer_byte(p: &[u8], i: usize) -> u8
@@ -33,7 +33,7 @@ pub fn pointer_next(p: &[u8], i: usize) -> usize
 }
 
 // The name, into a lent part.
-pub fn read_pointer(out: &mut [u8], p: &[u8]) -> Wrote
+pub fn read_pointer(out: &mut [u8], p: &[u8]) -> Result<usize, Full>
     requires { Pointing p.now }
     ensures { Puts out.old (name_in p.now) result out.new }
 {
@@ -41,11 +41,9 @@ pub fn read_pointer(out: &mut [u8], p: &[u8]) -> Wrote
     let mut i = 0;
     while i < p.len() {
         let b = pointer_byte(p, i);
-        let Wrote::Bytes(n) = put_byte(&mut out[at..], b) else {
-            return Wrote::Full;
-        };
+        let n = put_byte(&mut out[at..], b)?;
         at += n;
         i = pointer_next(p, i);
     }
-    Wrote::Bytes(at)
+    Ok(at)
 }

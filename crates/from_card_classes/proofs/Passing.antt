@@ -8,6 +8,7 @@ use native.Mathlib.Omega.{arith}
 use native.Mathlib.Numerals.{add-one}
 use lib.ListN.{length, take, drop, get_or, set, length-append}
 use lib.Seq.{take-suc, take-suc-set, take_all}
+use Rattle.std.specs.Prelude.{Option, Some, None}
 use Rattle.text.specs.Bytes.{Bytes, any, among, each, flat}
 use Rattle.text.proofs.Cases.{not-both}
 use Rattle.text.proofs.Lists.{map_both, each_both}
@@ -26,10 +27,9 @@ use Rattle.class_line.specs.Class.{Classes, seen_with}
 use Rattle.from_card_lines.specs.Classified.{Turned, Classified}
 use Rattle.from_card_garbled.proofs.First.{first_on, first-here, first-end}
 use Rattle.from_card_refusals.specs.declared.Judged.{Judged}
-use Rattle.from_card_refusals.specs.declared.Refusal.{Refusal}
-use Rattle.from_card_refusals.specs.declared.Refusal.TheVariants.{None, At}
+use Rattle.served.specs.declared.Refusal.{Refusal}
 use Rattle.from_card_refusals.specs.Line.{Coded}
-use Rattle.from_card_refusals.specs.Judged.{judged, judged_with, refusal_of}
+use Rattle.from_card_refusals.specs.Judged.{judged, judged_with, refusal_at, refusal_of}
 use Rattle.from_card_refusals.proofs.Judging.{judged-snoc, refusal-told}
 use Rattle.from_card_refusals.proofs.Spread.{misused-spread, version-spread, emptied-spread, coded-spread}
 use Rattle.from_card_seen.specs.Ids.{ids_at, Remembers, Cut}
@@ -189,13 +189,13 @@ by-grammar : (s : Bytes) (l : Line) → read_line s ≡ some l → ungrammatical
 unfolding ungrammatical
 by-grammar s l e = rw e
 
-not_none : {number place : ℕ} {P : Type 0} → At number place ≡ None → P
+not_none : {r : Refusal} {P : Type 0} → Some r ≡ None → P
 not_none e = absurd (let z : ◌≡◌ {A = ℕ} 0 1 = cc in omega arith)
 
 module _ {bytes codes ids : List ℕ} {raw : List Bytes} {k : ℕ} {p : Pass} (through : Through bytes codes ids raw k p) where
   module _ {s : Bytes} (h : k < length raw) (at : s ≡ get_or raw k []) where
     -- 5 at this line
-    pub through-bad : (starts : List ℕ) (n : ℕ) → read_line s ≡ none → Passed bytes starts codes n (At 5 (k + 1)) raw
+    pub through-bad : (starts : List ℕ) (n : ℕ) → read_line s ≡ none → Passed bytes starts codes n (Some (refusal_at 5 (k + 1))) raw
     unfolding seek
     through-bad starts n e =
         let found : first_from 1 ungrammatical raw ≡ some (k + 1) =
@@ -257,7 +257,7 @@ module _ {bytes codes ids : List ℕ} {raw : List Bytes} {k : ℕ} {p : Pass} (t
       turns = through.sofar.turned;
     }
 
-    pub through-end : (r : Refusal) → r ≡ refusal_of p.judged → Passed bytes starts codes n r raw
+    pub through-end : (r : Option Refusal) → r ≡ refusal_of p.judged → Passed bytes starts codes n r raw
     unfolding seek
     through-end r e = record {
       refusals = λ a.

@@ -1,5 +1,5 @@
 -- The pass over a card's lines: what holds after the first k of them, and what the pass answers.
-use Rattle.std.specs.Prelude.{◌≡◌, Bool, true, false, List, [], ◌∷◌, ◌++◌, map, ℕ, ◌+◌, ◌*◌, ◌≤◌, ◌<◌, length, take, drop, set}
+use Rattle.std.specs.Prelude.{◌≡◌, Bool, true, false, List, [], ◌∷◌, ◌++◌, map, ℕ, ◌+◌, ◌*◌, ◌≤◌, ◌<◌, length, take, drop, set, Option, None}
 use Rattle.std.proofs.Math.Option.{some}
 use Rattle.text.specs.Bytes.{Bytes, each}
 use Rattle.line.specs.Grammar.{Line, read_line}
@@ -13,8 +13,7 @@ use Rattle.class_member.specs.Member.{Room}
 use Rattle.class_line.specs.declared.Class.{Class as Answered}
 use Rattle.from_card_lines.specs.Classified.{Turned, Classified}
 use Rattle.from_card_garbled.specs.Garbled.{OfLines}
-use Rattle.from_card_refusals.specs.declared.Refusal.{Refusal}
-use Rattle.from_card_refusals.specs.declared.Refusal.TheVariants.{None}
+use Rattle.served.specs.declared.Refusal.{Refusal}
 use Rattle.from_card_refusals.specs.Judged.{judged, later_tests, answered}
 use Rattle.from_card_refusals.specs.declared.Judged.{Judged}
 use Rattle.from_card_seen.specs.declared.Settled.{Settled}
@@ -87,9 +86,9 @@ abbrev pub fresh : Pass
 fresh = record { judged = judged []; full = false; parts = false; count = 0 }
 
 -- refusals 5 to 10 in 01's order, and the class of each line where none is given
-pub record Passed (bytes starts codes : List ℕ) (n : ℕ) (r : Refusal) (raw : List Bytes) : Type 0 where
+pub record Passed (bytes starts codes : List ℕ) (n : ℕ) (r : Option Refusal) (raw : List Bytes) : Type 0 where
   pub refusals : (a : Answer) → seek (at_line 5 ungrammatical raw ∷ later_tests (lines_of raw)) a ≡ answered r a
   pub classes : r ≡ None → Classified bytes starts codes n (classed (lines_of raw))
 
-abbrev pub Passes : Bytes → List ℕ → List ℕ → ℕ → Refusal → Type 0
+abbrev pub Passes : Bytes → List ℕ → List ℕ → ℕ → Option Refusal → Type 0
 Passes bytes starts codes n r = OfLines bytes starts n (Passed bytes starts codes n r)

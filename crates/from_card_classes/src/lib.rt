@@ -15,12 +15,14 @@ ghost use Rattle.from_card_classes.specs.Pass.{Ready, Noted, NextLine, HasLines,
 use card_table::params;
 use class_line::{Class, class_numbered};
 use class_properties::name_code;
+use convert_params::Rows;
 use from_card_refusals::{
-    Judged, Refusal, is_emptied, is_misused, is_version_line, judge, refusal_of, unjudged,
+    Judged, is_emptied, is_misused, is_version_line, judge, refusal_of, unjudged,
 };
 use from_card_seen::settle;
 use line_table::{fill, table};
 use line_unfold::line_at;
+use served::Refusal;
 use table_params::scan_rows;
 
 // What is carried from line to line: what refusals 6 to 10 ask, whether FN and N have converted, how many keys are noted.
@@ -33,20 +35,11 @@ pub struct Pass {
 }
 
 // The line with the number k, from 0 on, judged by its table.
-fn judge_line(
-    j: Judged,
-    k: usize,
-    code: usize,
-    counts: &[usize],
-    froms: &[usize],
-    tos: &[usize],
-    s: &[u8],
-    t: &[usize],
-) -> Judged
-    requires { (k < line_room) × Rowed s.now t.now counts.now froms.now tos.now × Coded code (line_in s.now t.now) }
+fn judge_line(j: Judged, k: usize, code: usize, rows: Rows<'_>, s: &[u8], t: &[usize]) -> Judged
+    requires { (k < line_room) × Rowed s.now t.now rows × Coded code (line_in s.now t.now) }
     ensures { result ≡ judged_with j (k + 1) code (misused (line_in s.now t.now)) (emptied (line_in s.now t.now)) (is_version_line (line_in s.now t.now)) }
 {
-    let misused = is_misused(code, counts, froms, tos, s, t);
+    let misused = is_misused(code, rows, s, t);
     let emptied = is_emptied(code, s, t);
     let version = is_version_line(code, s, t);
     judge(j, k + 1, code, misused, emptied, version)
@@ -98,12 +91,17 @@ fn next_line(
     let mut froms = [0usize; params::COUNT];
     let mut tos = [0usize; params::COUNT];
     scan_rows(&mut counts, &mut froms, &mut tos, s, t);
+    let rows = Rows {
+        counts: &counts,
+        froms: &froms,
+        tos: &tos,
+    };
     let a = t[table::NAME];
     let b = t[table::NAME_END];
     let code = name_code(&s[a..b]);
     let before = p.judged;
-    let judged = judge_line(before, k, code, &counts, &froms, &tos, s, t);
-    let class = class_numbered(code, &counts, &froms, &tos, s, t, text, p.full, p.parts);
+    let judged = judge_line(before, k, code, rows, s, t);
+    let class = class_numbered(code, rows, s, t, text, p.full, p.parts);
     pass_line(codes, ids, prints, p, k, judged, bytes, at, s, class)
 }
 
@@ -130,24 +128,21 @@ pub fn class_lines(
     bytes: &[u8],
     starts: &[usize],
     n: usize,
-) -> Refusal
+) -> Option<Refusal>
     requires { HasLines bytes.now starts.now n × Lent codes.old ids.old prints.old table.old text.old bytes.now n }
     ensures { Passes bytes.now starts.now codes.new n result }
 {
     let mut p = begun();
-    let mut k = 0;
-    while k < n {
+    for k in 0..n {
         let at = starts[k];
         let s = line_at(bytes, starts, k);
         if !fill(table, s) {
-            return Refusal::At {
+            return Some(Refusal {
                 number: 5,
                 place: k + 1,
-            };
+            });
         }
         p = next_line(codes, ids, prints, text, p, k, bytes, at, s, table);
-        k += 1;
     }
-    let judged = p.judged;
-    refusal_of(judged)
+    refusal_of(p.judged)
 }

@@ -6,6 +6,7 @@ use Prim.Native.Nat.{ℕ, zero, suc, ◌+◌, ◌-◌, ◌≤◌, ◌<◌}
 use native.Mathlib.Omega.{arith}
 use lib.ListN.{length, take, drop, get_or, length-take}
 use borrow.Author.Tests.{not-true}
+use Rattle.std.specs.Prelude.{Some, None}
 use Rattle.text.specs.Bytes.{Bytes, flat, any}
 use Rattle.text.specs.Utf8.{utf8}
 use Rattle.text.proofs.Cases.{or_left, or_right}
@@ -17,7 +18,7 @@ use Rattle.line_unfold.proofs.Lookup.{line-is, lines_end}
 use Rattle.line_class.specs.Odd.{is_odd}
 use Rattle.line_class.proofs.Odd.{plain}
 use Rattle.convert.specs.Answers.{garbled, first_from}
-use Rattle.from_card_garbled.specs.Garbled.{place_of, OfLines, FirstGarbled}
+use Rattle.from_card_garbled.specs.Garbled.{found, OfLines, TellsGarbled}
 use Rattle.from_card_garbled.proofs.First.{first_on, first-here, first-end, first-none}
 
 garbled-is : (l : Bytes) → garbled l ≡ (not (utf8 l) || any is_control l)
@@ -66,8 +67,8 @@ unasked : (clean : Bool) (raw : List Bytes) (k : ℕ) → clean ≡ not (any is_
 unasked true raw k e = garbled-is (get_or raw k []) ∙ ap (λ b. not (utf8 (get_or raw k [])) || b) (any_of is_control raw k (not-true (any is_control (flat raw)) (sym e)))
 unasked false raw k e = garbled-is (get_or raw k [])
 
-pub none_at_all : {scratch starts : List ℕ} {n : ℕ} (all : Bytes) → OfLines scratch starts n (λ raw. all ≡ flat raw) → any is_odd all ≡ false → FirstGarbled scratch starts n 0
-none_at_all all is h raw laid = sym (ap place_of (first-none garbled 1 raw (none-garbled raw (ap (any is_odd) (sym (is raw laid)) ∙ h))))
+pub none_at_all : {scratch starts : List ℕ} {n : ℕ} (all : Bytes) → OfLines scratch starts n (λ raw. all ≡ flat raw) → any is_odd all ≡ false → TellsGarbled scratch starts n None
+none_at_all all is h raw laid = sym (ap found (first-none garbled 1 raw (none-garbled raw (ap (any is_odd) (sym (is raw laid)) ∙ h))))
 
 -- ---- the answers
 
@@ -76,10 +77,10 @@ abbrev pub Sought : List ℕ → List ℕ → ℕ → ℕ → Type 0
 Sought scratch starts n k = OfLines scratch starts n (λ raw. first_from 1 garbled raw ≡ first_from (k + 1) garbled (drop k raw))
 
 module _ {scratch starts : List ℕ} {n k : ℕ} (sought : Sought scratch starts n k) where
-  pub sought-end : n ≤ k → FirstGarbled scratch starts n 0
+  pub sought-end : n ≤ k → TellsGarbled scratch starts n None
   sought-end h raw laid =
       let l : length raw ≤ k = omega (arith, laid.count) in
-      sym (ap place_of (sought raw laid ∙ first-end garbled [] raw k l))
+      sym (ap found (sought raw laid ∙ first-end garbled [] raw k l))
 
   module _ (all : Bytes) (is : OfLines scratch starts n (λ raw. all ≡ flat raw)) (h : k < n) (b : Bool) (e : b ≡ garbled_in (not (any is_control all)) (line_at scratch starts k)) where
     line-garbled : (raw : List Bytes) → Laid raw n scratch starts → garbled (get_or raw k []) ≡ b
@@ -93,7 +94,7 @@ module _ {scratch starts : List ℕ} {n k : ℕ} (sought : Sought scratch starts
         let l : k < length raw = omega (arith, laid.count) in
         sought raw laid ∙ first_on garbled [] raw k l (line-garbled raw laid ∙ f)
 
-    pub sought-here : b ≡ true → FirstGarbled scratch starts n (k + 1)
+    pub sought-here : b ≡ true → TellsGarbled scratch starts n (Some (k + 1))
     sought-here t raw laid =
         let l : k < length raw = omega (arith, laid.count) in
-        sym (ap place_of (sought raw laid ∙ first-here garbled [] raw k l (line-garbled raw laid ∙ t)))
+        sym (ap found (sought raw laid ∙ first-here garbled [] raw k l (line-garbled raw laid ∙ t)))

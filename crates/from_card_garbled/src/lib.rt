@@ -5,7 +5,7 @@ ghost use Rattle.std.specs.Prelude.{◌≡◌, ◌||◌, ◌&&◌, not};
 ghost use Rattle.text.specs.Bytes.{any, flat};
 ghost use Rattle.text.specs.Utf8.{utf8};
 ghost use Rattle.line.specs.Class.{is_control};
-ghost use Rattle.from_card_garbled.specs.Garbled.{OfLines, FirstGarbled};
+ghost use Rattle.from_card_garbled.specs.Garbled.{OfLines, TellsGarbled};
 
 use line_class::{has_control, has_odd, is_garbled};
 use line_unfold::line_at;
@@ -35,22 +35,20 @@ fn is_garbled_in(line: &[u8], clean: bool) -> bool
     is_garbled(line)
 }
 
-// The number of that line, VERSION being 1; 0 where there is none.
-pub fn first_garbled(scratch: &[u8], starts: &[usize], n: usize) -> usize
-    ensures { FirstGarbled scratch.now starts.now n result }
+// The number of that line, VERSION being 1.
+pub fn first_garbled(scratch: &[u8], starts: &[usize], n: usize) -> Option<usize>
+    ensures { TellsGarbled scratch.now starts.now n result }
 {
     let all = all_lines(scratch, starts, n);
     // No control and only ASCII in all lines: one loop over their bytes, true for most cards.
     if !has_odd(all) {
-        return 0;
+        return None;
     }
     let clean = !has_control(all);
-    let mut k = 0;
-    while k < n {
+    for k in 0..n {
         if is_garbled_in(line_at(scratch, starts, k), clean) {
-            return k + 1;
+            return Some(k + 1);
         }
-        k += 1;
     }
-    0
+    None
 }

@@ -2,10 +2,11 @@
 use Rattle.std.specs.Prelude.{◌≡◌, List, [], ◌∷◌, map, ℕ, ◌≤◌, length, take}
 use Rattle.std.proofs.Math.Option.{some}
 use Rattle.text.specs.Bytes.{Bytes, each}
-use Rattle.line.specs.Grammar.{Line, read_line}
+use Rattle.line.specs.Grammar.{read_line}
 use Rattle.line_unfold.specs.Table.{Laid}
-use Rattle.convert.specs.Classify.{Seen, Class, Classed, classify}
+use Rattle.convert.specs.Classify.{Seen, Classed, classify}
 use Rattle.convert_entry.specs.Rows.{code_of}
+use Rattle.from_card_lines.specs.declared.ClassedLines.{ClassedLines}
 
 -- each line's class is what the definition gives it after something seen before
 abbrev pub Turned : List Classed → Type 0
@@ -20,3 +21,7 @@ pub record Classified (scratch starts codes : List ℕ) (n : ℕ) (cs : List Cla
   pub wide : n ≤ length codes
   pub numbers : take n codes ≡ map (λ (c : Classed). code_of c.class) cs
   pub turns : Turned cs
+
+-- a definition about a card's classified lines, said of the struct that holds them
+abbrev pub of_lines {ℓ} : {A : Type ℓ} → (List ℕ → List ℕ → List ℕ → ℕ → A) → ClassedLines → A
+of_lines f l = f l.scratch.now l.starts.now l.codes.now l.count

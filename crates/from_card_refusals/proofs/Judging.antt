@@ -2,7 +2,8 @@
 use mathlib.Core.Path.{◌≡◌, refl, sym, ap, ◌∙◌}
 use mathlib.Core.Bool.{Bool, true, false, ◌&&◌, ◌||◌, not}
 use mathlib.Core.List.{List, [], ◌∷◌, ◌++◌}
-use mathlib.Core.Option.{Option, none, some}
+use mathlib.Core.Option.{Option as Maybe, none, some}
+use Rattle.std.specs.Prelude.{Option, Some, None}
 use Prim.Native.Nat.{ℕ, suc, ◌+◌}
 use native.Mathlib.Omega.{arith}
 use native.Mathlib.Nat.{add-zero}
@@ -16,11 +17,10 @@ use Rattle.text.proofs.Lists.{any_append}
 use Rattle.text.proofs.Same.{same_true, same-swap}
 use Rattle.line.specs.Grammar.{Line}
 use Rattle.convert.specs.Answers.{Answer, Test, seek, given, given_at, first_from, is_named, misused, second_from, emptied, is_version_line, version_first, line_tests, line_room, at_line, garbled, ungrammatical}
-use Rattle.from_card_garbled.specs.Garbled.{place_of}
-use Rattle.from_card_refusals.specs.declared.Refusal.{Refusal}
-use Rattle.from_card_refusals.specs.declared.Refusal.TheVariants.{None, At}
+use Rattle.from_card_garbled.specs.Garbled.{found}
+use Rattle.served.specs.declared.Refusal.{Refusal}
 use Rattle.from_card_refusals.specs.Line.{Coded}
-use Rattle.from_card_refusals.specs.Judged.{judged, judged_with, first_of, later_tests, refusal_of, answered}
+use Rattle.from_card_refusals.specs.Judged.{judged, judged_with, first_of, later_tests, refusal_at, placed, refusal_of, answered}
 
 -- ---- one more at the end
 
@@ -36,12 +36,12 @@ later : (i : ℕ) {A : Type 0} (x : A) (xs : List A) → suc (suc i) + length xs
 later i x xs = omega arith
 
 first-snoc : {A : Type 0} (p : A → Bool) (i : ℕ) (xs : List A) (x : A)
-    → place_of (first_from (suc i) p (xs ++ x ∷ [])) ≡ first_of (place_of (first_from (suc i) p xs)) (p x) (suc i + length xs)
+    → found (first_from (suc i) p (xs ++ x ∷ [])) ≡ first_of (found (first_from (suc i) p xs)) (p x) (suc i + length xs)
 unfolding first_from
 first-snoc p i [] x = by_bool (p x) (λ e. rw (e, add-zero (suc i))) (λ e. rw e)
 first-snoc p i (y ∷ xs) x =
     by_bool (p y)
-    (λ e. rw (e, ne_eqb (suc i) 0 (λ z. omega arith)))
+    (λ e. rw e)
     (λ e. rw (e, first-snoc p (suc i) xs x, later i y xs))
 
 regroup : (s a b : Bool) → a || (s || b) ≡ (s || a) || b
@@ -60,13 +60,13 @@ again-cons n before m ls =
     (ap (λ u. any (is_named n) ls || (u || any (same n) before)) (same-swap n (lowered m.name)) ∙ regroup (same (lowered m.name) n) (any (is_named n) ls) (any (same n) before))
 
 second-snoc : (i : ℕ) (before : List Bytes) (ls : List Line) (l : Line)
-    → place_of (second_from (suc i) before (ls ++ l ∷ [])) ≡ first_of (place_of (second_from (suc i) before ls)) (again (lowered l.name) before ls) (suc i + length ls)
+    → found (second_from (suc i) before (ls ++ l ∷ [])) ≡ first_of (found (second_from (suc i) before ls)) (again (lowered l.name) before ls) (suc i + length ls)
 unfolding second_from any
 second-snoc i before [] l =
     by_bool (again (lowered l.name) before []) (λ e. rw (e, add-zero (suc i))) (λ e. rw e)
 second-snoc i before (m ∷ ls) l =
     by_bool (among (lowered m.name) (ascii "version" ∷ ascii "uid" ∷ ascii "kind" ∷ []) && among (lowered m.name) before)
-    (λ e. rw (e, ne_eqb (suc i) 0 (λ z. omega arith)))
+    (λ e. rw e)
     (λ e. rw (e, second-snoc (suc i) (lowered m.name ∷ before) ls l, again-cons (lowered l.name) before m ls, later i m ls))
 
 -- ---- the names of 8 by flags
@@ -142,54 +142,31 @@ judged-snoc ls l code is =
       ← is.kind,
     )
 
-pub judged-none : judged [] ≡ record { misused = 0; second = 0; emptied = 0; version = false; uid = false; kind = false; full = false; opened = false }
+pub judged-none : judged [] ≡ record { misused = None; second = None; emptied = None; version = false; uid = false; kind = false; full = false; opened = false }
 unfolding judged first_from second_from any
 judged-none = refl
 
 -- ---- the refusal
 
--- a place is never 0
-abbrev Counted : Option ℕ → Type 0
-Counted none = Unit {0}
-Counted (some i) = i ≡ 0 → ⊥
-
-first_counted : {A : Type 0} (p : A → Bool) (i : ℕ) (xs : List A) → Counted (first_from (suc i) p xs)
-unfolding first_from
-first_counted p i [] = tt
-first_counted p i (x ∷ xs) = by_bool (p x) (λ e. rw e (λ z. omega arith)) (λ e. rw e (first_counted p (suc i) xs))
-
-second-counted : (i : ℕ) (before : List Bytes) (ls : List Line) → Counted (second_from (suc i) before ls)
-unfolding second_from
-second-counted i before [] = tt
-second-counted i before (m ∷ ls) =
-    by_bool (among (lowered m.name) (ascii "version" ∷ ascii "uid" ∷ ascii "kind" ∷ []) && among (lowered m.name) before)
-    (λ e. rw e (λ z. omega arith))
-    (λ e. rw e (second-counted (suc i) (lowered m.name ∷ before) ls))
-
 -- the tests by their answers, and the refusal by the places
-abbrev tests : Bool → Option ℕ → Option ℕ → Option ℕ → Bool → List Test
+abbrev tests : Bool → Maybe ℕ → Maybe ℕ → Maybe ℕ → Bool → List Test
 tests v m s e f = given 6 (not v) ∷ given_at 7 m ∷ given_at 8 s ∷ given_at 9 e ∷ given 10 (not f) ∷ []
 
-abbrev told : Bool → ℕ → ℕ → ℕ → Bool → Refusal
-told v m s e f =
-    pick (not v) (At 6 0)
-    (pick (not (eqb m 0)) (At 7 m) (pick (not (eqb s 0)) (At 8 s) (pick (not (eqb e 0)) (At 9 e) (pick (not f) (At 10 0) None))))
+abbrev told : Bool → Option ℕ → Option ℕ → Option ℕ → Bool → Option Refusal
+told v m s e f = pick (not v) (Some (refusal_at 6 0)) (placed 7 m (placed 8 s (placed 9 e (pick (not f) (Some (refusal_at 10 0)) None))))
 
-decided : (v : Bool) (m s e : Option ℕ) (f : Bool) → Counted m → Counted s → Counted e → (a : Answer)
-    → seek (tests v m s e f) a ≡ answered (told v (place_of m) (place_of s) (place_of e) f) a
+decided : (v : Bool) (m s e : Maybe ℕ) (f : Bool) (a : Answer) → seek (tests v m s e f) a ≡ answered (told v (found m) (found s) (found e) f) a
 unfolding seek
-decided false m s e f cm cs ce a = refl
-decided true (some i) s e f cm cs ce a = rw (ne_eqb i 0 cm)
-decided true none (some i) e f cm cs ce a = rw (ne_eqb i 0 cs)
-decided true none none (some i) f cm cs ce a = rw (ne_eqb i 0 ce)
-decided true none none none false cm cs ce a = refl
-decided true none none none true cm cs ce a = refl
+decided false m s e f a = refl
+decided true (some i) s e f a = refl
+decided true none (some i) e f a = refl
+decided true none none (some i) f a = refl
+decided true none none none false a = refl
+decided true none none none true a = refl
 
 pub refusal-told : (ls : List Line) (a : Answer) → seek (later_tests ls) a ≡ answered (refusal_of (judged ls)) a
 unfolding later_tests refusal_of judged
-refusal-told ls a =
-    decided (version_first ls) (first_from 1 misused ls) (second_from 1 [] ls) (first_from 1 emptied ls) (any (is_named (ascii "fn")) ls)
-    (first_counted misused 0 ls) (second-counted 0 [] ls) (first_counted emptied 0 ls) a
+refusal-told ls a = decided (version_first ls) (first_from 1 misused ls) (second_from 1 [] ls) (first_from 1 emptied ls) (any (is_named (ascii "fn")) ls) a
 
 -- where 3, 4 and 5 are not given
 pub tests-are : (raw : List Bytes) (ls : List Line)

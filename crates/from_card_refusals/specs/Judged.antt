@@ -1,20 +1,21 @@
 -- What is kept of the lines read so far for refusals 6 to 10, and the refusal that it tells.
-use Rattle.std.specs.Prelude.{◌≡◌, Bool, true, false, ◌&&◌, ◌||◌, not, List, [], ◌∷◌, ℕ, eqb}
+use Rattle.std.specs.Prelude.{Bool, ◌&&◌, ◌||◌, not, List, [], ◌∷◌, ℕ, eqb, Option, Some, None}
+use Rattle.std.specs.Bool.{then_some}
+use Rattle.std.specs.Option.{option_or}
 use Rattle.text.specs.Choice.{pick}
 use Rattle.text.specs.Bytes.{ascii, any}
 use Rattle.line.specs.Grammar.{Line}
 use Rattle.convert.specs.Answers.{Answer, no, Test, given, given_at, at_line, first_from, is_named, misused, second_from, emptied, version_first}
-use Rattle.from_card_garbled.specs.Garbled.{place_of}
+use Rattle.from_card_garbled.specs.Garbled.{found}
 use Rattle.from_card_refusals.specs.declared.Judged.{Judged}
-use Rattle.from_card_refusals.specs.declared.Refusal.{Refusal}
-use Rattle.from_card_refusals.specs.declared.Refusal.TheVariants.{None, At}
+use Rattle.served.specs.declared.Refusal.{Refusal}
 
--- of these lines: the first of 7, 8 and 9 (0: none), which names have come, and whether the first is VERSION:4.0
+-- of these lines: the first of 7, 8 and 9 , which names have come, and whether the first is VERSION:4.0
 unfoldable pub judged : List Line → Judged
 judged ls = record {
-  misused = place_of (first_from 1 misused ls);
-  second = place_of (second_from 1 [] ls);
-  emptied = place_of (first_from 1 emptied ls);
+  misused = found (first_from 1 misused ls);
+  second = found (second_from 1 [] ls);
+  emptied = found (first_from 1 emptied ls);
   version = any (is_named (ascii "version")) ls;
   uid = any (is_named (ascii "uid")) ls;
   kind = any (is_named (ascii "kind")) ls;
@@ -23,8 +24,8 @@ judged ls = record {
 }
 
 -- the first place stays
-abbrev pub first_of : ℕ → Bool → ℕ → ℕ
-first_of a here k = pick (eqb a 0) (pick here k 0) a
+abbrev pub first_of : Option ℕ → Bool → ℕ → Option ℕ
+first_of a here k = option_or a (then_some here k)
 
 -- one line more: the k-th, its property's number, whether it is of 7 or 9, and whether it is VERSION:4.0
 unfoldable pub judged_with : Judged → ℕ → ℕ → Bool → Bool → Bool → Judged
@@ -50,15 +51,18 @@ later_tests ls =
     ∷ []
 
 -- the one that is told
-unfoldable pub refusal_of : Judged → Refusal
-refusal_of j =
-    pick (not j.opened) (At 6 0)
-    (pick (not (eqb j.misused 0)) (At 7 j.misused)
-    (pick (not (eqb j.second 0)) (At 8 j.second)
-    (pick (not (eqb j.emptied 0)) (At 9 j.emptied)
-    (pick (not j.full) (At 10 0) None))))
+abbrev pub refusal_at : ℕ → ℕ → Refusal
+refusal_at n p = record { number = n; place = p }
+
+-- where there is a place, the refusal of that number; else the others
+abbrev pub placed : ℕ → Option ℕ → Option Refusal → Option Refusal
+placed n None r = r
+placed n (Some p) r = Some (refusal_at n p)
+
+unfoldable pub refusal_of : Judged → Option Refusal
+refusal_of j = pick (not j.opened) (Some (refusal_at 6 0)) (placed 7 j.misused (placed 8 j.second (placed 9 j.emptied (pick (not j.full) (Some (refusal_at 10 0)) None))))
 
 -- a refusal is the answer, else it is the other
-abbrev pub answered : Refusal → Answer → Answer
+abbrev pub answered : Option Refusal → Answer → Answer
 answered None a = a
-answered (At n p) a = no n p
+answered (Some r) a = no r.number r.place

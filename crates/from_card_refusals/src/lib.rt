@@ -9,32 +9,28 @@ ghost use Rattle.line_table.specs.Table.{Sound, line_in};
 ghost use Rattle.convert_entry.specs.Rows.{HasRow, OfRow};
 ghost use Rattle.table_entry.specs.Key.{Rowed};
 ghost use Rattle.from_card_refusals.specs.Line.{Coded, is_word};
-ghost use Rattle.from_card_refusals.specs.Judged.{judged, judged_with, first_of, refusal_of};
+ghost use Rattle.from_card_refusals.specs.Judged.{judged, judged_with, refusal_of};
 
 use card_table::{lines, names, params, values};
 use convert_entry::value_kind;
+use convert_params::Rows;
 use convert_tests::same_bytes;
 use line_class::{Class, all_of};
 use line_table::table;
+use served::Refusal;
 use table_entry::has_group;
 
-// Of the lines so far: the first of refusals 7, 8 and 9 (0: none), which names have come, whether the first line is VERSION:4.0.
+// Of the lines so far: the first of refusals 7, 8 and 9, which names have come, whether the first line is VERSION:4.0.
 #[derive(Clone, Copy)]
 pub struct Judged {
-    pub misused: usize,
-    pub second: usize,
-    pub emptied: usize,
+    pub misused: Option<usize>,
+    pub second: Option<usize>,
+    pub emptied: Option<usize>,
     pub version: bool,
     pub uid: bool,
     pub kind: bool,
     pub full: bool,
     pub opened: bool,
-}
-
-#[derive(Drop)]
-pub enum Refusal {
-    None,
-    At { number: u8, place: usize },
 }
 
 fn is_word(v: &[u8]) -> bool
@@ -47,60 +43,53 @@ fn is_word(v: &[u8]) -> bool
 }
 
 // No VALUE, or one that is a name.
-fn value_fits(counts: &[usize], froms: &[usize], tos: &[usize], s: &[u8]) -> bool
-    requires { HasRow s.now counts.now froms.now tos.now }
-    ensures { OfRow s.now counts.now froms.now tos.now (λ ps. result ≡ value_fits (values_named (ascii "value") ps)) }
+fn value_fits(rows: Rows<'_>, s: &[u8]) -> bool
+    requires { HasRow s.now rows }
+    ensures { OfRow s.now rows.entry (λ ps. result ≡ value_fits (values_named (ascii "value") ps)) }
 {
-    let k = counts[params::VALUE];
+    let k = rows.counts[params::VALUE];
     if k == 0 {
         return true;
     }
     if k != 1 {
         return false;
     }
-    let a = froms[params::VALUE];
-    let b = tos[params::VALUE];
+    let a = rows.froms[params::VALUE];
+    let b = rows.tos[params::VALUE];
     is_word(&s[a..b])
 }
 
 // No parameter, or VALUE=uri alone.
-fn only_uri(counts: &[usize], froms: &[usize], tos: &[usize], s: &[u8], t: &[usize]) -> bool
-    requires { Rowed s.now t.now counts.now froms.now tos.now }
+fn only_uri(rows: Rows<'_>, s: &[u8], t: &[usize]) -> bool
+    requires { Rowed s.now t.now rows }
     ensures { result ≡ only_uri (line_in s.now t.now).params }
 {
     let n = t[table::COUNT];
     if n == 0 {
         return true;
     }
-    if counts[params::VALUE] != n {
+    if rows.counts[params::VALUE] != n {
         return false;
     }
-    value_kind(counts, froms, tos, s) == values::URI
+    value_kind(rows, s) == values::URI
 }
 
 // 7: UID or KIND with a group or a parameter (VALUE=uri on UID is allowed), a GROUP parameter, several values of VALUE or one that is no name.
-pub fn is_misused(
-    code: usize,
-    counts: &[usize],
-    froms: &[usize],
-    tos: &[usize],
-    s: &[u8],
-    t: &[usize],
-) -> bool
-    requires { Rowed s.now t.now counts.now froms.now tos.now × Coded code (line_in s.now t.now) }
+pub fn is_misused(code: usize, rows: Rows<'_>, s: &[u8], t: &[usize]) -> bool
+    requires { Rowed s.now t.now rows × Coded code (line_in s.now t.now) }
     ensures { result ≡ misused (line_in s.now t.now) }
 {
-    if counts[params::GROUP] != 0 {
+    if rows.counts[params::GROUP] != 0 {
         return true;
     }
-    if !value_fits(counts, froms, tos, s) {
+    if !value_fits(rows, s) {
         return true;
     }
     if code == names::UID {
         if has_group(s, t) {
             return true;
         }
-        return !only_uri(counts, froms, tos, s, t);
+        return !only_uri(rows, s, t);
     }
     if code == names::KIND {
         if has_group(s, t) {
@@ -151,9 +140,9 @@ pub fn unjudged() -> Judged
     ensures { result ≡ judged [] }
 {
     Judged {
-        misused: 0,
-        second: 0,
-        emptied: 0,
+        misused: None,
+        second: None,
+        emptied: None,
         version: false,
         uid: false,
         kind: false,
@@ -162,19 +151,8 @@ pub fn unjudged() -> Judged
     }
 }
 
-fn first_of(a: usize, here: bool, k: usize) -> usize
-    ensures { result ≡ first_of a here k }
-{
-    if a != 0 {
-        return a;
-    }
-    if here {
-        return k;
-    }
-    0
-}
-
 // One line more, the k-th.
+#[tactic(auto, unfolding(crate::specs::Judged::judged_with))]
 pub fn judge(
     j: Judged,
     k: usize,
@@ -188,9 +166,9 @@ pub fn judge(
     let twice = ((code == names::VERSION) & j.version)
         | (((code == names::UID) & j.uid) | ((code == names::KIND) & j.kind));
     Judged {
-        misused: first_of(j.misused, misused, k),
-        second: first_of(j.second, twice, k),
-        emptied: first_of(j.emptied, emptied, k),
+        misused: j.misused.or(misused.then_some(k)),
+        second: j.second.or(twice.then_some(k)),
+        emptied: j.emptied.or(emptied.then_some(k)),
         version: j.version | (code == names::VERSION),
         uid: j.uid | (code == names::UID),
         kind: j.kind | (code == names::KIND),
@@ -200,38 +178,30 @@ pub fn judge(
 }
 
 // Each refusal is sought over all lines before the next.
-pub fn refusal_of(j: Judged) -> Refusal
+#[tactic(auto, unfolding(crate::specs::Judged::refusal_of))]
+pub fn refusal_of(j: Judged) -> Option<Refusal>
     ensures { result ≡ refusal_of j }
 {
     if !j.opened {
-        return Refusal::At {
+        return Some(Refusal {
             number: 6,
             place: 0,
-        };
+        });
     }
-    if j.misused != 0 {
-        return Refusal::At {
-            number: 7,
-            place: j.misused,
-        };
+    if let Some(place) = j.misused {
+        return Some(Refusal { number: 7, place });
     }
-    if j.second != 0 {
-        return Refusal::At {
-            number: 8,
-            place: j.second,
-        };
+    if let Some(place) = j.second {
+        return Some(Refusal { number: 8, place });
     }
-    if j.emptied != 0 {
-        return Refusal::At {
-            number: 9,
-            place: j.emptied,
-        };
+    if let Some(place) = j.emptied {
+        return Some(Refusal { number: 9, place });
     }
     if !j.full {
-        return Refusal::At {
+        return Some(Refusal {
             number: 10,
             place: 0,
-        };
+        });
     }
-    Refusal::None
+    None
 }

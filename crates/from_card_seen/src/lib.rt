@@ -50,9 +50,7 @@ fn is_listed(bytes: &[u8], ids: &[usize], n: usize, i: usize, key: &[u8]) -> boo
     requires { Listed bytes.now ids.now n }
     ensures { result ≡ any (is_id i key.now) (ids_at bytes.now ids.now n) }
 {
-    let mut k = n;
-    while k > 0 {
-        k -= 1;
+    for k in (0..n).rev() {
         let at = ID * k;
         let j = ids[at];
         let a = ids[at + 1];

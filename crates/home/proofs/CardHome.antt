@@ -18,7 +18,6 @@ use Rattle.convert.specs.Classify.{nothing, classed_after, classed}
 use Rattle.convert.specs.FromCard.{Placed, placed, Gives, gathered, first_of, or_else, in_map, with_keys, keyed_entries, maps_from, card_of_classed, card_of_lines}
 use Rattle.convert.specs.ToCard.{card_lines}
 use Rattle.convert.proofs.Keyed.{keys-given}
-use Rattle.convert.proofs.Names.{full}
 use Rattle.convert.proofs.NameJson.{no-parts}
 use Rattle.home.proofs.Proper.{ProperEntries, ProperMaps, ProperCard}
 use Rattle.home.proofs.Given.{no_gives, plus, gathered-given, in_map-append}

@@ -9,7 +9,7 @@ use lib.ListN.{take, drop}
 use Rattle.text.specs.Choice.{with-some, is_some, chain, provided}
 use Rattle.text.specs.Bytes.{Bytes, ascii, all, any, same, among, keep, each}
 use Rattle.json_text.specs.Tree.{Json, Member, member, name_of, value_of, field, as_string, as_number, as_array, as_object}
-use Rattle.convert.specs.Table.{phone, organization, Map, TypeName, type_names, json_type, position}
+use Rattle.convert.specs.Table.{Map, TypeName, type_names, json_type, position}
 use Rattle.convert.specs.Value.{is_key_text, is_pref}
 use Rattle.convert.specs.FromJson.{only_members, optional, required, is_true, flag_of, flags_from, unit_from, organization_from, content_from, entry_members, entry_from, map_from}
 use Rattle.home.specs.Reasons.{key_fits, pref_number}

@@ -5,7 +5,6 @@ use mathlib.Core.Option.{none}
 use Rattle.text.specs.Bytes.{ascii}
 use Rattle.json_text.specs.Tree.{jstr, jarr, econs, enil, member}
 use Rattle.line.specs.Grammar.{param}
-use Rattle.convert.specs.Table.{maps}
 use Rattle.convert.specs.Model.{Entry, Kept, Card, singly}
 use Rattle.convert.proofs.Opened.{convert-opened}
 use Rattle.convert.proofs.Forms.{formed}

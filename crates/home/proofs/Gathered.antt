@@ -10,7 +10,7 @@ use Rattle.text.specs.Bytes.{Bytes, among, flat}
 use Rattle.text.specs.Utf8.{utf8}
 use Rattle.text.proofs.Choices.{some_same}
 use Rattle.text.proofs.Cases.{not-true}
-use Rattle.json_text.specs.Tree.{Member, member, name_of}
+use Rattle.json_text.specs.Tree.{Member, name_of}
 use Rattle.line.specs.Grammar.{Line}
 use Rattle.convert.specs.Table.{Map}
 use Rattle.convert.specs.Model.{Kept, has_parts}

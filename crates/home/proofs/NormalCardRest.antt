@@ -7,7 +7,6 @@ use Rattle.text.specs.Choice.{provided}
 use Rattle.text.specs.Bytes.{Bytes, ascii, same, among, lowered, flat}
 use Rattle.text.proofs.Choices.{none-some, some_same}
 use Rattle.text.proofs.Same.{same_true}
-use Rattle.json_text.specs.Tree.{member}
 use Rattle.json_text.specs.Compact.{compact}
 use Rattle.line.specs.Grammar.{Param, param, param_name, Line}
 use Rattle.line.specs.Params.{named, values_named, lacking, only_named, besides_value}

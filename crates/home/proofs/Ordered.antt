@@ -9,7 +9,7 @@ use borrow.Author.Tests.{eqb-true}
 use Rattle.text.specs.Bytes.{Bytes, any, empty, same, among, distinct, flat, keep}
 use Rattle.text.proofs.Cases.{by_bool, not-true, not-both}
 use Rattle.text.proofs.Same.{same_true, same_self, among-head, among_later}
-use Rattle.json_text.specs.Tree.{Member, member, name_of}
+use Rattle.json_text.specs.Tree.{Member, name_of}
 use Rattle.line.specs.Grammar.{Line}
 use Rattle.convert.specs.Model.{Entry}
 use Rattle.convert.specs.Classify.{Class, as-version, as-uid, as-kind, as_dropped, as-full, as_parts, as-entry, as_member, as-kept, Id, id, is_id, with_id, Seen, see, classify, Classed, classed_after}

@@ -23,7 +23,7 @@ use Rattle.convert.specs.Answers.{Answer, yes, misused, card_to_json}
 use Rattle.convert.proofs.Fresh.{number_from, fresh-numbered, fresh-unused, fresh-least}
 use Rattle.home.specs.Allowed.{untyped, plain, name_strings, only_derived, carries}
 use Rattle.home.specs.StandsFor as S
-use Rattle.home.specs.Reasons.{Paired, is_prop, has_reason, KeptByReason, no_line, next-line}
+use Rattle.home.specs.Reasons.{Paired, is_prop, has_reason, KeptByReason, next-line}
 use Rattle.home.specs.JsonStands.{JsonStands}
 use Rattle.home.specs.Demand2.{lines, Demand2}
 use Rattle.home.proofs.PairedLines.{stands_of, lines-stand}

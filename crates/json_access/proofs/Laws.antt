@@ -6,8 +6,8 @@ use Prim.Native.Nat.{ℕ, zero, suc, ◌-◌, ◌≤◌}
 use native.Mathlib.Omega.{arith}
 use lib.ListN.{length, take, drop, length-drop, length-append}
 use lib.Seq.{take-append_seam}
-use Rattle.text.specs.declared.Read.{Read}
-use Rattle.text.specs.declared.Read.TheVariants.{Next, Bad}
+use Rattle.text.specs.Places.{Read}
+use Rattle.std.specs.Prelude.{Ok, Err}
 use Rattle.text.specs.Bytes.{Bytes}
 use Rattle.text.specs.Reader.{Got, got, past}
 use Rattle.text.specs.Places.{Gives, Passes}
@@ -37,12 +37,12 @@ value-skip zero t = ap scalar (past-past is_space t)
 value-skip (suc d) t = rw (past-past is_space t)
 
 pub place_in : {A : Type 0} (s : Bytes) (at : ℕ) (want : Got A) (r : Read) → Gives s at want r → (at ≤ place_of r) × (place_of r ≤ length s)
-place_in s at want (Next e) g = g.within
-place_in s at want (Bad b) g = g.within
+place_in s at want (Ok e) g = g.within
+place_in s at want (Err b) g = g.within
 
-as-next : {A : Type 0} (s : Bytes) (at : ℕ) (want : Got A) (r : Read) {a : A} {t : Bytes} → Gives s at want r → want ≡ got a t → Gives s at want (Next (place_of r))
-as-next s at want (Next e) g q = g
-as-next s at want (Bad b) g q = absurd (not-bad (sym (at-bad want g) ∙ q))
+as-next : {A : Type 0} (s : Bytes) (at : ℕ) (want : Got A) (r : Read) {a : A} {t : Bytes} → Gives s at want r → want ≡ got a t → Gives s at want (Ok (place_of r))
+as-next s at want (Ok e) g q = g
+as-next s at want (Err b) g q = absurd (not-bad (sym (at-bad want g) ∙ q))
 
 -- ---- where a value stands
 
@@ -70,7 +70,7 @@ head-member d s at h x g l m f k t e j u w = let p = g k t e in (p.0, stands d s
 
 -- the name of a member, and where its value begins
 module _ (s : Bytes) (at : ℕ) {r : Read} (g : Gives s at (token 34 (drop at s)) r) (k t : Bytes) (e : name (drop at s) ≡ got k t) {q : ℕ} (eq : q ≡ place_of r) where
-  opened : Gives s at (token 34 (drop at s)) (Next (place_of r))
+  opened : Gives s at (token 34 (drop at s)) (Ok (place_of r))
   unfolding name
   opened = as-next s at (token 34 (drop at s)) r g (bind_inv (token 34 (drop at s)) _ e).2
 

@@ -1,7 +1,7 @@
 -- What the contracts of this crate cite.
 use Rattle.std.specs.Prelude.{◌≡◌, ℕ, suc, ◌-◌, ◌≤◌, take, drop}
-use Rattle.text.specs.declared.Read.{Read}
-use Rattle.text.specs.declared.Read.TheVariants.{Next, Bad}
+use Rattle.text.specs.Places.{Read}
+use Rattle.std.specs.Prelude.{Ok, Err}
 use Rattle.text.specs.Bytes.{Bytes}
 use Rattle.text.specs.Reader.{got}
 use Rattle.json_text.specs.Tree.{Json, jnull, jtrue, jfalse, jnum, jstr, jarr, jobj}
@@ -15,8 +15,8 @@ use Rattle.json_access.specs.declared.Kind.{Kind}
 use Rattle.json_access.specs.declared.Kind.TheVariants.{Null, True, False, Number, String, Array, Object}
 
 abbrev pub place_of : Read → ℕ
-place_of (Next e) = e
-place_of (Bad b) = b
+place_of (Ok e) = e
+place_of (Err b) = b
 
 -- a part within the n bytes of a text, and not before `at`, where that is within them
 pub record Inside (at n start end : ℕ) : Type 0 where

@@ -43,8 +43,8 @@ pub fn place(r: Read) -> usize
     ensures { result ≡ place_of r }
 {
     match r {
-        Read::Next(e) => e,
-        Read::Bad(b) => b,
+        Ok(e) => e,
+        Err(b) => b,
     }
 }
 

@@ -2,15 +2,15 @@
 #![tactic(auto)]
 
 use json_limits::{DEPTH, OVER};
-use json_read::{Verdict, read};
+use json_read::{Fault, read};
 use named_file::{is_given, read_named};
 use std::io;
 
-fn tell(rt: &impl Print, v: Verdict) -> io::Result<()> {
+fn tell(rt: &impl Print, v: Result<(), Fault>) -> io::Result<()> {
     match v {
-        Verdict::Sound => println!(rt; "json"),
-        Verdict::Large => println!(rt; "3"),
-        Verdict::NotJson(at) => println!(rt; "11 at {at}"),
+        Ok(_) => println!(rt; "json"),
+        Err(Fault::Large) => println!(rt; "3"),
+        Err(Fault::NotJson(at)) => println!(rt; "11 at {at}"),
     }
 }
 
@@ -18,10 +18,9 @@ fn tell(rt: &impl Print, v: Verdict) -> io::Result<()> {
 fn case(rt: &HostRuntime, k: usize) -> io::Result<()> {
     let mut path = [0u8; 4096];
     let mut buf = [0u8; OVER];
-    let file = read_named(rt, k, &mut path, &mut buf);
-    if !file.found {
+    let Some(file) = read_named(rt, k, &mut path, &mut buf) else {
         return Ok(());
-    }
+    };
     rt.write_all(&path[..file.path])?;
     rt.write_all(b": ")?;
     tell(rt, read(&buf[..file.text], DEPTH))

@@ -9,10 +9,10 @@ use lib.ListN.{length, drop, get_or, length-drop, length-append, get_or-append}
 use lib.Seq.{drop-cons, get_or-drop}
 use lib.Dec.{ltb}
 use borrow.Author.Tests.{eq-eqb, ne_eqb, lt-ltb, ltb-true, ltb-false}
-use Rattle.text.specs.declared.Read.{Read}
-use Rattle.text.specs.declared.Read.TheVariants.{Next, Bad}
-use Rattle.text.specs.declared.Turn.{Turn}
-use Rattle.text.specs.declared.Turn.TheVariants.{Go, Stop}
+use Rattle.text.specs.Places.{Read}
+use Rattle.std.specs.Prelude.{Ok, Err}
+use Rattle.text.specs.Places.{Turn}
+use Rattle.std.proofs.Common.{Continue, Break}
 use Rattle.text.specs.Bytes.{Bytes, is, between}
 use Rattle.text.specs.Utf8.{Due, due, lead}
 use Rattle.text.specs.Reader.{Got, got, bad, under, on, Step, more, last}
@@ -32,12 +32,12 @@ by-lead c e = rw e (by_bool (ltb 127 c) (λ p. rw p) (λ p. rw (p, lt-ltb c 128 
 
 -- ---- a turn that goes on where a reader ended
 abbrev pub turn_of : Read → Turn
-turn_of (Next j) = Go j
-turn_of (Bad b) = Stop (Bad b)
+turn_of (Ok j) = Continue j
+turn_of (Err b) = Break (Err b)
 
 goes : {A B : Type 0} {s : Bytes} (f : A → B → B) {a b : ℕ} {want : Got A} (r : Read) → a < b → Gives s b want r → GivesT s a (under (λ x. more (f x)) want) (turn_of r)
-goes f (Next j) l h = under_more f l h
-goes f (Bad e) l h = under-bad f (omega arith) h
+goes f (Ok j) l h = under_more f l h
+goes f (Err e) l h = under-bad f (omega arith) h
 
 -- ---- tails
 pub tails-more : (s : Bytes) (i b n : ℕ) (r : Read) → b ≡ byte_at s i → between 0x80 0xbf b ≡ true → 0 < n
@@ -46,18 +46,18 @@ unfolding tail_bytes
 tails-more s i b zero r e h l x = absurd (omega arith)
 tails-more s i b (suc n) r e h l x = by-on (between 0x80 0xbf) _ bad e h (by-under _ (rw sub-one at x))
 
-pub tails-bad : (s : Bytes) (i b n : ℕ) → i ≤ length s → b ≡ byte_at s i → between 0x80 0xbf b ≡ false → 0 < n → Gives s i (tail_bytes n (drop i s)) (Bad i)
+pub tails-bad : (s : Bytes) (i b n : ℕ) → i ≤ length s → b ≡ byte_at s i → between 0x80 0xbf b ≡ false → 0 < n → Gives s i (tail_bytes n (drop i s)) (Err i)
 unfolding tail_bytes
 tails-bad s i b zero l e h g = absurd (omega arith)
 tails-bad s i b (suc n) l e h g = not_on (between 0x80 0xbf) _ bad e h (bad-here i l)
 
-pub tails-none : (s : Bytes) (i n : ℕ) → i ≤ length s → n ≡ 0 → Gives s i (tail_bytes n (drop i s)) (Next i)
+pub tails-none : (s : Bytes) (i n : ℕ) → i ≤ length s → n ≡ 0 → Gives s i (tail_bytes n (drop i s)) (Ok i)
 unfolding tail_bytes
 tails-none s i n l e = rw e (here [] i l)
 
 -- ---- a character, by its first byte
 module _ (s : Bytes) (i b : ℕ) (e : b ≡ byte_at s i) where
-  pub char-end : b ≡ 34 → i + 1 ≤ length s → GivesT s i (character (drop i s)) (Stop (Next (i + 1)))
+  pub char-end : b ≡ 34 → i + 1 ≤ length s → GivesT s i (character (drop i s)) (Break (Ok (i + 1)))
   unfolding character
   char-end h l = same_turn (on-yes (is 34) s i b e _ _ (eq-eqb _ _ h)) (last-here [] (omega arith) l)
 
@@ -71,7 +71,7 @@ module _ (s : Bytes) (i b : ℕ) (e : b ≡ byte_at s i) where
       past-marks : (g : Bytes → Got (Step Bytes)) (f : ℕ → Bytes → Got (Step Bytes)) → on (is 34) (λ c t. got (last []) t) (on (is 92) f g) (drop i s) ≡ g (drop i s)
       past-marks g f = on-no (is 34) s i b e _ _ (ne_eqb _ _ n) ∙ on-no (is 92) s i b e _ _ (ne_eqb _ _ m)
 
-      pub char-plain : between 32 127 b ≡ true → i + 1 ≤ length s → GivesT s i (character (drop i s)) (Go (i + 1))
+      pub char-plain : between 32 127 b ≡ true → i + 1 ≤ length s → GivesT s i (character (drop i s)) (Continue (i + 1))
       unfolding character
       char-plain h l = same_turn (past-marks _ _ ∙ on-yes (between 32 127) s i b e _ _ h) (more-here _ (omega arith) l)
 
@@ -81,29 +81,29 @@ module _ (s : Bytes) (i b : ℕ) (e : b ≡ byte_at s i) where
       char-wide p q r x =
           same_turn (past-marks _ _ ∙ on-no (between 32 127) s i b e _ _ p ∙ on-yes is_lead s i b e _ _ (by-lead b q)) (goes _ r (omega arith) (rw q at x))
 
-      pub char-none : between 32 127 b ≡ false → is_lead b ≡ false → i ≤ length s → GivesT s i (character (drop i s)) (Stop (Bad i))
+      pub char-none : between 32 127 b ≡ false → is_lead b ≡ false → i ≤ length s → GivesT s i (character (drop i s)) (Break (Err i))
       unfolding character
       char-none p h l = same_turn (past-marks _ _ ∙ on-no (between 32 127) s i b e _ _ p ∙ on-no is_lead s i b e _ _ h) (bad-turn (omega arith) l)
 
 -- ---- a string, one character after the other
 module _ (s : Bytes) (i : ℕ) where
-  goes_on : (j : ℕ) (w : Got (Step Bytes)) → character (drop i s) ≡ w → GivesT s i w (Go j) → ToEnd s i j
+  goes_on : (j : ℕ) (w : Got (Step Bytes)) → character (drop i s) ≡ w → GivesT s i w (Continue j) → ToEnd s i j
   unfolding characters
   goes_on j (got (more g) t) q h r x =
       same-as (loop-more character character-fine.less (drop i s) (drop j s) g (q ∙ ap (got (more g)) h.is)) (up (omega (arith, h.within.0)) (by-under g x))
   goes_on j (got (last b) t) q h r x = absurd h.is
   goes_on j (bad t) q h r x = absurd h.is
 
-  pub string-on : (j : ℕ) → GivesT s i (character (drop i s)) (Go j) → ToEnd s i j
+  pub string-on : (j : ℕ) → GivesT s i (character (drop i s)) (Continue j) → ToEnd s i j
   string-on j h = goes_on j (character (drop i s)) refl h
 
-  stops : (r : Read) (w : Got (Step Bytes)) → character (drop i s) ≡ w → GivesT s i w (Stop r) → Gives s i (characters (drop i s)) r
+  stops : (r : Read) (w : Got (Step Bytes)) → character (drop i s) ≡ w → GivesT s i w (Break r) → Gives s i (characters (drop i s)) r
   unfolding characters
   stops r (got (more g) t) q h = absurd h.is
   stops r (got (last b) t) q h = same-as (loop-last character character-fine.less (drop i s) t b q) (record { is = h.is; within = h.within })
   stops r (bad t) q h = same-as (loop-bad character character-fine.less (drop i s) t q) (record { is = h.is; within = h.within })
 
-  pub string-stop : (r : Read) → GivesT s i (character (drop i s)) (Stop r) → Gives s i (characters (drop i s)) r
+  pub string-stop : (r : Read) → GivesT s i (character (drop i s)) (Break r) → Gives s i (characters (drop i s)) r
   string-stop r h = stops r (character (drop i s)) refl h
 
   -- a character of one byte that stands for itself
@@ -133,7 +133,7 @@ module _ (s : Bytes) where
         (omega (arith, t), λ x. n (t ∙ x), λ x. m (t ∙ x))
 
     -- a character of several bytes
-    wide-goes : 128 ≤ b → (j : ℕ) (t : Got (Step Bytes)) → character (drop i s) ≡ t → GivesT s i t (Go j) → Unmarked s i j
+    wide-goes : 128 ≤ b → (j : ℕ) (t : Got (Step Bytes)) → character (drop i s) ≡ t → GivesT s i t (Continue j) → Unmarked s i j
     wide-goes l j (got (more g) t) q h k m n =
         let front : drop i s ≡ b ∷ drop (i + 1) s = rw (drop-cons s i 256 w, ← e, ← add-one i) in
         let x = wide-bytes b (drop (i + 1) s) (drop j s) g l (ap character (sym front) ∙ q ∙ ap (got (more g)) h.is) in
@@ -147,5 +147,5 @@ module _ (s : Bytes) where
     wide-goes l j (got (last c) t) q h k m n = absurd h.is
     wide-goes l j (bad t) q h k m n = absurd h.is
 
-    pub unmarked-wide : 128 ≤ b → (j : ℕ) → GivesT s i (character (drop i s)) (Go j) → Unmarked s i j
+    pub unmarked-wide : 128 ≤ b → (j : ℕ) → GivesT s i (character (drop i s)) (Continue j) → Unmarked s i j
     unmarked-wide l j h = wide-goes l j (character (drop i s)) refl h

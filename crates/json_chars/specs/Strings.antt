@@ -1,7 +1,7 @@
 -- Strings read on from a place: what the contracts of this crate cite.
 use Rattle.std.specs.Prelude.{◌≡◌, ℕ, ◌≤◌, ◌<◌, drop, get_or}
 use Prim.Native.Char.{code}
-use Rattle.text.specs.declared.Read.{Read}
+use Rattle.text.specs.Places.{Read}
 use Rattle.text.specs.Bytes.{Bytes}
 use Rattle.text.specs.Places.{Gives}
 use Rattle.json_text.specs.Syntax.{characters}

@@ -1,4 +1,5 @@
 // Characters and strings of a JSON text, read by place.
+// Loops count the place by hand: it is what they answer, and an iterator over the bytes would have to be turned back into it.
 #![tactic(auto)]
 
 ghost use Rattle.std.specs.Prelude.{◌≤◌, length, drop};
@@ -7,7 +8,8 @@ ghost use Rattle.text.specs.Places.{Gives, GivesT};
 ghost use Rattle.json_text.specs.Syntax.{tail_bytes, following, character, characters};
 ghost use Rattle.json_chars.specs.Strings.{ToEnd, Unmarked};
 
-use json_escapes::{Value, escape_at};
+use json_escapes::escape_at;
+use std::ops::ControlFlow;
 use text::{BACKSLASH, QUOTE, Read, Turn, in_range, look};
 use text_words::raw_end;
 use utf8::{Due, due_after};
@@ -21,12 +23,12 @@ fn tails_end(s: &[u8], at: usize, count: u8) -> Read
     let mut left = count;
     while left > 0 {
         if !in_range(look(s, i), 0x80, 0xbf) {
-            return Read::Bad(i);
+            return Err(i);
         }
         i += 1;
         left -= 1;
     }
-    Read::Next(i)
+    Ok(i)
 }
 
 // What must follow the first byte of a character: a byte from low to high, then so many tails.
@@ -38,7 +40,7 @@ fn wide_end(s: &[u8], at: usize, low: u8, high: u8, tails: u8) -> Read
     if in_range(b, low as u16, high as u16) {
         return tails_end(s, at + 1, tails);
     }
-    Read::Bad(at)
+    Err(at)
 }
 
 // One character, or the closing quote.
@@ -48,29 +50,29 @@ fn next_character(s: &[u8], at: usize) -> Turn
 {
     let b = look(s, at);
     if b == QUOTE {
-        return Turn::Stop(Read::Next(at + 1));
+        return ControlFlow::Break(Ok(at + 1));
     }
     if b == BACKSLASH {
         return match escape_at(s, at + 1) {
-            Value::Of { next: e, .. } => Turn::Go(e),
-            Value::Wrong(x) => Turn::Stop(Read::Bad(x)),
+            Ok(v) => ControlFlow::Continue(v.next),
+            Err(x) => ControlFlow::Break(Err(x)),
         };
     }
     if in_range(b, 32, 127) {
-        return Turn::Go(at + 1);
+        return ControlFlow::Continue(at + 1);
     }
     // The end of the text.
     if b > 255 {
-        return Turn::Stop(Read::Bad(at));
+        return ControlFlow::Break(Err(at));
     }
     // By the rows a control is a whole character, but a string has none.
     match due_after(b as u8) {
         Due::Byte(low, high, tails) => match wide_end(s, at + 1, low, high, tails) {
-            Read::Next(e) => Turn::Go(e),
-            Read::Bad(x) => Turn::Stop(Read::Bad(x)),
+            Ok(e) => ControlFlow::Continue(e),
+            Err(x) => ControlFlow::Break(Err(x)),
         },
-        Due::Start => Turn::Stop(Read::Bad(at)),
-        Due::Broken => Turn::Stop(Read::Bad(at)),
+        Due::Start => ControlFlow::Break(Err(at)),
+        Due::Broken => ControlFlow::Break(Err(at)),
     }
 }
 
@@ -128,10 +130,10 @@ pub fn text_end(s: &[u8], at: usize) -> usize
             return from;
         }
         match next_character(s, from) {
-            Turn::Go(j) => {
+            ControlFlow::Continue(j) => {
                 i = j;
             }
-            Turn::Stop(_) => {
+            ControlFlow::Break(_) => {
                 return from;
             }
         }
@@ -147,10 +149,10 @@ pub fn string_end(s: &[u8], at: usize) -> Read
     loop {
         let from = near_end(s, i);
         match next_character(s, from) {
-            Turn::Go(j) => {
+            ControlFlow::Continue(j) => {
                 i = j;
             }
-            Turn::Stop(r) => {
+            ControlFlow::Break(r) => {
                 return r;
             }
         }

@@ -8,8 +8,8 @@ use lib.ListN.{length, drop, get_or, length-drop, drop_of_length-le}
 use Rattle.text.specs.Bytes.{Bytes, is, between}
 use Rattle.text.specs.Reader.{Got, got, bad}
 use Rattle.text.specs.Places.{byte_at, Gives}
-use Rattle.text.specs.declared.Read.{Read}
-use Rattle.text.specs.declared.Read.TheVariants.{Next, Bad}
+use Rattle.text.specs.Places.{Read}
+use Rattle.std.specs.Prelude.{Ok, Err}
 use Rattle.text.proofs.Cases.{by_bool}
 use Rattle.text.proofs.Places.{byte-default, gives_as, at_next, at-bad, on-yes, on-no}
 use Rattle.text.proofs.Readers.{not-bad, got-what, under-inv, Takes, takes-on, takes-got, takes-under, takes-less, takes-bad}
@@ -67,12 +67,12 @@ squeezed-bad (c ∷ s) t l e = ap (λ (x : Got Bytes). onward x (λ t. squeezed_
 -- ---- by place
 
 module _ (s : Bytes) (i : ℕ) {r : Read} (h : Gives s i (piece (drop i s)) r) where
-  pub turn_on : {e : ℕ} → r ≡ Next e → (w : Bytes) × (piece (drop i s) ≡ got w (drop e s)) × (squeezed (drop i s) ≡ w ++ squeezed (drop e s))
+  pub turn_on : {e : ℕ} → r ≡ Ok e → (w : Bytes) × (piece (drop i s) ≡ got w (drop e s)) × (squeezed (drop i s) ≡ w ++ squeezed (drop e s))
   turn_on {e} q =
       let w = at_next (piece (drop i s)) (gives_as h q) in
       (w.0, w.1, squeezed-on (drop i s) w.0 (drop e s) w.1)
 
-  pub turn-less : {e : ℕ} → r ≡ Next e → (i < e) × (e ≤ length s)
+  pub turn-less : {e : ℕ} → r ≡ Ok e → (i < e) × (e ≤ length s)
   turn-less {e} q =
       let g = gives_as h q in
       let w = at_next (piece (drop i s)) g in
@@ -80,7 +80,7 @@ module _ (s : Bytes) (i : ℕ) {r : Read} (h : Gives s i (piece (drop i s)) r) w
       let m = rw (length-drop, length-drop) at l in
       (omega (arith, m, g.within), omega (arith, g.within))
 
-  pub turn-bad : {b : ℕ} → i < length s → r ≡ Bad b → squeezed (drop i s) ≡ []
+  pub turn-bad : {b : ℕ} → i < length s → r ≡ Err b → squeezed (drop i s) ≡ []
   turn-bad {b} l q =
       let n : 0 < length (drop i s) = simp length-drop (omega arith) in
       squeezed-bad (drop i s) (drop b s) n (at-bad (piece (drop i s)) (gives_as h q))

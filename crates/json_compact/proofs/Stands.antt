@@ -13,7 +13,7 @@ use borrow.Author.Tests.{ne_eqb, eqb-true, eqb-false, lt-ltb, le-ltb}
 use Rattle.text.specs.Bytes.{Bytes, between}
 use Rattle.text.specs.Reader.{got}
 use Rattle.text.specs.Places.{byte_at}
-use Rattle.text.specs.declared.Read.TheVariants.{Next}
+use Rattle.std.specs.Prelude.{Ok}
 use Rattle.text.proofs.Places.{byte-default, at_next}
 use Rattle.text.proofs.Cases.{by_bool, between-true}
 use Rattle.text.proofs.Readers.{not-bad, got-rest, got-what, under-inv}
@@ -130,7 +130,7 @@ module _ (s : Bytes) where
       unfolding quoted
       stands-string q from g u d =
           let to = e + 1 in
-          let a = at_next (characters (drop (i + 1) s)) (g (Next to) (string-stop s e (Next to) (char-end s e c f p (omega arith)))) in
+          let a = at_next (characters (drop (i + 1) s)) (g (Ok to) (string-stop s e (Ok to) (char-end s e c f p (omega arith)))) in
           let quote : drop i s ≡ 34 ∷ drop (i + 1) s = here ∙ ap (λ (x : ℕ). x ∷ drop (i + 1) s) q in
           let w = same-all (drop (i + 1) s) a.0 (drop to s) (units-same (drop (i + 1) s) a.0 (drop to s) a.1)
           (λ k n. let z = usual u d (i + 1 + k) (omega arith) (omega (arith, n, length-drop (i + 1) s, length-drop to s)) in

@@ -20,7 +20,7 @@ use Rattle.json_text.specs.Syntax.{skip, value, text}
 use Rattle.json_text.specs.Strings.{decoded, distinct_names}
 use Rattle.json_text.specs.Compact.{written, compact}
 use Rattle.json_text.specs.Read.{tree, refused, sound, reading_of, reading}
-use Rattle.output.specs.declared.Wrote.{Wrote}
+use Rattle.output.specs.Put.{Wrote}
 use Rattle.output.specs.Put.{Puts}
 use Rattle.output.proofs.Laws.{puts-as}
 use Rattle.json_compact.specs.Compacts.{Compacts}

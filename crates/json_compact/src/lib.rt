@@ -11,17 +11,17 @@ ghost use Rattle.json_compact.specs.Stands.{Deletes, Stands};
 use json_chars::{string_end, text_end};
 use json_marks::is_space;
 use json_write::put_requoted;
-use output::{Wrote, put_byte, put_text};
+use output::{Full, put_byte, put_text};
 use text::{QUOTE, Read, in_range, look};
 
 // The piece at a place, where there is one.
-fn put_piece(out: &mut [u8], s: &[u8], at: usize) -> Wrote
+fn put_piece(out: &mut [u8], s: &[u8], at: usize) -> Result<usize, Full>
     requires { at < length s.now }
     ensures { WritesPiece (piece (drop at s.now)) out.old result out.new }
 {
     let b = look(s, at);
     if is_space(b) {
-        return Wrote::Bytes(0);
+        return Ok(0);
     }
     if b == QUOTE {
         return put_requoted(out, s, at + 1);
@@ -36,15 +36,15 @@ fn piece_end(s: &[u8], at: usize) -> Read
 {
     let b = look(s, at);
     if is_space(b) {
-        return Read::Next(at + 1);
+        return Ok(at + 1);
     }
     if b == QUOTE {
         return string_end(s, at + 1);
     }
     if in_range(b, 0, 255) {
-        return Read::Next(at + 1);
+        return Ok(at + 1);
     }
-    Read::Bad(at)
+    Err(at)
 }
 
 // Whether a DEL stands from a place to another: it alone of these bytes is spelled otherwise. No early way out: the loop is a vector loop.
@@ -54,10 +54,8 @@ fn has_delete(s: &[u8], from: usize, to: usize) -> bool
     ensures { Deletes s.now from to result }
 {
     let mut found = false;
-    let mut k = from;
-    while k < to {
+    for k in from..to {
         found = found | (s[k] == 127);
-        k += 1;
     }
     found
 }
@@ -107,26 +105,22 @@ fn run_end(s: &[u8], at: usize) -> usize
 
 // The compact text of the value that a text holds: what stands as it is written is copied whole. (A text that is no JSON is written piece by piece too, up to
 // where no piece is read.)
-pub fn put_compact(out: &mut [u8], s: &[u8]) -> Wrote
+pub fn put_compact(out: &mut [u8], s: &[u8]) -> Result<usize, Full>
     ensures { Compacts s.now out.old result out.new }
 {
     let mut at = 0;
     let mut i = 0;
     loop {
         let j = run_end(s, i);
-        let Wrote::Bytes(m) = put_text(&mut out[at..], &s[i..j]) else {
-            return Wrote::Full;
-        };
+        let m = put_text(&mut out[at..], &s[i..j])?;
         at += m;
         if j >= s.len() {
-            return Wrote::Bytes(at);
+            return Ok(at);
         }
-        let Read::Next(e) = piece_end(s, j) else {
-            return Wrote::Bytes(at);
+        let Ok(e) = piece_end(s, j) else {
+            return Ok(at);
         };
-        let Wrote::Bytes(n) = put_piece(&mut out[at..], s, j) else {
-            return Wrote::Full;
-        };
+        let n = put_piece(&mut out[at..], s, j)?;
         at += n;
         i = e;
     }

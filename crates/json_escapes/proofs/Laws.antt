@@ -8,14 +8,15 @@ use lib.Dec.{eqb, ltb}
 use borrow.Author.Tests.{eq-eqb, ne_eqb, ltb-true, ltb-false}
 use Rattle.text.specs.Bytes.{Bytes, is, between}
 use Rattle.text.specs.Reader.{Got, got, bad, under}
-use Rattle.text.specs.declared.Read.{Read}
-use Rattle.text.specs.declared.Read.TheVariants.{Next, Bad}
+use Rattle.text.specs.Places.{Read}
+use Rattle.std.specs.Prelude.{Result, Ok, Err}
+use Rattle.std.specs.Result.{IsErrAnd}
 use Rattle.text.specs.Places.{byte_at, Gives}
 use Rattle.text.proofs.Places.{by_bool, on-yes, on-no, Between-in, same-as}
+use Rattle.text.proofs.Handed.{same-error}
 use Rattle.json_text.specs.Grammar.{is_hex, is_short}
 use Rattle.json_text.specs.Syntax.{hex_val, hex, hex4, short, escape}
 use Rattle.json_escapes.specs.declared.Value.{Value}
-use Rattle.json_escapes.specs.declared.Value.TheVariants.{Of, Wrong}
 use Rattle.json_escapes.specs.Values.{value_of, ValueIn, Tells}
 
 -- ---- hexadecimal digits
@@ -32,17 +33,21 @@ unfolding hex_val is_hex
 digit-af b t p q = let h = Between-in 97 102 b (rw (p, q) at t) in (omega arith, rw (p, q), omega arith)
 
 -- ---- what is told, once it is known which answer it was
-pub tells_as : {s : Bytes} {at k : ℕ} {want : Got ℕ} {r q : Value} → Tells s at k want r → r ≡ q → Tells s at k want q
+pub tells_as : {s : Bytes} {at k : ℕ} {want : Got ℕ} {r q : Result Value ℕ} → Tells s at k want r → r ≡ q → Tells s at k want q
 tells_as {s} {at} {k} h e = record { is = h.is ∙ ap (value_of s) e; within = subst (ValueIn at (length s) k) e h.within }
 
--- ---- an answer with the number is an answer by place
-abbrev pub place_of : Value → Read
-place_of (Of v e) = Next e
-place_of (Wrong b) = Bad b
+-- what `?` hands on
+pub tells-handed : {s : Bytes} {at k b : ℕ} {want : Got ℕ} {r : Result Value ℕ} → IsErrAnd r (λ y. y ≡ b) → Tells s at k want (Err b) → Tells s at k want r
+tells-handed {r = r} h g = tells_as g (sym (same-error r h))
 
-pub by_place : {s : Bytes} {at k : ℕ} {want : Got ℕ} (r : Value) → Tells s at k want r → Gives s at want (place_of r)
-by_place (Of v e) h = same-as h.is (record { is = refl; within = omega (arith, h.within) })
-by_place (Wrong b) h = same-as h.is (record { is = refl; within = h.within })
+-- ---- an answer with the number is an answer by place
+abbrev pub place_of : Result Value ℕ → Read
+place_of (Ok v) = Ok v.next
+place_of (Err b) = Err b
+
+pub by_place : {s : Bytes} {at k : ℕ} {want : Got ℕ} (r : Result Value ℕ) → Tells s at k want r → Gives s at want (place_of r)
+by_place (Ok v) h = same-as h.is (record { is = refl; within = omega (arith, h.within) })
+by_place (Err b) h = same-as h.is (record { is = refl; within = h.within })
 
 -- ---- escapes, by the byte after the backslash
 no_key : (b k : ℕ) → 256 ≤ b → k < 256 → eqb b k ≡ false

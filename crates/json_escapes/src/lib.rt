@@ -34,10 +34,10 @@ const CAPITAL_F: u16 = b'F' as u16;
 const LETTER_A: u16 = b'a' as u16;
 
 // A number that a part of an escape stands for, and where it ends.
-#[derive(Drop)]
-pub enum Value {
-    Of { number: u32, next: usize },
-    Wrong(usize),
+#[derive(Clone, Copy)]
+pub struct Value {
+    pub number: u32,
+    pub next: usize,
 }
 
 fn is_hex(b: u16) -> bool
@@ -117,65 +117,55 @@ fn short_of(b: u16) -> u32
 }
 
 // The number of a hexadecimal digit.
-fn digit_at(s: &[u8], at: usize) -> Value
+fn digit_at(s: &[u8], at: usize) -> Result<Value, usize>
     requires { at ≤ length s.now }
     ensures { Tells s.now at 16 (hex (drop at s.now)) result }
 {
     let b = look(s, at);
     if is_hex(b) {
-        return Value::Of {
+        return Ok(Value {
             number: hex_value(b),
             next: at + 1,
-        };
+        });
     }
-    Value::Wrong(at)
+    Err(at)
 }
 
 // The number of four hexadecimal digits.
-fn code_at(s: &[u8], at: usize) -> Value
+fn code_at(s: &[u8], at: usize) -> Result<Value, usize>
     requires { at ≤ length s.now }
     ensures { Tells s.now at 65536 (hex4 (drop at s.now)) result }
 {
-    match digit_at(s, at) {
-        Value::Wrong(x) => Value::Wrong(x),
-        Value::Of { number: a, next: i } => match digit_at(s, i) {
-            Value::Wrong(x) => Value::Wrong(x),
-            Value::Of { number: b, next: j } => match digit_at(s, j) {
-                Value::Wrong(x) => Value::Wrong(x),
-                Value::Of { number: c, next: k } => match digit_at(s, k) {
-                    Value::Wrong(x) => Value::Wrong(x),
-                    Value::Of { number: d, next: e } => Value::Of {
-                        number: a * 4096 + b * 256 + c * 16 + d,
-                        next: e,
-                    },
-                },
-            },
-        },
-    }
+    let a = digit_at(s, at)?;
+    let b = digit_at(s, a.next)?;
+    let c = digit_at(s, b.next)?;
+    let d = digit_at(s, c.next)?;
+    Ok(Value {
+        number: a.number * 4096 + b.number * 256 + c.number * 16 + d.number,
+        next: d.next,
+    })
 }
 
 // The unit that an escape stands for, from after its backslash.
-pub fn escape_at(s: &[u8], at: usize) -> Value
+pub fn escape_at(s: &[u8], at: usize) -> Result<Value, usize>
     requires { at ≤ length s.now }
     ensures { Tells s.now at 65792 (escape (drop at s.now)) result }
 {
     let b = look(s, at);
     if b == LETTER_U {
-        return match code_at(s, at + 1) {
-            Value::Wrong(x) => Value::Wrong(x),
-            Value::Of { number: v, next: e } => Value::Of {
-                number: 256 + v,
-                next: e,
-            },
-        };
+        let v = code_at(s, at + 1)?;
+        return Ok(Value {
+            number: 256 + v.number,
+            next: v.next,
+        });
     }
     if is_short(b) {
-        return Value::Of {
+        return Ok(Value {
             number: short_of(b),
             next: at + 1,
-        };
+        });
     }
-    Value::Wrong(at)
+    Err(at)
 }
 
 // A unit of a string and where the next one starts: a byte, or 256 + v for \uXXXX; the end of the string; or neither.
@@ -203,8 +193,11 @@ pub fn unit_at(s: &[u8], at: usize) -> Piece
     }
     if b == BACKSLASH {
         return match escape_at(s, at + 1) {
-            Value::Wrong(x) => Piece::Wrong(x),
-            Value::Of { number: u, next: e } => Piece::Of { unit: u, next: e },
+            Err(x) => Piece::Wrong(x),
+            Ok(v) => Piece::Of {
+                unit: v.number,
+                next: v.next,
+            },
         };
     }
     if in_range(b, 32, 255) {

@@ -8,15 +8,14 @@ use json_access::{Kind, kind_at};
 use json_compact::put_compact;
 use json_limits::{DEPTH, OVER, ROOM};
 use json_marks::mark;
-use json_read::{Verdict, read};
+use json_read::read;
 use json_skip::skip_value;
 use json_strings::decode_into;
 use json_walk::{Element, Member, first_element, first_member, next_element, next_member};
 use json_write::{put_member, put_number, put_string};
 use named_file::{is_given, read_named};
-use output::Wrote;
 use std::io;
-use text::{QUOTE, Read};
+use text::QUOTE;
 
 fn say(rt: &impl Print, text: &[u8]) -> io::Result<()> {
     rt.write_all(text)
@@ -35,7 +34,7 @@ fn say_quoted(rt: &impl Print, bytes: &[u8], n: usize) -> io::Result<()> {
         return Ok(());
     }
     let mut out = [0u8; ROOM];
-    let Wrote::Bytes(m) = put_string(&mut out, &bytes[..n]) else {
+    let Ok(m) = put_string(&mut out, &bytes[..n]) else {
         return say(rt, b"no room");
     };
     send(rt, &out, m)
@@ -44,7 +43,7 @@ fn say_quoted(rt: &impl Print, bytes: &[u8], n: usize) -> io::Result<()> {
 // The string from a place on (after its first quote), decoded and written again.
 fn say_string(rt: &impl Print, s: &[u8], at: usize) -> io::Result<()> {
     let mut bytes = [0u8; ROOM];
-    let Wrote::Bytes(n) = decode_into(&mut bytes, s, at) else {
+    let Ok(n) = decode_into(&mut bytes, s, at) else {
         return say(rt, b"no room");
     };
     say_quoted(rt, &bytes, n)
@@ -74,7 +73,7 @@ fn say_value(rt: &impl Print, s: &[u8], start: usize, end: usize) -> io::Result<
         say(rt, &s[start..end])?;
     }
     if let Kind::String = k {
-        if let Read::Next(q) = mark(s, start, QUOTE) {
+        if let Ok(q) = mark(s, start, QUOTE) {
             say(rt, b" ")?;
             say_string(rt, s, q)?;
         }
@@ -110,7 +109,7 @@ fn say_elements(rt: &impl Print, s: &[u8]) -> io::Result<()> {
 
 fn say_named(rt: &impl Print, name: &[u8], text: &[u8]) -> io::Result<()> {
     let mut out = [0u8; 32768];
-    let Wrote::Bytes(m) = put_member(&mut out, name, text) else {
+    let Ok(m) = put_member(&mut out, name, text) else {
         return say(rt, b"no room");
     };
     send(rt, &out, m)
@@ -118,7 +117,7 @@ fn say_named(rt: &impl Print, name: &[u8], text: &[u8]) -> io::Result<()> {
 
 fn say_number(rt: &impl Print, n: usize) -> io::Result<()> {
     let mut out = [0u8; 20];
-    let Wrote::Bytes(m) = put_number(&mut out, n) else {
+    let Ok(m) = put_number(&mut out, n) else {
         return say(rt, b"no room");
     };
     send(rt, &out, m)
@@ -127,7 +126,7 @@ fn say_number(rt: &impl Print, n: usize) -> io::Result<()> {
 // A text that is JSON, and last its file and how long its compact form is.
 fn show(rt: &impl Print, file: &[u8], s: &[u8]) -> io::Result<()> {
     let mut out = [0u8; ROOM];
-    let Wrote::Bytes(m) = put_compact(&mut out, s) else {
+    let Ok(m) = put_compact(&mut out, s) else {
         return say(rt, b"no room\n");
     };
     send(rt, &out, m)?;
@@ -143,8 +142,8 @@ fn show(rt: &impl Print, file: &[u8], s: &[u8]) -> io::Result<()> {
 
 fn tell(rt: &impl Print, file: &[u8], s: &[u8]) -> io::Result<()> {
     match read(s, DEPTH) {
-        Verdict::Sound => show(rt, file, s),
-        Verdict::Large | Verdict::NotJson(_) => say(rt, b"refused\n"),
+        Ok(_) => show(rt, file, s),
+        Err(_) => say(rt, b"refused\n"),
     }
 }
 
@@ -152,10 +151,9 @@ fn tell(rt: &impl Print, file: &[u8], s: &[u8]) -> io::Result<()> {
 fn case(rt: &HostRuntime, k: usize) -> io::Result<()> {
     let mut path = [0u8; 4096];
     let mut buf = [0u8; OVER];
-    let file = read_named(rt, k, &mut path, &mut buf);
-    if !file.found {
+    let Some(file) = read_named(rt, k, &mut path, &mut buf) else {
         return Ok(());
-    }
+    };
     let name = &path[..file.path];
     say(rt, name)?;
     say(rt, b"\n")?;

@@ -18,7 +18,7 @@ use Rattle.json_text.specs.Strings.{before}
 use Rattle.json_skip.specs.Skip.{quoted}
 use Rattle.json_strings.specs.Decoded.{decoded_at, spells}
 use Rattle.json_strings.proofs.Laws.{quote-at, bare-at, nothing-at}
-use Rattle.json_index.specs.declared.Tried.{Tried}
+use Rattle.std.specs.Prelude.{Result}
 use Rattle.json_index.specs.Index.{name_in, RawByte, Together, Skims, Differs, Tries}
 use Rattle.json_index.proofs.Names.{front, ends_on, name-full}
 
@@ -128,5 +128,5 @@ module _ (s : Bytes) (at : ℕ) (names : Bytes) (a : ℕ) (in-s : at < length s)
           (λ q. part_none s at names a e b is_b (eqb-true b 34 q) in-names l)
           (λ q. part-other s at names a e b is_b (eqb-false b 34 q) m (λ y. n (sym y)) in-names l)
 
-pub tried-as : (s : Bytes) (at : ℕ) (names : Bytes) (a : ℕ) {r q : Tried} → Tries s at names a r → r ≡ q → Tries s at names a q
+pub tried-as : (s : Bytes) (at : ℕ) (names : Bytes) (a : ℕ) {r q : Result ℕ ℕ} → Tries s at names a r → r ≡ q → Tries s at names a q
 tried-as s at names a h e = subst (Tries s at names a) e h

@@ -17,7 +17,7 @@ use Rattle.text.proofs.Choices.{some_same, map-inv, both-inv}
 use Rattle.text.proofs.Readers.{not-bad, got-what, bind_inv, under-inv, on-inv, when-inv}
 use Rattle.text.proofs.Same.{same-swap}
 use Rattle.json_text.specs.Tree.{Json, jnull, jtrue, jfalse, jnum, jstr, jarr, jobj, Members, mnil, mcons, members_of, as_object, field}
-use Rattle.json_text.specs.Syntax.{skip, name, scalar, elements, pair, pairs, value, text}
+use Rattle.json_text.specs.Syntax.{skip, scalar, elements, pair, pairs, value, text}
 use Rattle.json_text.specs.Strings.{decode, decoded, decoded_elems, decoded_members, names, distinct_names, distinct_members}
 use Rattle.json_text.specs.Read.{tree, refused, sound, reading_of, reading}
 use Rattle.json_text.specs.Lookup.{Span, span_of, spans, given, found, is_tree, room, look_up, part_of, Part as Found}

@@ -9,8 +9,8 @@ use native.Mathlib.Omega.{arith}
 use lib.ListN.{length, take, drop, length-drop, take-append-drop}
 use lib.Dec.{leb}
 use borrow.Author.Tests.{eq-eqb, ne_eqb}
-use Rattle.text.specs.declared.Read.{Read}
-use Rattle.text.specs.declared.Turn.TheVariants.{Stop}
+use Rattle.text.specs.Places.{Read}
+use Rattle.std.proofs.Common.{Break}
 use Rattle.text.specs.Choice.{with-some}
 use Rattle.text.specs.Bytes.{Bytes, is, same}
 use Rattle.text.specs.Reader.{Got, got, bad, bind, first, on, when, Step, more, last, after, loop}
@@ -26,9 +26,10 @@ use Rattle.json_text.proofs.Fine.{name-fine, value-fine, sep-fine}
 use Rattle.json_marks.proofs.Laws.{skip-to}
 use Rattle.json_strings.specs.Decoded.{decoded_at, spells}
 use Rattle.json_marks.proofs.Separators.{sep-adds, sep-go, sep-stop}
-use Rattle.json_read.specs.declared.Verdict.{Verdict}
-use Rattle.json_read.specs.declared.Verdict.TheVariants.{Sound, Large, NotJson}
-use Rattle.json_read.specs.Verdict.{verdict_of, verdict}
+use Rattle.std.specs.Prelude.{Ok, Err}
+use Rattle.json_read.specs.declared.Fault.{Fault}
+use Rattle.json_read.specs.declared.Fault.TheVariants.{Large}
+use Rattle.json_read.specs.Verdict.{Verdict, verdict_of, verdict}
 use Rattle.json_access.specs.Access.{EndsAt, TellsHead}
 use Rattle.json_walk.specs.declared.Member.{Member}
 use Rattle.json_walk.specs.declared.Member.TheVariants.{At, End, NoObject}
@@ -146,7 +147,7 @@ module _ (s m : Bytes) (r : Member) (seeking : Seeking s m r) (q a : ℕ) (is-r 
         let l = under-inv (λ (ps : List Span). v ∷ ps) (loop (span_of 15) (drop i s)) (sym (loop-more (span_of 15) (span-takes 15) (drop n.todo.place s) (drop i s) (λ ps. v ∷ ps) e) ∙ n.todo.reads) in
         record { place = i; spans-left = l.0; after-all = n.todo.after-all; reads = l.1; told = told; same-found = n.todo.same-found ∙ ap (found (length s) m) (sym l.2) ∙ rw c }
 
-    over : (v : Read) → GivesT s z (sep 125 zero suc (drop z s)) (Stop v) → FindsIn s m nowhere
+    over : (v : Read) → GivesT s z (sep 125 zero suc (drop z s)) (Break v) → FindsIn s m nowhere
     unfolding found
     over v w j t x =
         let n = next j t x in
@@ -201,18 +202,18 @@ module _ (s m : Bytes) where
 
 -- ---- by the reader's verdict
 module _ (s m : Bytes) where
-  refused-by : (x : Reading) → (verdict_of x ≡ Sound → ⊥) → is_tree x ≡ false
+  refused-by : (x : Reading) → (verdict_of x ≡ Ok tt → ⊥) → is_tree x ≡ false
   refused-by (tree j) n = absurd (n refl)
   refused-by (refused k) n = refl
 
-  pub not_sound : (v : Verdict) → v ≡ verdict 16 s → (v ≡ Sound → ⊥) → nowhere ≡ place_of (look_up s m)
+  pub not_sound : (v : Verdict) → v ≡ verdict 16 s → (v ≡ Ok tt → ⊥) → nowhere ≡ place_of (look_up s m)
   unfolding verdict look_up
   not_sound v e n =
       by_bool (leb (length s) room)
       (λ p. sym (rw (p, refused-by (reading 16 s) (λ z. n (e ∙ rw p z)))))
       (λ p. sym (rw p))
 
-  tree-by : (x : Reading) → verdict_of x ≡ Sound → is_tree x ≡ true
+  tree-by : (x : Reading) → verdict_of x ≡ Ok tt → is_tree x ≡ true
   tree-by (tree j) e = refl
   tree-by (refused k) e = let r : ◌≡◌ {A = ℕ} 0 1 = cc in absurd (omega arith)
 
@@ -220,17 +221,14 @@ module _ (s m : Bytes) where
   got-by n (got j t) e = (j, t, refl)
   got-by n (bad t) e = let r : ◌≡◌ {A = ℕ} 0 1 = cc in absurd (omega arith)
 
-  pub is-sound : (v : Verdict) → v ≡ verdict 16 s → v ≡ Sound → (r : Part) → FindsIn s m r → r ≡ place_of (look_up s m)
+  pub is-sound : (v : Verdict) → v ≡ verdict 16 s → v ≡ Ok tt → (r : Part) → FindsIn s m r → r ≡ place_of (look_up s m)
   unfolding verdict look_up reading
   is-sound v e q r finds =
       by_bool (leb (length s) room)
       (λ p. let k : is_tree (reading_of (length s) (text 16 s)) ≡ true = tree-by (reading_of (length s) (text 16 s)) (sym (rw p at e) ∙ q) in
       let g = got-by (length s) (text 16 s) k in
       finds g.0 g.1 g.2 ∙ sym (rw (p, k)))
-      (λ p. let z : Large ≡ Sound = sym (rw p at e) ∙ q in let r : ◌≡◌ {A = ℕ} 0 1 = cc in absurd (omega arith))
+      (λ p. let z : ◌≡◌ {A = Verdict} (Err Large) (Ok tt) = sym (rw p at e) ∙ q in let r : ◌≡◌ {A = ℕ} 0 1 = cc in absurd (omega arith))
 
-pub no-large : {v : Verdict} → v ≡ Large → v ≡ Sound → ⊥
-no-large p q = let r : ◌≡◌ {A = ℕ} 0 1 = cc in omega arith
-
-pub no-json : {v : Verdict} {b : ℕ} → v ≡ NotJson b → v ≡ Sound → ⊥
-no-json p q = let r : ◌≡◌ {A = ℕ} 0 1 = cc in omega arith
+pub no-fault : {v : Verdict} {f : Fault} → v ≡ Err f → v ≡ Ok tt → ⊥
+no-fault p q = let r : ◌≡◌ {A = ℕ} 0 1 = cc in omega arith

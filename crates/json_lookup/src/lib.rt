@@ -8,7 +8,7 @@ ghost use Rattle.json_lookup.specs.Held.{value_of, Holds};
 
 use json_access::Part;
 use json_limits::DEPTH;
-use json_read::{Verdict, read};
+use json_read::read;
 use json_skip::skip_value;
 use json_strings::equals;
 use json_walk::{Member, first_member, next_member};
@@ -37,9 +37,8 @@ pub fn locate(s: &[u8], name: &[u8]) -> Part
     ensures value { result ≡ place_of (look_up s.now name.now) }
 {
     match read(s, DEPTH) {
-        Verdict::Sound => find_in(s, name),
-        Verdict::Large => Part { start: 0, end: 0 },
-        Verdict::NotJson(b) => Part { start: 0, end: 0 },
+        Ok(_) => find_in(s, name),
+        Err(_) => Part { start: 0, end: 0 },
     }
 }
 

@@ -7,9 +7,9 @@ use native.Mathlib.Omega.{arith}
 use lib.ListN.{length, drop}
 use lib.Dec.{eqb}
 use borrow.Author.Tests.{eq-eqb, ne_eqb}
-use Rattle.text.specs.declared.Turn.{Turn}
-use Rattle.text.specs.declared.Turn.TheVariants.{Go, Stop}
-use Rattle.text.specs.declared.Read.TheVariants.{Next, Bad}
+use Rattle.text.specs.Places.{Turn}
+use Rattle.std.proofs.Common.{Continue, Break}
+use Rattle.std.specs.Prelude.{Ok, Err}
 use Rattle.text.specs.Choice.{pick}
 use Rattle.text.specs.Bytes.{Bytes, is}
 use Rattle.text.specs.Reader.{got, bad, first, on, more, last}
@@ -27,14 +27,14 @@ skip-to h = h.is
 module _ {A B : Type 0} (b : B) (g : B → B) (a : A) (f : A → A) where
   agree-any : (p q : Bool) (s t u : Bytes) (r : Turn)
       → AgreeT s (pick p (got (last b) t) (pick q (got (more g) t) (bad u))) r → AgreeT s (pick p (got (last a) t) (pick q (got (more f) t) (bad u))) r
-  agree-any true q s t u (Go j) h = absurd h
-  agree-any true q s t u (Stop (Next e)) h = h
-  agree-any true q s t u (Stop (Bad e)) h = absurd h
-  agree-any false true s t u (Go j) h = h
-  agree-any false true s t u (Stop r) h = absurd h
-  agree-any false false s t u (Go j) h = absurd h
-  agree-any false false s t u (Stop (Next e)) h = absurd h
-  agree-any false false s t u (Stop (Bad e)) h = h
+  agree-any true q s t u (Continue j) h = absurd h
+  agree-any true q s t u (Break (Ok e)) h = h
+  agree-any true q s t u (Break (Err e)) h = absurd h
+  agree-any false true s t u (Continue j) h = h
+  agree-any false true s t u (Break r) h = absurd h
+  agree-any false false s t u (Continue j) h = absurd h
+  agree-any false false s t u (Break (Ok e)) h = absurd h
+  agree-any false false s t u (Break (Err e)) h = h
 
   pub sep-any : (close : ℕ) {s : Bytes} {at : ℕ} {r : Turn} → GivesT s at (sep close b g (drop at s)) r → GivesT s at (sep close a f (drop at s)) r
   unfolding sep on
@@ -44,14 +44,14 @@ module _ {A B : Type 0} (b : B) (g : B → B) (a : A) (f : A → A) where
   }
 
 module _ {B : Type 0} (x : B) (g : B → B) {s : Bytes} {at i b close : ℕ} (h : Passes is_space s at i) (e : b ≡ byte_at s i) where
-  pub sep-close : b ≡ close → i + 1 ≤ length s → GivesT s at (sep close x g (drop at s)) (Stop (Next (i + 1)))
+  pub sep-close : b ≡ close → i + 1 ≤ length s → GivesT s at (sep close x g (drop at s)) (Break (Ok (i + 1)))
   unfolding sep
   sep-close q l = same_turn (ap (on (is close) _ _) (skip-to h) ∙ on-yes (is close) s i b e _ _ (eq-eqb _ _ q)) (last-here x (omega (arith, h.from)) l)
 
-  pub sep-comma : (b ≡ close → ⊥) → b ≡ 44 → i + 1 ≤ length s → GivesT s at (sep close x g (drop at s)) (Go (i + 1))
+  pub sep-comma : (b ≡ close → ⊥) → b ≡ 44 → i + 1 ≤ length s → GivesT s at (sep close x g (drop at s)) (Continue (i + 1))
   unfolding sep
   sep-comma n q l = same_turn (ap (on (is close) _ _) (skip-to h) ∙ on-no (is close) s i b e _ _ (ne_eqb _ _ n) ∙ on-yes (is 44) s i b e _ _ (eq-eqb _ _ q)) (more-here g (omega (arith, h.from)) l)
 
-  pub sep-none : (b ≡ close → ⊥) → (b ≡ 44 → ⊥) → GivesT s at (sep close x g (drop at s)) (Stop (Bad i))
+  pub sep-none : (b ≡ close → ⊥) → (b ≡ 44 → ⊥) → GivesT s at (sep close x g (drop at s)) (Break (Err i))
   unfolding sep
   sep-none n m = same_turn (ap (on (is close) _ _) (skip-to h) ∙ on-no (is close) s i b e _ _ (ne_eqb _ _ n) ∙ on-no (is 44) s i b e _ _ (ne_eqb _ _ m)) (bad-turn h.from h.to)

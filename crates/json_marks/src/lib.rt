@@ -1,4 +1,5 @@
 // White space, single bytes and the marks between values.
+// Loops count the place by hand: it is what they answer, and an iterator over the bytes would have to be turned back into it.
 #![tactic(auto)]
 
 ghost use Rattle.std.specs.Prelude.{◌≡◌, zero, suc, ◌≤◌, ◌<◌, length, drop};
@@ -7,6 +8,7 @@ ghost use Rattle.text.specs.Reader.{one};
 ghost use Rattle.json_text.specs.Grammar.{is_space};
 ghost use Rattle.json_text.specs.Syntax.{token, sep};
 
+use std::ops::ControlFlow;
 use text::{COMMA, Read, Turn, look};
 
 pub fn is_space(b: u16) -> bool
@@ -43,9 +45,9 @@ pub fn byte(s: &[u8], at: usize, b: u16) -> Read
     ensures { Gives s.now at (one b (drop at s.now)) result }
 {
     if look(s, at) == b {
-        return Read::Next(at + 1);
+        return Ok(at + 1);
     }
-    Read::Bad(at)
+    Err(at)
 }
 
 // White space, then the byte b.
@@ -66,10 +68,10 @@ pub fn separator(s: &[u8], at: usize, close: u16) -> Turn
     let i = skip_space(s, at);
     let b = look(s, i);
     if b == close {
-        return Turn::Stop(Read::Next(i + 1));
+        return ControlFlow::Break(Ok(i + 1));
     }
     if b == COMMA {
-        return Turn::Go(i + 1);
+        return ControlFlow::Continue(i + 1);
     }
-    Turn::Stop(Read::Bad(i))
+    ControlFlow::Break(Err(i))
 }

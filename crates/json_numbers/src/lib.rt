@@ -1,4 +1,5 @@
 // Numbers of a JSON text, read by place.
+// Loops count the place by hand: it is what they answer, and an iterator over the bytes would have to be turned back into it.
 #![tactic(auto)]
 
 ghost use Rattle.std.specs.Prelude.{◌≡◌, ◌≤◌, ◌<◌, length, drop};
@@ -42,9 +43,9 @@ fn digits_end(s: &[u8], at: usize) -> Read
     ensures { Gives s.now at (digits (drop at s.now)) result }
 {
     if is_digit(look(s, at)) {
-        return Read::Next(past_digits(s, at));
+        return Ok(past_digits(s, at));
     }
-    Read::Bad(at)
+    Err(at)
 }
 
 // The byte b, or nothing.
@@ -54,9 +55,9 @@ fn opt_end(s: &[u8], at: usize, b: u16) -> Read
     ensures { Gives s.now at (opt b (drop at s.now)) result }
 {
     if look(s, at) == b {
-        return Read::Next(at + 1);
+        return Ok(at + 1);
     }
-    Read::Next(at)
+    Ok(at)
 }
 
 // A 0, or digits.
@@ -65,7 +66,7 @@ fn int_end(s: &[u8], at: usize) -> Read
     ensures { Gives s.now at (int (drop at s.now)) result }
 {
     if look(s, at) == ZERO {
-        return Read::Next(at + 1);
+        return Ok(at + 1);
     }
     digits_end(s, at)
 }
@@ -78,7 +79,7 @@ fn frac_end(s: &[u8], at: usize) -> Read
     if look(s, at) == DOT {
         return digits_end(s, at + 1);
     }
-    Read::Next(at)
+    Ok(at)
 }
 
 // A sign, or nothing.
@@ -87,7 +88,7 @@ fn sign_end(s: &[u8], at: usize) -> Read
     ensures { Gives s.now at (sign (drop at s.now)) result }
 {
     if look(s, at) == PLUS {
-        return Read::Next(at + 1);
+        return Ok(at + 1);
     }
     opt_end(s, at, MINUS)
 }
@@ -97,10 +98,8 @@ fn power_end(s: &[u8], at: usize) -> Read
     requires { at ≤ length s.now }
     ensures { Gives s.now at (power (drop at s.now)) result }
 {
-    match sign_end(s, at) {
-        Read::Bad(b) => Read::Bad(b),
-        Read::Next(i) => digits_end(s, i),
-    }
+    let i = sign_end(s, at)?;
+    digits_end(s, i)
 }
 
 // An exponent, or nothing.
@@ -115,21 +114,15 @@ fn exp_end(s: &[u8], at: usize) -> Read
     if b == CAPITAL_E {
         return power_end(s, at + 1);
     }
-    Read::Next(at)
+    Ok(at)
 }
 
 pub fn number_end(s: &[u8], at: usize) -> Read
     requires { at ≤ length s.now }
     ensures { Gives s.now at (number (drop at s.now)) result }
 {
-    match opt_end(s, at, MINUS) {
-        Read::Bad(b) => Read::Bad(b),
-        Read::Next(k) => match int_end(s, k) {
-            Read::Bad(b) => Read::Bad(b),
-            Read::Next(j) => match frac_end(s, j) {
-                Read::Bad(b) => Read::Bad(b),
-                Read::Next(i) => exp_end(s, i),
-            },
-        },
-    }
+    let k = opt_end(s, at, MINUS)?;
+    let j = int_end(s, k)?;
+    let i = frac_end(s, j)?;
+    exp_end(s, i)
 }

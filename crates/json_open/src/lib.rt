@@ -15,29 +15,25 @@ ghost use Rattle.json_open.specs.Opened.{as_verdict, answered, IndexedIf, Opens}
 use json_index::which_name;
 use json_limits::{DEPTH, INNER, ROOM};
 use json_marks::{separator, skip_space};
-use json_read::{Verdict, verdict_on};
+use json_read::{Fault, verdict_on};
 use json_scan::{members_after, members_after_name};
 use json_sound::{Sounded, note_name, sound, sound_value, unsound};
-use text::{LEFT_BRACE, RIGHT_BRACE, Turn, look};
+use std::ops::ControlFlow;
+use text::{LEFT_BRACE, RIGHT_BRACE, look};
 
-// Object: it is JSON, an object. Other: it is JSON, no object. Large: refusal 3. NotJson: refusal 11, with its place.
-#[derive(Drop)]
+// What a text that is JSON is: an object, or no object.
+#[derive(Clone, Copy)]
 pub enum Opened {
     Object,
     Other,
-    Large,
-    NotJson(usize),
 }
 
 // What is answered on a text of a verdict: the answer given, where it is JSON.
-fn answer(v: Verdict, o: Opened) -> Opened
+fn answer(v: Result<(), Fault>, o: Opened) -> Result<Opened, Fault>
     ensures { result ≡ answered v o }
 {
-    match v {
-        Verdict::Sound => o,
-        Verdict::Large => Opened::Large,
-        Verdict::NotJson(p) => Opened::NotJson(p),
-    }
+    v?;
+    Ok(o)
 }
 
 // Notes where the value of a member stands, in the slot of its name, where none is noted there yet.
@@ -60,7 +56,7 @@ fn sound_members<'a, 'b, 'c, 'd>(
     names: &'c [u8],
     places: &'d mut [u16],
     prints: &'d mut [u16],
-) -> Sounded
+) -> Result<Sounded, usize>
     requires at_in_bounds { at ≤ length s.now }
     requires s_len_bound { length s.now ≤ room }
     requires s_len_bound_2 { length s.now < at + 4 * length places.old }
@@ -73,38 +69,32 @@ fn sound_members<'a, 'b, 'c, 'd>(
 {
     let from = skip_space(s, at);
     if look(s, from) == RIGHT_BRACE {
-        return Sounded::Sound(from + 1);
+        return Ok(Sounded::Sound(from + 1));
     }
     let mut i = from;
     let mut k = 0;
     loop {
-        match note_name(s, i, places, prints, k) {
+        match note_name(s, i, places, prints, k)? {
             Sounded::Sound(v) => {
                 let q = places[k] as usize;
                 note_member(slots, s, q, v, names);
                 k += 1;
-                match sound_value(s, v, depth, &mut places[k..], &mut prints[k..]) {
+                match sound_value(s, v, depth, &mut places[k..], &mut prints[k..])? {
                     Sounded::Sound(e) => match separator(s, e, RIGHT_BRACE) {
-                        Turn::Go(j) => {
+                        ControlFlow::Continue(j) => {
                             i = j;
                         }
-                        Turn::Stop(r) => {
+                        ControlFlow::Break(r) => {
                             return sound(r);
                         }
                     },
                     Sounded::Unsound(e) => {
                         return unsound(members_after(s, e, depth));
                     }
-                    Sounded::Bad(b) => {
-                        return Sounded::Bad(b);
-                    }
                 }
             }
             Sounded::Unsound(v) => {
                 return unsound(members_after_name(s, v, depth));
-            }
-            Sounded::Bad(b) => {
-                return Sounded::Bad(b);
             }
         }
     }
@@ -117,7 +107,7 @@ fn read_in<'a, 'b, 'c, 'd>(
     names: &'c [u8],
     places: &'d mut [u16],
     prints: &'d mut [u16],
-) -> Opened
+) -> Result<Opened, Fault>
     requires s_len_bound { length s.now ≤ room }
     requires s_len_bound_2 { length s.now ≤ 4 * length places.old }
     requires prints_len { length prints.old ≡ length places.old }
@@ -143,7 +133,7 @@ pub fn read_indexed<'a, 'b, 'c, 'd>(
     names: &'c [u8],
     places: &'d mut [u16],
     prints: &'d mut [u16],
-) -> Opened
+) -> Result<Opened, Fault>
     requires s_len_bound { length s.now ≤ 4 * length places.old }
     requires prints_len { length prints.old ≡ length places.old }
     requires names_in_bounds { length (parts (code ",") names.now) < length slots.old }
@@ -153,7 +143,7 @@ pub fn read_indexed<'a, 'b, 'c, 'd>(
     ensures opens { Opens s.now names.now slots.new result }
 {
     if s.len() > ROOM {
-        return Opened::Large;
+        return Err(Fault::Large);
     }
     read_in(slots, s, names, places, prints)
 }

@@ -72,10 +72,8 @@ pub fn print_of(from: usize, key: &[u8]) -> u16
     ensures { result ≡ printed from key.now }
 {
     let mut p = from as u32;
-    let mut k = 0;
-    while k < key.len() {
-        p = stirred(p, key[k]);
-        k += 1;
+    for &b in key {
+        p = stirred(p, b);
     }
     p as u16
 }
@@ -87,10 +85,8 @@ pub fn any_print(prints: &[u16], p: u16, from: usize, to: usize) -> bool
     ensures { Absent prints.now p from to result }
 {
     let mut found = false;
-    let mut k = from;
-    while k < to {
+    for k in from..to {
         found = found | (prints[k] == p);
-        k += 1;
     }
     found
 }
@@ -119,14 +115,12 @@ fn print_in(prints: &[u16], p: u16, from: usize, to: usize) -> usize
     requires to_in_bounds { to ≤ length prints.now }
     ensures { (from ≤ result) × (result ≤ to) × Absent prints.now p from result false }
 {
-    let mut k = from;
-    while k < to {
+    for k in from..to {
         if prints[k] == p {
             return k;
         }
-        k += 1;
     }
-    k
+    to
 }
 
 // The same in a long row, block by block. The last sixteen are a block again, so that no print is left over to be looked at alone.

@@ -6,9 +6,9 @@ use Prim.Native.Nat.{ℕ, zero, suc}
 use native.Mathlib.Omega.{arith}
 use lib.ListN.{drop}
 use lib.Dec.{eqb}
-use Rattle.text.specs.declared.Read.{Read}
-use Rattle.text.specs.declared.Read.TheVariants.{Next, Bad}
-use Rattle.text.specs.declared.Turn.TheVariants.{Go, Stop}
+use Rattle.text.specs.Places.{Read}
+use Rattle.std.specs.Prelude.{Ok, Err}
+use Rattle.std.proofs.Common.{Continue, Break}
 use Rattle.text.specs.Choice.{pick}
 use Rattle.text.specs.Bytes.{Bytes}
 use Rattle.text.specs.Reader.{Got, got, bad, bind, under, first, on, Step, more, last, after, loop}
@@ -22,27 +22,27 @@ use Rattle.json_scan.specs.After.{later, elements_after, members_after, after_na
 
 -- ---- by the separator that the code found
 module _ {B : Type 0} (b : B) (k : Bytes → Got B) (close : ℕ) (s : Bytes) (at : ℕ) where
-  go-by : (p q : Bool) (t u : Bytes) (j : ℕ) → AgreeT s (pick p (got (last zero) t) (pick q (got (more suc) t) (bad u))) (Go j)
+  go-by : (p q : Bool) (t u : Bytes) (j : ℕ) → AgreeT s (pick p (got (last zero) t) (pick q (got (more suc) t) (bad u))) (Continue j)
       → pick p (got b t) (pick q (k t) (bad u)) ≡ k (drop j s)
   go-by true q t u j h = absurd h
   go-by false true t u j h = ap k h
   go-by false false t u j h = absurd h
 
-  pub later-go : {j : ℕ} {r : Read} → GivesT s at (sep close zero suc (drop at s)) (Go j) → Gives s j (k (drop j s)) r → Gives s at (later close b k (drop at s)) r
+  pub later-go : {j : ℕ} {r : Read} → GivesT s at (sep close zero suc (drop at s)) (Continue j) → Gives s j (k (drop j s)) r → Gives s at (later close b k (drop at s)) r
   unfolding sep on later
   later-go {j} h x =
       same-as (go-by (eqb (first (skip (drop at s))) close) (eqb (first (skip (drop at s))) 44) (tail (skip (drop at s))) (skip (drop at s)) j h.is)
       (up (omega (arith, h.within.0)) x)
 
-  stop-by : (p q : Bool) (t u : Bytes) (r : Read) → AgreeT s (pick p (got (last zero) t) (pick q (got (more suc) t) (bad u))) (Stop r)
+  stop-by : (p q : Bool) (t u : Bytes) (r : Read) → AgreeT s (pick p (got (last zero) t) (pick q (got (more suc) t) (bad u))) (Break r)
       → Agree s (pick p (got b t) (pick q (k t) (bad u))) r
-  stop-by true q t u (Next e) h = h
-  stop-by true q t u (Bad e) h = absurd h
+  stop-by true q t u (Ok e) h = h
+  stop-by true q t u (Err e) h = absurd h
   stop-by false true t u r h = absurd h
-  stop-by false false t u (Next e) h = absurd h
-  stop-by false false t u (Bad e) h = h
+  stop-by false false t u (Ok e) h = absurd h
+  stop-by false false t u (Err e) h = h
 
-  pub later-stop : {r : Read} → GivesT s at (sep close zero suc (drop at s)) (Stop r) → Gives s at (later close b k (drop at s)) r
+  pub later-stop : {r : Read} → GivesT s at (sep close zero suc (drop at s)) (Break r) → Gives s at (later close b k (drop at s)) r
   unfolding sep on later
   later-stop {r} h = record {
     is = stop-by (eqb (first (skip (drop at s))) close) (eqb (first (skip (drop at s))) 44) (tail (skip (drop at s))) (skip (drop at s)) r h.is;

@@ -4,9 +4,9 @@ use Prim.Native.Nat.{ℕ, zero, suc, ◌+◌, ◌-◌, ◌≤◌}
 use native.Mathlib.Omega.{arith}
 use lib.ListN.{length, drop}
 use borrow.Author.Tests.{eq-eqb, ne_eqb}
-use Rattle.text.specs.declared.Read.{Read}
-use Rattle.text.specs.declared.Read.TheVariants.{Next}
-use Rattle.text.specs.declared.Turn.{Turn}
+use Rattle.text.specs.Places.{Read}
+use Rattle.std.specs.Prelude.{Ok}
+use Rattle.text.specs.Places.{Turn}
 use Rattle.text.specs.Bytes.{Bytes, is}
 use Rattle.text.specs.Reader.{Got, on, loop, one}
 use Rattle.text.specs.Places.{byte_at, Gives, GivesT, Passes}
@@ -28,7 +28,7 @@ four-any a b c d j {s} {at} h =
 
 -- ---- arrays and objects
 module _ (rd : Bytes → Got Json) {s : Bytes} {at i : ℕ} (h : Passes is_space s at i) (b : ℕ) (e : b ≡ byte_at s i) where
-  pub elements-none : b ≡ 93 → i + 1 ≤ length s → Gives s at (elements rd (drop at s)) (Next (i + 1))
+  pub elements-none : b ≡ 93 → i + 1 ≤ length s → Gives s at (elements rd (drop at s)) (Ok (i + 1))
   unfolding elements
   elements-none q l = same-as (ap (on (is 93) _ _) (skip-to h)) (up h.from (by-on (is 93) _ _ e (eq-eqb _ _ q) (here enil (i + 1) l)))
 
@@ -36,7 +36,7 @@ module _ (rd : Bytes → Got Json) {s : Bytes} {at i : ℕ} (h : Passes is_space
   unfolding elements
   elements-from n x = same-as (ap (on (is 93) _ _) (skip-to h)) (up h.from (not_on (is 93) _ _ e (ne_eqb _ _ n) x))
 
-  pub pairs-none : b ≡ 125 → i + 1 ≤ length s → Gives s at (pairs rd (drop at s)) (Next (i + 1))
+  pub pairs-none : b ≡ 125 → i + 1 ≤ length s → Gives s at (pairs rd (drop at s)) (Ok (i + 1))
   unfolding pairs
   pairs-none q l = same-as (ap (on (is 125) _ _) (skip-to h)) (up h.from (by-on (is 125) _ _ e (eq-eqb _ _ q) (here mnil (i + 1) l)))
 
@@ -45,11 +45,11 @@ module _ (rd : Bytes → Got Json) {s : Bytes} {at i : ℕ} (h : Passes is_space
   pairs-from n x = same-as (ap (on (is 125) _ _) (skip-to h)) (up h.from (not_on (is 125) _ _ e (ne_eqb _ _ n) x))
 
 -- after an element, and after a member's value
-pub item-sep : (rd : Bytes → Got Json) {s : Bytes} {at e : ℕ} {w : Turn} → Gives s at (rd (drop at s)) (Next e) → GivesT s e (sep 93 zero suc (drop e s)) w → GivesT s at (item rd (drop at s)) w
+pub item-sep : (rd : Bytes → Got Json) {s : Bytes} {at e : ℕ} {w : Turn} → Gives s at (rd (drop at s)) (Ok e) → GivesT s e (sep 93 zero suc (drop e s)) w → GivesT s at (item rd (drop at s)) w
 unfolding item
 item-sep rd h x = turn-next _ h (λ j. sep-any zero suc (econs j enil) (econs j) 93 x)
 
-pub pair-sep : (rd : Bytes → Got Json) {s : Bytes} {at v e : ℕ} {w : Turn} → Gives s at (name (drop at s)) (Next v) → Gives s v (rd (drop v s)) (Next e)
+pub pair-sep : (rd : Bytes → Got Json) {s : Bytes} {at v e : ℕ} {w : Turn} → Gives s at (name (drop at s)) (Ok v) → Gives s v (rd (drop v s)) (Ok e)
     → GivesT s e (sep 125 zero suc (drop e s)) w → GivesT s at (pair rd (drop at s)) w
 unfolding pair
 pair-sep rd g h x = turn-next _ g (λ k. turn-next _ h (λ j. sep-any zero suc (mcons k j mnil) (mcons k j) 125 x))

@@ -1,7 +1,7 @@
 -- The rest of an array or of an object, from just after an element, a member or a member's name.
 use Rattle.std.specs.Prelude.{ℕ, drop}
 use Prim.Native.Char.{code}
-use Rattle.text.specs.declared.Read.{Read}
+use Rattle.text.specs.Places.{Read}
 use Rattle.text.specs.Bytes.{Bytes, is}
 use Rattle.text.specs.Reader.{Got, got, bad, bind, under, on, loop}
 use Rattle.text.specs.Places.{Gives}

@@ -11,7 +11,8 @@ ghost use Rattle.json_scan.specs.After.{elements_after, members_after, GivesAfte
 use json_chars::string_end;
 use json_marks::{byte, mark, separator, skip_space};
 use json_numbers::number_end;
-use text::{COLON, LEFT_BRACE, LEFT_BRACKET, QUOTE, RIGHT_BRACE, RIGHT_BRACKET, Read, Turn, look};
+use std::ops::ControlFlow;
+use text::{COLON, LEFT_BRACE, LEFT_BRACKET, QUOTE, RIGHT_BRACE, RIGHT_BRACKET, Read, look};
 
 // Letters, as `look` gives them.
 const LETTER_A: u16 = b'a' as u16;
@@ -38,16 +39,10 @@ fn four_end(s: &[u8], at: usize, a: u16, b: u16, c: u16, d: u16) -> Read
     requires a_bound { (a < 256) × ((b < 256) × ((c < 256) × (d < 256))) }
     ensures { Gives s.now at (four a b c d jnull (drop at s.now)) result }
 {
-    match byte(s, at, a) {
-        Read::Bad(x) => Read::Bad(x),
-        Read::Next(k) => match byte(s, k, b) {
-            Read::Bad(x) => Read::Bad(x),
-            Read::Next(j) => match byte(s, j, c) {
-                Read::Bad(x) => Read::Bad(x),
-                Read::Next(i) => byte(s, i, d),
-            },
-        },
-    }
+    let k = byte(s, at, a)?;
+    let j = byte(s, k, b)?;
+    let i = byte(s, j, c)?;
+    byte(s, i, d)
 }
 
 // A string, a literal or a number.
@@ -76,16 +71,13 @@ fn name_end(s: &[u8], at: usize) -> Read
     requires { at ≤ length s.now }
     ensures { Gives s.now at (name (drop at s.now)) result }
 {
-    match mark(s, at, QUOTE) {
-        Read::Bad(b) => Read::Bad(b),
-        Read::Next(j) => match string_end(s, j) {
-            Read::Bad(b) => Read::Bad(b),
-            Read::Next(i) => mark(s, i, COLON),
-        },
-    }
+    let j = mark(s, at, QUOTE)?;
+    let i = string_end(s, j)?;
+    mark(s, i, COLON)
 }
 
-// Elements of an array, one at least, and the byte that closes it.
+// Elements of an array, one at least, and the byte that closes it. (One function for these and for members is no plainer: before a member's value a name
+// is read, and what each promises is said by a reader of its own.)
 #[cycle(array_end_elements_from_members_from_object_end_value_end)]
 fn elements_from(s: &[u8], at: usize, depth: usize) -> Read
     requires { at ≤ length s.now }
@@ -93,18 +85,14 @@ fn elements_from(s: &[u8], at: usize, depth: usize) -> Read
 {
     let mut i = at;
     loop {
-        match value_end(s, i, depth) {
-            Read::Bad(b) => {
-                return Read::Bad(b);
+        let e = value_end(s, i, depth)?;
+        match separator(s, e, RIGHT_BRACKET) {
+            ControlFlow::Continue(j) => {
+                i = j;
             }
-            Read::Next(e) => match separator(s, e, RIGHT_BRACKET) {
-                Turn::Go(j) => {
-                    i = j;
-                }
-                Turn::Stop(r) => {
-                    return r;
-                }
-            },
+            ControlFlow::Break(r) => {
+                return r;
+            }
         }
     }
 }
@@ -117,7 +105,7 @@ fn array_end(s: &[u8], at: usize, depth: usize) -> Read
 {
     let from = skip_space(s, at);
     if look(s, from) == RIGHT_BRACKET {
-        return Read::Next(from + 1);
+        return Ok(from + 1);
     }
     elements_from(s, from, depth)
 }
@@ -130,23 +118,15 @@ fn members_from(s: &[u8], at: usize, depth: usize) -> Read
 {
     let mut i = at;
     loop {
-        match name_end(s, i) {
-            Read::Bad(b) => {
-                return Read::Bad(b);
+        let v = name_end(s, i)?;
+        let e = value_end(s, v, depth)?;
+        match separator(s, e, RIGHT_BRACE) {
+            ControlFlow::Continue(j) => {
+                i = j;
             }
-            Read::Next(v) => match value_end(s, v, depth) {
-                Read::Bad(b) => {
-                    return Read::Bad(b);
-                }
-                Read::Next(e) => match separator(s, e, RIGHT_BRACE) {
-                    Turn::Go(j) => {
-                        i = j;
-                    }
-                    Turn::Stop(r) => {
-                        return r;
-                    }
-                },
-            },
+            ControlFlow::Break(r) => {
+                return r;
+            }
         }
     }
 }
@@ -159,7 +139,7 @@ fn object_end(s: &[u8], at: usize, depth: usize) -> Read
 {
     let from = skip_space(s, at);
     if look(s, from) == RIGHT_BRACE {
-        return Read::Next(from + 1);
+        return Ok(from + 1);
     }
     members_from(s, from, depth)
 }
@@ -190,8 +170,8 @@ pub fn elements_after(s: &[u8], at: usize, depth: usize) -> Read
     ensures { Gives s.now at (elements_after (value depth) (drop at s.now)) result }
 {
     match separator(s, at, RIGHT_BRACKET) {
-        Turn::Stop(r) => r,
-        Turn::Go(j) => elements_from(s, j, depth),
+        ControlFlow::Break(r) => r,
+        ControlFlow::Continue(j) => elements_from(s, j, depth),
     }
 }
 
@@ -201,8 +181,8 @@ pub fn members_after(s: &[u8], at: usize, depth: usize) -> Read
     ensures { Gives s.now at (members_after (value depth) (drop at s.now)) result }
 {
     match separator(s, at, RIGHT_BRACE) {
-        Turn::Stop(r) => r,
-        Turn::Go(j) => members_from(s, j, depth),
+        ControlFlow::Break(r) => r,
+        ControlFlow::Continue(j) => members_from(s, j, depth),
     }
 }
 
@@ -211,8 +191,6 @@ pub fn members_after_name(s: &[u8], at: usize, depth: usize) -> Read
     requires { at ≤ length s.now }
     ensures { GivesAfterName s.now at depth result }
 {
-    match value_end(s, at, depth) {
-        Read::Bad(b) => Read::Bad(b),
-        Read::Next(e) => members_after(s, e, depth),
-    }
+    let e = value_end(s, at, depth)?;
+    members_after(s, e, depth)
 }

@@ -7,7 +7,7 @@ use native.Mathlib.Omega.{arith}
 use lib.ListN.{length, drop, drop_of_length-le}
 use lib.Dec.{eqb}
 use borrow.Author.Tests.{eq-eqb, eqb-true, eqb-false}
-use Rattle.text.specs.declared.Read.TheVariants.{Next, Bad}
+use Rattle.std.specs.Prelude.{Ok, Err}
 use Rattle.text.specs.Bytes.{Bytes, is, between}
 use Rattle.text.specs.Reader.{bad, on, when, past, some_of}
 use Rattle.text.specs.Places.{byte_at, Gives, Passes}
@@ -94,8 +94,8 @@ module _ (s : Bytes) (at i b : ℕ) (h : Passes is_space s at i) (e : b ≡ byte
     no-object : b ≡ 123 → ⊥
     no-object = eqb-false b 123 (or_right (eqb b 91) (eqb b 123) o)
 
-    pub skips-scalar : Gives s i (scalar (drop i s)) (Next r) → Skips s at r
+    pub skips-scalar : Gives s i (scalar (drop i s)) (Ok r) → Skips s at r
     skips-scalar g d j u x = got-rest (sym x ∙ as-scalar s i b e at h d no-array no-object ∙ (at_next (scalar (drop i s)) g).1)
 
-    pub skips-none : Gives s i (scalar (drop i s)) (Bad r) → Skips s at r
+    pub skips-none : Gives s i (scalar (drop i s)) (Err r) → Skips s at r
     skips-none g d j u x = absurd (not-bad (sym (as-scalar s i b e at h d no-array no-object ∙ at-bad (scalar (drop i s)) g) ∙ x))

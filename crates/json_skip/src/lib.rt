@@ -1,5 +1,6 @@
 // Passing over a value of a text that is known to read: by its quotes and brackets, with no look at UTF-8 or grammar and no recursion.
 // Where no value is read, the place is of no use, and within the text.
+// Loops count the place by hand: it is what they answer, and an iterator over the bytes would have to be turned back into it.
 #![tactic(auto)]
 
 ghost use Rattle.std.specs.Prelude.{◌≡◌, false, ◌≤◌, length, drop};
@@ -7,7 +8,7 @@ ghost use Rattle.json_skip.specs.Skip.{quoted, opens, shuts, outside, closed, Le
 
 use json_marks::skip_space;
 use json_scan::scalar_end;
-use text::{LEFT_BRACE, LEFT_BRACKET, QUOTE, Read, look};
+use text::{LEFT_BRACE, LEFT_BRACKET, QUOTE, look};
 use text_words::soft_end;
 
 // The place after a string, from after its first quote, byte by byte: for names, which are short.
@@ -135,7 +136,7 @@ pub fn skip_value(s: &[u8], at: usize) -> usize
     // A number or a literal: a few bytes, and they end by the grammar (in 1x the value is 1).
     // Not s itself: its place and length then go over one by one, as they were just stored, and not as a pair that waits for both.
     match scalar_end(&s[0..], i) {
-        Read::Next(e) => e,
-        Read::Bad(x) => x,
+        Ok(e) => e,
+        Err(x) => x,
     }
 }

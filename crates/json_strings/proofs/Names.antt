@@ -2,7 +2,7 @@
 use mathlib.Core.Path.{◌≡◌, sym, ap, ◌∙◌}
 use Prim.Native.Nat.{ℕ}
 use lib.ListN.{drop}
-use Rattle.text.specs.declared.Read.TheVariants.{Next}
+use Rattle.std.specs.Prelude.{Ok}
 use Rattle.text.specs.Bytes.{Bytes}
 use Rattle.text.specs.Reader.{got}
 use Rattle.text.specs.Places.{Gives}
@@ -15,7 +15,7 @@ use Rattle.json_strings.proofs.Laws.{decoded-is}
 
 module _ (s : Bytes) (at : ℕ) where
   -- its string, from after the first quote
-  pub name-string : (us t : Bytes) → name (drop at s) ≡ got us t → (q : ℕ) → Gives s at (token 34 (drop at s)) (Next q) → decoded_at s q ≡ decode us
+  pub name-string : (us t : Bytes) → name (drop at s) ≡ got us t → (q : ℕ) → Gives s at (token 34 (drop at s)) (Ok q) → decoded_at s q ≡ decode us
   unfolding name
   name-string us t e q g =
       let a = at_next (token 34 (drop at s)) g in
@@ -27,5 +27,5 @@ module _ (s : Bytes) (at : ℕ) where
       decoded-is s q us j.1 (ap characters (sym w) ∙ j.2 ∙ ap (λ (x : Bytes). got x j.1) z)
 
   -- what follows its colon
-  pub name-rest : (us t : Bytes) → name (drop at s) ≡ got us t → (v : ℕ) → Gives s at (name (drop at s)) (Next v) → t ≡ drop v s
+  pub name-rest : (us t : Bytes) → name (drop at s) ≡ got us t → (v : ℕ) → Gives s at (name (drop at s)) (Ok v) → t ≡ drop v s
   name-rest us t e v g = got-rest (sym e ∙ (at_next (name (drop at s)) g).1)

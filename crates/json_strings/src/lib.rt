@@ -1,5 +1,6 @@
 // Strings of a JSON text by what they stand for: one decoded byte after the other; compared with given bytes and with each other; put into a lent
 // part. A string is given by the place after its first quote; a place past the end stands for nothing.
+// Loops count the place by hand: it goes on by what a character takes, or a second one goes on beside it.
 #![tactic(auto)]
 
 ghost use Rattle.std.specs.Prelude.{◌≡◌, true, ℕ, ◌+◌, ◌≤◌, ◌<◌, length, take, drop, get_or, [], ◌++◌};
@@ -11,7 +12,7 @@ ghost use Rattle.output.specs.Put.{Puts, Sofar};
 ghost use Rattle.json_strings.specs.Bare.{BareByte, Copied};
 
 use json_escapes::{Piece, unit_at, within};
-use output::Wrote;
+use output::Full;
 use text::{BACKSLASH, QUOTE, look};
 
 // A character of a string: a byte as it stands there, or a code point; the end; or a surrogate alone (or no string).
@@ -347,10 +348,8 @@ fn are_bare(s: &[u8], at: usize) -> bool
     ensures { result ≡ true → (k : ℕ) → k < 16 → BareByte (get_or s.now (at + k) 0) true }
 {
     let mut all = true;
-    let mut k = 0;
-    while k < 16 {
+    for k in 0..16 {
         all = all & is_bare(s[at + k] as u16);
-        k += 1;
     }
     all
 }
@@ -402,11 +401,11 @@ fn copy_bare(out: &mut [u8], s: &[u8], at: usize, hold: u32) -> usize
 
 // The decoded bytes of the string whose first quote stands just before a place. Nothing is written where it stands for nothing: a surrogate
 // is alone in it, it is no string, or the place is past the end.
-pub fn decode_into(out: &mut [u8], s: &[u8], at: usize) -> Wrote
+pub fn decode_into(out: &mut [u8], s: &[u8], at: usize) -> Result<usize, Full>
     ensures { Puts out.old (text_at s.now at) result out.new }
 {
     if !is_paired(s, at) {
-        return Wrote::Bytes(0);
+        return Ok(0);
     }
     let mut i = at;
     let mut h = 0;
@@ -417,10 +416,10 @@ pub fn decode_into(out: &mut [u8], s: &[u8], at: usize) -> Wrote
         i += n;
         match next_byte(s, i, h) {
             Byte::Alone => {
-                return Wrote::Bytes(k);
+                return Ok(k);
             }
             Byte::End => {
-                return Wrote::Bytes(k);
+                return Ok(k);
             }
             Byte::One {
                 byte: b,
@@ -428,7 +427,7 @@ pub fn decode_into(out: &mut [u8], s: &[u8], at: usize) -> Wrote
                 held: g,
             } => {
                 if k >= out.len() {
-                    return Wrote::Full;
+                    return Err(Full);
                 }
                 out[k] = b;
                 k += 1;

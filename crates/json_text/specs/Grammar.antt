@@ -1,6 +1,6 @@
 -- RFC 8259's grammar as it is printed there, as a relation: `Text d s` says that the bytes s are JSON of depth d at most.
 -- It is no reader: it is what the reader (Read.antt) is proved to accept, and what the place of refusal 11 is worded by.
-use Rattle.std.specs.Prelude.{◌≡◌, Bool, true, false, ◌||◌, [], ◌∷◌, ◌++◌, ◌⊎◌, ℕ, zero, suc, ◌+◌, ◌≤◌, ◌<◌, length, take, eqb}
+use Rattle.std.specs.Prelude.{◌≡◌, Bool, true, ◌||◌, [], ◌∷◌, ◌++◌, ◌⊎◌, ℕ, zero, suc, ◌≤◌, ◌<◌, length, take, eqb}
 use Prim.Native.Char.{code}
 use Rattle.text.specs.Bytes.{Bytes, ascii, is, between, is_digit}
 use Rattle.text.specs.Utf8.{utf8}

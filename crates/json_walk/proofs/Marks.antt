@@ -3,9 +3,9 @@ use mathlib.Core.Path.{◌≡◌, sym, ap, ◌∙◌}
 use Prim.Native.Nat.{ℕ, zero, suc, ◌+◌, ◌≤◌, ◌<◌}
 use native.Mathlib.Omega.{arith}
 use lib.ListN.{length, drop, drop_of_length-le}
-use Rattle.text.specs.declared.Read.{Read}
-use Rattle.text.specs.declared.Read.TheVariants.{Next, Bad}
-use Rattle.text.specs.declared.Turn.TheVariants.{Stop}
+use Rattle.text.specs.Places.{Read}
+use Rattle.std.specs.Prelude.{Ok, Err}
+use Rattle.std.proofs.Common.{Break}
 use Rattle.text.specs.Bytes.{Bytes}
 use Rattle.text.specs.Reader.{first, past}
 use Rattle.text.specs.Places.{byte_at, Within, GivesT, Passes}
@@ -29,13 +29,13 @@ module _ (s : Bytes) (at : ℕ) where
     pub opens-here : b ≡ opening → (j : ℕ) → Passes is_space s (i + 1) j → Opens s at opening j
     opens-here q j k = record { mark = i; to-mark = h; is-mark = sym e ∙ q; inside = k }
 
-  pub closes_here : (close z : ℕ) (r : Read) → GivesT s at (sep close zero suc (drop at s)) (Stop r) → z ≡ place_of r → Closes s at close z
+  pub closes_here : (close z : ℕ) (r : Read) → GivesT s at (sep close zero suc (drop at s)) (Break r) → z ≡ place_of r → Closes s at close z
   closes_here close z r h q l = (r, h, q)
 
   -- the place at which the code stopped is within the text
-  pub stop-in : (close z : ℕ) (r : Read) → GivesT s at (sep close zero suc (drop at s)) (Stop r) → z ≡ place_of r → (at ≤ length s → at ≤ z) × (z ≤ length s)
+  pub stop-in : (close z : ℕ) (r : Read) → GivesT s at (sep close zero suc (drop at s)) (Break r) → z ≡ place_of r → (at ≤ length s → at ≤ z) × (z ≤ length s)
   stop-in close z r h q = by r h.within q
     where
       by : (r : Read) → Within at (length s) r → z ≡ place_of r → (at ≤ length s → at ≤ z) × (z ≤ length s)
-      by (Next e) w q = ((λ l. omega (arith, w.0)), omega (arith, w.1))
-      by (Bad b) w q = ((λ l. omega (arith, w.0)), omega (arith, w.1))
+      by (Ok e) w q = ((λ l. omega (arith, w.0)), omega (arith, w.1))
+      by (Err b) w q = ((λ l. omega (arith, w.0)), omega (arith, w.1))

@@ -7,9 +7,9 @@ use Prim.Native.Nat.{ℕ, zero, suc, ◌+◌, ◌≤◌, ◌<◌}
 use native.Mathlib.Omega.{arith}
 use lib.Dec.{eqb}
 use lib.ListN.{length, drop, drop_of_length-le}
-use Rattle.text.specs.declared.Read.{Read}
-use Rattle.text.specs.declared.Read.TheVariants.{Next as Read-Next, Bad as Read-Bad}
-use Rattle.text.specs.declared.Turn.TheVariants.{Go, Stop}
+use Rattle.text.specs.Places.{Read}
+use Rattle.std.specs.Prelude.{Ok, Err}
+use Rattle.std.proofs.Common.{Continue, Break}
 use Rattle.text.specs.Choice.{pick, both}
 use Rattle.text.specs.Bytes.{Bytes}
 use Rattle.text.specs.Reader.{Got, got, bad, first, on, more, last, past, loop}
@@ -36,7 +36,7 @@ use Rattle.json_walk.proofs.Values.{at-inv, decoded-object, decoded-array, not-o
 -- ---- what stands after a value, by the separator that the code found
 
 module _ {B : Type 0} (b : B) (k : Bytes → Got B) (s : Bytes) where
-  go-by : (p q : Bool) (t u : Bytes) (j : ℕ) → AgreeT s (pick p (got (last zero) t) (pick q (got (more suc) t) (bad u))) (Go j)
+  go-by : (p q : Bool) (t u : Bytes) (j : ℕ) → AgreeT s (pick p (got (last zero) t) (pick q (got (more suc) t) (bad u))) (Continue j)
       → pick p (got b t) (pick q (k t) (bad u)) ≡ k (drop j s)
   go-by true q t u j h = absurd h
   go-by false true t u j h = ap k h
@@ -46,10 +46,10 @@ module _ {B : Type 0} (b : B) (k : Bytes → Got B) (s : Bytes) where
   unfolding sep on later
   later-goes at close j h = go-by (eqb (first (skip (drop at s))) close) (eqb (first (skip (drop at s))) 44) (tail (skip (drop at s))) (skip (drop at s)) j h.is
 
-  stop-by : (p q : Bool) (t u : Bytes) (r : Read) → AgreeT s (pick p (got (last zero) t) (pick q (got (more suc) t) (bad u))) (Stop r)
+  stop-by : (p q : Bool) (t u : Bytes) (r : Read) → AgreeT s (pick p (got (last zero) t) (pick q (got (more suc) t) (bad u))) (Break r)
       → (x : B) (y : Bytes) → pick p (got b t) (pick q (k t) (bad u)) ≡ got x y → (b ≡ x) × (y ≡ drop (place_of r) s)
-  stop-by true q t u (Read-Next e) h x y g = (got-what g, sym (got-rest g) ∙ h)
-  stop-by true q t u (Read-Bad e) h x y g = absurd h
+  stop-by true q t u (Ok e) h x y g = (got-what g, sym (got-rest g) ∙ h)
+  stop-by true q t u (Err e) h x y g = absurd h
   stop-by false true t u r h x y g = absurd h
   stop-by false false t u r h x y g = absurd (not-bad g)
 

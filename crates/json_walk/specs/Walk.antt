@@ -2,8 +2,8 @@
 use Rattle.std.specs.Prelude.{◌≡◌, List, [], ◌∷◌, ℕ, zero, suc, ◌+◌, ◌≤◌, ◌<◌, length, drop}
 use Rattle.std.proofs.Math.Option.{Option, none, some}
 use Prim.Native.Char.{code}
-use Rattle.text.specs.declared.Read.{Read}
-use Rattle.text.specs.declared.Turn.TheVariants.{Go, Stop}
+use Rattle.text.specs.Places.{Read}
+use Rattle.std.proofs.Common.{Continue, Break}
 use Rattle.text.specs.Bytes.{Bytes}
 use Rattle.text.specs.Reader.{Got, got, bad, first}
 use Rattle.text.specs.Places.{byte_at, GivesT, Passes}
@@ -117,11 +117,11 @@ FirstReads s at NoObject = NoneOpens s at (code "{")
 
 -- after a value a comma stands, and what follows it from j on
 abbrev pub GoesOn : Bytes → ℕ → ℕ → ℕ → Type 0
-GoesOn s at close j = GivesT s at (sep close zero suc (drop at s)) (Go j)
+GoesOn s at close j = GivesT s at (sep close zero suc (drop at s)) (Continue j)
 
 -- or nothing follows, and what is left after the byte that closes stands from x on
 abbrev pub Closes : Bytes → ℕ → ℕ → ℕ → Type 0
-Closes s at close x = at ≤ length s → (r : Read) × GivesT s at (sep close zero suc (drop at s)) (Stop r) × (x ≡ place_of r)
+Closes s at close x = at ≤ length s → (r : Read) × GivesT s at (sep close zero suc (drop at s)) (Break r) × (x ≡ place_of r)
 
 abbrev pub NextReads : Bytes → ℕ → Member → Type 0
 NextReads s at (Member-At q a) = (j : ℕ) × GoesOn s at (code "}") j × TellsHead s j (record { name = q; start = a })

@@ -8,7 +8,8 @@ ghost use Rattle.json_walk.specs.Walk.{FirstOf, NextOf, FirstElementOf, NextElem
 
 use json_access::{head_at, place};
 use json_marks::{separator, skip_space};
-use text::{LEFT_BRACE, LEFT_BRACKET, RIGHT_BRACE, RIGHT_BRACKET, Turn, look};
+use std::ops::ControlFlow;
+use text::{LEFT_BRACE, LEFT_BRACKET, RIGHT_BRACE, RIGHT_BRACKET, look};
 
 // A member: where its name begins, after the first quote, and where its value does. Or the place after the object, or that there is no object.
 #[derive(Drop)]
@@ -17,6 +18,8 @@ pub enum Member {
     End { after: usize },
     NoObject,
 }
+
+// (Members and elements have walks of their own: one walk for both is no plainer, as it would have a name or none at each place, and brackets by a number.)
 
 // An element: where its value begins. Or the place after the array, or that there is no array.
 #[derive(Drop)]
@@ -59,13 +62,13 @@ pub fn next_member(s: &[u8], at: usize) -> Member
         return Member::End { after: s.len() };
     }
     match separator(s, at, RIGHT_BRACE) {
-        Turn::Go(j) => {
+        ControlFlow::Continue(j) => {
             let h = head_at(s, j);
             let q = h.name;
             let a = h.start;
             Member::At { name: q, start: a }
         }
-        Turn::Stop(r) => Member::End { after: place(r) },
+        ControlFlow::Break(r) => Member::End { after: place(r) },
     }
 }
 
@@ -97,9 +100,9 @@ pub fn next_element(s: &[u8], at: usize) -> Element
         return Element::End { after: s.len() };
     }
     match separator(s, at, RIGHT_BRACKET) {
-        Turn::Go(j) => Element::At {
+        ControlFlow::Continue(j) => Element::At {
             start: skip_space(s, j),
         },
-        Turn::Stop(r) => Element::End { after: place(r) },
+        ControlFlow::Break(r) => Element::End { after: place(r) },
     }
 }

@@ -14,8 +14,8 @@ use Rattle.text.specs.Bytes.{Bytes}
 use Rattle.text.specs.Places.{byte_at}
 use Rattle.text.specs.Reader.{taken}
 use Rattle.text.proofs.Cases.{by_bool}
-use Rattle.output.specs.declared.Wrote.{Wrote}
-use Rattle.output.specs.declared.Wrote.TheVariants.{Bytes as Wrote-Bytes, Full}
+use Rattle.output.specs.Put.{Wrote, full}
+use Rattle.std.specs.Prelude.{Ok, Err}
 use Rattle.output.specs.Put.{Puts, Rest}
 use Rattle.output.proofs.Laws.{split, said-bytes}
 use Rattle.output.proofs.Rests.{rest-as, rest-next, rest-stop}
@@ -117,7 +117,7 @@ module _ (s : Bytes) where
       parted : Rest room whole (run_at s i h ++ spelled_all (ran-at i h a.more a.is).0) k out
       parted = let t = ran-at i h a.more a.is in rest-as (ap spelled_all t.2 ∙ spelled_at s i h t.0) a.rest
 
-      pub run-next : {m : ℕ} → r ≡ Wrote-Bytes m → Ahead s (i + m) h room whole (k + m) (put_mid k (length out - k) out last)
+      pub run-next : {m : ℕ} → r ≡ Ok m → Ahead s (i + m) h room whole (k + m) (put_mid k (length out - k) out last)
       run-next {m} e =
           let t = ran-at i h a.more a.is in
           let n : m ≡ length (run_at s i h) = (said-bytes _ _ _ (sym p.said ∙ e)).0 in
@@ -128,7 +128,7 @@ module _ (s : Bytes) where
             rest = rest-next _ parted p e;
           }
 
-      pub run-stop : r ≡ Full → Puts room whole Full (put_mid k (length out - k) out last)
+      pub run-stop : r ≡ (Err full) → Puts room whole (Err full) (put_mid k (length out - k) out last)
       run-stop e = rest-stop _ parted p e
 
 -- `Ahead` with what it is of, for a helper's signature: it computes

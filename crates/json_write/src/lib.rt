@@ -11,7 +11,7 @@ ghost use Rattle.json_write.specs.Pieces.{coded, bare, BareFor, run_at};
 ghost use Rattle.json_strings.specs.Decoded.{text_at};
 
 use json_strings::{Byte, copy_sixteen, is_paired, next_byte};
-use output::{Wrote, put_byte, put_text};
+use output::{Full, put_byte, put_text};
 
 fn hex_digit(d: u8) -> u8
     requires { d < 16 }
@@ -21,7 +21,7 @@ fn hex_digit(d: u8) -> u8
 }
 
 // A byte by its number.
-fn put_code(out: &mut [u8], c: u8) -> Wrote
+fn put_code(out: &mut [u8], c: u8) -> Result<usize, Full>
     ensures { Puts out.old (coded c) result out.new }
 {
     let g = [
@@ -36,7 +36,7 @@ fn put_code(out: &mut [u8], c: u8) -> Wrote
 }
 
 // A byte of a string, escaped where it must be: the rare one.
-fn put_escaped(out: &mut [u8], c: u8) -> Wrote
+fn put_escaped(out: &mut [u8], c: u8) -> Result<usize, Full>
     ensures { Puts out.old (spelled c) result out.new }
 {
     if c == b'"' {
@@ -74,7 +74,7 @@ fn is_bare(c: u8) -> bool
 }
 
 // A byte of a string: small, so that a loop over bytes has the bare byte in it and the rare one behind a call.
-pub fn put_byte_spelled(out: &mut [u8], c: u8) -> Wrote
+pub fn put_byte_spelled(out: &mut [u8], c: u8) -> Result<usize, Full>
     ensures { Puts out.old (spelled c) result out.new }
 {
     if is_bare(c) {
@@ -84,24 +84,22 @@ pub fn put_byte_spelled(out: &mut [u8], c: u8) -> Wrote
 }
 
 // The bytes from `at` on, up to the first that does not stand for itself: byte by byte.
-fn bare_from(out: &mut [u8], s: &[u8], at: usize) -> Wrote
+fn bare_from(out: &mut [u8], s: &[u8], at: usize) -> Result<usize, Full>
     ensures { Puts out.old (taken bare (drop at s.now)) result out.new }
 {
     let mut k = 0;
-    let mut i = at;
-    while i < s.len() {
+    for i in at..s.len() {
         let c = s[i];
         if !is_bare(c) {
-            return Wrote::Bytes(k);
+            return Ok(k);
         }
         if k >= out.len() {
-            return Wrote::Full;
+            return Err(Full);
         }
         out[k] = c;
         k += 1;
-        i += 1;
     }
-    Wrote::Bytes(k)
+    Ok(k)
 }
 
 // Whether sixteen bytes all stand for themselves. No early way out: one test of a vector.
@@ -110,10 +108,8 @@ fn are_bare(s: &[u8], at: usize) -> bool
     ensures { result ≡ true → BareFor s.now at 16 }
 {
     let mut all = true;
-    let mut k = 0;
-    while k < 16 {
+    for k in 0..16 {
         all = all & is_bare(s[at + k]);
-        k += 1;
     }
     all
 }
@@ -135,7 +131,7 @@ fn has_run(room: usize, s: &[u8], at: usize) -> bool
 }
 
 // The bytes from `at` on, up to the first that does not stand for itself.
-pub fn put_bare(out: &mut [u8], s: &[u8], at: usize) -> Wrote
+pub fn put_bare(out: &mut [u8], s: &[u8], at: usize) -> Result<usize, Full>
     ensures { Puts out.old (taken bare (drop at s.now)) result out.new }
 {
     let mut k = 0;
@@ -145,148 +141,120 @@ pub fn put_bare(out: &mut [u8], s: &[u8], at: usize) -> Wrote
         k += 16;
         i += 16;
     }
-    let Wrote::Bytes(n) = bare_from(&mut out[k..], s, i) else {
-        return Wrote::Full;
-    };
+    let n = bare_from(&mut out[k..], s, i)?;
     let kn = k + n;
-    Wrote::Bytes(kn)
+    Ok(kn)
 }
 
 // A string without its quotes.
-pub fn put_spelled(out: &mut [u8], s: &[u8]) -> Wrote
+pub fn put_spelled(out: &mut [u8], s: &[u8]) -> Result<usize, Full>
     ensures { Puts out.old (spelled_all s.now) result out.new }
 {
     let mut at = 0;
     let mut i = 0;
     loop {
-        let Wrote::Bytes(m) = put_bare(&mut out[at..], s, i) else {
-            return Wrote::Full;
-        };
+        let m = put_bare(&mut out[at..], s, i)?;
         at += m;
         i += m;
         if i >= s.len() {
-            return Wrote::Bytes(at);
+            return Ok(at);
         }
-        let Wrote::Bytes(n) = put_escaped(&mut out[at..], s[i]) else {
-            return Wrote::Full;
-        };
+        let n = put_escaped(&mut out[at..], s[i])?;
         at += n;
         i += 1;
     }
 }
 
 // A string. (A slice that is made for a call goes over as two words; one that is handed on waits until it is copied.)
-pub fn put_string(out: &mut [u8], s: &[u8]) -> Wrote
+pub fn put_string(out: &mut [u8], s: &[u8]) -> Result<usize, Full>
     ensures { Puts out.old (quoted s.now []) result out.new }
 {
-    let Wrote::Bytes(a) = put_byte(out, b'"') else {
-        return Wrote::Full;
-    };
-    let Wrote::Bytes(b) = put_spelled(&mut out[a..], &s[0..]) else {
-        return Wrote::Full;
-    };
+    let a = put_byte(out, b'"')?;
+    let b = put_spelled(&mut out[a..], &s[0..])?;
     let ab = a + b;
-    let Wrote::Bytes(c) = put_byte(&mut out[ab..], b'"') else {
-        return Wrote::Full;
-    };
+    let c = put_byte(&mut out[ab..], b'"')?;
     let abc = ab + c;
-    Wrote::Bytes(abc)
+    Ok(abc)
 }
 
 // The name of a member, with its colon.
-pub fn put_name(out: &mut [u8], s: &[u8]) -> Wrote
+pub fn put_name(out: &mut [u8], s: &[u8]) -> Result<usize, Full>
     ensures { Puts out.old (quoted s.now (ascii ":")) result out.new }
 {
-    let Wrote::Bytes(a) = put_string(out, s) else {
-        return Wrote::Full;
-    };
-    let Wrote::Bytes(b) = put_byte(&mut out[a..], b':') else {
-        return Wrote::Full;
-    };
+    let a = put_string(out, s)?;
+    let b = put_byte(&mut out[a..], b':')?;
     let ab = a + b;
-    Wrote::Bytes(ab)
+    Ok(ab)
 }
 
 // A member whose value is a string.
-pub fn put_member(out: &mut [u8], name: &[u8], text: &[u8]) -> Wrote
+pub fn put_member(out: &mut [u8], name: &[u8], text: &[u8]) -> Result<usize, Full>
     ensures { Puts out.old (quoted name.now (code ":" ∷ quoted text.now [])) result out.new }
 {
-    let Wrote::Bytes(a) = put_name(out, name) else {
-        return Wrote::Full;
-    };
-    let Wrote::Bytes(b) = put_string(&mut out[a..], text) else {
-        return Wrote::Full;
-    };
+    let a = put_name(out, name)?;
+    let b = put_string(&mut out[a..], text)?;
     let ab = a + b;
-    Wrote::Bytes(ab)
+    Ok(ab)
 }
 
 // A number in decimal.
-pub fn put_number(out: &mut [u8], n: usize) -> Wrote
+pub fn put_number(out: &mut [u8], n: usize) -> Result<usize, Full>
     ensures { Puts out.old (decimal n) result out.new }
 {
     if n < 10 {
         return put_byte(out, b'0' + n as u8);
     }
-    let Wrote::Bytes(a) = put_number(out, n / 10) else {
-        return Wrote::Full;
-    };
-    let Wrote::Bytes(b) = put_byte(&mut out[a..], b'0' + (n % 10) as u8) else {
-        return Wrote::Full;
-    };
+    let a = put_number(out, n / 10)?;
+    let b = put_byte(&mut out[a..], b'0' + (n % 10) as u8)?;
     let ab = a + b;
-    Wrote::Bytes(ab)
+    Ok(ab)
 }
 
 // The bytes from a place on that stand for themselves, both where they are read and where they are written. None where bytes are held, which come first; none,
 // and no block is looked at, where an escape follows another.
-fn put_run(out: &mut [u8], s: &[u8], at: usize, hold: u32) -> Wrote
+fn put_run(out: &mut [u8], s: &[u8], at: usize, hold: u32) -> Result<usize, Full>
     ensures { Puts out.old (run_at s.now at hold) result out.new }
 {
     if hold != 0 {
-        return Wrote::Bytes(0);
+        return Ok(0);
     }
     if at >= s.len() {
-        return Wrote::Bytes(0);
+        return Ok(0);
     }
     if s[at] == b'\\' {
-        return Wrote::Bytes(0);
+        return Ok(0);
     }
     put_bare(out, s, at)
 }
 
 // The string from a place on (after its first quote), without its quotes and spelled anew. Nothing is written where it stands for nothing, as
 // in `json_strings`.
-fn put_respelled(out: &mut [u8], s: &[u8], from: usize) -> Wrote
+fn put_respelled(out: &mut [u8], s: &[u8], from: usize) -> Result<usize, Full>
     ensures { Puts out.old (spelled_all (text_at s.now from)) result out.new }
 {
     if !is_paired(s, from) {
-        return Wrote::Bytes(0);
+        return Ok(0);
     }
     let mut at = 0;
     let mut i = from;
     let mut h = 0;
     loop {
-        let Wrote::Bytes(m) = put_run(&mut out[at..], s, i, h) else {
-            return Wrote::Full;
-        };
+        let m = put_run(&mut out[at..], s, i, h)?;
         at += m;
         i += m;
         match next_byte(s, i, h) {
             Byte::Alone => {
-                return Wrote::Bytes(at);
+                return Ok(at);
             }
             Byte::End => {
-                return Wrote::Bytes(at);
+                return Ok(at);
             }
             Byte::One {
                 byte: b,
                 next: j,
                 held: g,
             } => {
-                let Wrote::Bytes(n) = put_byte_spelled(&mut out[at..], b) else {
-                    return Wrote::Full;
-                };
+                let n = put_byte_spelled(&mut out[at..], b)?;
                 at += n;
                 i = j;
                 h = g;
@@ -296,19 +264,13 @@ fn put_respelled(out: &mut [u8], s: &[u8], from: usize) -> Wrote
 }
 
 // The same with its quotes.
-pub fn put_requoted(out: &mut [u8], s: &[u8], from: usize) -> Wrote
+pub fn put_requoted(out: &mut [u8], s: &[u8], from: usize) -> Result<usize, Full>
     ensures { Puts out.old (quoted (text_at s.now from) []) result out.new }
 {
-    let Wrote::Bytes(a) = put_byte(out, b'"') else {
-        return Wrote::Full;
-    };
-    let Wrote::Bytes(b) = put_respelled(&mut out[a..], s, from) else {
-        return Wrote::Full;
-    };
+    let a = put_byte(out, b'"')?;
+    let b = put_respelled(&mut out[a..], s, from)?;
     let ab = a + b;
-    let Wrote::Bytes(c) = put_byte(&mut out[ab..], b'"') else {
-        return Wrote::Full;
-    };
+    let c = put_byte(&mut out[ab..], b'"')?;
     let abc = ab + c;
-    Wrote::Bytes(abc)
+    Ok(abc)
 }

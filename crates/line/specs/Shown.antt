@@ -1,6 +1,6 @@
 -- A written line in 01's words, apart from the writers (Write.antt): "optional group and dot, name, parameters (`;name=value,value`), colon, value";
 -- "names upper-case"; "quotes only where needed (JSPTR always)".
-use Rattle.std.specs.Prelude.{◌≡◌, Bool, true, ◌||◌, List, [], ◌∷◌, ◌++◌, map, ℕ, eqb}
+use Rattle.std.specs.Prelude.{◌≡◌, Bool, true, ◌||◌, [], ◌++◌, map, eqb}
 use Rattle.text.specs.Choice.{pick}
 use Rattle.text.specs.Bytes.{Bytes, ascii, any, all, same, empty, uppered, joined, flat}
 use Rattle.text.specs.Listed.{of_bytes}

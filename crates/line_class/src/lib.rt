@@ -30,6 +30,7 @@ fn classes() -> [u8; 256]
     CLASSES
 }
 
+// The bits by name, as specs/Classes says them: a shift by the place among the classes is no plainer.
 fn bit(class: Class) -> u8
     ensures { result ≡ bit_of class }
 {
@@ -94,7 +95,7 @@ fn in_run(b: u8, class: Class) -> bool
     }
 }
 
-// Where the bytes of the class that start at `at` end.
+// Where the bytes of the class that start at `at` end. The place is the answer: a `for` is no plainer.
 pub fn run_end(s: &[u8], at: usize, class: Class) -> usize
     ensures { result ≡ at + length (taken (in_class class) (drop at s.now)) }
 {
@@ -114,12 +115,11 @@ pub fn all_of(s: &[u8], class: Class) -> bool
 {
     let table = classes();
     let mask = bit(class);
-    let mut i = 0;
-    while i < s.len() {
-        if !marked(&table, s[i], mask) {
+    // No `all`: tried, and its proof did not close.
+    for b in s {
+        if !marked(&table, *b, mask) {
             return false;
         }
-        i += 1;
     }
     true
 }
@@ -157,11 +157,10 @@ fn is_odd(b: u8) -> bool
 pub fn has_odd(line: &[u8]) -> bool
     ensures { result ≡ any is_odd line.now }
 {
+    // No `fold`: tried, and its proof did not close.
     let mut found = false;
-    let mut i = 0;
-    while i < line.len() {
-        found = found | is_odd(line[i]);
-        i += 1;
+    for b in line {
+        found |= is_odd(*b);
     }
     found
 }
@@ -171,10 +170,8 @@ pub fn has_control(line: &[u8]) -> bool
     ensures { result ≡ any is_control line.now }
 {
     let mut found = false;
-    let mut i = 0;
-    while i < line.len() {
-        found = found | is_control(line[i]);
-        i += 1;
+    for b in line {
+        found |= is_control(*b);
     }
     found
 }

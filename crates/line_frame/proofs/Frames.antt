@@ -3,6 +3,7 @@ use mathlib.Core.Path.{◌≡◌, refl, sym, ap, ◌∙◌}
 use mathlib.Core.Bool.{Bool, true, false, ◌||◌}
 use mathlib.Core.List.{List, [], ◌∷◌, ◌++◌, map}
 use mathlib.Core.Option.{none, some}
+use Rattle.std.specs.Prelude.{Option, Some, None}
 use Prim.Native.Nat.{ℕ, suc, ◌+◌, ◌-◌, ◌≤◌, ◌<◌}
 use native.Mathlib.Omega.{arith}
 use lib.ListN.{length, take, drop, get_or, drop_of_length-le}
@@ -12,9 +13,6 @@ use Rattle.text.specs.Bytes.{Bytes}
 use Rattle.line.specs.Physical.{by_lf, without_cr, physical, is_begin, is_end, up_to_end, framed}
 use Rattle.text.proofs.Cases.{split}
 use Rattle.line_frame.specs.declared.Line.{Line}
-use Rattle.line_frame.specs.declared.End.{End}
-use Rattle.line_frame.specs.declared.End.TheVariants.{At, Missing}
-use Rattle.line_frame.specs.declared.Frame.TheVariants.{Body, NotOne}
 use Rattle.line_frame.specs.Lines.{LineAt}
 use Rattle.line_frame.specs.Frame.{Ends, Framed}
 use Rattle.line_frame.proofs.Physical.{by-lf}
@@ -54,7 +52,7 @@ no_lines s at h = rw (drop_of_length-le s h) none-lines
 
 -- ---- at a line
 
-pub ends-out : (s : Bytes) (i : ℕ) → length s ≤ i → Ends s i Missing
+pub ends-out : (s : Bytes) (i : ℕ) → length s ≤ i → Ends s i None
 ends-out s i h = rw (no_lines s i h) up_none
 
 -- another line begins where there are bytes
@@ -70,20 +68,20 @@ module _ (s : Bytes) (i : ℕ) (r : Line) (at-line : LineAt s i r) where
   alone : length s ≤ r.next → physical (drop i s) ≡ line ∷ []
   alone h = at-line.lines ∙ ap (λ u. line ∷ u) (no_lines s r.next h)
 
-  pub ends-here : is_end line ≡ true → length s ≤ r.next → Ends s i (At i)
+  pub ends-here : is_end line ≡ true → length s ≤ r.next → Ends s i (Some i)
   ends-here e h =
       let z : i - i ≡ 0 = omega arith in
       (omega arith, omega (arith, at-line.onward, at-line.within), rw (alone h, up-last line e, z) (ap some (sym none-lines)))
 
-  such : (is_begin line || is_end line) ≡ true → r.next < length s → Ends s i Missing
+  such : (is_begin line || is_end line) ≡ true → r.next < length s → Ends s i None
   such e h =
       let m = more-lines s r.next h in
       ap up_to_end (at-line.lines ∙ ap (λ u. line ∷ u) m.2) ∙ up-such line m.0 m.1 e
 
-  pub ends-early : is_end line ≡ true → r.next < length s → Ends s i Missing
+  pub ends-early : is_end line ≡ true → r.next < length s → Ends s i None
   ends-early e h = such (rw e (or-true (is_begin line))) h
 
-  pub begins-again : is_end line ≡ false → is_begin line ≡ true → Ends s i Missing
+  pub begins-again : is_end line ≡ false → is_begin line ≡ true → Ends s i None
   begins-again e b =
       split (length s) r.next
       (λ h. ap up_to_end (alone h) ∙ up-last-other line e)
@@ -107,8 +105,8 @@ module _ (s : Bytes) (i : ℕ) (r : Line) (at-line : LineAt s i r) where
   last_up : is_end line ≡ false → length s ≤ r.next → up_to_end (physical (drop i s)) ≡ none
   last_up e h = ap up_to_end (alone h) ∙ up-last-other line e
 
-  pub ends_on : (f : End) → is_end line ≡ false → is_begin line ≡ false → Ends s r.next f → Ends s i f
-  ends_on (At b) e n p =
+  pub ends_on : (f : Option ℕ) → is_end line ≡ false → is_begin line ≡ false → Ends s r.next f → Ends s i f
+  ends_on (Some b) e n p =
       split (length s) r.next
       (λ h. absurd (let w : some (physical (take (b - r.next) (drop r.next s))) ≡ none = sym p.2 ∙ ap up_to_end (no_lines s r.next h) ∙ up_none in let z : ◌≡◌ {A = ℕ} 0 1 = cc in omega arith))
       (λ h. (
@@ -116,16 +114,16 @@ module _ (s : Bytes) (i : ℕ) (r : Line) (at-line : LineAt s i r) where
         p.1,
         next_up n e h ∙ ap (both ◌∷◌ (some line)) p.2 ∙ ap some (sym (further b h p.0)),
       ))
-  ends_on Missing e n p = split (length s) r.next (λ h. last_up e h) (λ h. next_up n e h ∙ ap (both ◌∷◌ (some line)) p)
+  ends_on None e n p = split (length s) r.next (λ h. last_up e h) (λ h. next_up n e h ∙ ap (both ◌∷◌ (some line)) p)
 
 -- ---- the first line
 
-pub no-card : (s : Bytes) → length s ≡ 0 → Framed s NotOne
+pub no-card : (s : Bytes) → length s ≡ 0 → Framed s None
 unfolding framed
 no-card s h = rw (no_lines s 0 (omega arith))
 
 module _ (s : Bytes) (r : Line) (at-line : LineAt s 0 r) where
-  pub not-begun : is_begin (take (r.end - 0) (drop 0 s)) ≡ false → Framed s NotOne
+  pub not-begun : is_begin (take (r.end - 0) (drop 0 s)) ≡ false → Framed s None
   unfolding framed
   not-begun e = rw (at-line.lines, e)
 
@@ -133,8 +131,8 @@ module _ (s : Bytes) (r : Line) (at-line : LineAt s 0 r) where
   unfolding framed
   begun e = rw (at-line.lines, e)
 
-  pub not-ended : is_begin (take (r.end - 0) (drop 0 s)) ≡ true → Ends s r.next Missing → Framed s NotOne
+  pub not-ended : is_begin (take (r.end - 0) (drop 0 s)) ≡ true → Ends s r.next None → Framed s None
   not-ended e p = begun e ∙ p
 
-  pub one-card : (b : ℕ) → is_begin (take (r.end - 0) (drop 0 s)) ≡ true → Ends s r.next (At b) → Framed s (Body r.next b)
+  pub one-card : (b : ℕ) → is_begin (take (r.end - 0) (drop 0 s)) ≡ true → Ends s r.next (Some b) → Framed s (Some (record { start = r.next; end = b }))
   one-card b e p = (p.0, p.1, begun e ∙ p.2)

@@ -31,10 +31,8 @@ fn has_lf(s: &[u8], at: usize) -> bool
     ensures { result ≡ false → SameLf s.now at (at + 16) }
 {
     let mut found = false;
-    let mut k = 0;
-    while k < 16 {
-        found = found | (s[at + k] == 10);
-        k += 1;
+    for k in 0..16 {
+        found |= s[at + k] == 10;
     }
     found
 }
@@ -110,17 +108,11 @@ fn is_end(line: &[u8]) -> bool
     is_named(line, b"end:vcard")
 }
 
-// Where the END line begins.
-#[derive(Drop)]
-pub enum End {
-    At(usize),
-    Missing,
-}
-
-// END comes last, and no other such line before it.
-fn end_from(s: &[u8], at: usize) -> End
+// Where the END line begins: it comes last, and no other such line before it.
+fn end_from(s: &[u8], at: usize) -> Option<usize>
     ensures { Ends s.now at result }
 {
+    // From line to line: the steps are not even, so no `for`.
     let mut i = at;
     while i < s.len() {
         let line = next_line(s, i);
@@ -128,40 +120,38 @@ fn end_from(s: &[u8], at: usize) -> End
         let next = line.next;
         if is_end(&s[i..end]) {
             if next < s.len() {
-                return End::Missing;
+                return None;
             }
-            return End::At(i);
+            return Some(i);
         }
         if is_begin(&s[i..end]) {
-            return End::Missing;
+            return None;
         }
         i = next;
     }
-    End::Missing
+    None
 }
 
 // Where the lines between BEGIN and END stand.
-#[derive(Drop)]
-pub enum Frame {
-    Body { start: usize, end: usize },
-    NotOne,
+#[derive(Clone, Copy)]
+pub struct Body {
+    pub start: usize,
+    pub end: usize,
 }
 
 // One card: BEGIN first, END last, no other such line.
-pub fn frame_of(s: &[u8]) -> Frame
+pub fn frame_of(s: &[u8]) -> Option<Body>
     ensures { Framed s.now result }
 {
     if s.len() == 0 {
-        return Frame::NotOne;
+        return None;
     }
     let first = next_line(s, 0);
     let end = first.end;
     let start = first.next;
     if !is_begin(&s[0..end]) {
-        return Frame::NotOne;
+        return None;
     }
-    let End::At(stop) = end_from(s, start) else {
-        return Frame::NotOne;
-    };
-    Frame::Body { start, end: stop }
+    let stop = end_from(s, start)?;
+    Some(Body { start, end: stop })
 }

@@ -1,41 +1,39 @@
 -- Letter case, and equality byte by byte.
-use mathlib.Core.Path.{◌≡◌, refl, ap}
+use mathlib.Core.Path.{◌≡◌, refl, sym, ap, ◌∙◌}
 use mathlib.Core.Bool.{Bool, true, false, ◌&&◌}
-use mathlib.Core.List.{[], ◌∷◌}
-use Prim.Native.Nat.{ℕ, zero, suc, ◌+◌, ◌-◌, ◌≤◌, ◌<◌}
+use mathlib.Core.List.{[], ◌∷◌, map}
+use Prim.Native.Nat.{ℕ, zero, suc, ◌+◌, ◌≤◌, ◌<◌}
 use native.Mathlib.Omega.{arith}
 use native.Mathlib.Numerals.{add-one}
-use lib.Dec.{eqb}
+use lib.Dec.{eqb, ltb}
 use lib.ListN.{length, drop, get_or, drop_of_length-le, length-map}
 use lib.Seq.{drop-cons}
-use borrow.Author.Tests.{le-leb, lt-leb, eq-eqb, ne_eqb}
+use borrow.Author.Tests.{le-leb, lt-leb, eq-eqb, ne_eqb, eqb-true, ltb-true, ltb-false}
+use Rattle.std.specs.Prelude.{IsTrue, ◌↔◌, ◌==◌}
+use Rattle.std.specs.Char.{to_ascii_lowercase, to_ascii_uppercase}
+use Rattle.std.specs.List.{list_all, zip}
+use Rattle.text.proofs.Cases.{by_bool, not-both, and_left, and_right}
 use Rattle.text.specs.Bytes.{Bytes, between, lower, upper, lowered, same}
 
 -- ---- one letter
 
-pub lower-below : (c : ℕ) → c < 65 → lower c ≡ c
+pub lower-is : (c : ℕ) → to_ascii_lowercase c ≡ lower c
 unfolding lower between
-lower-below c h = rw (lt-leb 65 c h)
+lower-is c =
+    by_bool (ltb c 65)
+    (λ e. rw (e, lt-leb 65 c (ltb-true c 65 e)))
+    (λ e. by_bool (ltb c 91)
+    (λ f. rw (e, f, le-leb 65 c (ltb-false c 65 e), le-leb c 90 (omega (arith, ltb-true c 91 f))))
+    (λ f. rw (e, f, le-leb 65 c (ltb-false c 65 e), lt-leb c 90 (omega (arith, ltb-false c 91 f)))))
 
-pub lower-above : (c : ℕ) → 65 ≤ c → 90 < c → lower c ≡ c
-unfolding lower between
-lower-above c h l = rw (le-leb 65 c h, lt-leb c 90 l)
-
-pub lower-letter : (c : ℕ) → 65 ≤ c → c ≤ 90 → lower c ≡ c + 32
-unfolding lower between
-lower-letter c h l = rw (le-leb 65 c h, le-leb c 90 l)
-
-pub upper-below : (c : ℕ) → c < 97 → upper c ≡ c
+pub upper-is : (c : ℕ) → to_ascii_uppercase c ≡ upper c
 unfolding upper between
-upper-below c h = rw (lt-leb 97 c h)
-
-pub upper-above : (c : ℕ) → 97 ≤ c → 122 < c → upper c ≡ c
-unfolding upper between
-upper-above c h l = rw (le-leb 97 c h, lt-leb c 122 l)
-
-pub upper-letter : (c : ℕ) → 97 ≤ c → c ≤ 122 → upper c ≡ c - 32
-unfolding upper between
-upper-letter c h l = rw (le-leb 97 c h, le-leb c 122 l)
+upper-is c =
+    by_bool (ltb c 97)
+    (λ e. rw (e, lt-leb 97 c (ltb-true c 97 e)))
+    (λ e. by_bool (ltb c 123)
+    (λ f. rw (e, f, le-leb 97 c (ltb-false c 97 e), le-leb c 122 (omega (arith, ltb-true c 123 f))))
+    (λ f. rw (e, f, le-leb 97 c (ltb-false c 97 e), lt-leb c 122 (omega (arith, ltb-false c 123 f)))))
 
 -- ---- equal bytes
 
@@ -74,3 +72,39 @@ unfolding lowered
 lowered-at (c ∷ s) zero h = refl
 lowered-at (c ∷ s) (suc i) h = lowered-at s i (omega arith)
 lowered-at [] i h = absurd (omega arith)
+
+-- byte by byte, of two that are equally long
+pub named-by-pairs : (s name : Bytes) → length s ≡ length name → list_all (λ p. to_ascii_lowercase p.0 == p.1) (zip s name) ≡ same (lowered s) name
+unfolding same lowered
+named-by-pairs [] [] e = refl
+named-by-pairs [] (d ∷ name) e = absurd (omega arith)
+named-by-pairs (c ∷ s) [] e = absurd (omega arith)
+named-by-pairs (c ∷ s) (d ∷ name) e = rw (lower-is c) (ap (λ b. eqb (lower c) d && b) (named-by-pairs s name (omega arith)))
+
+std-lowered : (s : Bytes) → map to_ascii_lowercase s ≡ lowered s
+unfolding lowered
+std-lowered [] = refl
+std-lowered (c ∷ s) = rw (lower-is c) (ap (λ t. lower c ∷ t) (std-lowered s))
+
+same-refl : (s : Bytes) → same s s ≡ true
+unfolding same
+same-refl [] = refl
+same-refl (c ∷ s) = rw (eq-eqb c c refl) (same-refl s)
+
+same-equal : (s t : Bytes) → same s t ≡ true → s ≡ t
+unfolding same
+same-equal [] [] e = refl
+same-equal [] (d ∷ t) e = absurd (not-both e refl)
+same-equal (c ∷ s) [] e = absurd (not-both e refl)
+same-equal (c ∷ s) (d ∷ t) e =
+    let p : c ≡ d = eqb-true c d (and_left _ _ e) in
+    rw p (ap (λ u. d ∷ u) (same-equal s t (and_right (eqb c d) _ e)))
+
+-- std says when two names are one, and the definition how that is found out
+pub same-by-std : (r : Bool) (a b : Bytes) → (IsTrue r ↔ (map to_ascii_lowercase a ≡ map to_ascii_lowercase b)) → r ≡ same (lowered a) (lowered b)
+same-by-std r a b h =
+    by_bool r
+    (λ e. let f : lowered a ≡ lowered b = sym (std-lowered a) ∙ h.0 e ∙ std-lowered b in rw (e, f) (sym (same-refl (lowered b))))
+    (λ e. by_bool (same (lowered a) (lowered b))
+    (λ f. not-both (h.1 (std-lowered a ∙ same-equal (lowered a) (lowered b) f ∙ sym (std-lowered b))) e)
+    (λ f. e ∙ sym f))

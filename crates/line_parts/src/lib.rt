@@ -12,13 +12,11 @@ use line_text::part_end;
 pub fn has_other(s: &[u8], d: u8, e: u8) -> bool
     ensures { result ≡ any (other_than d e) s.now }
 {
-    let mut i = 0;
-    while i < s.len() {
-        let c = s[i];
-        if (c != d) & (c != e) {
+    // No `any`: tried, and its proof did not close.
+    for c in s {
+        if (*c != d) & (*c != e) {
             return true;
         }
-        i += 1;
     }
     false
 }
@@ -28,14 +26,12 @@ pub fn few_parts(s: &[u8], d: u8, n: usize) -> bool
     ensures { result ≡ leb (length (split_text d s.now)) n }
 {
     let mut at = 0;
-    let mut k = 0;
-    while k < n {
+    for _ in 0..n {
         let e = part_end(s, at, d);
         if e >= s.len() {
             return true;
         }
         at = e + 1;
-        k += 1;
     }
     false
 }

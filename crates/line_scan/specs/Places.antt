@@ -1,10 +1,9 @@
 -- What the scanners of a line answer, said by the readers of Grammar.antt at `drop at s`.
-use Rattle.std.specs.Prelude.{◌≡◌, ℕ, ◌-◌, ◌≤◌, length, take, drop}
+use Rattle.std.specs.Prelude.{◌≡◌, Option, Some, None, ℕ, ◌-◌, ◌≤◌, length, take, drop}
 use Rattle.text.specs.Bytes.{Bytes}
 use Rattle.text.specs.Reader.{Got, got, bad}
 use Rattle.line.specs.Grammar.{param_value}
 use Rattle.line_scan.specs.declared.Value.{Value}
-use Rattle.line_scan.specs.declared.Value.TheVariants.{At, Bad}
 
 -- the reader gives nothing
 abbrev pub Fails : {A : Type 0} → Got A → Type 0
@@ -19,6 +18,6 @@ pub record ValueRead (s : Bytes) (at a b n : ℕ) : Type 0 where
   pub before : b ≤ n
   pub within : n ≤ length s
 
-abbrev pub ValueAt : Bytes → ℕ → Value → Type 0
-ValueAt s at (At a b n) = ValueRead s at a b n
-ValueAt s at Bad = Fails (param_value (drop at s))
+abbrev pub ValueAt : Bytes → ℕ → Option Value → Type 0
+ValueAt s at (Some v) = ValueRead s at v.start v.end v.next
+ValueAt s at None = Fails (param_value (drop at s))

@@ -10,17 +10,15 @@ use line_name::is_named;
 use text::{QUOTE, look};
 
 // A parameter value: where its bytes begin and end, quotes left out, and the place after it.
-#[derive(Drop)]
-pub enum Value {
-    At {
-        start: usize,
-        end: usize,
-        next: usize,
-    },
-    Bad,
+#[derive(Clone, Copy)]
+pub struct Value {
+    pub start: usize,
+    pub end: usize,
+    pub next: usize,
 }
 
-pub fn value_at(s: &[u8], at: usize) -> Value
+// None where no value begins there.
+pub fn value_at(s: &[u8], at: usize) -> Option<Value>
     requires { at ≤ length s.now }
     ensures { ValueAt s.now at result }
 {
@@ -28,20 +26,20 @@ pub fn value_at(s: &[u8], at: usize) -> Value
         let a = at + 1;
         let e = run_end(s, a, Class::Quotable);
         if look(s, e) == QUOTE {
-            return Value::At {
+            return Some(Value {
                 start: a,
                 end: e,
                 next: e + 1,
-            };
+            });
         }
-        return Value::Bad;
+        return None;
     }
     let e = run_end(s, at, Class::Bare);
-    Value::At {
+    Some(Value {
         start: at,
         end: e,
         next: e,
-    }
+    })
 }
 
 // Lines named BEGIN or END are refused wherever they stand.

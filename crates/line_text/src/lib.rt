@@ -8,7 +8,7 @@ ghost use Rattle.line.specs.Text.{read_text, text_from, escape, write_text};
 ghost use Rattle.line_text.specs.Read.{OneChar, Plain, plain_text};
 ghost use Rattle.line_text.specs.Split.{PartEnds, Joined, char_end};
 
-use output::{Wrote, put_byte, put_text};
+use output::{Full, put_byte, put_text};
 
 // What stands at a place of a TEXT: a byte and where the next stands, or a bad escape, or nothing more.
 #[derive(Drop)]
@@ -59,7 +59,7 @@ pub fn next_char(s: &[u8], at: usize) -> Char
     Char::Byte { byte: c, next: e }
 }
 
-// Where the bytes from `at` on that are no backslash end, byte by byte.
+// Where the bytes from `at` on that are no backslash end, byte by byte. The place is the answer: a `for` is no plainer.
 fn plain_from(s: &[u8], at: usize) -> usize
     requires { at ≤ length s.now }
     ensures { (at ≤ result) × (result ≤ length s.now) × Plain s.now at result }
@@ -81,10 +81,8 @@ fn has_backslash(s: &[u8], at: usize) -> bool
     ensures { result ≡ false → Plain s.now at (at + 16) }
 {
     let mut found = false;
-    let mut k = 0;
-    while k < 16 {
-        found = found | (s[at + k] == b'\\');
-        k += 1;
+    for k in 0..16 {
+        found |= s[at + k] == b'\\';
     }
     found
 }
@@ -137,7 +135,7 @@ pub fn is_text(s: &[u8]) -> bool
 }
 
 // What the TEXT stands for; nothing where an escape is bad. What stands between escapes is copied as it is.
-pub fn read_text(out: &mut [u8], s: &[u8]) -> Wrote
+pub fn read_text(out: &mut [u8], s: &[u8]) -> Result<usize, Full>
     ensures { Puts out.old (plain_text s.now) result out.new }
 {
     // What stands before the first escape is looked through once; most values have none.
@@ -146,30 +144,28 @@ pub fn read_text(out: &mut [u8], s: &[u8]) -> Wrote
         return put_text(out, s);
     }
     if !is_text(&s[plain..]) {
-        return Wrote::Bytes(0);
+        return Ok(0);
     }
     let mut at = 0;
     let mut i = 0;
     loop {
         let j = plain_end(s, i);
-        let Wrote::Bytes(n) = put_text(&mut out[at..], &s[i..j]) else {
-            return Wrote::Full;
-        };
+        let n = put_text(&mut out[at..], &s[i..j])?;
         at += n;
         match next_char(s, j) {
             Char::Byte { byte: c, next: e } => {
                 if at >= out.len() {
-                    return Wrote::Full;
+                    return Err(Full);
                 }
                 out[at] = c;
                 at += 1;
                 i = e;
             }
             Char::Bad => {
-                return Wrote::Bytes(at);
+                return Ok(at);
             }
             Char::End => {
-                return Wrote::Bytes(at);
+                return Ok(at);
             }
         }
     }

@@ -1,10 +1,9 @@
 -- Unfolded lines laid out: their bytes one after the other, and a table of where each begins.
-use Rattle.std.specs.Prelude.{◌≡◌, List, [], ◌∷◌, ◌++◌, ℕ, ◌+◌, ◌-◌, ◌≤◌, ◌<◌, length, take, drop, get_or, leb, ltb}
+use Rattle.std.specs.Prelude.{◌≡◌, Result, Ok, Err, List, [], ◌∷◌, ◌++◌, ℕ, ◌+◌, ◌-◌, ◌≤◌, ◌<◌, length, take, drop, get_or, leb, ltb}
 use Rattle.text.specs.Choice.{pick}
 use Rattle.text.specs.Bytes.{Bytes, flat}
 use Rattle.output.specs.Put.{Sofar}
-use Rattle.line_unfold.specs.declared.Unfolded.{Unfolded}
-use Rattle.line_unfold.specs.declared.Unfolded.TheVariants.{Lines, TooMany}
+use Rattle.line_unfold.specs.declared.TooMany.{TooMany}
 
 -- src now stands after what stood before `at`
 pub record Adds (out : Bytes) (at : ℕ) (src : Bytes) (r : ℕ) (after : Bytes) : Type 0 where
@@ -22,10 +21,14 @@ pub record Laid (ls : List Bytes) (k : ℕ) (out table : List ℕ) : Type 0 wher
   pub bytes : take (length (flat ls)) out ≡ flat ls
   pub starts : take (k + 1) table ≡ marks 0 ls
 
+-- how many lines, or that they are more than are taken
+abbrev pub Unfolded : Type 0
+Unfolded = Result ℕ TooMany
+
 -- what unfolding answers, and leaves, where at most that many lines are taken
 abbrev pub Unfolds : ℕ → List Bytes → Unfolded → List ℕ → List ℕ → Type 0
-Unfolds most ls (Lines k) out table = Laid ls k out table × (k ≤ most)
-Unfolds most ls TooMany out table = most < length ls
+Unfolds most ls (Ok k) out table = Laid ls k out table × (k ≤ most)
+Unfolds most ls (Err e) out table = most < length ls
 
 -- the line with that number, and nothing where the table has none
 unfoldable pub line_at : Bytes → List ℕ → ℕ → Bytes

@@ -12,12 +12,9 @@ ghost use Rattle.line_unfold.specs.Table.{Adds, Unfolds, line_at};
 use line_class::{Class, in_class};
 use line_frame::next_line;
 
-// How many lines, or that there are more than are taken.
-#[derive(Drop)]
-pub enum Unfolded {
-    Lines(usize),
-    TooMany,
-}
+// A card has more lines than are taken.
+#[derive(Clone, Copy)]
+pub struct TooMany;
 
 // Whether a physical line goes on with the line before it.
 fn folds(line: &[u8]) -> bool
@@ -29,26 +26,24 @@ fn folds(line: &[u8]) -> bool
     in_class(line[0], Class::Blank)
 }
 
-// Adds src to what stands before `at`. There is room: no early way out, so the loop copies by vectors.
+// Adds src to what stands before `at`. There is room.
 fn append(out: &mut [u8], at: usize, src: &[u8]) -> usize
     requires { at + length src.now ≤ length out.old }
     ensures { Adds out.old at src.now result out.new }
 {
-    let mut i = 0;
-    while i < src.len() {
-        out[at + i] = src[i];
-        i += 1;
-    }
-    at + i
+    let end = at + src.len();
+    out[at..end].copy_from_slice(src);
+    end
 }
 
-// The table has the start of each line, and the end of the last. At most `most` lines are taken, so that a short table does for few lines.
-pub fn unfold(out: &mut [u8], table: &mut [usize], most: usize, s: &[u8]) -> Unfolded
+// How many lines; the table has the start of each line, and the end of the last. At most `most` lines are taken, so that a short table does for few lines.
+pub fn unfold(out: &mut [u8], table: &mut [usize], most: usize, s: &[u8]) -> Result<usize, TooMany>
     requires { (length s.now ≤ length out.old) × (most < length table.old) × (most ≤ 512) }
     ensures { Unfolds most (unfold' (physical s.now)) result out.new table.new }
 {
     let mut n = 0;
     let mut k = 0;
+    // From line to line: the steps are not even, so no `for`.
     let mut i = 0;
     while i < s.len() {
         let line = next_line(s, i);
@@ -62,7 +57,7 @@ pub fn unfold(out: &mut [u8], table: &mut [usize], most: usize, s: &[u8]) -> Unf
             continue;
         }
         if k >= most {
-            return Unfolded::TooMany;
+            return Err(TooMany);
         }
         table[k] = n;
         k += 1;
@@ -70,7 +65,7 @@ pub fn unfold(out: &mut [u8], table: &mut [usize], most: usize, s: &[u8]) -> Unf
         i = next;
     }
     table[k] = n;
-    Unfolded::Lines(k)
+    Ok(k)
 }
 
 // The unfolded line with that number, from 0 on.

@@ -10,10 +10,9 @@ use std::io::Read;
 use std::rt::{Env, Files};
 use std::{fs, io};
 
-// Whether there was one, and how many bytes its path and its text have.
-#[derive(Drop)]
+// How many bytes the path and the text of a file have.
+#[derive(Clone, Copy)]
 pub struct Named {
-    pub found: bool,
     pub path: usize,
     pub text: usize,
 }
@@ -46,29 +45,13 @@ pub fn read_named(
     k: usize,
     path: &mut [u8],
     room: &mut [u8],
-) -> Named
-    ensures path { IsPrefixLen result.path path.new }
-    ensures text { IsPrefixLen result.text room.new }
+) -> Option<Named>
+    ensures path { IfSome result (λ named. IsPrefixLen named.path path.new) }
+    ensures text { IfSome result (λ named. IsPrefixLen named.text room.new) }
 {
-    let Some(p) = argument(rt, k, "argument", path) else {
-        return Named {
-            found: false,
-            path: 0,
-            text: 0,
-        };
-    };
-    let Some(n) = read_file(rt, &path[..p], room) else {
-        return Named {
-            found: false,
-            path: 0,
-            text: 0,
-        };
-    };
-    Named {
-        found: true,
-        path: p,
-        text: n,
-    }
+    let p = argument(rt, k, "argument", path)?;
+    let n = read_file(rt, &path[..p], room)?;
+    Some(Named { path: p, text: n })
 }
 
 // How many bytes of the file stand at the front of `room`.

@@ -10,10 +10,10 @@ use native.Mathlib.Decide.{dec_le}
 use borrow.Rule.Slice.PartMut.{mid_of, post_of, put_mid}
 use lib.Seq.{take-nil, take_all, take-append-add, take-append-le, drop-drop, take_at, drop_at, set_at, drop-cons}
 use borrow.Author.Tests.{le-leb, lt-leb}
-use Rattle.output.specs.declared.Wrote.{Wrote}
-use Rattle.output.specs.declared.Wrote.TheVariants.{Bytes as Wrote-Bytes, Full}
+use Rattle.std.specs.Prelude.{Ok, Err, IsErr}
+use Rattle.text.proofs.Cases.{not-both}
 use Rattle.text.specs.Bytes.{Bytes}
-use Rattle.output.specs.Put.{put, answer, Puts, Sofar}
+use Rattle.output.specs.Put.{Wrote, full, put, answer, Puts, Sofar}
 
 -- two numbers, one way or the other
 pub split {ℓ} : {X : Type ℓ} (a b : ℕ) → (a ≤ b → X) → (b < a → X) → X
@@ -44,26 +44,36 @@ pub length-put : (room x : Bytes) → length (put room x) ≡ length room
 unfolding put
 length-put room x = simp (length-append, length-take, length-drop) (omega arith)
 
-answer-fits : (room x : Bytes) → length x ≤ length room → answer room x ≡ Wrote-Bytes (length x)
+answer-fits : (room x : Bytes) → length x ≤ length room → answer room x ≡ Ok (length x)
 unfolding answer
 answer-fits room x h = simp (le-leb _ _ h)
 
-answer-over : (room x : Bytes) → length room < length x → answer room x ≡ Full
+answer-over : (room x : Bytes) → length room < length x → answer room x ≡ (Err full)
 unfolding answer
 answer-over room x h = simp (lt-leb _ _ h)
 
 -- what an answer says
-pub said-bytes : (room x : Bytes) (n : ℕ) → answer room x ≡ Wrote-Bytes n → (n ≡ length x) × (n ≤ length room)
+pub said-bytes : (room x : Bytes) (n : ℕ) → answer room x ≡ Ok n → (n ≡ length x) × (n ≤ length room)
 said-bytes room x n e =
     split (length x) (length room)
     (λ h. let p : n ≡ length x = cc (answer-fits room x h) in (p, omega arith))
     (λ h. let z : ◌≡◌ {A = ℕ} 0 1 = cc (answer-over room x h) in omega arith)
 
-pub said-full : (room x : Bytes) → answer room x ≡ Full → length room < length x
+pub said-full : (room x : Bytes) → answer room x ≡ (Err full) → length room < length x
 said-full room x e =
     split (length x) (length room)
     (λ h. let z : ◌≡◌ {A = ℕ} 0 1 = cc (answer-fits room x h) in omega arith)
     (λ h. h)
+
+-- what fits is copied over the front of the room, and of what does not fit as much as there is room for
+pub copied : {room x front : Bytes} → length x ≤ length room → front ≡ x → Puts room x (Ok (length x)) (front ++ drop (length x) room)
+copied {room} {x} {front} h e = record { said = sym (answer-fits room x h); left = ap (λ f. f ++ drop (length x) room) e ∙ sym (put-fits room x h) }
+
+pub copied-short : {room x out : Bytes} → length room < length x → out ≡ take (length room) x → Puts room x (Err full) out
+unfolding put
+copied-short {room} {x} {out} h e =
+    let h₁ : length room ≤ length x = omega arith in
+    record { said = sym (answer-over room x h); left = e ∙ sym (rw (drop_of_length-le room h₁, append-nil)) }
 
 -- nothing is written yet
 pub start : (room : Bytes) → Sofar room [] 0 room
@@ -71,7 +81,7 @@ unfolding put
 start room = record { is = refl; fits = omega arith; same = refl; left = simp take-nil }
 
 -- all is written
-pub done : {room x : Bytes} {at : ℕ} {out : Bytes} → Sofar room x at out → Puts room x (Wrote-Bytes at) out
+pub done : {room x : Bytes} {at : ℕ} {out : Bytes} → Sofar room x at out → Puts room x (Ok at) out
 done {room} {x} s =
     let h : length x ≤ length room = omega arith in
     record { said = cc (answer-fits room x h); left = s.left }
@@ -96,7 +106,7 @@ back_is {room} {x} {at} {out} s last =
 
 -- a writer that was lent the rest wrote y
 pub next : {room x y last : Bytes} {at n : ℕ} {out : Bytes} {r : Wrote} → Sofar room x at out
-    → Puts (mid_of at (length out - at) out) y r last → r ≡ Wrote-Bytes n → Sofar room (x ++ y) (at + n) (put_mid at (length out - at) out last)
+    → Puts (mid_of at (length out - at) out) y r last → r ≡ Ok n → Sofar room (x ++ y) (at + n) (put_mid at (length out - at) out last)
 next {room} {x} {y} {last} {at} {n} {out} {r} s p e =
     let h : length x ≤ length room = omega arith in
     let p₁ : r ≡ answer (drop (length x) room) y = p.said ∙ ap (λ l. answer l y) (rest-is s) in
@@ -113,7 +123,7 @@ next {room} {x} {y} {last} {at} {n} {out} {r} s p e =
 
 -- a writer that was lent the rest had no room
 pub stop : {room x y last : Bytes} {at : ℕ} {out : Bytes} {r : Wrote} → Sofar room x at out
-    → Puts (mid_of at (length out - at) out) y r last → r ≡ Full → Puts room (x ++ y) Full (put_mid at (length out - at) out last)
+    → Puts (mid_of at (length out - at) out) y r last → r ≡ (Err full) → Puts room (x ++ y) (Err full) (put_mid at (length out - at) out last)
 stop {room} {x} {y} {last} {at} {out} {r} s p e =
     let h : length x ≤ length room = omega arith in
     let p₁ : r ≡ answer (drop (length x) room) y = p.said ∙ ap (λ l. answer l y) (rest-is s) in
@@ -127,7 +137,7 @@ stop {room} {x} {y} {last} {at} {out} {r} s p e =
     }
 
 -- what was to follow changes nothing where there is no room
-pub more : {room x out : Bytes} (z : Bytes) → Puts room x Full out → Puts room (x ++ z) Full out
+pub more : {room x out : Bytes} (z : Bytes) → Puts room x (Err full) out → Puts room (x ++ z) (Err full) out
 more {room} {x} {out} z p =
     let q : length room < length x = said-full room x (sym p.said) in
     let q₃ : length room < length (x ++ z) = simp length-append (omega arith) in
@@ -157,7 +167,7 @@ unfolding put
 nothing b = refl
 
 -- there is no room for one more
-pub no_byte : {room x : Bytes} {at : ℕ} {out : Bytes} (b : ℕ) → Sofar room x at out → length out ≤ at → Puts room (x ++ (b ∷ [])) Full out
+pub no_byte : {room x : Bytes} {at : ℕ} {out : Bytes} (b : ℕ) → Sofar room x at out → length out ≤ at → Puts room (x ++ (b ∷ [])) (Err full) out
 no_byte {room} {x} {at} {out} b s h =
     let g : length x ≤ length room = omega arith in
     let q : length room < length (x ++ (b ∷ [])) = simp length-append (omega arith) in
@@ -178,13 +188,18 @@ pub sofar-as : {room x y out : Bytes} {at : ℕ} → x ≡ y → Sofar room x at
 sofar-as {room} {x} {y} {out} {at} e p = subst (λ l. Sofar room l at out) e p
 
 -- the first writer is lent the whole room
-pub first : {room y last : Bytes} {n : ℕ} {r : Wrote} → Puts room y r last → r ≡ Wrote-Bytes n → Sofar room y n last
+pub first : {room y last : Bytes} {n : ℕ} {r : Wrote} → Puts room y r last → r ≡ Ok n → Sofar room y n last
 first {room} {y} {last} {n} {r} p e =
     let q : (n ≡ length y) × (n ≤ length room) = said-bytes room y n (sym p.said ∙ e) in
     record { is = q.0; fits = q.1; same = ap length p.left ∙ length-put room y; left = p.left }
 
-pub first-full : {room y last : Bytes} {r : Wrote} → Puts room y r last → r ≡ Full → Puts room y Full last
+pub first-full : {room y last : Bytes} {r : Wrote} → Puts room y r last → r ≡ (Err full) → Puts room y (Err full) last
 first-full {room} {y} {last} {r} p e = record { said = sym e ∙ p.said; left = p.left }
+
+-- what `?` hands on: there is one way not to fit
+pub failed : {room x out : Bytes} {r : Wrote} → IsErr r → Puts room x (Err full) out → Puts room x r out
+failed {r = Ok n} h p = not-both h refl
+failed {r = Err e} h p = p
 
 -- an index so far is within the room, and one more writer's count does not wrap
 pub within : {room x : Bytes} {at : ℕ} {out : Bytes} → Sofar room x at out → at ≤ length out

@@ -9,8 +9,8 @@ use native.Mathlib.Omega.{arith}
 use lib.ListN.{length, set}
 use borrow.Rule.Slice.PartMut.{mid_of, put_mid}
 use Rattle.text.specs.Bytes.{Bytes}
-use Rattle.output.specs.declared.Wrote.{Wrote}
-use Rattle.output.specs.declared.Wrote.TheVariants.{Bytes as Wrote-Bytes, Full}
+use Rattle.output.specs.Put.{Wrote, full}
+use Rattle.std.specs.Prelude.{Ok, Err}
 use Rattle.output.specs.Put.{Puts, Rest}
 use Rattle.output.proofs.Laws.{start, byte, no_byte, done, next, stop, more, puts-as}
 
@@ -29,12 +29,12 @@ rest-byte {todo = todo} {b = b} r h = record {
   rest = append_assoc r.x (b ∷ []) todo ∙ r.rest;
 }
 
-pub rest-no-byte : {room whole todo out : Bytes} {at b : ℕ} → Rest room whole (b ∷ todo) at out → length out ≤ at → Puts room whole Full out
+pub rest-no-byte : {room whole todo out : Bytes} {at b : ℕ} → Rest room whole (b ∷ todo) at out → length out ≤ at → Puts room whole (Err full) out
 rest-no-byte {todo = todo} {b = b} r h = puts-as (append_assoc r.x (b ∷ []) todo ∙ r.rest) (more todo (no_byte b r.so h))
 
 -- a writer that was lent the rest wrote the next piece, or had no room
 pub rest-next : {room whole y last : Bytes} {at n : ℕ} {out : Bytes} {r : Wrote} (todo : Bytes) → Rest room whole (y ++ todo) at out
-    → Puts (mid_of at (length out - at) out) y r last → r ≡ Wrote-Bytes n → Rest room whole todo (at + n) (put_mid at (length out - at) out last)
+    → Puts (mid_of at (length out - at) out) y r last → r ≡ Ok n → Rest room whole todo (at + n) (put_mid at (length out - at) out last)
 rest-next {y = y} todo l p e = record {
   x = l.x ++ y;
   so = next l.so p e;
@@ -42,11 +42,11 @@ rest-next {y = y} todo l p e = record {
 }
 
 pub rest-stop : {room whole y last : Bytes} {at : ℕ} {out : Bytes} {r : Wrote} (todo : Bytes) → Rest room whole (y ++ todo) at out
-    → Puts (mid_of at (length out - at) out) y r last → r ≡ Full → Puts room whole Full (put_mid at (length out - at) out last)
+    → Puts (mid_of at (length out - at) out) y r last → r ≡ (Err full) → Puts room whole (Err full) (put_mid at (length out - at) out last)
 rest-stop {y = y} todo l p e = puts-as (append_assoc l.x y todo ∙ l.rest) (more todo (stop l.so p e))
 
 -- nothing is left
-pub rest-done : {room whole todo out : Bytes} {at : ℕ} → todo ≡ [] → Rest room whole todo at out → Puts room whole (Wrote-Bytes at) out
+pub rest-done : {room whole todo out : Bytes} {at : ℕ} → todo ≡ [] → Rest room whole todo at out → Puts room whole (Ok at) out
 rest-done e r = puts-as (sym (append-nil r.x) ∙ ap (λ l. r.x ++ l) (sym e) ∙ r.rest) (done r.so)
 
 -- ---- the index so far

@@ -8,8 +8,8 @@ use native.Mathlib.Nat.{lt_of_le_of_lt}
 use lib.ListN.{length}
 use borrow.Rule.Slice.PartMut.{mid_of, put_mid}
 use Rattle.text.specs.Bytes.{Bytes, flat}
-use Rattle.output.specs.declared.Wrote.{Wrote}
-use Rattle.output.specs.declared.Wrote.TheVariants.{Bytes as Wrote-Bytes, Full}
+use Rattle.output.specs.Put.{Wrote, full}
+use Rattle.std.specs.Prelude.{Ok, Err}
 use Rattle.output.specs.Put.{Puts, Left, hd, tl}
 use Rattle.output.proofs.Laws.{length-put, done, next, stop, more, puts-as, first, first-full, within}
 
@@ -33,7 +33,7 @@ pub record Here : Type 0 where
 
 -- a writer that was lent the rest wrote the next piece
 pub step : {room whole last : Bytes} {todo : List Bytes} {at n : ℕ} {out : Bytes} {r : Wrote} → Left room whole todo at out
-    → Puts (mid_of at (length out - at) out) (hd todo) r last → r ≡ Wrote-Bytes n → Left room whole (tl todo) (at + n) (put_mid at (length out - at) out last)
+    → Puts (mid_of at (length out - at) out) (hd todo) r last → r ≡ Ok n → Left room whole (tl todo) (at + n) (put_mid at (length out - at) out last)
 step {todo = todo} l p e = record {
   x = l.x ++ hd todo;
   so = next l.so p e;
@@ -41,20 +41,20 @@ step {todo = todo} l p e = record {
 }
 
 -- the first piece is written, or is not
-pub opens : {room y last : Bytes} (ys : List Bytes) {n : ℕ} {r : Wrote} → Puts room y r last → r ≡ Wrote-Bytes n → Left room (flat (y ∷ ys)) ys n last
+pub opens : {room y last : Bytes} (ys : List Bytes) {n : ℕ} {r : Wrote} → Puts room y r last → r ≡ Ok n → Left room (flat (y ∷ ys)) ys n last
 opens {y = y} ys p e = record { x = y; so = first p e; rest = sym (flat-hd (y ∷ ys)) }
 
-pub none : {room y last : Bytes} (ys : List Bytes) {r : Wrote} → Puts room y r last → r ≡ Full → Puts room (flat (y ∷ ys)) Full last
+pub none : {room y last : Bytes} (ys : List Bytes) {r : Wrote} → Puts room y r last → r ≡ (Err full) → Puts room (flat (y ∷ ys)) (Err full) last
 none {y = y} ys p e = puts-as (sym (flat-hd (y ∷ ys))) (more (flat ys) (first-full p e))
 
 -- all pieces are written
-pub all : {room whole : Bytes} {at : ℕ} {out : Bytes} → Left room whole [] at out → Puts room whole (Wrote-Bytes at) out
+pub all : {room whole : Bytes} {at : ℕ} {out : Bytes} → Left room whole [] at out → Puts room whole (Ok at) out
 all l = puts-as (sym (append-nil _) ∙ ap (λ m. l.x ++ m) (sym flat-nil) ∙ l.rest) (done l.so)
 
-abbrev pub first! : {room y last : Bytes} {n : ℕ} {r : Wrote} (ys : List Bytes) → Puts room y r last → r ≡ Wrote-Bytes n → Here
+abbrev pub first! : {room y last : Bytes} {n : ℕ} {r : Wrote} (ys : List Bytes) → Puts room y r last → r ≡ Ok n → Here
 first! {room} {y} {last} {n} ys p e = record { room = room; whole = flat (y ∷ ys); todo = ys; at = n; out = last; left = opens ys p e }
 
-abbrev pub next! : (s : Here) {last : Bytes} {n : ℕ} {r : Wrote} → Puts (mid_of s.at (length s.out - s.at) s.out) (hd s.todo) r last → r ≡ Wrote-Bytes n → Here
+abbrev pub next! : (s : Here) {last : Bytes} {n : ℕ} {r : Wrote} → Puts (mid_of s.at (length s.out - s.at) s.out) (hd s.todo) r last → r ≡ Ok n → Here
 next! s {last} {n} p e = record {
   room = s.room;
   whole = s.whole;
@@ -65,8 +65,8 @@ next! s {last} {n} p e = record {
 }
 
 -- the next piece has no room
-pub stop! : (s : Here) {last : Bytes} {r : Wrote} → Puts (mid_of s.at (length s.out - s.at) s.out) (hd s.todo) r last → r ≡ Full
-    → Puts s.room s.whole Full (put_mid s.at (length s.out - s.at) s.out last)
+pub stop! : (s : Here) {last : Bytes} {r : Wrote} → Puts (mid_of s.at (length s.out - s.at) s.out) (hd s.todo) r last → r ≡ (Err full)
+    → Puts s.room s.whole (Err full) (put_mid s.at (length s.out - s.at) s.out last)
 stop! s p e =
     let l = s.left in
     let g : flat s.todo ≡ hd s.todo ++ flat (tl s.todo) = flat-hd s.todo in

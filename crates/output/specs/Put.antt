@@ -2,15 +2,22 @@
 use Rattle.std.specs.Prelude.{◌≡◌, ℕ, ◌+◌, ◌≤◌, List, [], ◌∷◌, ◌++◌, length, take, drop, leb}
 use Rattle.text.specs.Choice.{pick}
 use Rattle.text.specs.Bytes.{Bytes, flat}
-use Rattle.output.specs.declared.Wrote.{Wrote}
-use Rattle.output.specs.declared.Wrote.TheVariants.{Bytes as Wrote-Bytes, Full}
+use Rattle.std.specs.Prelude.{Result, Ok, Err}
+use Rattle.output.specs.declared.Full.{Full}
+
+-- how many bytes were written, or that they do not fit
+abbrev pub Wrote : Type 0
+Wrote = Result ℕ Full
+
+abbrev pub full : Full
+full = record {}
 
 -- the room after as much of bs as it holds
 unfoldable pub put : Bytes → Bytes → Bytes
 put room bs = take (length room) bs ++ drop (length bs) room
 
 unfoldable pub answer : Bytes → Bytes → Wrote
-answer room bs = pick (leb (length bs) (length room)) (Wrote-Bytes (length bs)) Full
+answer room bs = pick (leb (length bs) (length room)) (Ok (length bs)) (Err full)
 
 -- the contract of every writer: it is total, so that a writer without room says so, and still every byte is known
 pub record Puts (room bs : Bytes) (r : Wrote) (after : Bytes) : Type 0 where

@@ -2,8 +2,7 @@
 use mathlib.Core.Path.{◌≡◌, sym, ap, ◌∙◌}
 use lib.ListN.{length}
 use Rattle.text.specs.Bytes.{Bytes}
-use Rattle.json_read.specs.declared.Verdict.{Verdict}
-use Rattle.json_read.specs.Verdict.{verdict}
+use Rattle.json_read.specs.Verdict.{Verdict, verdict}
 use Rattle.pieces.specs.Given.{length_of, length_read}
 
 pub read_as : (s : Bytes) (r v : Verdict) → r ≡ verdict 16 s → r ≡ v → length_of (length s) v ≡ length_read s

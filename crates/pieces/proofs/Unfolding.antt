@@ -3,6 +3,7 @@ use mathlib.Core.Path.{◌≡◌, refl, sym, subst, ◌∙◌}
 use mathlib.Core.Bool.{false, true, ◌||◌}
 use mathlib.Core.List.{List}
 use mathlib.Core.Option.{none, some}
+use Rattle.std.specs.Prelude.{Option, Some, None, Ok, Err}
 use Prim.Native.Nat.{ℕ, ◌-◌, ◌≤◌, ◌<◌}
 use native.Mathlib.Omega.{arith}
 use lib.Dec.{ltb}
@@ -13,20 +14,18 @@ use Rattle.text.proofs.Choices.{some_same}
 use Rattle.text.specs.Bytes.{Bytes}
 use Rattle.line.specs.Physical.{physical, framed}
 use Rattle.line.specs.Unfold.{unfold'}
-use Rattle.line_frame.specs.declared.Frame.{Frame}
-use Rattle.line_frame.specs.declared.Frame.TheVariants.{Body, NotOne}
+use Rattle.line_frame.specs.declared.Body.{Body}
 use Rattle.line_frame.specs.Frame.{Framed}
-use Rattle.line_unfold.specs.declared.Unfolded.{Unfolded}
-use Rattle.line_unfold.specs.declared.Unfolded.TheVariants.{Lines, TooMany}
-use Rattle.line_unfold.specs.Table.{Laid, Unfolds}
+use Rattle.line_unfold.specs.declared.TooMany.{TooMany}
+use Rattle.line_unfold.specs.Table.{Laid, Unfolded, Unfolds}
 use Rattle.convert.specs.Answers.{raw_lines, line_room}
 use Rattle.pieces.specs.Given.{line_count, cramped, UnfoldsCard}
 
 pub part_length : (s : Bytes) (a b : ℕ) → length (take (b - a) (drop a s)) ≤ length s
 part_length s a b = simp (length-take, length-drop) (omega arith)
 
-pub body : (s : Bytes) (r : Frame) (a b : ℕ) → r ≡ Body a b → Framed s r → Framed s (Body a b)
-body s r a b e f = subst (Framed s) e f
+pub body : (s : Bytes) (r : Option Body) (b : Body) → r ≡ Some b → Framed s r → Framed s (Some b)
+body s r b e f = subst (Framed s) e f
 
 raw-none : (s : Bytes) → framed (physical s) ≡ none → raw_lines s ≡ none
 unfolding raw_lines
@@ -76,7 +75,7 @@ module _ (out starts card after marked : List ℕ) where
   no_bytes h = nothing-laid out starts card after marked (rw (short-out out starts card h) refl)
 
   module _ (h : 513 ≤ length starts) (k : length card ≤ length out) where
-    pub not-one : (r : Frame) → r ≡ NotOne → Framed card r → UnfoldsCard out starts card 0 after marked
+    pub not-one : (r : Option Body) → r ≡ None → Framed card r → UnfoldsCard out starts card 0 after marked
     not-one r e f =
         nothing-laid out starts card after marked (rw (roomy out starts card h k) (sym (count_none card (raw-none card (subst (Framed card) e f)))))
 
@@ -87,12 +86,12 @@ module _ (out starts card after marked : List ℕ) where
       unfolds : (o : Unfolded) → r ≡ o → Unfolds line_room (unfold' (physical x)) o after marked
       unfolds o e = subst (λ o. Unfolds line_room (unfold' (physical x)) o after marked) e u
 
-      pub too_many : r ≡ TooMany → UnfoldsCard out starts card 0 after marked
-      too_many e = nothing-laid out starts card after marked (rw (roomy out starts card h k) (sym (count-many card _ raw (unfolds TooMany e))))
+      pub too_many : (o : TooMany) → r ≡ Err o → UnfoldsCard out starts card 0 after marked
+      too_many o e = nothing-laid out starts card after marked (rw (roomy out starts card h k) (sym (count-many card _ raw (unfolds (Err o) e))))
 
-      pub lines-laid : (n : ℕ) → r ≡ Lines n → UnfoldsCard out starts card n after marked
+      pub lines-laid : (n : ℕ) → r ≡ Ok n → UnfoldsCard out starts card n after marked
       lines-laid n e =
-          let l = unfolds (Lines n) e in
+          let l = unfolds (Ok n) e in
           let few : length (unfold' (physical x)) ≤ line_room = omega (arith, l.0.count, l.1) in
           record {
             count = rw (roomy out starts card h k) (l.0.count ∙ sym (count-some card _ raw few));

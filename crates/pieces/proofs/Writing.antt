@@ -7,8 +7,8 @@ use lib.ListN.{length, length-append, length-take, length-drop}
 use borrow.Rule.Slice.PartMut.{mid_of, put_mid}
 use borrow.Author.Tests.{le-leb, lt-leb, ne_eqb}
 use Rattle.text.specs.Bytes.{Bytes, flat}
-use Rattle.output.specs.declared.Wrote.{Wrote}
-use Rattle.output.specs.declared.Wrote.TheVariants.{Bytes as Wrote-Bytes, Full}
+use Rattle.output.specs.Put.{Wrote, full}
+use Rattle.std.specs.Prelude.{Ok, Err}
 use Rattle.output.specs.Put.{answer, Puts}
 use Rattle.output.proofs.Laws.{said-bytes, said-full}
 use Rattle.json_text.specs.Compact.{quoted}
@@ -51,11 +51,11 @@ written-other w s a b c d e = rw (ne_eqb w 0 a, ne_eqb w 1 b, ne_eqb w 2 c, ne_e
 
 -- ---- a line folded, and its end
 
-answer-fits : (room x : Bytes) → length x ≤ length room → answer room x ≡ Wrote-Bytes (length x)
+answer-fits : (room x : Bytes) → length x ≤ length room → answer room x ≡ Ok (length x)
 unfolding answer
 answer-fits room x h = rw (le-leb (length x) (length room) h) refl
 
-answer-over : (room x : Bytes) → length room < length x → answer room x ≡ Full
+answer-over : (room x : Bytes) → length room < length x → answer room x ≡ (Err full)
 unfolding answer
 answer-over room x h = rw (lt-leb (length x) (length room) h) refl
 
@@ -70,14 +70,14 @@ module _ {room line out last : Bytes} {p : Pen} {m : ℕ} (f : Pens room 0 line 
   all : length (fold_from 0 line ++ 13 ∷ (10 ∷ [])) ≡ length (fold_from 0 line) + 2
   all = simp length-append
 
-  pub folded-put : 2 ≤ m → Puts room (folded_line line) (Wrote-Bytes (p.bytes + m)) (put_mid p.bytes (length out - p.bytes) out last)
+  pub folded-put : 2 ≤ m → Puts room (folded_line line) (Ok (p.bytes + m)) (put_mid p.bytes (length out - p.bytes) out last)
   unfolding folded_line
   folded-put h =
       let e : p.bytes + m ≡ length (fold_from 0 line ++ 13 ∷ (10 ∷ [])) = omega (arith, all, rest, f.said, g.said, h) in
       let k : length (fold_from 0 line ++ 13 ∷ (10 ∷ [])) ≤ length room = omega (arith, all, rest, f.said, g.said, h) in
-      record { said = ap Wrote-Bytes e ∙ sym (answer-fits room _ k); left = whole.left }
+      record { said = ap Ok e ∙ sym (answer-fits room _ k); left = whole.left }
 
-  pub folded-full : m < 2 → Puts room (folded_line line) Full (put_mid p.bytes (length out - p.bytes) out last)
+  pub folded-full : m < 2 → Puts room (folded_line line) (Err full) (put_mid p.bytes (length out - p.bytes) out last)
   unfolding folded_line
   folded-full h =
       let k : length room < length (fold_from 0 line ++ 13 ∷ (10 ∷ [])) = omega (arith, all, rest, f.said, g.said, h) in
@@ -116,12 +116,12 @@ module _ (bytes starts : List ℕ) (writer : ℕ) where
 
 -- ---- the length where all was written
 
-pub parts-put : {room whole out : Bytes} {r : Wrote} (n : ℕ) → r ≡ Wrote-Bytes n → Puts room whole r out → PutsParts room whole n out
+pub parts-put : {room whole out : Bytes} {r : Wrote} (n : ℕ) → r ≡ Ok n → Puts room whole r out → PutsParts room whole n out
 parts-put {room} {whole} n e p =
     let q = said-bytes room whole n (sym p.said ∙ e) in
     let h : length whole ≤ length room = omega (arith, q.0, q.1) in
     record { said = rw (le-leb (length whole) (length room) h) q.0; left = p.left }
 
-pub parts-full : {room whole out : Bytes} {r : Wrote} → r ≡ Full → Puts room whole r out → PutsParts room whole 0 out
+pub parts-full : {room whole out : Bytes} {r : Wrote} → r ≡ (Err full) → Puts room whole r out → PutsParts room whole 0 out
 parts-full {room} {whole} e p =
     record { said = rw (lt-leb (length whole) (length room) (said-full room whole (sym p.said ∙ e))) refl; left = p.left }

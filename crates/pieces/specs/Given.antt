@@ -4,9 +4,8 @@ use Rattle.std.proofs.Math.Option.{some}
 use Rattle.text.specs.Choice.{pick, with-some, is_some}
 use Rattle.text.specs.Bytes.{Bytes, ascii, flat}
 use Rattle.json_text.specs.Compact.{quoted}
-use Rattle.json_read.specs.declared.Verdict.{Verdict}
-use Rattle.json_read.specs.declared.Verdict.TheVariants.{Sound, Large, NotJson}
-use Rattle.json_read.specs.Verdict.{verdict}
+use Rattle.std.specs.Prelude.{Ok, Err}
+use Rattle.json_read.specs.Verdict.{Verdict, verdict}
 use Rattle.json_strings.specs.Decoded.{text_at}
 use Rattle.json_compact.specs.Squeezed.{squeezed}
 use Rattle.line.specs.Grammar.{Param, read_line}
@@ -61,9 +60,8 @@ parsed_lines table bytes starts n marks = pick (ltb (length table) table_length)
 -- ---- reading
 
 abbrev pub length_of : ℕ → Verdict → ℕ
-length_of n Sound = n
-length_of n Large = 0
-length_of n (NotJson p) = 0
+length_of n (Ok u) = n
+length_of n (Err f) = 0
 
 -- the length of a text that is JSON of depth 16 at most and has room; else 0
 unfoldable pub length_read : Bytes → ℕ

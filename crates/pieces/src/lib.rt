@@ -13,16 +13,16 @@ use card_table::{params, types};
 use from_card_garbled::first_garbled;
 use json_compact::put_compact;
 use json_limits::DEPTH;
-use json_read::{Verdict, read};
+use json_read::read;
 use json_strings::decode_into;
 use json_write::{put_requoted, put_string};
-use line_frame::{Frame, frame_of};
+use line_frame::frame_of;
 use line_limits::LINES;
 use line_pen::{fill as fill_bytes, pen_bytes};
 use line_table::{fill, table};
 use line_text::read_text;
-use line_unfold::{Unfolded, line_at, unfold};
-use output::Wrote;
+use line_unfold::{line_at, unfold};
+use output::Full;
 use table_params::{mark_rows, scan_rows};
 
 // Where each line begins, and where the last ends.
@@ -39,10 +39,10 @@ pub extern "C" fn pieces_unfold(out: &mut [u8], starts: &mut [usize], card: &[u8
     if out.len() < card.len() {
         return 0;
     }
-    let Frame::Body { start: a, end: b } = frame_of(card) else {
+    let Some(body) = frame_of(card) else {
         return 0;
     };
-    let Unfolded::Lines(n) = unfold(out, starts, LINES, &card[a..b]) else {
+    let Ok(n) = unfold(out, starts, LINES, &card[body.start..body.end]) else {
         return 0;
     };
     n
@@ -53,7 +53,7 @@ pub extern "C" fn pieces_unfold(out: &mut [u8], starts: &mut [usize], card: &[u8
 pub extern "C" fn pieces_garbled(bytes: &[u8], starts: &[usize], n: usize) -> usize
     ensures { FirstGarbled bytes.now starts.now n result }
 {
-    first_garbled(bytes, starts, n)
+    first_garbled(bytes, starts, n).unwrap_or(0)
 }
 
 // Whether the parameters of a line that the table holds are all among those that the converter looks at, and the values of TYPE among the table's.
@@ -101,16 +101,14 @@ pub extern "C" fn pieces_parse(
     if table.len() < table::LENGTH {
         return 0;
     }
-    let mut k = 0;
     let mut good: usize = 0;
-    while k < n {
+    for k in 0..n {
         let line = line_at(bytes, starts, k);
         if !fill(table, line) {
             return good;
         }
         let one = pass(line, table, marks);
         good += one;
-        k += 1;
     }
     good
 }
@@ -121,13 +119,10 @@ pub extern "C" fn pieces_read(json: &[u8]) -> usize
     ensures { result ≡ length_read json.now }
 {
     match read(json, DEPTH) {
-        Verdict::Sound => {
+        Ok(_) => {
             return json.len();
         }
-        Verdict::Large => {
-            return 0;
-        }
-        Verdict::NotJson(_) => {
+        Err(_) => {
             return 0;
         }
     }
@@ -155,21 +150,21 @@ mod writers {
 const END: [u8; 2] = *b"\r\n";
 
 // A line as the pens of JSON to card write it.
-fn put_folded(out: &mut [u8], line: &[u8]) -> Wrote
+fn put_folded(out: &mut [u8], line: &[u8]) -> Result<usize, Full>
     ensures { Puts out.old (folded_line line.now) result out.new }
 {
     let p = pen_bytes(out, 0, line);
     let n = p.bytes;
     let m = fill_bytes(&mut out[n..], &END);
     if m < 2 {
-        return Wrote::Full;
+        return Err(Full);
     }
     let nm = n + m;
-    Wrote::Bytes(nm)
+    Ok(nm)
 }
 
 // One part, by the writer of that number.
-fn put_part(out: &mut [u8], part: &[u8], writer: u8) -> Wrote
+fn put_part(out: &mut [u8], part: &[u8], writer: u8) -> Result<usize, Full>
     ensures { Puts out.old (written writer part.now) result out.new }
 {
     if writer == writers::READ {
@@ -191,19 +186,21 @@ fn put_part(out: &mut [u8], part: &[u8], writer: u8) -> Wrote
 }
 
 // All parts, one after the other.
-fn put_parts(out: &mut [u8], bytes: &[u8], starts: &[usize], n: usize, writer: u8) -> Wrote
+fn put_parts(
+    out: &mut [u8],
+    bytes: &[u8],
+    starts: &[usize],
+    n: usize,
+    writer: u8,
+) -> Result<usize, Full>
     ensures { Puts out.old (written_parts bytes.now starts.now n writer) result out.new }
 {
     let mut at = 0;
-    let mut k = 0;
-    while k < n {
-        let Wrote::Bytes(m) = put_part(&mut out[at..], line_at(bytes, starts, k), writer) else {
-            return Wrote::Full;
-        };
+    for k in 0..n {
+        let m = put_part(&mut out[at..], line_at(bytes, starts, k), writer)?;
         at += m;
-        k += 1;
     }
-    Wrote::Bytes(at)
+    Ok(at)
 }
 
 // The same: how many bytes were written, and 0 where there was no room for all.
@@ -217,7 +214,7 @@ pub extern "C" fn pieces_put(
 ) -> usize
     ensures { PutsParts out.old (written_parts bytes.now starts.now n writer) result out.new }
 {
-    let Wrote::Bytes(k) = put_parts(out, bytes, starts, n, writer) else {
+    let Ok(k) = put_parts(out, bytes, starts, n, writer) else {
         return 0;
     };
     k

@@ -8,8 +8,7 @@ use Rattle.convert.specs.Answers.{Answer, no, yes, card_to_json, json_to_card}
 use Rattle.convert.specs.Served.{left_by, served}
 use Rattle.convert.specs.Demand1.{Demand1}
 use Rattle.convert.proofs.Demand1.{demand-1}
-use Rattle.served.specs.declared.Outcome.{Outcome}
-use Rattle.served.specs.Served.{outcome_of, Serves}
+use Rattle.served.specs.Served.{Outcome, outcome_of, Serves}
 use Rattle.home.specs.Demand2.{Demand2}
 use Rattle.home.proofs.Demand2.{demand-2}
 use Rattle.services.specs.Promises.{Call, CardService, JsonService, CardPromises, JsonPromises, shown, seen, read_from, answered, Lends}

@@ -1,12 +1,10 @@
 -- The two services' contracts: `card_to_json` and `json_to_card` cite these definitions in their `ensures`. Here they are said of any functions as well; and what
 -- the caller of such a function sees.
-use Rattle.std.specs.Prelude.{◌≡◌, ℕ, length, take}
+use Rattle.std.specs.Prelude.{◌≡◌, ℕ, length, take, Ok, Err}
 use Rattle.text.specs.Bytes.{Bytes}
 use Rattle.convert.specs.Answers.{Answer, no, yes, card_to_json, json_to_card}
 use Rattle.convert.specs.Served.{Served}
-use Rattle.served.specs.declared.Outcome.{Outcome}
-use Rattle.served.specs.declared.Outcome.TheVariants.{Written, Refused}
-use Rattle.served.specs.Served.{Serves}
+use Rattle.served.specs.Served.{Outcome, Serves}
 
 -- ---- the contracts
 
@@ -42,16 +40,16 @@ JsonPromises g = (json out : Bytes) → JsonGives json out (g json out).outcome 
 
 -- number, place, length and every byte of the lent output
 abbrev pub shown : Outcome → (output : Bytes) → Served
-shown (Written n) out = record { number = 0; place = 0; written = n; output = out }
-shown (Refused n p) out = record { number = n; place = p; written = 0; output = out }
+shown (Ok n) out = record { number = 0; place = 0; written = n; output = out }
+shown (Err r) out = record { number = r.number; place = r.place; written = 0; output = out }
 
 abbrev pub seen : Call → Served
 seen c = shown c.outcome c.output
 
 -- the result, read from the front of the lent output
 abbrev pub read_from : Outcome → (output : Bytes) → Answer
-read_from (Written n) out = yes (take n out)
-read_from (Refused n p) out = no n p
+read_from (Ok n) out = yes (take n out)
+read_from (Err r) out = no r.number r.place
 
 abbrev pub answered : Call → Answer
 answered c = read_from c.outcome c.output

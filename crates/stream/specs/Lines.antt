@@ -3,7 +3,7 @@ use Rattle.std.specs.Prelude.{◌≡◌, true, not, [], ◌∷◌, ◌++◌, ◌
 use Rattle.std.proofs.Math.Option.{Option, none, some}
 use Rattle.text.specs.Bytes.{Bytes, ascii, all, lowered}
 use Rattle.line.specs.Physical.{without_cr}
-use Rattle.stream.specs.Plain.{Reader, Tells, more, refuses, closes, Told}
+use Rattle.stream.specs.Plain.{Reader, Tells, more, refuses, closes}
 use Rattle.stream.specs.Calls.{piece, asked}
 
 -- a line's bytes w without LF, and the CR before its LF if there is one: "a CR just before belongs to the end"

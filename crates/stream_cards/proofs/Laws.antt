@@ -11,8 +11,7 @@ use Rattle.text.specs.Bytes.{Bytes}
 use Rattle.text.proofs.Cases.{by_bool, or_left, not-true, not-false}
 use Rattle.convert.specs.Answers.{card_to_json, json_room, is_stem_text}
 use Rattle.convert.specs.Served.{left_by}
-use Rattle.served.specs.declared.Outcome.{Outcome}
-use Rattle.served.specs.Served.{outcome_of}
+use Rattle.served.specs.Served.{Outcome, outcome_of}
 use Rattle.stream.specs.Calls.{Call, piece, end, stem_of, unchanged}
 use Rattle.stream_reader.specs.declared.State.{State}
 use Rattle.stream_reader.specs.declared.Fed.{Fed}

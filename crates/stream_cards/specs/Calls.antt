@@ -1,9 +1,8 @@
 -- The machine that the calls make, as a caller sees it: demand 3 is claimed of it. What a function gives is known by its contract alone, so
 -- the claim is about any functions that keep the contracts of `src/lib.rt`.
-use Rattle.std.specs.Prelude.{take}
+use Rattle.std.specs.Prelude.{take, Ok, Err}
 use Rattle.text.specs.Bytes.{Bytes}
 use Rattle.convert.specs.Answers.{no, yes}
-use Rattle.served.specs.declared.Outcome.TheVariants.{Written, Refused}
 use Rattle.stream.specs.Calls.{Call, piece, end, Shown, shows_more, shows, Machine}
 use Rattle.stream_reader.specs.declared.State.{State}
 use Rattle.stream_reader.specs.Machine.{in_range}
@@ -36,8 +35,8 @@ pub record Keeps (f : Functions) : Type 0 where
 -- What a caller sees: more; a JSON, the first bytes of the output; or a refusal's number and place.
 abbrev pub seen : Said → (out : Bytes) → Shown
 seen More out = shows_more
-seen (Answer (Written n)) out = shows (yes (take n out))
-seen (Answer (Refused n p)) out = shows (no n p)
+seen (Answer (Ok n)) out = shows (yes (take n out))
+seen (Answer (Err r)) out = shows (no r.number r.place)
 
 abbrev pub turn_by : Left → Given
 turn_by l =

@@ -1,8 +1,7 @@
 -- What the calls promise, in full: all that a call gives is what `called` gives, for every state, stem, piece, card buffer and output.
 use Rattle.std.specs.Prelude.{◌≡◌, ℕ, ◌≤◌}
 use Rattle.text.specs.Bytes.{Bytes}
-use Rattle.served.specs.declared.Outcome.TheVariants.{Refused as Outcome-Refused}
-use Rattle.served.specs.Served.{outcome_of}
+use Rattle.served.specs.Served.{refused, outcome_of}
 use Rattle.stream.specs.Calls.{Call, piece, end, Shown, shows_more, shows}
 use Rattle.stream_reader.specs.declared.Event.{Event}
 use Rattle.stream_reader.specs.declared.Event.TheVariants.{More, Refused, Card}
@@ -43,7 +42,7 @@ EndGives s t d out r d' out' = Gives (called (end t) s.state d out) r d' out'
 
 -- a refusal at entry
 abbrev pub refused_as : ℕ → Stream → Answered
-refused_as n s = record { said = Answer (Outcome-Refused n 0); used = 0; next = s }
+refused_as n s = record { said = Answer (refused n 0); used = 0; next = s }
 
 -- a whole card lies in the card buffer
 abbrev pub InBuffer : Event → (room : ℕ) → Type 0

@@ -8,7 +8,7 @@ ghost use Rattle.stream_cards.specs.Promise.{FreshGives, StepGives, EndGives, sa
 use card_to_json::card_to_json;
 use from_card_stem::is_stem;
 use json_limits::ROOM;
-use served::Outcome;
+use served::Refusal;
 use stream_reader::{CAP, Event, Fed, State};
 
 // The stream's state, handed in and handed back by value.
@@ -17,11 +17,11 @@ pub struct Stream {
     pub state: State,
 }
 
-// More, or an answer as to one card.
+// More, or an answer as to one card: both are document 01's words for what a call of a stream answers, so no Option.
 #[derive(Drop)]
 pub enum Said {
     More,
-    Answer(Outcome),
+    Answer(Result<usize, Refusal>),
 }
 
 // What is said, how many bytes of the piece were consumed, and the next state.
@@ -44,10 +44,10 @@ fn refused(n: u8, s: Stream) -> Answered
     ensures { result ≡ refused_as n s }
 {
     Answered {
-        said: Said::Answer(Outcome::Refused {
+        said: Said::Answer(Err(Refusal {
             number: n,
             place: 0,
-        }),
+        })),
         used: 0,
         next: s,
     }
@@ -61,10 +61,10 @@ fn say(event: Event, stem: &[u8], buffer: &[u8], out: &mut [u8]) -> Said
 {
     match event {
         Event::More => Said::More,
-        Event::Refused(n) => Said::Answer(Outcome::Refused {
+        Event::Refused(n) => Said::Answer(Err(Refusal {
             number: n,
             place: 0,
-        }),
+        })),
         Event::Card { number, len } => {
             let r = card_to_json(stem, number, &buffer[0..len], out);
             Said::Answer(r)

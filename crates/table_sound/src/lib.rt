@@ -43,8 +43,7 @@ pub fn is_sound(b: &[u8], t: &[usize]) -> bool
     if !has_span(t, table::VALUE, m) {
         return false;
     }
-    let mut k: usize = 0;
-    while k < n {
+    for k in 0..n {
         let i = table::ROW * k + table::ROWS;
         let j = i + table::ROW_VALUE;
         if !has_span(t, i, m) {
@@ -53,7 +52,6 @@ pub fn is_sound(b: &[u8], t: &[usize]) -> bool
         if !has_span(t, j, m) {
             return false;
         }
-        k += 1;
     }
     true
 }

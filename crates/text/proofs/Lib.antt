@@ -12,5 +12,6 @@ pub mod Encoding
 pub mod Scalars
 pub mod Readers
 pub mod Places
+pub mod Handed
 pub mod Runs
 pub mod Fine

@@ -9,10 +9,10 @@ use native.Mathlib.Numerals.{add-one}
 use native.Mathlib.Omega.{arith}
 use lib.ListN.{length, get_or, drop, drop_of_length-le, get_or-eq_default}
 use lib.Seq.{drop-cons, drop-nil}
-use Rattle.text.specs.declared.Read.{Read}
-use Rattle.text.specs.declared.Read.TheVariants.{Next, Bad}
-use Rattle.text.specs.declared.Turn.{Turn}
-use Rattle.text.specs.declared.Turn.TheVariants.{Go, Stop}
+use Rattle.text.specs.Places.{Read}
+use Rattle.std.specs.Prelude.{Ok, Err}
+use Rattle.text.specs.Places.{Turn}
+use Rattle.std.proofs.Common.{Continue, Break}
 use Rattle.text.specs.Bytes.{Bytes}
 use Rattle.text.specs.Reader.{Got, got, bad, bind, under, first, on, when, Step, more, last, past}
 pub use Rattle.text.proofs.Cases.{by_bool, between-true as Between-in}
@@ -110,12 +110,12 @@ module _ {p : ℕ → Bool} {s : Bytes} {at i : ℕ} (h : Passing p s at i) (b :
 
 -- ---- bounds
 pub within-up : (a b n : ℕ) (r : Read) → a ≤ b → Within b n r → Within a n r
-within-up a b n (Next e) h w = omega arith
-within-up a b n (Bad e) h w = omega arith
+within-up a b n (Ok e) h w = omega arith
+within-up a b n (Err e) h w = omega arith
 
 pub within-up_t : (a b n : ℕ) (w : Turn) → a ≤ b → WithinT b n w → WithinT a n w
-within-up_t a b n (Go j) h w = omega arith
-within-up_t a b n (Stop r) h w = within-up a b n r h w
+within-up_t a b n (Continue j) h w = omega arith
+within-up_t a b n (Break r) h w = within-up a b n r h w
 
 -- ---- what a reader gave
 module _ {A : Type 0} {s : Bytes} where
@@ -130,36 +130,36 @@ module _ {A : Type 0} {s : Bytes} where
   pub up : {a b : ℕ} {want : Got A} {r : Read} → a ≤ b → Gives s b want r → Gives s a want r
   up {a} {b} {want} {r} l h = record { is = h.is; within = within-up a b (length s) r l h.within }
 
-  pub here : (a : A) (i : ℕ) → i ≤ length s → Gives s i (got a (drop i s)) (Next i)
+  pub here : (a : A) (i : ℕ) → i ≤ length s → Gives s i (got a (drop i s)) (Ok i)
   here a i l = record { is = refl; within = (omega arith, l) }
 
-  pub bad-here : (i : ℕ) → i ≤ length s → Gives {A = A} s i (bad (drop i s)) (Bad i)
+  pub bad-here : (i : ℕ) → i ≤ length s → Gives {A = A} s i (bad (drop i s)) (Err i)
   bad-here i l = record { is = refl; within = (omega arith, l) }
 
   -- what was read, and that nothing was
-  pub at_next : {at e : ℕ} (want : Got A) → Gives s at want (Next e) → (a : A) × (want ≡ got a (drop e s))
+  pub at_next : {at e : ℕ} (want : Got A) → Gives s at want (Ok e) → (a : A) × (want ≡ got a (drop e s))
   at_next (got a t) h = (a, ap (got a) h.is)
   at_next (bad t) h = absurd h.is
 
-  pub at-bad : {at b : ℕ} (want : Got A) → Gives s at want (Bad b) → want ≡ bad (drop b s)
+  pub at-bad : {at b : ℕ} (want : Got A) → Gives s at want (Err b) → want ≡ bad (drop b s)
   at-bad (got a t) h = absurd h.is
   at-bad (bad t) h = ap bad h.is
 
   under-by : {C : Type 0} (f : A → C) (at : ℕ) (want : Got A) (r : Read) → Gives s at want r → Gives s at (under f want) r
-  under-by f at (got a t) (Next e) h = record { is = h.is; within = h.within }
-  under-by f at (got a t) (Bad e) h = absurd h.is
-  under-by f at (bad t) (Next e) h = absurd h.is
-  under-by f at (bad t) (Bad e) h = record { is = h.is; within = h.within }
+  under-by f at (got a t) (Ok e) h = record { is = h.is; within = h.within }
+  under-by f at (got a t) (Err e) h = absurd h.is
+  under-by f at (bad t) (Ok e) h = absurd h.is
+  under-by f at (bad t) (Err e) h = record { is = h.is; within = h.within }
 
   pub by-under : {C : Type 0} (f : A → C) {at : ℕ} {want : Got A} {r : Read} → Gives s at want r → Gives s at (under f want) r
   by-under f {at} {want} {r} h = under-by f at want r h
 
   -- the last of a row: the answer by place is passed on
   end_by : {C : Type 0} (f : A → C) (at : ℕ) (want : Got A) (r : Read) → Gives s at want r → Gives s at (bind want (λ a t. got (f a) t)) r
-  end_by f at (got a t) (Next e) h = record { is = h.is; within = h.within }
-  end_by f at (got a t) (Bad e) h = absurd h.is
-  end_by f at (bad t) (Next e) h = absurd h.is
-  end_by f at (bad t) (Bad e) h = record { is = h.is; within = h.within }
+  end_by f at (got a t) (Ok e) h = record { is = h.is; within = h.within }
+  end_by f at (got a t) (Err e) h = absurd h.is
+  end_by f at (bad t) (Ok e) h = absurd h.is
+  end_by f at (bad t) (Err e) h = record { is = h.is; within = h.within }
 
   pub then-end : {C : Type 0} (f : A → C) {at : ℕ} {want : Got A} {r : Read} → Gives s at want r → Gives s at (bind want (λ a t. got (f a) t)) r
   then-end f {at} {want} {r} h = end_by f at want r h
@@ -184,12 +184,12 @@ module _ {A : Type 0} {s : Bytes} where
 module _ {A C : Type 0} {s : Bytes} where
   -- one reader after another
   pub then_next : (k : A → Bytes → Got C) {at e : ℕ} {want : Got A} {r : Read}
-      → Gives s at want (Next e) → ((a : A) → Gives s e (k a (drop e s)) r) → Gives s at (bind want k) r
+      → Gives s at want (Ok e) → ((a : A) → Gives s e (k a (drop e s)) r) → Gives s at (bind want k) r
   then_next k {at} {e} {want} {r} h g =
       let w = at_next want h in
       same-as (ap (λ (x : Got A). bind x k) w.1) (up h.within.0 (g w.0))
 
-  pub then-bad : (k : A → Bytes → Got C) {at b : ℕ} {want : Got A} → Gives s at want (Bad b) → Gives s at (bind want k) (Bad b)
+  pub then-bad : (k : A → Bytes → Got C) {at b : ℕ} {want : Got A} → Gives s at want (Err b) → Gives s at (bind want k) (Err b)
   then-bad k {at} {b} {want} h =
       same-as (ap (λ (x : Got A). bind x k) (at-bad want h)) (record { is = refl; within = h.within })
 
@@ -210,31 +210,31 @@ module _ {B : Type 0} {s : Bytes} where
   pub up_turn : {a b : ℕ} {want : Got (Step B)} {r : Turn} → a ≤ b → GivesT s b want r → GivesT s a want r
   up_turn {a} {b} {want} {r} l h = record { is = h.is; within = within-up_t a b (length s) r l h.within }
 
-  pub more-here : (g : B → B) {at j : ℕ} → at < j → j ≤ length s → GivesT s at (got (more g) (drop j s)) (Go j)
+  pub more-here : (g : B → B) {at j : ℕ} → at < j → j ≤ length s → GivesT s at (got (more g) (drop j s)) (Continue j)
   more-here g l h = record { is = refl; within = (l, h) }
 
-  pub last-here : (b : B) {at e : ℕ} → at ≤ e → e ≤ length s → GivesT s at (got (last b) (drop e s)) (Stop (Next e))
+  pub last-here : (b : B) {at e : ℕ} → at ≤ e → e ≤ length s → GivesT s at (got (last b) (drop e s)) (Break (Ok e))
   last-here b l h = record { is = refl; within = (l, h) }
 
-  pub bad-turn : {at b : ℕ} → at ≤ b → b ≤ length s → GivesT {B = B} s at (bad (drop b s)) (Stop (Bad b))
+  pub bad-turn : {at b : ℕ} → at ≤ b → b ≤ length s → GivesT {B = B} s at (bad (drop b s)) (Break (Err b))
   bad-turn l h = record { is = refl; within = (l, h) }
 
   pub turn-next : {A : Type 0} (k : A → Bytes → Got (Step B)) {at e : ℕ} {want : Got A} {r : Turn}
-      → Gives s at want (Next e) → ((a : A) → GivesT s e (k a (drop e s)) r) → GivesT s at (bind want k) r
+      → Gives s at want (Ok e) → ((a : A) → GivesT s e (k a (drop e s)) r) → GivesT s at (bind want k) r
   turn-next {A} k {at} {e} {want} {r} h g =
       let w = at_next want h in
       same_turn (ap (λ (x : Got A). bind x k) w.1) (up_turn h.within.0 (g w.0))
 
-  pub turn-bad : {A : Type 0} (k : A → Bytes → Got (Step B)) {at b : ℕ} {want : Got A} → Gives s at want (Bad b) → GivesT s at (bind want k) (Stop (Bad b))
+  pub turn-bad : {A : Type 0} (k : A → Bytes → Got (Step B)) {at b : ℕ} {want : Got A} → Gives s at want (Err b) → GivesT s at (bind want k) (Break (Err b))
   turn-bad {A} k {at} {b} {want} h =
       same_turn (ap (λ (x : Got A). bind x k) (at-bad want h)) (record { is = refl; within = h.within })
 
   -- a reader whose answer is a turn that goes on
-  pub under_more : {A : Type 0} (f : A → B → B) {a b j : ℕ} {want : Got A} → a < b → Gives s b want (Next j) → GivesT s a (under (λ x. more (f x)) want) (Go j)
+  pub under_more : {A : Type 0} (f : A → B → B) {a b j : ℕ} {want : Got A} → a < b → Gives s b want (Ok j) → GivesT s a (under (λ x. more (f x)) want) (Continue j)
   under_more {A} f {a} {b} {j} {want} l h =
       let w = at_next want h in
       same_turn (ap (λ (x : Got A). under (λ y. more (f y)) x) w.1) (record { is = refl; within = (omega (arith, h.within.0), h.within.1) })
 
-  pub under-bad : {A : Type 0} (f : A → B → B) {a b j : ℕ} {want : Got A} → a ≤ b → Gives s b want (Bad j) → GivesT s a (under (λ x. more (f x)) want) (Stop (Bad j))
+  pub under-bad : {A : Type 0} (f : A → B → B) {a b j : ℕ} {want : Got A} → a ≤ b → Gives s b want (Err j) → GivesT s a (under (λ x. more (f x)) want) (Break (Err j))
   under-bad {A} f {a} {b} {j} {want} l h =
       same_turn (ap (λ (x : Got A). under (λ y. more (f y)) x) (at-bad want h)) (record { is = refl; within = (omega (arith, h.within.0), h.within.1) })

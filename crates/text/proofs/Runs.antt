@@ -3,8 +3,8 @@ use mathlib.Core.Path.{ap}
 use Prim.Native.Nat.{ℕ, zero, suc, ◌+◌, ◌≤◌, ◌<◌}
 use native.Mathlib.Omega.{arith}
 use lib.ListN.{length, drop, length-drop}
-use Rattle.text.specs.declared.Read.{Read}
-use Rattle.text.specs.declared.Turn.TheVariants.{Go, Stop}
+use Rattle.text.specs.Places.{Read}
+use Rattle.std.proofs.Common.{Continue, Break}
 use Rattle.text.specs.Bytes.{Bytes}
 use Rattle.text.specs.Reader.{Got, got, bad, bind, under, Step, more, last, after, turns, loop}
 use Rattle.text.specs.Places.{Gives, GivesT}
@@ -20,12 +20,12 @@ pub record Run {B : Type 0} (f : Bytes → Got (Step B)) (s : Bytes) (at i : ℕ
 
 module _ {B : Type 0} (s : Bytes) where
   -- a turn that goes on adds to what the later turns give; the last turn's answer is the loop's
-  go : (k : Bytes → Got B) (i j : ℕ) (w : Got (Step B)) (r : Read) → GivesT s i w (Go j) → Gives s j (k (drop j s)) r → Gives s i (bind w (λ v t. after v t k)) r
+  go : (k : Bytes → Got B) (i j : ℕ) (w : Got (Step B)) (r : Read) → GivesT s i w (Continue j) → Gives s j (k (drop j s)) r → Gives s i (bind w (λ v t. after v t k)) r
   go k i j (got (more g) t) r h x = same-as (ap (λ u. under g (k u)) h.is) (up (omega (arith, h.within.0)) (by-under g x))
   go k i j (got (last b) t) r h x = absurd h.is
   go k i j (bad t) r h x = absurd h.is
 
-  stop : (k : Bytes → Got B) (i : ℕ) (w : Got (Step B)) (r : Read) → GivesT s i w (Stop r) → Gives s i (bind w (λ v t. after v t k)) r
+  stop : (k : Bytes → Got B) (i : ℕ) (w : Got (Step B)) (r : Read) → GivesT s i w (Break r) → Gives s i (bind w (λ v t. after v t k)) r
   stop k i (got (more g) t) r h = absurd h.is
   stop k i (got (last b) t) r h = record { is = h.is; within = h.within }
   stop k i (bad t) r h = record { is = h.is; within = h.within }
@@ -36,7 +36,7 @@ module _ {B : Type 0} (f : Bytes → Got (Step B)) (s : Bytes) where
   begin at l = record { from = omega arith; to = l; left = suc (length (drop at s)); enough = rw (length-drop at s) (omega arith); back = λ r h. h }
 
   on-from : (at i j n : ℕ) → at ≤ i → i ≤ length s → length s < i + n → ((r : Read) → Gives s i (turns f n (drop i s)) r → Gives s at (loop f (drop at s)) r)
-      → GivesT s i (f (drop i s)) (Go j) → Run f s at j
+      → GivesT s i (f (drop i s)) (Continue j) → Run f s at j
   unfolding turns
   on-from at i j zero a b l back h = absurd (omega arith)
   on-from at i j (suc n) a b l back h = record {
@@ -48,14 +48,14 @@ module _ {B : Type 0} (f : Bytes → Got (Step B)) (s : Bytes) where
   }
 
   stop-from : (at i n : ℕ) (r : Read) → i ≤ length s → length s < i + n → ((r : Read) → Gives s i (turns f n (drop i s)) r → Gives s at (loop f (drop at s)) r)
-      → GivesT s i (f (drop i s)) (Stop r) → Gives s at (loop f (drop at s)) r
+      → GivesT s i (f (drop i s)) (Break r) → Gives s at (loop f (drop at s)) r
   unfolding turns
   stop-from at i zero r b l back h = absurd (omega arith)
   stop-from at i (suc n) r b l back h = back r (stop s (turns f n) i (f (drop i s)) r h)
 
 module _ {B : Type 0} {f : Bytes → Got (Step B)} {s : Bytes} {at i : ℕ} where
-  pub onward : {j : ℕ} → Run f s at i → GivesT s i (f (drop i s)) (Go j) → Run f s at j
+  pub onward : {j : ℕ} → Run f s at i → GivesT s i (f (drop i s)) (Continue j) → Run f s at j
   onward {j} l h = on-from f s at i j l.left l.from l.to l.enough l.back h
 
-  pub ended : {r : Read} → Run f s at i → GivesT s i (f (drop i s)) (Stop r) → Gives s at (loop f (drop at s)) r
+  pub ended : {r : Read} → Run f s at i → GivesT s i (f (drop i s)) (Break r) → Gives s at (loop f (drop at s)) r
   ended {r} l h = stop-from f s at i l.left r l.to l.enough l.back h

@@ -6,6 +6,8 @@ ghost use Rattle.std.specs.Prelude.{◌≡◌, ◌+◌, ◌≤◌, ◌<◌, ◌/
 ghost use Rattle.text.specs.Bytes.{between};
 ghost use Rattle.text.specs.Places.{byte_at};
 
+use std::ops::ControlFlow;
+
 // Characters that readers ask for, as `look` gives them.
 pub const QUOTE: u16 = b'"' as u16;
 
@@ -36,18 +38,10 @@ pub const LEFT_BRACE: u16 = b'{' as u16;
 pub const RIGHT_BRACE: u16 = b'}' as u16;
 
 // Where a reader ended: the place after what it read, or the first place at which nothing can go on.
-#[derive(Drop)]
-pub enum Read {
-    Next(usize),
-    Bad(usize),
-}
+pub type Read = Result<usize, usize>;
 
 // How a loop's turn ended: it goes on at a place, or is done.
-#[derive(Drop)]
-pub enum Turn {
-    Go(usize),
-    Stop(Read),
-}
+pub type Turn = ControlFlow<Read, usize>;
 
 // The byte at a place, or 256 at the end.
 pub fn look(s: &[u8], at: usize) -> u16

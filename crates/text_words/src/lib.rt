@@ -2,7 +2,7 @@
 // marks, one in the highest bit of each byte, those are set whose byte does not pass. The tests are on the low seven bits, so that no sum leaves its byte.
 #![tactic(auto)]
 
-ghost use Rattle.std.specs.Prelude.{◌≡◌, ◌+◌, ◌≤◌, length, drop};
+ghost use Rattle.std.specs.Prelude.{◌≡◌, ℕ, Bool, ◌+◌, ◌≤◌, length, drop};
 ghost use Rattle.text.specs.Reader.{taken};
 ghost use Rattle.text_words.specs.Words.{Loaded, Marks, FirstMark, soft, bare, raw, plain, no_lf, stored};
 
@@ -34,7 +34,7 @@ fn wide(b: u8) -> u64
     b as u64
 }
 
-// Two bytes, then four, then eight: as sums, each of which fits.
+// Two bytes, then four, then eight: as sums, each of which fits. The three stay three functions: a loop over a size would be no plainer, and its proof longer.
 fn pair_at(s: &[u8], at: usize) -> u64
     requires { at + 2 ≤ length s.now }
     ensures { Loaded 2 s.now at result }
@@ -64,31 +64,27 @@ pub fn first_mark(m: u64) -> usize
     (u64::trailing_zeros(m) / 8) as usize
 }
 
-// ---- bytes neither a quote nor a backslash: strings passed over
+// ---- a class of bytes, and the run of them
 
-fn is_soft(b: u8) -> bool
-    ensures { result ≡ soft b }
-{
-    !((b == b'"') | (b == b'\\'))
+// A class of bytes, which a run goes on over.
+trait Run {
+    ghost passes: { ℕ → Bool };
+
+    fn one(b: u8) -> bool
+        ensures { result ≡ passes b };
+
+    // The marks of a word: at all bytes that are not of the class.
+    fn marks(w: u64) -> u64
+        ensures { Marks passes w result };
 }
 
-// The marks of a word: at all other bytes.
-fn soft_marks(w: u64) -> u64
-    ensures { Marks soft w result }
-{
-    let v = w & LOW;
-    let quote = (v ^ QUOTES) + LOW;
-    let backslash = (v ^ BACKSLASHES) + LOW;
-    (((quote & backslash) | w) & MARK) ^ MARK
-}
-
-// The end of the run, byte by byte: for the last seven bytes.
-fn soft_from(s: &[u8], at: usize) -> usize
-    ensures { result ≡ at + length (taken soft (drop at s.now)) }
+// The end of the run, byte by byte: for the last seven bytes. Here and in run_end the place is the answer: a `for` is no plainer.
+fn run_from<R: Run>(s: &[u8], at: usize) -> usize
+    ensures { result ≡ at + length (taken R.passes (drop at s.now)) }
 {
     let mut i = at;
     while i < s.len() {
-        if !is_soft(s[i]) {
+        if !R::one(s[i]) {
             return i;
         }
         i += 1;
@@ -97,226 +93,146 @@ fn soft_from(s: &[u8], at: usize) -> usize
 }
 
 // The end of the run of such bytes.
+fn run_end<R: Run>(s: &[u8], at: usize) -> usize
+    ensures { result ≡ at + length (taken R.passes (drop at s.now)) }
+{
+    if at > s.len() {
+        return at;
+    }
+    let mut i = at;
+    while i + 8 <= s.len() {
+        let m = R::marks(word_at(s, i));
+        if m != 0 {
+            return i + first_mark(m);
+        }
+        i += 8;
+    }
+    run_from::<R>(s, i)
+}
+
+// Bytes neither a quote nor a backslash: strings passed over.
+struct Soft;
+
+impl Run for Soft {
+    ghost passes = { soft };
+
+    fn one(b: u8) -> bool {
+        !((b == b'"') | (b == b'\\'))
+    }
+
+    fn marks(w: u64) -> u64 {
+        let v = w & LOW;
+        let quote = (v ^ QUOTES) + LOW;
+        let backslash = (v ^ BACKSLASHES) + LOW;
+        (((quote & backslash) | w) & MARK) ^ MARK
+    }
+}
+
 pub fn soft_end(s: &[u8], at: usize) -> usize
     ensures { result ≡ at + length (taken soft (drop at s.now)) }
 {
-    if at > s.len() {
-        return at;
+    run_end::<Soft>(s, at)
+}
+
+// Bytes that stand for themselves in a JSON string, those beyond ASCII too: strings decoded.
+struct Bare;
+
+impl Run for Bare {
+    ghost passes = { bare };
+
+    fn one(b: u8) -> bool {
+        (b >= 32) & Soft::one(b)
     }
-    let mut i = at;
-    while i + 8 <= s.len() {
-        let m = soft_marks(word_at(s, i));
-        if m != 0 {
-            return i + first_mark(m);
-        }
-        i += 8;
+
+    fn marks(w: u64) -> u64 {
+        let v = w & LOW;
+        let quote = (v ^ QUOTES) + LOW;
+        let backslash = (v ^ BACKSLASHES) + LOW;
+        let control = v + OVER_CONTROLS;
+        (((quote & backslash & control) | w) & MARK) ^ MARK
     }
-    soft_from(s, i)
 }
 
-// ---- bytes that stand for themselves in a JSON string, those beyond ASCII too: strings decoded
-
-fn is_bare(b: u8) -> bool
-    ensures { result ≡ bare b }
-{
-    (b >= 32) & is_soft(b)
-}
-
-// The marks of a word: at all other bytes.
-fn bare_marks(w: u64) -> u64
-    ensures { Marks bare w result }
-{
-    let v = w & LOW;
-    let quote = (v ^ QUOTES) + LOW;
-    let backslash = (v ^ BACKSLASHES) + LOW;
-    let control = v + OVER_CONTROLS;
-    (((quote & backslash & control) | w) & MARK) ^ MARK
-}
-
-// The end of the run, byte by byte: for the last seven bytes.
-fn bare_from(s: &[u8], at: usize) -> usize
-    ensures { result ≡ at + length (taken bare (drop at s.now)) }
-{
-    let mut i = at;
-    while i < s.len() {
-        if !is_bare(s[i]) {
-            return i;
-        }
-        i += 1;
-    }
-    i
-}
-
-// The end of the run of such bytes.
 pub fn bare_end(s: &[u8], at: usize) -> usize
     ensures { result ≡ at + length (taken bare (drop at s.now)) }
 {
-    if at > s.len() {
-        return at;
+    run_end::<Bare>(s, at)
+}
+
+// Bytes of ASCII that stand for themselves in a JSON string: strings judged.
+struct Raw;
+
+impl Run for Raw {
+    ghost passes = { raw };
+
+    fn one(b: u8) -> bool {
+        (b <= 127) & Bare::one(b)
     }
-    let mut i = at;
-    while i + 8 <= s.len() {
-        let m = bare_marks(word_at(s, i));
-        if m != 0 {
-            return i + first_mark(m);
-        }
-        i += 8;
+
+    fn marks(w: u64) -> u64 {
+        let v = w & LOW;
+        let quote = (v ^ QUOTES) + LOW;
+        let backslash = (v ^ BACKSLASHES) + LOW;
+        let control = v + OVER_CONTROLS;
+        (((quote & backslash & control) ^ MARK) | w) & MARK
     }
-    bare_from(s, i)
 }
 
-// ---- bytes of ASCII that stand for themselves in a JSON string: strings judged
-
-fn is_raw(b: u8) -> bool
-    ensures { result ≡ raw b }
-{
-    (b <= 127) & is_bare(b)
-}
-
-// The marks of a word: at all other bytes.
-fn raw_marks(w: u64) -> u64
-    ensures { Marks raw w result }
-{
-    let v = w & LOW;
-    let quote = (v ^ QUOTES) + LOW;
-    let backslash = (v ^ BACKSLASHES) + LOW;
-    let control = v + OVER_CONTROLS;
-    (((quote & backslash & control) ^ MARK) | w) & MARK
-}
-
-// The end of the run, byte by byte: for the last seven bytes.
-fn raw_from(s: &[u8], at: usize) -> usize
-    ensures { result ≡ at + length (taken raw (drop at s.now)) }
-{
-    let mut i = at;
-    while i < s.len() {
-        if !is_raw(s[i]) {
-            return i;
-        }
-        i += 1;
-    }
-    i
-}
-
-// The end of the run of such bytes.
 pub fn raw_end(s: &[u8], at: usize) -> usize
     ensures { result ≡ at + length (taken raw (drop at s.now)) }
 {
-    if at > s.len() {
-        return at;
+    run_end::<Raw>(s, at)
+}
+
+// Bytes that stand for themselves in a JSON string and in a line of every style: strings written into lines.
+struct Plain;
+
+impl Run for Plain {
+    ghost passes = { plain };
+
+    fn one(b: u8) -> bool {
+        !((b == 127) | ((b == b',') | (b == b';'))) & Bare::one(b)
     }
-    let mut i = at;
-    while i + 8 <= s.len() {
-        let m = raw_marks(word_at(s, i));
-        if m != 0 {
-            return i + first_mark(m);
-        }
-        i += 8;
+
+    fn marks(w: u64) -> u64 {
+        let v = w & LOW;
+        let quote = (v ^ QUOTES) + LOW;
+        let backslash = (v ^ BACKSLASHES) + LOW;
+        let comma = (v ^ COMMAS) + LOW;
+        let semicolon = (v ^ SEMICOLONS) + LOW;
+        let del = (v ^ DELETES) + LOW;
+        let control = v + OVER_CONTROLS;
+        (((quote & backslash & comma & semicolon & del & control) | w) & MARK) ^ MARK
     }
-    raw_from(s, i)
 }
 
-// ---- bytes that stand for themselves in a JSON string and in a line of every style: strings written into lines
-
-fn is_plain(b: u8) -> bool
-    ensures { result ≡ plain b }
-{
-    !((b == 127) | ((b == b',') | (b == b';'))) & is_bare(b)
-}
-
-// The marks of a word: at all other bytes.
-fn plain_marks(w: u64) -> u64
-    ensures { Marks plain w result }
-{
-    let v = w & LOW;
-    let quote = (v ^ QUOTES) + LOW;
-    let backslash = (v ^ BACKSLASHES) + LOW;
-    let comma = (v ^ COMMAS) + LOW;
-    let semicolon = (v ^ SEMICOLONS) + LOW;
-    let del = (v ^ DELETES) + LOW;
-    let control = v + OVER_CONTROLS;
-    (((quote & backslash & comma & semicolon & del & control) | w) & MARK) ^ MARK
-}
-
-// The end of the run, byte by byte: for the last seven bytes.
-fn plain_from(s: &[u8], at: usize) -> usize
-    ensures { result ≡ at + length (taken plain (drop at s.now)) }
-{
-    let mut i = at;
-    while i < s.len() {
-        if !is_plain(s[i]) {
-            return i;
-        }
-        i += 1;
-    }
-    i
-}
-
-// The end of the run of such bytes.
 pub fn plain_end(s: &[u8], at: usize) -> usize
     ensures { result ≡ at + length (taken plain (drop at s.now)) }
 {
-    if at > s.len() {
-        return at;
+    run_end::<Plain>(s, at)
+}
+
+// Bytes that are no LF.
+struct Line;
+
+impl Run for Line {
+    ghost passes = { no_lf };
+
+    fn one(b: u8) -> bool {
+        b != b'\n'
     }
-    let mut i = at;
-    while i + 8 <= s.len() {
-        let m = plain_marks(word_at(s, i));
-        if m != 0 {
-            return i + first_mark(m);
-        }
-        i += 8;
+
+    fn marks(w: u64) -> u64 {
+        let v = w & LOW;
+        let lf = (v ^ LINE_FEEDS) + LOW;
+        ((lf | w) & MARK) ^ MARK
     }
-    plain_from(s, i)
 }
 
-// ---- bytes that are no LF
-
-fn is_line(b: u8) -> bool
-    ensures { result ≡ no_lf b }
-{
-    b != 10
-}
-
-// The marks of a word: at all other bytes.
-fn line_marks(w: u64) -> u64
-    ensures { Marks no_lf w result }
-{
-    let v = w & LOW;
-    let lf = (v ^ LINE_FEEDS) + LOW;
-    ((lf | w) & MARK) ^ MARK
-}
-
-// The end of the run, byte by byte: for the last seven bytes.
-fn line_from(s: &[u8], at: usize) -> usize
-    ensures { result ≡ at + length (taken no_lf (drop at s.now)) }
-{
-    let mut i = at;
-    while i < s.len() {
-        if !is_line(s[i]) {
-            return i;
-        }
-        i += 1;
-    }
-    i
-}
-
-// The end of the run of such bytes.
 pub fn line_end(s: &[u8], at: usize) -> usize
     ensures { result ≡ at + length (taken no_lf (drop at s.now)) }
 {
-    if at > s.len() {
-        return at;
-    }
-    let mut i = at;
-    while i + 8 <= s.len() {
-        let m = line_marks(word_at(s, i));
-        if m != 0 {
-            return i + first_mark(m);
-        }
-        i += 8;
-    }
-    line_from(s, i)
+    run_end::<Line>(s, at)
 }
 
 // ---- a word put back

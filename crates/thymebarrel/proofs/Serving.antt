@@ -3,8 +3,7 @@ use mathlib.Core.Path.{◌≡◌, refl, ap, ◌∙◌}
 use Rattle.text.specs.Bytes.{Bytes}
 use Rattle.convert.specs.Answers.{Answer, no, yes}
 use Rattle.convert.specs.Served.{left_by, Served, served}
-use Rattle.served.specs.declared.Outcome.{Outcome}
-use Rattle.served.specs.Served.{outcome_of}
+use Rattle.served.specs.Served.{Outcome, outcome_of}
 use Rattle.c_calls.specs.Promise.{Told, given}
 use Rattle.thymebarrel.specs.Given.{outcome_told}
 

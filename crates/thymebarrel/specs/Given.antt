@@ -1,9 +1,8 @@
 -- What the functions inside give. What the C calls promise is `c_calls/specs/Promise`.
-use Rattle.std.specs.Prelude.{◌≡◌, ◌||◌, List, ℕ, ◌+◌, length, eqb}
+use Rattle.std.specs.Prelude.{◌≡◌, ◌||◌, List, ℕ, ◌+◌, length, eqb, Ok, Err}
 use Rattle.text.specs.Choice.{pick}
 use Rattle.json_access.specs.declared.Part.{Part}
-use Rattle.served.specs.declared.Outcome.{Outcome}
-use Rattle.served.specs.declared.Outcome.TheVariants.{Written, Refused}
+use Rattle.served.specs.Served.{Outcome}
 use Rattle.stream_reader.specs.declared.State.{State}
 use Rattle.stream_cards.specs.declared.Said.{Said}
 use Rattle.stream_cards.specs.declared.Said.TheVariants.{More, Answer}
@@ -17,8 +16,8 @@ part_from a n = record { start = a; end = a + n }
 
 -- what the code's outcome comes to
 abbrev pub outcome_told : Outcome → Told
-outcome_told (Written n) = told 0 0 n
-outcome_told (Refused n p) = told n p 0
+outcome_told (Ok n) = told 0 0 n
+outcome_told (Err r) = told r.number r.place 0
 
 -- what a call of the stream says; 255 is more
 abbrev pub told_by : Said → Told

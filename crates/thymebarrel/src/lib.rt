@@ -12,27 +12,24 @@ ghost use Rattle.thymebarrel.specs.Given.{part_from, outcome_told, told_by, row_
 use card_to_json::card_to_json;
 use json_lookup::locate;
 use json_to_card::json_to_card;
-use served::Outcome;
+use served::Refusal;
 use stream_cards::{Answered, Said, Stream};
 use stream_reader::State;
 
 // The number to answer; the refusal's place and the result's length stand behind the two pointers.
-fn tell_outcome(r: Outcome, place: &mut usize, written: &mut usize) -> u8
+fn tell_outcome(r: Result<usize, Refusal>, place: &mut usize, written: &mut usize) -> u8
     ensures { told result place.new written.new ≡ outcome_told r }
 {
     match r {
-        Outcome::Written(n) => {
+        Ok(n) => {
             *place = 0;
             *written = n;
             return 0;
         }
-        Outcome::Refused {
-            number: k,
-            place: p,
-        } => {
-            *place = p;
+        Err(refusal) => {
+            *place = refusal.place;
             *written = 0;
-            return k;
+            return refusal.number;
         }
     }
 }

@@ -1,5 +1,9 @@
 -- A part of a card, then the rest of it: what both come to.
 use mathlib.Core.Path.{◌≡◌, refl, sym, ap, subst, ◌∙◌}
+use Rattle.to_card_lines.proofs.Parts.{all-bytes, all_lines, all-carried}
+use Rattle.to_card_pen.proofs.Refusal.{not_ok}
+use Rattle.to_card_pen.specs.Refusal.{no_card}
+use Rattle.std.specs.Prelude.{Err}
 use mathlib.Core.Bool.{Bool, ◌&&◌}
 use mathlib.Core.Option.{Option, none, some}
 use Prim.Native.Nat.{ℕ, ◌+◌, ◌-◌, ◌≤◌}
@@ -11,11 +15,8 @@ use Rattle.text.specs.Bytes.{Bytes}
 use Rattle.line_pen.specs.Pen.{Fills}
 use Rattle.line_pen.proofs.Filling.{then}
 use Rattle.to_card_map.specs.Maps.{LinesIn as MapsIn}
-use Rattle.to_card_lines.specs.declared.Lines.{Lines}
-use Rattle.to_card_lines.specs.declared.Lines.TheVariants.{All, Wrong}
-use Rattle.to_card_lines.specs.Lines.{lines_bytes, Part, PartAs, join_parts}
+use Rattle.to_card_lines.specs.Lines.{lines_bytes, Part, PartAs, join_parts, Laid, laid}
 use Rattle.to_card_lines.proofs.Laws.{lines-append, fills-as}
-use Rattle.to_card_lines.proofs.Parts.{not-all}
 use Rattle.to_card_card.specs.Whole.{few, FewAs, FewIn}
 
 -- ---- a count up to 513
@@ -25,25 +26,16 @@ few-sum a b = omega arith
 
 -- ---- answers
 
-pub few-wrong : (room after : Bytes) (o : Option Part) → o ≡ none → FewAs room Wrong after o
-few-wrong room after o e = subst (FewAs room Wrong after) (sym e) refl
+pub few-wrong : (room after : Bytes) (o : Option Part) → o ≡ none → FewAs room (Err no_card) after o
+few-wrong room after o e = subst (FewAs room (Err no_card) after) (sym e) refl
 
-pub as-wrong : (room after : Bytes) (r : Lines) (o : Option Part) → PartAs room r after o → r ≡ Wrong → o ≡ none
+pub as-wrong : (room after : Bytes) (r : Laid) (o : Option Part) → PartAs room r after o → r ≡ Err no_card → o ≡ none
 as-wrong room after r none h e = refl
-as-wrong room after r (some p) h e = absurd (not-all (sym e ∙ h.1))
+as-wrong room after r (some p) h e = absurd (not_ok (sym e ∙ h.1))
 
-pub few-none : (room after : Bytes) (r : Lines) (o : Option Part) → FewAs room r after o → r ≡ Wrong → o ≡ none
+pub few-none : (room after : Bytes) (r : Laid) (o : Option Part) → FewAs room r after o → r ≡ Err no_card → o ≡ none
 few-none room after r none h e = refl
-few-none room after r (some p) h e = absurd (not-all (sym e ∙ h.1))
-
-all-bytes : {a b c d : ℕ} {e f : Bool} → All a c e ≡ All b d f → a ≡ b
-all-bytes q = cc
-
-all_lines : {a b c d : ℕ} {e f : Bool} → All a c e ≡ All b d f → c ≡ d
-all_lines q = cc
-
-all-carried : {a b c d : ℕ} {e f : Bool} → All a c e ≡ All b d f → e ≡ f
-all-carried q = cc
+few-none room after r (some p) h e = absurd (not_ok (sym e ∙ h.1))
 
 -- a part and its parts of an answer, for what an answer says
 pub record Has (room : Bytes) (n k : ℕ) (c : Bool) (after : Bytes) (o : Option Part) : Type 0 where
@@ -53,8 +45,8 @@ pub record Has (room : Bytes) (n k : ℕ) (c : Bool) (after : Bytes) (o : Option
   pub carried : c ≡ part.carried
   pub fills : Fills room (lines_bytes part.lines) n after
 
-pub has-few : {room after : Bytes} {r : Lines} {n k : ℕ} {c : Bool} (o : Option Part) → FewAs room r after o → r ≡ All n k c → Has room n k c after o
-has-few none h e = absurd (not-all (sym h ∙ e))
+pub has-few : {room after : Bytes} {r : Laid} {n k : ℕ} {c : Bool} (o : Option Part) → FewAs room r after o → r ≡ laid n k c → Has room n k c after o
+has-few none h e = absurd (not_ok (sym h ∙ e))
 has-few {room} {after} {r} {n} {k} {c} (some p) h e =
     record {
       part = p;
@@ -64,8 +56,8 @@ has-few {room} {after} {r} {n} {k} {c} (some p) h e =
       fills = subst (λ (x : ℕ). Fills room (lines_bytes p.lines) x after) (all-bytes (sym h.1 ∙ e)) h.2;
     }
 
-pub has-as : {room after : Bytes} {r : Lines} {n l : ℕ} {c : Bool} (o : Option Part) → PartAs room r after o → r ≡ All n l c → Has room n (few l) c after o
-has-as none h e = absurd (not-all (sym h ∙ e))
+pub has-as : {room after : Bytes} {r : Laid} {n l : ℕ} {c : Bool} (o : Option Part) → PartAs room r after o → r ≡ laid n l c → Has room n (few l) c after o
+has-as none h e = absurd (not_ok (sym h ∙ e))
 has-as {room} {after} {r} {n} {l} {c} (some p) h e =
     record {
       part = p;
@@ -75,9 +67,9 @@ has-as {room} {after} {r} {n} {l} {c} (some p) h e =
       fills = subst (λ (x : ℕ). Fills room (lines_bytes p.lines) x after) (all-bytes (sym h.1 ∙ e)) h.2;
     }
 
-pub has-said : {room after : Bytes} {n k : ℕ} {c : Bool} (o : Option Part) → Has room n k c after o → FewAs room (All n k c) after o
+pub has-said : {room after : Bytes} {n k : ℕ} {c : Bool} (o : Option Part) → Has room n k c after o → FewAs room (laid n k c) after o
 has-said {room} {after} {n} {k} {c} o h =
-    subst (FewAs room (All n k c) after) (sym h.is) (n, ap (λ (x : ℕ). All n x c) h.lines ∙ ap (All n (few (length h.part.lines))) h.carried, h.fills)
+    subst (FewAs room (laid n k c) after) (sym h.is) (n, ap (λ (x : ℕ). laid n x c) h.lines ∙ ap (laid n (few (length h.part.lines))) h.carried, h.fills)
 
 -- ---- one, then the other
 
@@ -107,9 +99,9 @@ both-second x y e = ap (both join_parts x) e ∙ by x
 
 -- ---- bounds, whatever was written
 
-pub few-at : {room n k : ℕ} {c : Bool} {r : Lines} → FewIn room r → r ≡ All n k c → (n ≤ room) × (k ≤ 513)
+pub few-at : {room n k : ℕ} {c : Bool} {r : Laid} → FewIn room r → r ≡ laid n k c → (n ≤ room) × (k ≤ 513)
 few-at {room} {n} {k} {c} {r} h e = subst (FewIn room) e h
 
 -- the same of the maps
-pub maps-at : {room : ℕ} (size : ℕ) {n k : ℕ} {c : Bool} {r : Lines} → MapsIn room size r → r ≡ All n k c → (n ≤ room) × (k ≤ size + 1)
+pub maps-at : {room : ℕ} (size : ℕ) {n k : ℕ} {c : Bool} {r : Laid} → MapsIn room size r → r ≡ laid n k c → (n ≤ room) × (k ≤ size + 1)
 maps-at {room} size {n} {k} {c} {r} h e = subst (MapsIn room size) e h

@@ -1,5 +1,8 @@
 -- The object of the whole text.
 use mathlib.Core.Path.{◌≡◌, refl, sym, ap, subst, ◌∙◌}
+use Rattle.to_card_pen.specs.Refusal.{no_card}
+use Rattle.std.specs.Prelude.{Err}
+use Rattle.to_card_lines.specs.Lines.{Laid}
 use mathlib.Core.Bool.{Bool, true, false}
 use mathlib.Core.List.{List, [], ◌∷◌}
 use mathlib.Core.Option.{Option, none, some}
@@ -13,8 +16,6 @@ use Rattle.json_text.specs.Strings.{distinct_names}
 use Rattle.json_index.specs.Index.{Clear, Indexed, IndexOf, Indexes}
 use Rattle.convert.specs.Table.{reserved}
 use Rattle.convert.specs.FromJson.{card_from_json, card_from_members}
-use Rattle.to_card_lines.specs.declared.Lines.{Lines}
-use Rattle.to_card_lines.specs.declared.Lines.TheVariants.{Wrong}
 use Rattle.to_card_members.proofs.Others.{is-reserved}
 use Rattle.to_card_name.proofs.Whole.{clear-seven}
 use Rattle.to_card_card.specs.Whole.{card_names, Object, CardAs, PutsWhole, PutsCard}
@@ -52,15 +53,15 @@ module _ (s : Bytes) (room : Bytes) (xs : List ℕ) (b : Bool) (index : Indexes 
   object_of (jarr x) ms e = absurd (not_some e)
   object_of (jobj mm) ms e = (mm, refl, sym (some_is e))
 
-  pub card-other : b ≡ false → (after : Bytes) → PutsCard s room Wrong after
+  pub card-other : b ≡ false → (after : Bytes) → PutsCard s room (Err no_card) after
   unfolding card_from_json
-  card-other e after v h d = subst (CardAs room Wrong after) (sym (ap (λ (o : Option (List Member)). chain o card_from_members) (by (as_object v) (index v h)))) refl
+  card-other e after v h d = subst (CardAs room (Err no_card) after) (sym (ap (λ (o : Option (List Member)). chain o card_from_members) (by (as_object v) (index v h)))) refl
     where
       by : (o : Option (List Member)) → IndexOf 15 s (parts 44 card_names) xs b o → o ≡ none
       by none w = refl
       by (some ms) w = let z : ◌≡◌ {A = ℕ} 0 1 = cc in absurd (omega arith)
 
-  pub card-whole : (r : Lines) (after : Bytes) → b ≡ true → PutsWhole s xs room r after → PutsCard s room r after
+  pub card-whole : (r : Laid) (after : Bytes) → b ≡ true → PutsWhole s xs room r after → PutsCard s room r after
   unfolding card_from_json
   card-whole r after e puts v h d = by (as_object v) refl (index v h)
     where

@@ -1,5 +1,9 @@
 -- The head, all after it and END are the card.
 use mathlib.Core.Path.{◌≡◌, refl, sym, ap, subst, ◌∙◌}
+use Rattle.to_card_lines.proofs.Parts.{all-bytes, all_lines, all-carried}
+use Rattle.to_card_pen.proofs.Refusal.{not_ok}
+use Rattle.to_card_pen.specs.Refusal.{no_card}
+use Rattle.std.specs.Prelude.{Err}
 use mathlib.Core.Bool.{Bool, false, ◌&&◌}
 use mathlib.Core.List.{List, [], ◌++◌, append_assoc}
 use mathlib.Core.Option.{Option, none, some, map}
@@ -20,11 +24,8 @@ use Rattle.convert.specs.Model.{Card}
 use Rattle.convert.specs.FromJson.{card_from_members, card_from_json}
 use Rattle.convert.specs.Carry.{carried}
 use Rattle.convert.specs.ToCard.{card_lines, print_card}
-use Rattle.to_card_lines.specs.declared.Lines.{Lines}
-use Rattle.to_card_lines.specs.declared.Lines.TheVariants.{All, Wrong}
-use Rattle.to_card_lines.specs.Lines.{lines_bytes, Part, join_parts}
+use Rattle.to_card_lines.specs.Lines.{lines_bytes, Part, join_parts, Laid, laid}
 use Rattle.to_card_lines.proofs.Laws.{card-parts, lines-append, fills-as}
-use Rattle.to_card_lines.proofs.Parts.{not-all}
 use Rattle.to_card_head.specs.Head.{begin, HeadAs, PutsHead}
 use Rattle.to_card_sections.specs.Sections.{head_in, body_parts, sections, whole_of}
 use Rattle.to_card_card.specs.Whole.{few, Object, PutsBody, CardAs, PutsWhole}
@@ -62,7 +63,7 @@ new-name : (i : ℕ) → i < 4 → among (get_or reserved i []) (take i reserved
 unfolding among any same
 new-name i l = in_range (λ i. among (get_or reserved i []) (take i reserved)) (λ i. false) i 0 4 refl (omega arith) (omega arith)
 
-module _ (s : Bytes) (slots : List ℕ) (room : Bytes) (r : Lines) (out : Bytes) (head : PutsHead s (get_or slots 0 0) (get_or slots 1 0) (get_or slots 2 0) (get_or slots 3 0) room r out) where
+module _ (s : Bytes) (slots : List ℕ) (room : Bytes) (r : Laid) (out : Bytes) (head : PutsHead s (get_or slots 0 0) (get_or slots 1 0) (get_or slots 2 0) (get_or slots 3 0) room r out) where
   module _ (mm : Members) (object : Object s slots mm) where
     head-slot : (i : ℕ) → i < 4 → Slot 15 s (get_or slots i 0) (field (get_or reserved i []) (members_of mm))
     head-slot i l = let w : i < length reserved = omega arith in subst (Slot 15 s (get_or slots i 0)) (first_field reserved i w (new-name i l) (members_of mm)) (object.indexed i)
@@ -73,19 +74,19 @@ module _ (s : Bytes) (slots : List ℕ) (room : Bytes) (r : Lines) (out : Bytes)
         (head-slot 0 (omega arith)) (head-slot 1 (omega arith)) (head-slot 2 (omega arith)) (head-slot 3 (omega arith))
 
     -- where one of both is none
-    refused : (after : Bytes) → both join_parts (head_in (members_of mm)) (body_parts (members_of mm)) ≡ none → CardAs room Wrong after (card_from_json (jobj mm))
+    refused : (after : Bytes) → both join_parts (head_in (members_of mm)) (body_parts (members_of mm)) ≡ none → CardAs room (Err no_card) after (card_from_json (jobj mm))
     unfolding sections card_from_json
-    refused after e = subst (CardAs room Wrong after) (sym (no-card (members_of mm) e)) refl
+    refused after e = subst (CardAs room (Err no_card) after) (sym (no-card (members_of mm) e)) refl
 
-  head-none : (o : Option Part) → HeadAs room r out o → r ≡ Wrong → o ≡ none
+  head-none : (o : Option Part) → HeadAs room r out o → r ≡ Err no_card → o ≡ none
   head-none none h e = refl
-  head-none (some p) h e = absurd (not-all (sym e ∙ h.1))
+  head-none (some p) h e = absurd (not_ok (sym e ∙ h.1))
 
-  pub whole-first : r ≡ Wrong → (after : Bytes) → PutsWhole s slots room Wrong after
+  pub whole-first : r ≡ Err no_card → (after : Bytes) → PutsWhole s slots room (Err no_card) after
   whole-first e after mm object = refused mm object after (both_first (head_in (members_of mm)) (body_parts (members_of mm)) (head-none (head_in (members_of mm)) (head-put mm object) e))
 
-  module _ (n l : ℕ) (c : Bool) (e : r ≡ All n l c) (q : Lines) (last : Bytes) (body : PutsBody s slots (mid_of n (length out - n) out) q last) where
-    pub whole-second : q ≡ Wrong → (after : Bytes) → PutsWhole s slots room Wrong after
+  module _ (n l : ℕ) (c : Bool) (e : r ≡ laid n l c) (q : Laid) (last : Bytes) (body : PutsBody s slots (mid_of n (length out - n) out) q last) where
+    pub whole-second : q ≡ Err no_card → (after : Bytes) → PutsWhole s slots room (Err no_card) after
     whole-second w after mm object =
         refused mm object after
         (both-second (head_in (members_of mm)) (body_parts (members_of mm)) (few-none (mid_of n (length out - n) out) last q (body_parts (members_of mm)) (body mm object) w))
@@ -98,26 +99,17 @@ module _ (s : Bytes) (slots : List ℕ) (room : Bytes) (r : Lines) (out : Bytes)
       fills : Fills room (begin ++ lines_bytes part.lines) n out
 
     head-has : (o : Option Part) → HeadAs room r out o → HeadHas o
-    head-has none h = absurd (not-all (sym h ∙ e))
+    head-has none h = absurd (not_ok (sym h ∙ e))
     head-has (some p) h =
         record {
           part = p;
           is = refl;
-          lines = counts (sym e ∙ h.1);
-          carries = flags (sym e ∙ h.1);
-          fills = subst (λ (x : ℕ). Fills room (begin ++ lines_bytes p.lines) x out) (bytes (sym h.1 ∙ e)) h.2;
+          lines = all_lines (sym e ∙ h.1);
+          carries = all-carried (sym e ∙ h.1);
+          fills = subst (λ (x : ℕ). Fills room (begin ++ lines_bytes p.lines) x out) (all-bytes (sym h.1 ∙ e)) h.2;
         }
-      where
-        counts : {a b k j : ℕ} {f g : Bool} → All a k f ≡ All b j g → k ≡ j
-        counts z = cc
 
-        flags : {a b k j : ℕ} {f g : Bool} → All a k f ≡ All b j g → f ≡ g
-        flags z = cc
-
-        bytes : {a b k j : ℕ} {f g : Bool} → All a k f ≡ All b j g → a ≡ b
-        bytes z = cc
-
-    module _ (m k : ℕ) (d : Bool) (w : q ≡ All m k d) where
+    module _ (m k : ℕ) (d : Bool) (w : q ≡ laid m k d) where
       abbrev written : Bytes
       written = put_mid n (length out - n) out last
 
@@ -128,7 +120,7 @@ module _ (s : Bytes) (slots : List ℕ) (room : Bytes) (r : Lines) (out : Bytes)
         few-sum : (a b : ℕ) → few (few a + few b) ≡ few (a + b)
         few-sum a b = omega arith
 
-        pub whole-all : PutsWhole s slots room (All (n + m + z) (few (few l + k)) (c && d)) whole
+        pub whole-all : PutsWhole s slots room (laid (n + m + z) (few (few l + k)) (c && d)) whole
         unfolding sections card_from_json print_card
         whole-all mm object =
             let h = head-has (head_in (members_of mm)) (head-put mm object) in
@@ -142,5 +134,5 @@ module _ (s : Bytes) (slots : List ℕ) (room : Bytes) (r : Lines) (out : Bytes)
             ap (λ (x : ℕ). few (few x + k)) h.lines ∙ ap (λ (x : ℕ). few (few (length h.part.lines) + x)) b.lines ∙ few-sum (length h.part.lines) (length b.part.lines)
             ∙ ap few (sym (lib.ListN.length-append h.part.lines b.part.lines)) ∙ ap (λ (x : List Rattle.line.specs.Grammar.Line). few (length x)) (sym g.lines) in
             let carries : (c && d) ≡ carried g.card = ap (λ (x : Bool). x && d) h.carries ∙ ap (λ (x : Bool). h.part.carried && x) b.carried ∙ sym g.carries in
-            subst (CardAs room (All (n + m + z) (few (few l + k)) (c && d)) whole) (sym g.is)
-            (n + m + z, ap (λ (x : ℕ). All (n + m + z) x (c && d)) count ∙ ap (All (n + m + z) (few (length (card_lines g.card)))) carries, fills-as text (then (then h.fills b.fills) ends))
+            subst (CardAs room (laid (n + m + z) (few (few l + k)) (c && d)) whole) (sym g.is)
+            (n + m + z, ap (λ (x : ℕ). laid (n + m + z) x (c && d)) count ∙ ap (laid (n + m + z) (few (length (card_lines g.card)))) carries, fills-as text (then (then h.fills b.fills) ends))

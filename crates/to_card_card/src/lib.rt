@@ -16,7 +16,8 @@ use to_card_kept::put_kept;
 use to_card_lines::Lines;
 use to_card_maps::put_maps;
 use to_card_members::put_members;
-use to_card_name::{Named, put_name};
+use to_card_name::put_name;
+use to_card_pen::NoCard;
 
 // This stands for every number of lines that is over a card's.
 const MORE: usize = LINES + 1;
@@ -32,7 +33,7 @@ fn up_to(n: usize) -> usize
 }
 
 // The other members: none where their slot, after those of the reserved names, is empty, and then the text is not gone through again.
-fn put_others(out: &mut [u8], buffer: &mut [u8], s: &[u8], slots: &[usize]) -> Lines
+fn put_others(out: &mut [u8], buffer: &mut [u8], s: &[u8], slots: &[usize]) -> Result<Lines, NoCard>
     requires out_in_bounds { length out.old ≤ length buffer.old }
     requires card_slots_in_bounds { card_slots ≤ length slots.now }
     ensures lines_in { LinesIn (length out.old) result }
@@ -40,11 +41,11 @@ fn put_others(out: &mut [u8], buffer: &mut [u8], s: &[u8], slots: &[usize]) -> L
     ensures puts_others { PutsOthers s.now slots.now out.old result out.new }
 {
     if slots[members::OTHER] == 0 {
-        return Lines::All {
+        return Ok(Lines {
             bytes: 0,
             lines: 0,
             carries: true,
-        };
+        });
     }
     put_members(out, buffer, s)
 }
@@ -60,37 +61,31 @@ fn put_last(
     slots: &[usize],
     full: bool,
     parts: bool,
-) -> Lines
+) -> Result<Lines, NoCard>
     requires out_in_bounds { length out.old ≤ length buffer.old }
     requires lent { Lent b.old t.old scratch.old s.now slots.now }
     ensures few_in { FewIn (length out.old) result }
     ensures out_len_unchanged { length out.new ≡ length out.old }
     ensures puts_last { PutsLast s.now slots.now full parts out.old result out.new }
 {
-    let Lines::All {
-        bytes: n,
-        lines: l,
-        carries: c,
-    } = put_others(out, buffer, s, slots)
-    else {
-        return Lines::Wrong;
-    };
-    let Lines::All {
-        bytes: m,
-        lines: k,
-        carries: d,
-    } = put_kept(&mut out[n..], b, t, scratch, s, slots, full, parts)
-    else {
-        return Lines::Wrong;
-    };
-    let bytes = n + m;
-    let lines = up_to(up_to(l) + up_to(k));
-    let ok = c & d;
-    Lines::All {
+    let others = put_others(out, buffer, s, slots)?;
+    let kept = put_kept(
+        &mut out[others.bytes..],
+        b,
+        t,
+        scratch,
+        s,
+        slots,
+        full,
+        parts,
+    )?;
+    let bytes = others.bytes + kept.bytes;
+    let lines = up_to(up_to(others.lines) + up_to(kept.lines));
+    Ok(Lines {
         bytes,
         lines,
-        carries: ok,
-    }
+        carries: others.carries & kept.carries,
+    })
 }
 
 // The maps, then these.
@@ -104,37 +99,32 @@ fn put_rest(
     slots: &[usize],
     full: bool,
     parts: bool,
-) -> Lines
+) -> Result<Lines, NoCard>
     requires out_in_bounds { length out.old ≤ length buffer.old }
     requires lent { Lent b.old t.old scratch.old s.now slots.now }
     ensures few_in { FewIn (length out.old) result }
     ensures out_len_unchanged { length out.new ≡ length out.old }
     ensures puts_rest { PutsRest s.now slots.now full parts out.old result out.new }
 {
-    let Lines::All {
-        bytes: n,
-        lines: l,
-        carries: c,
-    } = put_maps(out, s, slots)
-    else {
-        return Lines::Wrong;
-    };
-    let Lines::All {
-        bytes: m,
-        lines: k,
-        carries: d,
-    } = put_last(&mut out[n..], buffer, b, t, scratch, s, slots, full, parts)
-    else {
-        return Lines::Wrong;
-    };
-    let bytes = n + m;
-    let lines = up_to(up_to(l) + k);
-    let ok = c & d;
-    Lines::All {
+    let maps = put_maps(out, s, slots)?;
+    let last = put_last(
+        &mut out[maps.bytes..],
+        buffer,
+        b,
+        t,
+        scratch,
+        s,
+        slots,
+        full,
+        parts,
+    )?;
+    let bytes = maps.bytes + last.bytes;
+    let lines = up_to(up_to(maps.lines) + last.lines);
+    Ok(Lines {
         bytes,
         lines,
-        carries: ok,
-    }
+        carries: maps.carries & last.carries,
+    })
 }
 
 // The name, then these. Two lines of a name are FN and N.
@@ -146,40 +136,33 @@ fn put_body(
     scratch: &mut [u8],
     s: &[u8],
     slots: &[usize],
-) -> Lines
+) -> Result<Lines, NoCard>
     requires out_in_bounds { length out.old ≤ length buffer.old }
     requires lent { Lent b.old t.old scratch.old s.now slots.now }
     ensures few_in { FewIn (length out.old) result }
     ensures out_len_unchanged { length out.new ≡ length out.old }
     ensures puts_body { PutsBody s.now slots.now out.old result out.new }
 {
-    let name = slots[members::NAME];
-    let Named::All {
-        bytes: n,
-        lines: l,
-        carries: c,
-        full,
-    } = put_name(out, s, name)
-    else {
-        return Lines::Wrong;
-    };
-    let parts = l == 2;
-    let Lines::All {
-        bytes: m,
-        lines: k,
-        carries: d,
-    } = put_rest(&mut out[n..], buffer, b, t, scratch, s, slots, full, parts)
-    else {
-        return Lines::Wrong;
-    };
-    let bytes = n + m;
-    let lines = up_to(up_to(l) + k);
-    let ok = c & d;
-    Lines::All {
+    let name = put_name(out, s, slots[members::NAME])?;
+    let parts = name.lines.lines == 2;
+    let rest = put_rest(
+        &mut out[name.lines.bytes..],
+        buffer,
+        b,
+        t,
+        scratch,
+        s,
+        slots,
+        name.full,
+        parts,
+    )?;
+    let bytes = name.lines.bytes + rest.bytes;
+    let lines = up_to(up_to(name.lines.lines) + rest.lines);
+    Ok(Lines {
         bytes,
         lines,
-        carries: ok,
-    }
+        carries: name.lines.carries & rest.carries,
+    })
 }
 
 // The card of a sound JSON text that is an object, by the slots of its members: 12, or as much of it as the room holds. BEGIN and the head, then these and END.
@@ -191,7 +174,7 @@ pub fn put_card(
     scratch: &mut [u8],
     s: &[u8],
     slots: &[usize],
-) -> Lines
+) -> Result<Lines, NoCard>
     requires out_in_bounds { length out.old ≤ length buffer.old }
     requires lent { Lent b.old t.old scratch.old s.now slots.now }
     requires indexes { Indexes 15 s.now 0 card_names slots.now true }
@@ -203,30 +186,15 @@ pub fn put_card(
     let version = slots[members::VERSION];
     let uid = slots[members::UID];
     let kind = slots[members::KIND];
-    let Lines::All {
-        bytes: n,
-        lines: l,
-        carries: c,
-    } = put_head(out, s, card, version, uid, kind)
-    else {
-        return Lines::Wrong;
-    };
-    let Lines::All {
-        bytes: m,
-        lines: k,
-        carries: d,
-    } = put_body(&mut out[n..], buffer, b, t, scratch, s, slots)
-    else {
-        return Lines::Wrong;
-    };
-    let e = n + m;
+    let head = put_head(out, s, card, version, uid, kind)?;
+    let body = put_body(&mut out[head.bytes..], buffer, b, t, scratch, s, slots)?;
+    let e = head.bytes + body.bytes;
     let z = fill(&mut out[e..], &lines::END);
     let bytes = e + z;
-    let lines = up_to(up_to(l) + k);
-    let ok = c & d;
-    Lines::All {
+    let lines = up_to(up_to(head.lines) + body.lines);
+    Ok(Lines {
         bytes,
         lines,
-        carries: ok,
-    }
+        carries: head.carries & body.carries,
+    })
 }

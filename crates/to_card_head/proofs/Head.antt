@@ -1,5 +1,7 @@
 -- The head's lines, and which answer its members ask for.
 use mathlib.Core.Path.{◌≡◌, refl, sym, ap, subst, ◌∙◌}
+use Rattle.to_card_pen.specs.Refusal.{no_card}
+use Rattle.std.specs.Prelude.{Err}
 use mathlib.Core.Bool.{Bool, true, false}
 use mathlib.Core.List.{[], ◌∷◌, ◌++◌, append-nil, append_assoc}
 use mathlib.Core.Option.{Option, none, some}
@@ -26,10 +28,8 @@ use Rattle.convert.specs.FromJson.{is_lower_word}
 use Rattle.convert.specs.Carry.{carried_raw}
 use Rattle.convert.specs.Property.{property}
 use Rattle.to_card_value.specs.Values.{StringIs}
-use Rattle.to_card_lines.specs.declared.Lines.{Lines}
-use Rattle.to_card_lines.specs.declared.Lines.TheVariants.{All, Wrong}
 use Rattle.to_card_lines.specs.declared.Penned.{Penned}
-use Rattle.to_card_lines.specs.Lines.{line_bytes, lines_bytes, Part, StringLine}
+use Rattle.to_card_lines.specs.Lines.{line_bytes, lines_bytes, Part, StringLine, Laid, laid}
 use Rattle.to_card_lines.proofs.Laws.{lines-append, lines-one, fills-as}
 use Rattle.to_card_head.specs.Head.{TellsSame, FilledIn, WordIn, word_string, begin, start_lines, head_lines, Starts, is_card, is_version, uid_in, kind_in, head_of, head_from, HeadAs, PutsHead}
 use Rattle.to_card_head.proofs.Slots.{slot-none, slot-some}
@@ -98,25 +98,25 @@ some_of s q none n h = absurd (n h)
 some_of s q (some x) n h = (x, refl, h.1)
 
 module _ (s : Bytes) (card version uid kind : ℕ) (room : Bytes) where
-  wrong : (after : Bytes) (o : Option Part) → o ≡ none → HeadAs room Wrong after o
-  wrong after o e = subst (HeadAs room Wrong after) (sym e) refl
+  wrong : (after : Bytes) (o : Option Part) → o ≡ none → HeadAs room (Err no_card) after o
+  wrong after o e = subst (HeadAs room (Err no_card) after) (sym e) refl
 
-  pub no-card : (b : Bool) → TellsSame s card (ascii "Card") b → b ≡ false → (after : Bytes) → PutsHead s card version uid kind room Wrong after
+  pub no-card : (b : Bool) → TellsSame s card (ascii "Card") b → b ≡ false → (after : Bytes) → PutsHead s card version uid kind room (Err no_card) after
   unfolding head_from
   no-card b h e after t v u k st sv su sk =
       wrong after (head_from t v u k) (ap (λ (x : Bool). head_of x (is_version v) (uid_in u) (kind_in k)) (sym (h t st) ∙ e) ∙ none_first (is_version v) (uid_in u) (kind_in k))
 
-  pub no-version : (b : Bool) → TellsSame s version (ascii "1.0") b → b ≡ false → (after : Bytes) → PutsHead s card version uid kind room Wrong after
+  pub no-version : (b : Bool) → TellsSame s version (ascii "1.0") b → b ≡ false → (after : Bytes) → PutsHead s card version uid kind room (Err no_card) after
   unfolding head_from
   no-version b h e after t v u k st sv su sk =
       wrong after (head_from t v u k) (ap (λ (x : Bool). head_of (is_card t) x (uid_in u) (kind_in k)) (sym (h v sv) ∙ e) ∙ none-second (is_card t) (uid_in u) (kind_in k))
 
-  pub no-uid : FilledIn s uid 0 → (after : Bytes) → PutsHead s card version uid kind room Wrong after
+  pub no-uid : FilledIn s uid 0 → (after : Bytes) → PutsHead s card version uid kind room (Err no_card) after
   unfolding head_from
   no-uid h after t v u k st sv su sk =
       wrong after (head_from t v u k) (ap (λ (x : Option Bytes). head_of (is_card t) (is_version v) x (kind_in k)) (none_of s (uid_in u) (h u su)) ∙ none-third (is_card t) (is_version v) (kind_in k))
 
-  pub no_kind : (kind ≡ 0 → ⊥) → WordIn s kind 0 → (after : Bytes) → PutsHead s card version uid kind room Wrong after
+  pub no_kind : (kind ≡ 0 → ⊥) → WordIn s kind 0 → (after : Bytes) → PutsHead s card version uid kind room (Err no_card) after
   unfolding head_from
   no_kind n h after t v u k st sv su sk =
       let w = slot-some 15 s kind k sk n in
@@ -137,14 +137,14 @@ module _ (s : Bytes) (card version uid kind : ℕ) (room : Bytes) where
         let f : uid_in u ≡ some start.text = x.1 ∙ ap some (sym (start.is x.0 x.2)) in
         rw (a, c, f, e)
 
-    heads : (t v u k : Option Json) (x : Part) → head_from t v u k ≡ some x → (r : Lines) (after : Bytes) → HeadAs room r after (some x) → HeadAs room r after (head_from t v u k)
+    heads : (t v u k : Option Json) (x : Part) → head_from t v u k ≡ some x → (r : Laid) (after : Bytes) → HeadAs room r after (some x) → HeadAs room r after (head_from t v u k)
     heads t v u k x e r after h = subst (HeadAs room r after) (sym e) h
 
-    pub head_plain : kind ≡ 0 → PutsHead s card version uid kind room (All p.bytes 2 p.carried) out
+    pub head_plain : kind ≡ 0 → PutsHead s card version uid kind room (laid p.bytes 2 p.carried) out
     unfolding head_lines start_lines
     head_plain e t v u k st sv su sk =
         let z : kind_in k ≡ some [] = ap kind_in (slot-none 15 s kind k sk e) in
-        heads t v u k _ (head-some t v u k st sv su [] z) _ out (p.bytes, ap (All p.bytes 2) start.carried, start.fills)
+        heads t v u k _ (head-some t v u k st sv su [] z) _ out (p.bytes, ap (laid p.bytes 2) start.carried, start.fills)
 
     module _ (m : kind ≡ 0 → ⊥) (w : ℕ) (is-kind : WordIn s kind w) (no-w : w ≡ 0 → ⊥) (l : Penned) (last : Bytes)
         (line : StringLine s w 0 (ascii "KIND:") (mid_of p.bytes (length out - p.bytes) out) l last) where
@@ -162,7 +162,7 @@ module _ (s : Bytes) (card version uid kind : ℕ) (room : Bytes) where
       unfolding start_lines
       count x y = refl
 
-      pub head-kind : PutsHead s card version uid kind room (All (p.bytes + l.bytes) 3 p.carried) (put_mid p.bytes (length out - p.bytes) out last)
+      pub head-kind : PutsHead s card version uid kind room (laid (p.bytes + l.bytes) 3 p.carried) (put_mid p.bytes (length out - p.bytes) out last)
       head-kind t v u k st sv su sk =
           let a = slot-some 15 s kind k sk m in
           let y = some_of s w (word_string a.0) no-w (is-kind a.0 a.2) in
@@ -177,6 +177,6 @@ module _ (s : Bytes) (card version uid kind : ℕ) (room : Bytes) where
           ∙ sym (lines-append (start_lines start.text) (property (ascii "kind") [] x ∷ [])) ∙ ap lines_bytes (sym h) in
           heads t v u k _ (head-some t v u k st sv su x z) _ _ (
             p.bytes + l.bytes,
-            ap (λ (c : ℕ). All (p.bytes + l.bytes) c p.carried) (count start.text (property (ascii "kind") [] x) ∙ ap length (sym h)) ∙ ap (All (p.bytes + l.bytes) (length (head_lines start.text x))) start.carried,
+            ap (λ (c : ℕ). laid (p.bytes + l.bytes) c p.carried) (count start.text (property (ascii "kind") [] x) ∙ ap length (sym h)) ∙ ap (laid (p.bytes + l.bytes) (length (head_lines start.text x))) start.carried,
             fills-as (ap (λ (e : Bytes). begin ++ e) j) kind_row,
           )

@@ -1,5 +1,6 @@
 -- The head of a card: @type, version, uid and kind judged (12), and the lines up to KIND.
-use Rattle.std.specs.Prelude.{◌≡◌, Bool, true, false, ◌&&◌, List, [], ◌∷◌, ◌++◌, ℕ, ◌<◌, length}
+use Rattle.std.specs.Prelude.{◌≡◌, Bool, true, false, ◌&&◌, List, [], ◌∷◌, ◌++◌, ℕ, ◌<◌, length, Err}
+use Rattle.to_card_pen.specs.Refusal.{no_card}
 use Rattle.std.proofs.Math.Option.{Option, none, some}
 use Rattle.text.specs.Choice.{with-some, chain, provided}
 use Rattle.text.specs.Bytes.{Bytes, ascii}
@@ -14,10 +15,8 @@ use Rattle.convert.specs.Carry.{carried_raw}
 use Rattle.convert.specs.Property.{property}
 use Rattle.convert.specs.ToCard.{where_filled}
 use Rattle.to_card_value.specs.Values.{StringIs}
-use Rattle.to_card_lines.specs.declared.Lines.{Lines}
-use Rattle.to_card_lines.specs.declared.Lines.TheVariants.{All, Wrong}
 use Rattle.to_card_lines.specs.declared.Penned.{Penned}
-use Rattle.to_card_lines.specs.Lines.{lines_bytes, Part}
+use Rattle.to_card_lines.specs.Lines.{lines_bytes, Part, Laid, laid}
 
 -- ---- strings of the members
 
@@ -92,10 +91,10 @@ unfoldable pub head_from : Option Json → Option Json → Option Json → Optio
 head_from t v u k = head_of (is_card t) (is_version v) (uid_in u) (kind_in k)
 
 -- 12; or BEGIN and the lines, how many, and whether a line can carry the uid
-abbrev pub HeadAs : Bytes → Lines → Bytes → Option Part → Type 0
-HeadAs room r after none = r ≡ Wrong
-HeadAs room r after (some p) = (n : ℕ) × (r ≡ All n (length p.lines) p.carried) × Fills room (begin ++ lines_bytes p.lines) n after
+abbrev pub HeadAs : Bytes → Laid → Bytes → Option Part → Type 0
+HeadAs room r after none = r ≡ Err no_card
+HeadAs room r after (some p) = (n : ℕ) × (r ≡ laid n (length p.lines) p.carried) × Fills room (begin ++ lines_bytes p.lines) n after
 
-abbrev pub PutsHead : Bytes → ℕ → ℕ → ℕ → ℕ → Bytes → Lines → Bytes → Type 0
+abbrev pub PutsHead : Bytes → ℕ → ℕ → ℕ → ℕ → Bytes → Laid → Bytes → Type 0
 PutsHead s card version uid kind room r after = (t v u k : Option Json) → Slot 15 s card t → Slot 15 s version v → Slot 15 s uid u → Slot 15 s kind k
     → HeadAs room r after (head_from t v u k)

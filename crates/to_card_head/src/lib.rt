@@ -11,7 +11,7 @@ use card_table::{lines, members};
 use json_strings::{Byte, equals};
 use line_pen::fill;
 use to_card_lines::{Lines, Penned, put_string_line};
-use to_card_pen::{byte_at, style};
+use to_card_pen::{NoCard, byte_at, style};
 use to_card_value::string_in;
 
 // A byte of a name with no upper-case letter.
@@ -152,43 +152,43 @@ pub fn put_head(
     version: usize,
     uid: usize,
     kind: usize,
-) -> Lines
+) -> Result<Lines, NoCard>
     ensures lines_in { LinesIn (length out.old) result }
     ensures out_len_unchanged { length out.new ≡ length out.old }
     ensures puts_head { PutsHead s.now card version uid kind out.old result out.new }
 {
     if !holds(s, card, &members::CARD) {
-        return Lines::Wrong;
+        return Err(NoCard);
     }
     if !holds(s, version, &members::FIRST_VERSION) {
-        return Lines::Wrong;
+        return Err(NoCard);
     }
     let u = filled_in(s, uid);
     if u == 0 {
-        return Lines::Wrong;
+        return Err(NoCard);
     }
     if kind == 0 {
         let p = put_start(out, s, u);
         let n = p.bytes;
         let ok = p.carried;
-        return Lines::All {
+        return Ok(Lines {
             bytes: n,
             lines: 2,
             carries: ok,
-        };
+        });
     }
     let k = word_in(s, kind);
     if k == 0 {
-        return Lines::Wrong;
+        return Err(NoCard);
     }
     let p = put_start(out, s, u);
     let n = p.bytes;
     let ok = p.carried;
     let q = put_string_line(&mut out[n..], &lines::KIND, style::RAW, s, k);
     let m = n + q.bytes;
-    Lines::All {
+    Ok(Lines {
         bytes: m,
         lines: 3,
         carries: ok,
-    }
+    })
 }

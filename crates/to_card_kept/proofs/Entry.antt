@@ -1,5 +1,7 @@
 -- One entry: its form, then its class, then its line.
 use mathlib.Core.Path.{◌≡◌, refl, sym, ap, subst, ◌∙◌}
+use Rattle.to_card_pen.specs.Refusal.{no_card}
+use Rattle.std.specs.Prelude.{Err}
 use mathlib.Core.Bool.{Bool, true, false, ◌&&◌, not}
 use mathlib.Core.List.{List, []}
 use mathlib.Core.Option.{Option, none, some, map}
@@ -26,10 +28,8 @@ use Rattle.to_card_kept_entry.specs.table.Kept.{kept_form, formed}
 use Rattle.to_card_kept_entry.specs.entry.Entry.{HoldsKept, HoldsAs, FillsKept}
 use Rattle.to_card_kept_entry.proofs.fill.Composed.{fills-formed, stands-formed}
 use Rattle.to_card_kept_entry.specs.writing.Line.{PutsKept as PutsLine}
-use Rattle.to_card_lines.specs.declared.Lines.{Lines}
-use Rattle.to_card_lines.specs.declared.Lines.TheVariants.{All, Wrong}
 use Rattle.to_card_lines.specs.declared.Penned.{Penned}
-use Rattle.to_card_lines.specs.Lines.{Part, PartAs}
+use Rattle.to_card_lines.specs.Lines.{Part, PartAs, Laid, laid}
 use Rattle.to_card_lines.proofs.Laws.{lines-one, fills-as}
 use Rattle.to_card_lines.proofs.Parts.{none-wrong}
 use Rattle.to_card_kept.specs.Kept.{kept_part, entry_part, seen_of, LentText}
@@ -93,23 +93,23 @@ lent-room l x = record { fits = omega (arith, l.text, l.buffer, x); small = omeg
 -- ---- the entry at a place, by what was filled
 
 module _ (s : Bytes) (slots : List ℕ) (at : ℕ) (full parts : Bool) (room b : Bytes) (long : length b ≡ length s) (r : Bool) (c : Bytes) (u : List ℕ) (filled : FillsKept b s at r c u) where
-  by_form : (x : Lines) (after : Bytes) (seen : Seen) (j : Json) → EntryAt s at j
+  by_form : (x : Laid) (after : Bytes) (seen : Seen) (j : Json) → EntryAt s at j
       → ((o : Option Kept) → formed j ≡ o → HoldsAs c u r o → PartAs room x after (chain o (classed seen))) → PartAs room x after (entry_part seen j)
   by_form x after seen j e f =
       subst (PartAs room x after) (sym (entry-formed seen j))
       (f (formed j) refl (fills-formed b s at r c u filled j e.stands e.distinct (omega (arith, e.room, long))))
 
-  pub entry-unfilled : r ≡ false → (after : Bytes) → PutsEntry s slots at full parts room Wrong after
-  entry-unfilled q after j e mm ess known n f p = by_form Wrong after (seen_of n ess (members_of mm)) j e by
+  pub entry-unfilled : r ≡ false → (after : Bytes) → PutsEntry s slots at full parts room (Err no_card) after
+  entry-unfilled q after j e mm ess known n f p = by_form (Err no_card) after (seen_of n ess (members_of mm)) j e by
     where
-      by : (o : Option Kept) → formed j ≡ o → HoldsAs c u r o → PartAs room Wrong after (chain o (classed (seen_of n ess (members_of mm))))
+      by : (o : Option Kept) → formed j ≡ o → HoldsAs c u r o → PartAs room (Err no_card) after (chain o (classed (seen_of n ess (members_of mm))))
       by none i h = refl
       by (some k) i h = not-both h.0 q
 
-  pub entry-unsound : (Sound c u → ⊥) → (after : Bytes) → PutsEntry s slots at full parts room Wrong after
-  entry-unsound q after j e mm ess known n f p = by_form Wrong after (seen_of n ess (members_of mm)) j e by
+  pub entry-unsound : (Sound c u → ⊥) → (after : Bytes) → PutsEntry s slots at full parts room (Err no_card) after
+  entry-unsound q after j e mm ess known n f p = by_form (Err no_card) after (seen_of n ess (members_of mm)) j e by
     where
-      by : (o : Option Kept) → formed j ≡ o → HoldsAs c u r o → PartAs room Wrong after (chain o (classed (seen_of n ess (members_of mm))))
+      by : (o : Option Kept) → formed j ≡ o → HoldsAs c u r o → PartAs room (Err no_card) after (chain o (classed (seen_of n ess (members_of mm))))
       by none i h = refl
       by (some k) i h = absurd (q h.1.sound)
 
@@ -118,20 +118,20 @@ module _ (s : Bytes) (slots : List ℕ) (at : ℕ) (full parts : Bool) (room b :
     class-told : (seen : Seen) (k : Kept) → HoldsKept c u k → x ≡ is_kept (classify seen (line_in c u)) → {y : Bool} → x ≡ y → classed seen k ≡ provided y (some (kept_part k))
     class-told seen k h t q = ap (λ (y : Bool). provided y (some (kept_part k))) (ap is_kept (sym (held-class h seen)) ∙ sym t ∙ q)
 
-    pub entry-converts : x ≡ false → (after : Bytes) → PutsEntry s slots at full parts room Wrong after
-    entry-converts q after j e mm ess known n f p = by_form Wrong after (seen_of n ess (members_of mm)) j e (by (seen_of n ess (members_of mm)) (told mm ess known n f p))
+    pub entry-converts : x ≡ false → (after : Bytes) → PutsEntry s slots at full parts room (Err no_card) after
+    entry-converts q after j e mm ess known n f p = by_form (Err no_card) after (seen_of n ess (members_of mm)) j e (by (seen_of n ess (members_of mm)) (told mm ess known n f p))
       where
-        by : (seen : Seen) → x ≡ is_kept (classify seen (line_in c u)) → (o : Option Kept) → formed j ≡ o → HoldsAs c u r o → PartAs room Wrong after (chain o (classed seen))
+        by : (seen : Seen) → x ≡ is_kept (classify seen (line_in c u)) → (o : Option Kept) → formed j ≡ o → HoldsAs c u r o → PartAs room (Err no_card) after (chain o (classed seen))
         by seen t none i h = refl
         by seen t (some k) i h = none-wrong room after (classed seen k) (class-told seen k h.1 t q)
 
-    pub entry-put : r ≡ true → x ≡ true → (w : Penned) (after : Bytes) → PutsLine c u room w after → PutsEntry s slots at full parts room (All w.bytes 1 w.carried) after
+    pub entry-put : r ≡ true → x ≡ true → (w : Penned) (after : Bytes) → PutsLine c u room w after → PutsEntry s slots at full parts room (laid w.bytes 1 w.carried) after
     entry-put y q w after put j e mm ess known n f p =
-        by_form (All w.bytes 1 w.carried) after (seen_of n ess (members_of mm)) j e (by (seen_of n ess (members_of mm)) (told mm ess known n f p))
+        by_form (laid w.bytes 1 w.carried) after (seen_of n ess (members_of mm)) j e (by (seen_of n ess (members_of mm)) (told mm ess known n f p))
       where
-        by : (seen : Seen) → x ≡ is_kept (classify seen (line_in c u)) → (o : Option Kept) → formed j ≡ o → HoldsAs c u r o → PartAs room (All w.bytes 1 w.carried) after (chain o (classed seen))
+        by : (seen : Seen) → x ≡ is_kept (classify seen (line_in c u)) → (o : Option Kept) → formed j ≡ o → HoldsAs c u r o → PartAs room (laid w.bytes 1 w.carried) after (chain o (classed seen))
         by seen t none i h = not-both y h
         by seen t (some k) i h =
             let z = put k h.1 (formed-type j k i) in
-            subst (PartAs room (All w.bytes 1 w.carried) after) (sym (class-told seen k h.1 t q))
-            (w.bytes, ap (All w.bytes 1) z.carried, fills-as (sym (lines-one (kept_as_line k))) z.fills)
+            subst (PartAs room (laid w.bytes 1 w.carried) after) (sym (class-told seen k h.1 t q))
+            (w.bytes, ap (laid w.bytes 1) z.carried, fills-as (sym (lines-one (kept_as_line k))) z.fills)

@@ -1,5 +1,8 @@
 -- The pass over the entries, over plain values.
 use mathlib.Core.Path.{◌≡◌, refl, sym, ap, subst, ◌∙◌}
+use Rattle.to_card_pen.proofs.Refusal.{not_ok}
+use Rattle.to_card_pen.specs.Refusal.{no_card}
+use Rattle.std.specs.Prelude.{Err}
 use mathlib.Core.Bool.{Bool, true, ◌&&◌}
 use mathlib.Core.List.{List, [], ◌∷◌}
 use mathlib.Core.Option.{Option, none, some}
@@ -7,8 +10,8 @@ use Prim.Native.Nat.{ℕ, zero, suc, ◌+◌, ◌-◌}
 use native.Mathlib.Omega.{arith}
 use borrow.Rule.Slice.PartMut.{mid_of, put_mid}
 use lib.ListN.{length, drop}
-use Rattle.text.specs.declared.Read.{Read}
-use Rattle.text.specs.declared.Turn.TheVariants.{Go, Stop}
+use Rattle.text.specs.Places.{Read}
+use Rattle.std.proofs.Common.{Continue, Break}
 use Rattle.text.specs.Choice.{both}
 use Rattle.text.specs.Bytes.{Bytes, all}
 use Rattle.text.specs.Reader.{got, loop}
@@ -22,10 +25,8 @@ use Rattle.json_index.specs.Index.{meant, json_at}
 use Rattle.to_card_kept_entry.specs.strings.Strings.{size, size_elems}
 use Rattle.to_card_kept_entry.proofs.strings.Elements.{item-here, elems-on, elems-none, next_elem, elems-nil, elems-cons, enil-decoded}
 use Rattle.convert.specs.Classify.{Seen}
-use Rattle.to_card_lines.specs.declared.Lines.{Lines}
-use Rattle.to_card_lines.specs.declared.Lines.TheVariants.{All, Wrong}
-use Rattle.to_card_lines.specs.Lines.{Part, PartAs, no_lines, join_parts, parts_of}
-use Rattle.to_card_lines.proofs.Parts.{before, before-none, before-one, before_last, parts_none, parts-one, Done, done_none, done_on, done_all, none-wrong, not-all}
+use Rattle.to_card_lines.specs.Lines.{Part, PartAs, no_lines, join_parts, parts_of, Laid, laid}
+use Rattle.to_card_lines.proofs.Parts.{before, before-none, before-one, before_last, parts_none, parts-one, Done, done_none, done_on, done_all, none-wrong}
 use Rattle.to_card_kept.specs.Kept.{seen_of, entry_part}
 use Rattle.to_card_kept.specs.declared.Run.TheVariants.{More}
 use Rattle.to_card_kept.specs.Puts.{ForKnown, EntryAt, PutsEntry, EntriesAt, PutsFrom, before_lines, PutsRun}
@@ -33,10 +34,10 @@ use Rattle.to_card_kept.specs.Puts.{ForKnown, EntryAt, PutsEntry, EntriesAt, Put
 -- ---- the entry that is next
 
 abbrev Gives : Bytes → ℕ → ℕ → Type 0
-Gives s end j = GivesT s end (sep 93 zero suc (drop end s)) (Go j)
+Gives s end j = GivesT s end (sep 93 zero suc (drop end s)) (Continue j)
 
 abbrev Stops : Bytes → ℕ → Read → Type 0
-Stops s end v = GivesT s end (sep 93 zero suc (drop end s)) (Stop v)
+Stops s end v = GivesT s end (sep 93 zero suc (drop end s)) (Break v)
 
 record Next (s : Bytes) (i : ℕ) (es : Elems) : Type 0 where
   val : Json
@@ -102,28 +103,28 @@ pub going-first : (s : Bytes) (slots : List ℕ) (at : ℕ) (full parts : Bool) 
 going-first s slots at full parts room es a mm ess known n f p = record { rest = es; entries = a; part = no_lines; is_all = before-none _; done = done_none room }
 
 module _ (s : Bytes) (slots : List ℕ) (at : ℕ) (full parts : Bool) (room : Bytes) (i n lines : ℕ) (ok : Bool) (out : Bytes) (going : Going s slots at full parts room i n lines ok out)
-    (p : Lines) (last : Bytes) (puts : PutsEntry s slots i full parts (mid_of n (length out - n) out) p last) where
+    (p : Laid) (last : Bytes) (puts : PutsEntry s slots i full parts (mid_of n (length out - n) out) p last) where
   -- the entry at i, before the others
   split : (seen : Seen) (js : List Json) (g : Far s room seen js i n lines ok out) (x : Next s i g.rest)
       → parts_of (entry_part seen) js ≡ before g.part (both join_parts (entry_part seen x.val) (parts_of (entry_part seen) (elems_of x.others)))
   split seen js g x = g.is_all ∙ ap (before g.part) (ap (parts_of (entry_part seen)) x.is ∙ parts-one (entry_part seen) x.val (elems_of x.others))
 
-  pub puts-wrong : (after : Bytes) → p ≡ Wrong → PutsFrom s slots at full parts room Wrong after
+  pub puts-wrong : (after : Bytes) → p ≡ Err no_card → PutsFrom s slots at full parts room (Err no_card) after
   puts-wrong after e es a mm ess known m f h =
       let seen = seen_of m ess (members_of mm) in
       let g = going es a mm ess known m f h in
       let x = next-entry s i g.rest g.entries in
       by g.part (entry_part seen x.val) (parts_of (entry_part seen) (elems_of x.others)) _ (split seen (elems_of es) g x) (puts x.val x.entry mm ess known m f h)
     where
-      by : (d : Part) (o os want : Option Part) → want ≡ before d (both join_parts o os) → PartAs (mid_of n (length out - n) out) p last o → PartAs room Wrong after want
+      by : (d : Part) (o os want : Option Part) → want ≡ before d (both join_parts o os) → PartAs (mid_of n (length out - n) out) p last o → PartAs room (Err no_card) after want
       by d none os want q w = none-wrong room after want q
-      by d (some c) os want q w = absurd (not-all (sym e ∙ w.1))
+      by d (some c) os want q w = absurd (not_ok (sym e ∙ w.1))
 
-  module _ (k l : ℕ) (c : Bool) (e : p ≡ All k l c) (end : ℕ) (is-end : EndsAt 14 s i end) where
+  module _ (k l : ℕ) (c : Bool) (e : p ≡ laid k l c) (end : ℕ) (is-end : EndsAt 14 s i end) where
     -- one entry more is done
     further : (want : Option Part) (d : Part) (o os : Option Part) → want ≡ before d (both join_parts o os) → PartAs (mid_of n (length out - n) out) p last o → Done room n lines ok out d
         → (x : Part) × (want ≡ before x os) × Done room (n + k) (lines + l) (ok && c) (put_mid n (length out - n) out last) x
-    further want d none os q w done = absurd (not-all (sym w ∙ e))
+    further want d none os q w done = absurd (not_ok (sym w ∙ e))
     further want d (some x) os q w done = (join_parts d x, q ∙ before-one d x os, done_on room n lines ok out d done p last x w e)
 
     pub going_on : (j : ℕ) → Gives s end j → Going s slots at full parts room j (n + k) (lines + l) (ok && c) (put_mid n (length out - n) out last)
@@ -134,7 +135,7 @@ module _ (s : Bytes) (slots : List ℕ) (at : ℕ) (full parts : Bool) (room : B
         let y = further _ g.part (entry_part seen x.val) (parts_of (entry_part seen) (elems_of x.others)) (split seen (elems_of es) g x) (puts x.val x.entry mm ess known m f h) g.done in
         record { rest = x.others; entries = x.goes end is-end j w; part = y.0; is_all = y.1; done = y.2 }
 
-    pub puts-all : (v : Read) → Stops s end v → PutsFrom s slots at full parts room (All (n + k) (lines + l) (ok && c)) (put_mid n (length out - n) out last)
+    pub puts-all : (v : Read) → Stops s end v → PutsFrom s slots at full parts room (laid (n + k) (lines + l) (ok && c)) (put_mid n (length out - n) out last)
     puts-all v w es a mm ess known m f h =
         let seen = seen_of m ess (members_of mm) in
         let g = going es a mm ess known m f h in
@@ -147,11 +148,11 @@ module _ (s : Bytes) (slots : List ℕ) (at : ℕ) (full parts : Bool) (room : B
 
 module _ (room : Bytes) (n lines : ℕ) (ok : Bool) (out last : Bytes) where
   -- the others, put into the rest of the room
-  rest_put : (d : Part) (o want : Option Part) → want ≡ before d o → Done room n lines ok out d → (r : Lines) → PartAs (mid_of n (length out - n) out) r last o
+  rest_put : (d : Part) (o want : Option Part) → want ≡ before d o → Done room n lines ok out d → (r : Laid) → PartAs (mid_of n (length out - n) out) r last o
       → PartAs room (before_lines n lines ok r) (put_mid n (length out - n) out last) want
   rest_put d none want q done r w = subst (PartAs room (before_lines n lines ok r) (put_mid n (length out - n) out last)) (sym q) (ap (before_lines n lines ok) w)
   rest_put d (some x) want q done r w =
-      subst (λ (z : Lines). PartAs room z (put_mid n (length out - n) out last) want) (sym (ap (before_lines n lines ok) w.1))
+      subst (λ (z : Laid). PartAs room z (put_mid n (length out - n) out last) want) (sym (ap (before_lines n lines ok) w.1))
       (done_all room (n + w.0) (lines + length x.lines) (ok && x.carried) _ (join_parts d x) (done_on room n lines ok out d done r last x w w.1) want q)
 
 pub run_more : (s : Bytes) (slots : List ℕ) (at : ℕ) (full parts : Bool) (room : Bytes) (i n lines : ℕ) (ok : Bool) (out : Bytes) → Going s slots at full parts room i n lines ok out

@@ -1,5 +1,7 @@
 -- vCardProps by its slot.
 use mathlib.Core.Path.{◌≡◌, refl, sym, ap, subst, ◌∙◌}
+use Rattle.to_card_pen.specs.Refusal.{no_card}
+use Rattle.std.specs.Prelude.{Err}
 use mathlib.Core.Bool.{Bool, true}
 use mathlib.Core.List.{List, []}
 use mathlib.Core.Option.{Option, none, some}
@@ -27,9 +29,7 @@ use Rattle.convert.specs.Table.{reserved}
 use Rattle.convert.specs.Model.{Entry}
 use Rattle.convert.specs.Classify.{Seen}
 use Rattle.to_card_params.proofs.Walk.{slot-none, slot-some, none-past}
-use Rattle.to_card_lines.specs.declared.Lines.{Lines}
-use Rattle.to_card_lines.specs.declared.Lines.TheVariants.{All, Wrong}
-use Rattle.to_card_lines.specs.Lines.{PartAs, no_lines, parts_of}
+use Rattle.to_card_lines.specs.Lines.{PartAs, no_lines, parts_of, Laid, laid}
 use Rattle.to_card_lines.proofs.Parts.{parts_none, done_none, done_all, none-wrong}
 use Rattle.to_card_kept.specs.Kept.{kept_parts, entry_part, seen_of, Known, PutsKept}
 use Rattle.to_card_kept.specs.Puts.{EntriesAt, PutsFrom}
@@ -96,7 +96,7 @@ unfolding kept_parts
 no-parts seen = refl
 
 module _ (s : Bytes) (slots : List ℕ) (full parts : Bool) (out : Bytes) where
-  pub kept-absent : get_or slots 12 0 ≡ 0 → PutsKept s slots full parts out (All 0 0 true) out
+  pub kept-absent : get_or slots 12 0 ≡ 0 → PutsKept s slots full parts out (laid 0 0 true) out
   kept-absent e mm ess known n f p =
       let seen = seen_of n ess (members_of mm) in
       done_all out 0 0 true out no_lines (done_none out) _ (ap (kept_parts seen) (slot-none (props-slot known) e) ∙ no-parts seen)
@@ -105,25 +105,25 @@ module _ (s : Bytes) (slots : List ℕ) (full parts : Bool) (out : Bytes) where
     value_of : {mm : Members} {ess : List (List Entry)} → Known s slots mm ess → (v : Json) × (field name (members_of mm) ≡ some v) × (json_at 15 s at ≡ some v)
     value_of known = let v = slot-some (props-slot known) (λ z. there (is ∙ z)) in (v.0, v.1, ap (json_at 15 s) is ∙ v.2)
 
-    pub kept-past : length s < at → (after : Bytes) → PutsKept s slots full parts out Wrong after
+    pub kept-past : length s < at → (after : Bytes) → PutsKept s slots full parts out (Err no_card) after
     kept-past l after mm ess known n f p = let v = value_of known in none-past 15 s at v.0 l v.2
 
     module _ (i b : ℕ) (h : Passes is_space s at i) (e : b ≡ byte_at s i) where
-      pub kept-other : (b ≡ 91 → ⊥) → (after : Bytes) → PutsKept s slots full parts out Wrong after
+      pub kept-other : (b ≡ 91 → ⊥) → (after : Bytes) → PutsKept s slots full parts out (Err no_card) after
       kept-other z after mm ess known n f p =
           let seen = seen_of n ess (members_of mm) in
           let v = value_of known in
           none-wrong out after _ (ap (kept_parts seen) v.1 ∙ array-none seen v.0 (other_none v.0 (not-array 14 s at i b h e z v.0 v.2)))
 
       module _ (q : b ≡ 91) (j c : ℕ) (k : Passes is_space s (i + 1) j) (g : c ≡ byte_at s j) where
-        pub kept-empty : c ≡ 93 → PutsKept s slots full parts out (All 0 0 true) out
+        pub kept-empty : c ≡ 93 → PutsKept s slots full parts out (laid 0 0 true) out
         kept-empty z mm ess known n f p =
             let seen = seen_of n ess (members_of mm) in
             let v = value_of known in
             let w : as_array v.0 ≡ some [] = ap as_array (empty-array 14 s at i b h e q j c k g z v.0 v.2) ∙ ap some elems-nil in
             done_all out 0 0 true out no_lines (done_none out) _ (ap (kept_parts seen) v.1 ∙ array_parts seen v.0 [] w ∙ parts_none (entry_part seen))
 
-        pub kept_full : (c ≡ 93 → ⊥) → (r : Lines) (after : Bytes) → PutsFrom s slots j full parts out r after → PutsKept s slots full parts out r after
+        pub kept_full : (c ≡ 93 → ⊥) → (r : Laid) (after : Bytes) → PutsFrom s slots j full parts out r after → PutsKept s slots full parts out r after
         kept_full z r after from mm ess known n f p =
             let seen = seen_of n ess (members_of mm) in
             let v = value_of known in

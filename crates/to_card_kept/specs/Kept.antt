@@ -11,8 +11,7 @@ use Rattle.convert.specs.Model.{Entry, Kept, has_parts}
 use Rattle.convert.specs.Classify.{Seen}
 use Rattle.convert.specs.FromJson.{Name, map_from, kept_from, kept_as_line, kept_stands, ids_from, other_members}
 use Rattle.convert.specs.Carry.{carried_kept}
-use Rattle.to_card_lines.specs.declared.Lines.{Lines}
-use Rattle.to_card_lines.specs.Lines.{Part, PartAs, no_lines, parts_of}
+use Rattle.to_card_lines.specs.Lines.{Part, PartAs, no_lines, parts_of, Laid}
 use Rattle.card_table.specs.Numbers.{card_slots}
 use Rattle.line_table.specs.Table.{table_length}
 use Rattle.json_text.specs.Lookup.{room}
@@ -58,6 +57,6 @@ pub record Known (s : Bytes) (slots : List ℕ) (mm : Members) (ess : List (List
   pub read : each (map_from (members_of mm)) maps ≡ some ess
 
 -- 12, or the lines of vCardProps, as far as there is room, how many they are, and whether they can carry it
-abbrev pub PutsKept : Bytes → List ℕ → Bool → Bool → Bytes → Lines → Bytes → Type 0
+abbrev pub PutsKept : Bytes → List ℕ → Bool → Bool → Bytes → Laid → Bytes → Type 0
 PutsKept s slots full parts room r after = (mm : Members) (ess : List (List Entry)) → Known s slots mm ess → (n : Name) → is_some n.full ≡ full → has_parts n.parts ≡ parts
     → PartAs room r after (kept_parts (seen_of n ess (members_of mm)) (field (ascii "vCardProps") (members_of mm)))

@@ -14,16 +14,19 @@ ghost use Rattle.to_card_kept.specs.Puts.{TellsKept, as_entered, as_lines, Asked
 
 use card_table::{members, params};
 use class_line::{Class, class_line};
+use convert_params::Rows;
 use json_limits::NAMES;
 use json_marks::{separator, skip_space};
+use std::ops::ControlFlow;
 use table_params::scan_rows;
 use table_sound::is_sound;
-use text::{LEFT_BRACKET, RIGHT_BRACKET, Turn, look};
-use to_card_kept_entry::fill::{Held, fill_kept};
+use text::{LEFT_BRACKET, RIGHT_BRACKET, look};
+use to_card_kept_entry::fill::fill_kept;
 use to_card_kept_entry::writing::put_kept_line;
 use to_card_kept_names::{ENDS, note_groups};
 use to_card_kept_used::is_kept_class;
 use to_card_lines::Lines;
+use to_card_pen::NoCard;
 
 // So many questions are looked up by walks over the text: few cards have more of them, and most have none.
 const QUESTIONS: usize = 16;
@@ -67,7 +70,12 @@ fn is_kept_line<'a, 'b, 'c, 'd, 'e, 'f, 'g>(
     let mut froms = [0usize; params::COUNT];
     let mut tos = [0usize; params::COUNT];
     scan_rows(&mut counts, &mut froms, &mut tos, b, t);
-    let class = class_line(&counts, &froms, &tos, b, t, scratch, full, parts);
+    let rows = Rows {
+        counts: &counts,
+        froms: &froms,
+        tos: &tos,
+    };
+    let class = class_line(rows, b, t, scratch, full, parts);
     let asked = questions(class);
     let kept = is_kept_class(s, slots, places, prints, ends, b, scratch, class);
     Judged {
@@ -76,19 +84,16 @@ fn is_kept_line<'a, 'b, 'c, 'd, 'e, 'f, 'g>(
     }
 }
 
-// What became of an entry: its bytes, whether they carry it, the place after it, and how often the names of the card were asked.
-#[derive(Drop)]
-enum Tried {
-    Line {
-        bytes: usize,
-        carries: bool,
-        next: usize,
-        asked: usize,
-    },
-    Refused,
+// An entry as a line: its bytes, whether they carry it, the place after it, and how often the names of the card were asked.
+#[derive(Clone, Copy)]
+struct KeptLine {
+    bytes: usize,
+    carries: bool,
+    next: usize,
+    asked: usize,
 }
 
-// An entry as a line: 12 where no kept line gives it in its place.
+// An entry as a line: none, which is 12, where no kept line gives it in its place.
 fn put_entry<'a, 'b, 'c, 'd, 'e, 'f, 'g, 'h>(
     out: &'a mut [u8],
     b: &'b mut [u8],
@@ -102,7 +107,7 @@ fn put_entry<'a, 'b, 'c, 'd, 'e, 'f, 'g, 'h>(
     at: usize,
     full: bool,
     parts: bool,
-) -> Tried
+) -> Option<KeptLine>
     requires lent { Lent b.old t.old scratch.old s.now slots.now }
     requires indexes { Indexes s.now slots.now places.now prints.now ends.now }
     requires at_in_bounds { at ≤ length s.now }
@@ -111,32 +116,30 @@ fn put_entry<'a, 'b, 'c, 'd, 'e, 'f, 'g, 'h>(
     ensures puts_entry { PutsEntry s.now slots.now at full parts out.old (as_lines (as_entered result)) out.new }
     ensures asked_once { AskedOnce result }
 {
-    let Held::Entry(end) = fill_kept(b, t, s, at) else {
-        return Tried::Refused;
-    };
+    let end = fill_kept(b, t, s, at)?;
     if !is_sound(b, t) {
-        return Tried::Refused;
+        return None;
     }
     let judged = is_kept_line(b, t, scratch, s, slots, places, prints, ends, full, parts);
     if !judged.kept {
-        return Tried::Refused;
+        return None;
     }
     let p = put_kept_line(out, b, t);
     let n = p.bytes;
     let ok = p.carried;
     let q = judged.asked;
-    Tried::Line {
+    Some(KeptLine {
         bytes: n,
         carries: ok,
         next: end,
         asked: q,
-    }
+    })
 }
 
 // How far entries were written: to their end, or some of them, with the place of the next.
 #[derive(Drop)]
 enum Run {
-    Ended(Lines),
+    Ended(Result<Lines, NoCard>),
     More {
         bytes: usize,
         lines: usize,
@@ -174,12 +177,7 @@ fn put_run<'a, 'b, 'c, 'd, 'e, 'f, 'g, 'h>(
     let mut asked = 0;
     let mut ok = true;
     loop {
-        let Tried::Line {
-            bytes: k,
-            carries: c,
-            next: e,
-            asked: q,
-        } = put_entry(
+        let Some(line) = put_entry(
             &mut out[n..],
             b,
             t,
@@ -192,16 +190,15 @@ fn put_run<'a, 'b, 'c, 'd, 'e, 'f, 'g, 'h>(
             i,
             full,
             parts,
-        )
-        else {
-            return Run::Ended(Lines::Wrong);
+        ) else {
+            return Run::Ended(Err(NoCard));
         };
-        n += k;
+        n += line.bytes;
         lines += 1;
-        asked += q;
-        ok = ok & c;
-        match separator(s, e, RIGHT_BRACKET) {
-            Turn::Go(j) => {
+        asked += line.asked;
+        ok = ok & line.carries;
+        match separator(s, line.next, RIGHT_BRACKET) {
+            ControlFlow::Continue(j) => {
                 if asked == most {
                     return Run::More {
                         bytes: n,
@@ -212,12 +209,12 @@ fn put_run<'a, 'b, 'c, 'd, 'e, 'f, 'g, 'h>(
                 }
                 i = j;
             }
-            Turn::Stop(r) => {
-                return Run::Ended(Lines::All {
+            ControlFlow::Break(r) => {
+                return Run::Ended(Ok(Lines {
                     bytes: n,
                     lines,
                     carries: ok,
-                });
+                }));
             }
         }
     }
@@ -234,7 +231,7 @@ fn put_noted(
     at: usize,
     full: bool,
     parts: bool,
-) -> Lines
+) -> Result<Lines, NoCard>
     requires lent { Lent b.old t.old scratch.old s.now slots.now }
     requires at_in_bounds { at ≤ length s.now }
     ensures lines_within { LinesWithin (length out.old) (length s.now + 1) result }
@@ -267,7 +264,7 @@ fn put_noted(
             lines,
             carries: ok,
             next: j,
-        } => Lines::Wrong,
+        } => Err(NoCard),
     }
 }
 
@@ -282,7 +279,7 @@ fn put_from(
     at: usize,
     full: bool,
     parts: bool,
-) -> Lines
+) -> Result<Lines, NoCard>
     requires lent { Lent b.old t.old scratch.old s.now slots.now }
     requires at_in_bounds { at ≤ length s.now }
     ensures lines_in { LinesIn (length out.old) result }
@@ -312,19 +309,12 @@ fn put_from(
             carries: ok,
             next: j,
         } => {
-            let Lines::All {
-                bytes: m,
-                lines: l,
-                carries: c,
-            } = put_noted(&mut out[n..], b, t, scratch, s, slots, j, full, parts)
-            else {
-                return Lines::Wrong;
-            };
-            Lines::All {
-                bytes: n + m,
-                lines: lines + l,
-                carries: ok & c,
-            }
+            let noted = put_noted(&mut out[n..], b, t, scratch, s, slots, j, full, parts)?;
+            Ok(Lines {
+                bytes: n + noted.bytes,
+                lines: lines + noted.lines,
+                carries: ok & noted.carries,
+            })
         }
     }
 }
@@ -339,7 +329,7 @@ pub fn put_kept(
     slots: &[usize],
     full: bool,
     parts: bool,
-) -> Lines
+) -> Result<Lines, NoCard>
     requires { Lent b.old t.old scratch.old s.now slots.now }
     ensures lines_in { LinesIn (length out.old) result }
     ensures out_len_unchanged { length out.new ≡ length out.old }
@@ -347,26 +337,26 @@ pub fn put_kept(
 {
     let at = slots[members::KEPT];
     if at == 0 {
-        return Lines::All {
+        return Ok(Lines {
             bytes: 0,
             lines: 0,
             carries: true,
-        };
+        });
     }
     if at > s.len() {
-        return Lines::Wrong;
+        return Err(NoCard);
     }
     let i = skip_space(s, at);
     if look(s, i) != LEFT_BRACKET {
-        return Lines::Wrong;
+        return Err(NoCard);
     }
     let j = skip_space(s, i + 1);
     if look(s, j) == RIGHT_BRACKET {
-        return Lines::All {
+        return Ok(Lines {
             bytes: 0,
             lines: 0,
             carries: true,
-        };
+        });
     }
     put_from(out, b, t, scratch, s, slots, j, full, parts)
 }

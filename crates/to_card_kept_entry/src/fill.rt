@@ -5,9 +5,9 @@ ghost use Rattle.to_card_kept_entry.specs.entry.Entry.{FillsRest, FillsKept};
 ghost use Rattle.line_table.specs.Table.{table_length};
 ghost use Rattle.to_card_kept_entry.specs.fill.Held.{is_entry, HeldIn};
 
-use crate::entry::{Four, four_at, put_head, put_name, put_type};
-use crate::strings::{Rows, To, put_string};
-use crate::table::{Filled, Step, put_object};
+use crate::entry::{four_at, put_head, put_name, put_type};
+use crate::strings::put_string;
+use crate::table::{Filled, put_object};
 
 // Type and value, then the head.
 fn put_rest(
@@ -31,49 +31,29 @@ fn put_rest(
     let count = f.count;
     let from = f.from;
     let to = f.to;
-    let Rows::More { end, count: rows } = put_type(b, n, t, m, count, s, kind) else {
+    let Some(p) = put_type(b, n, t, m, count, s, kind) else {
         return false;
     };
-    let To::End(x) = put_string(b, end, s, value) else {
+    let Some(x) = put_string(b, p.end, s, value) else {
         return false;
     };
-    put_head(t, from, to, e, end, x, rows);
+    put_head(t, from, to, e, p.end, x, p.count);
     true
 }
 
-// An entry as a table: the place after the entry; bad where no kept line gives it in form.
-#[derive(Drop)]
-pub enum Held {
-    Entry(usize),
-    Bad,
-}
-
-// The whole entry.
-pub fn fill_kept(b: &mut [u8], t: &mut [usize], s: &[u8], at: usize) -> Held
+// The whole entry as a table: the place after the entry; none where no kept line gives it in form.
+pub fn fill_kept(b: &mut [u8], t: &mut [usize], s: &[u8], at: usize) -> Option<usize>
     requires table_length_in_bounds { table_length ≤ length t.old }
     requires at_in_bounds { at ≤ length s.now }
     ensures bounds { Bounds b.old b.new t.old t.new }
     ensures held_in { HeldIn s.now at result }
     ensures fills_kept { FillsKept b.old s.now at (is_entry result) b.new t.new }
 {
-    let Four::At {
-        name,
-        params,
-        kind,
-        value,
-        end,
-    } = four_at(s, at)
-    else {
-        return Held::Bad;
-    };
-    let To::End(e) = put_name(b, 0, s, name) else {
-        return Held::Bad;
-    };
-    let Step::On(f) = put_object(b, e, t, s, params) else {
-        return Held::Bad;
-    };
-    if !put_rest(b, t, f, e, s, kind, value) {
-        return Held::Bad;
+    let four = four_at(s, at)?;
+    let e = put_name(b, 0, s, four.name)?;
+    let f = put_object(b, e, t, s, four.params)?;
+    if !put_rest(b, t, f, e, s, four.kind, four.value) {
+        return None;
     }
-    Held::Entry(end)
+    Some(four.end)
 }

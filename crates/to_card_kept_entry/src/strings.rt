@@ -12,22 +12,16 @@ use json_strings::decode_into;
 use line_class::{Class, all_of};
 use line_limits::VALUES;
 use line_table::put_row;
-use output::{Wrote, put_text};
-use text::{LEFT_BRACKET, RIGHT_BRACKET, Turn, look};
+use output::put_text;
+use std::ops::ControlFlow;
+use text::{LEFT_BRACKET, RIGHT_BRACKET, look};
 use to_card_value::string_in;
 
-// Where what is in the buffer ends.
-#[derive(Drop)]
-pub enum To {
-    End(usize),
-    Bad,
-}
-
 // Where what is in the buffer ends, and how many rows the table has.
-#[derive(Drop)]
-pub enum Rows {
-    More { end: usize, count: usize },
-    Wrong,
+#[derive(Clone, Copy)]
+pub struct Rows {
+    pub end: usize,
+    pub count: usize,
 }
 
 // A name in lower case.
@@ -54,19 +48,20 @@ fn bare_end(s: &[u8], at: usize) -> usize
     s.len()
 }
 
-// The string whose first quote stands just before a place, after the first n bytes of the buffer: decoded byte by byte.
-fn put_escaped(b: &mut [u8], n: usize, s: &[u8], at: usize) -> To
+// The string whose first quote stands just before a place, after the first n bytes of the buffer: decoded byte by byte. It gives where the buffer's
+// bytes then end.
+fn put_escaped(b: &mut [u8], n: usize, s: &[u8], at: usize) -> Option<usize>
     requires { n ≤ length b.old }
     ensures { Puts b.old n (text_at s.now at) result b.new }
 {
-    let Wrote::Bytes(k) = decode_into(&mut b[n..], s, at) else {
-        return To::Bad;
+    let Ok(k) = decode_into(&mut b[n..], s, at) else {
+        return None;
     };
-    To::End(n + k)
+    Some(n + k)
 }
 
 // The same; most strings have no escape, and are copied as they are.
-pub fn put_decoded(b: &mut [u8], n: usize, s: &[u8], at: usize) -> To
+pub fn put_decoded(b: &mut [u8], n: usize, s: &[u8], at: usize) -> Option<usize>
     requires { n ≤ length b.old }
     ensures { Puts b.old n (text_at s.now at) result b.new }
 {
@@ -74,14 +69,14 @@ pub fn put_decoded(b: &mut [u8], n: usize, s: &[u8], at: usize) -> To
     if e >= s.len() {
         return put_escaped(b, n, s, at);
     }
-    let Wrote::Bytes(k) = put_text(&mut b[n..], &s[at..e]) else {
-        return To::Bad;
+    let Ok(k) = put_text(&mut b[n..], &s[at..e]) else {
+        return None;
     };
-    To::End(n + k)
+    Some(n + k)
 }
 
 // The value at a place, where it is a string.
-pub fn put_string(b: &mut [u8], n: usize, s: &[u8], at: usize) -> To
+pub fn put_string(b: &mut [u8], n: usize, s: &[u8], at: usize) -> Option<usize>
     requires { n ≤ length b.old }
     ensures b_len_unchanged { length b.new ≡ length b.old }
     ensures within { Within n (length b.old) result }
@@ -89,7 +84,7 @@ pub fn put_string(b: &mut [u8], n: usize, s: &[u8], at: usize) -> To
 {
     let q = string_in(s, at);
     if q == 0 {
-        return To::Bad;
+        return None;
     }
     put_decoded(b, n, s, q)
 }
@@ -104,7 +99,7 @@ pub fn put_value(
     e: usize,
     s: &[u8],
     at: usize,
-) -> Rows
+) -> Option<Rows>
     requires n_in_bounds { n ≤ length b.old }
     requires table_length_in_bounds { table_length ≤ length t.old }
     ensures bounds { Bounds b.old b.new t.old t.new }
@@ -112,16 +107,14 @@ pub fn put_value(
     ensures adds_value { AddsValue b.old n t.old m a e s.now at result b.new t.new }
 {
     if m >= VALUES {
-        return Rows::Wrong;
+        return None;
     }
-    let To::End(k) = put_string(b, n, s, at) else {
-        return Rows::Wrong;
-    };
+    let k = put_string(b, n, s, at)?;
     let rows = put_row(t, m, a, e, n, k);
-    Rows::More {
+    Some(Rows {
         end: k,
         count: rows,
-    }
+    })
 }
 
 // The elements of an array from a place on, each a value of that parameter.
@@ -134,7 +127,7 @@ fn put_elements(
     e: usize,
     s: &[u8],
     at: usize,
-) -> Rows
+) -> Option<Rows>
     requires n_in_bounds { n ≤ length b.old }
     requires table_length_in_bounds { table_length ≤ length t.old }
     requires at_in_bounds { at ≤ length s.now }
@@ -149,20 +142,18 @@ fn put_elements(
         let p = element_at(s, i, kept::VALUES_DEPTH);
         let v = p.start;
         let x = p.end;
-        let Rows::More { end, count } = put_value(b, k, t, rows, a, e, s, v) else {
-            return Rows::Wrong;
-        };
-        k = end;
-        rows = count;
+        let added = put_value(b, k, t, rows, a, e, s, v)?;
+        k = added.end;
+        rows = added.count;
         match separator(s, x, RIGHT_BRACKET) {
-            Turn::Go(j) => {
+            ControlFlow::Continue(j) => {
                 i = j;
             }
-            Turn::Stop(r) => {
-                return Rows::More {
+            ControlFlow::Break(r) => {
+                return Some(Rows {
                     end: k,
                     count: rows,
-                };
+                });
             }
         }
     }
@@ -178,7 +169,7 @@ pub fn put_values(
     e: usize,
     s: &[u8],
     at: usize,
-) -> Rows
+) -> Option<Rows>
     requires n_in_bounds { n ≤ length b.old }
     requires table_length_in_bounds { table_length ≤ length t.old }
     requires at_in_bounds { at ≤ length s.now }
@@ -192,7 +183,7 @@ pub fn put_values(
     }
     let j = skip_space(s, i + 1);
     if look(s, j) == RIGHT_BRACKET {
-        return Rows::Wrong;
+        return None;
     }
     put_elements(b, n, t, m, a, e, s, j)
 }
@@ -214,17 +205,17 @@ fn sole_string(s: &[u8], at: usize) -> usize
     let v = p.start;
     let x = p.end;
     match separator(s, x, RIGHT_BRACKET) {
-        Turn::Go(k) => {
+        ControlFlow::Continue(k) => {
             return 0;
         }
-        Turn::Stop(r) => {
+        ControlFlow::Break(r) => {
             return string_in(s, v);
         }
     }
 }
 
 // The group of a kept line.
-pub fn put_group(b: &mut [u8], n: usize, s: &[u8], at: usize) -> To
+pub fn put_group(b: &mut [u8], n: usize, s: &[u8], at: usize) -> Option<usize>
     requires n_in_bounds { n ≤ length b.old }
     requires at_in_bounds { at ≤ length s.now }
     ensures b_len_unchanged { length b.new ≡ length b.old }
@@ -233,13 +224,11 @@ pub fn put_group(b: &mut [u8], n: usize, s: &[u8], at: usize) -> To
 {
     let q = sole_string(s, at);
     if q == 0 {
-        return To::Bad;
+        return None;
     }
-    let To::End(k) = put_decoded(b, n, s, q) else {
-        return To::Bad;
-    };
+    let k = put_decoded(b, n, s, q)?;
     if !is_word(&b[n..k]) {
-        return To::Bad;
+        return None;
     }
-    To::End(k)
+    Some(k)
 }

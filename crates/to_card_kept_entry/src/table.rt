@@ -4,27 +4,22 @@ ghost use Rattle.to_card_kept_entry.specs.strings.Strings.{Bounds, RowsIn};
 ghost use Rattle.line_table.specs.Table.{table_length};
 ghost use Rattle.to_card_kept_entry.specs.table.Kept.{PutsParam, StepIn, PutsMember, PutsFrom, PutsObject};
 
-use crate::strings::{Rows, To, is_word, put_decoded, put_group, put_values};
+use crate::strings::{Rows, is_word, put_decoded, put_group, put_values};
 use card_table::{kept, params};
 use json_access::member_at;
 use json_marks::{separator, skip_space};
 use json_strings::equals;
-use text::{LEFT_BRACE, RIGHT_BRACE, Turn, look};
+use std::ops::ControlFlow;
+use text::{LEFT_BRACE, RIGHT_BRACE, look};
 
 // What of a line's parameters is in the buffer and the table: where the buffer's bytes end, the rows, the parameters, and the group's place.
-#[derive(Drop)]
+#[derive(Clone, Copy)]
 pub struct Filled {
     pub end: usize,
     pub rows: usize,
     pub count: usize,
     pub from: usize,
     pub to: usize,
-}
-
-#[derive(Drop)]
-pub enum Step {
-    On(Filled),
-    Bad,
 }
 
 // A parameter that is no group.
@@ -36,7 +31,7 @@ fn put_param(
     s: &[u8],
     q: usize,
     at: usize,
-) -> Rows
+) -> Option<Rows>
     requires n_in_bounds { n ≤ length b.old }
     requires table_length_in_bounds { table_length ≤ length t.old }
     requires at_in_bounds { at ≤ length s.now }
@@ -44,20 +39,25 @@ fn put_param(
     ensures rows_in { RowsIn n (length b.old) result }
     ensures puts_param { PutsParam b.old n t.old m s.now q at result b.new t.new }
 {
-    let To::End(k) = put_decoded(b, n, s, q) else {
-        return Rows::Wrong;
-    };
+    let k = put_decoded(b, n, s, q)?;
     if !is_word(&b[n..k]) {
-        return Rows::Wrong;
+        return None;
     }
     if equals(s, q, &params::VALUE_NAME) {
-        return Rows::Wrong;
+        return None;
     }
     put_values(b, k, t, m, n, k, s, at)
 }
 
 // A member of the parameters: the group, or a parameter.
-fn put_member(b: &mut [u8], t: &mut [usize], f: Filled, s: &[u8], q: usize, at: usize) -> Step
+fn put_member(
+    b: &mut [u8],
+    t: &mut [usize],
+    f: Filled,
+    s: &[u8],
+    q: usize,
+    at: usize,
+) -> Option<Filled>
     requires end_in_bounds { f.end ≤ length b.old }
     requires table_length_in_bounds { table_length ≤ length t.old }
     requires at_in_bounds { at ≤ length s.now }
@@ -74,12 +74,10 @@ fn put_member(b: &mut [u8], t: &mut [usize], f: Filled, s: &[u8], q: usize, at: 
     let to = f.to;
     if equals(s, q, &params::GROUP_NAME) {
         if to != 0 {
-            return Step::Bad;
+            return None;
         }
-        let To::End(k) = put_group(b, n, s, at) else {
-            return Step::Bad;
-        };
-        return Step::On(Filled {
+        let k = put_group(b, n, s, at)?;
+        return Some(Filled {
             end: k,
             rows: m,
             count: count,
@@ -87,12 +85,10 @@ fn put_member(b: &mut [u8], t: &mut [usize], f: Filled, s: &[u8], q: usize, at: 
             to: k,
         });
     }
-    let Rows::More { end, count: rows } = put_param(b, n, t, m, s, q, at) else {
-        return Step::Bad;
-    };
-    Step::On(Filled {
-        end: end,
-        rows: rows,
+    let p = put_param(b, n, t, m, s, q, at)?;
+    Some(Filled {
+        end: p.end,
+        rows: p.count,
         count: count + 1,
         from: from,
         to: to,
@@ -100,7 +96,7 @@ fn put_member(b: &mut [u8], t: &mut [usize], f: Filled, s: &[u8], q: usize, at: 
 }
 
 // The parameters from a place of their object on.
-fn put_from(b: &mut [u8], n: usize, t: &mut [usize], s: &[u8], at: usize) -> Step
+fn put_from(b: &mut [u8], n: usize, t: &mut [usize], s: &[u8], at: usize) -> Option<Filled>
     requires n_in_bounds { n ≤ length b.old }
     requires table_length_in_bounds { table_length ≤ length t.old }
     requires at_in_bounds { at ≤ length s.now }
@@ -121,23 +117,21 @@ fn put_from(b: &mut [u8], n: usize, t: &mut [usize], s: &[u8], at: usize) -> Ste
         let q = m.name;
         let a = m.start;
         let e = m.end;
-        let Step::On(g) = put_member(b, t, f, s, q, a) else {
-            return Step::Bad;
-        };
+        let g = put_member(b, t, f, s, q, a)?;
         f = g;
         match separator(s, e, RIGHT_BRACE) {
-            Turn::Go(j) => {
+            ControlFlow::Continue(j) => {
                 i = j;
             }
-            Turn::Stop(r) => {
-                return Step::On(f);
+            ControlFlow::Break(r) => {
+                return Some(f);
             }
         }
     }
 }
 
 // The parameters: an object, perhaps empty.
-pub fn put_object(b: &mut [u8], n: usize, t: &mut [usize], s: &[u8], at: usize) -> Step
+pub fn put_object(b: &mut [u8], n: usize, t: &mut [usize], s: &[u8], at: usize) -> Option<Filled>
     requires n_in_bounds { n ≤ length b.old }
     requires table_length_in_bounds { table_length ≤ length t.old }
     requires at_in_bounds { at ≤ length s.now }
@@ -147,11 +141,11 @@ pub fn put_object(b: &mut [u8], n: usize, t: &mut [usize], s: &[u8], at: usize) 
 {
     let i = skip_space(s, at);
     if look(s, i) != LEFT_BRACE {
-        return Step::Bad;
+        return None;
     }
     let j = skip_space(s, i + 1);
     if look(s, j) == RIGHT_BRACE {
-        return Step::On(Filled {
+        return Some(Filled {
             end: n,
             rows: 0,
             count: 0,

@@ -24,13 +24,11 @@ fn pen_upper(out: &mut [u8], column: usize, name: &[u8]) -> Pen
 {
     let mut at = 0;
     let mut k = column;
-    let mut i = 0;
-    while i < name.len() {
+    for i in 0..name.len() {
         let c = upper_of(name[i]);
         let p = pen_byte(&mut out[at..], k, c);
         at += p.bytes;
         k = p.column;
-        i += 1;
     }
     Pen {
         bytes: at,
@@ -43,10 +41,8 @@ fn all_stand(style: u8, s: &[u8]) -> bool
     ensures { result ≡ all_stand_in style s.now }
 {
     let mut ok = true;
-    let mut i = 0;
-    while i < s.len() {
+    for i in 0..s.len() {
         ok = ok & can_stand(style, s[i]);
-        i += 1;
     }
     ok
 }
@@ -186,15 +182,13 @@ fn pen_params(out: &mut [u8], column: usize, b: &[u8], t: &[usize]) -> Told
     let mut k = column;
     let mut ok = true;
     let mut quoted = false;
-    let mut i: usize = 0;
-    while i < n {
+    for i in 0..n {
         let more = is_more(t, i);
         quoted = is_quoted(b, t, i, more, quoted);
         let p = pen_row(&mut out[at..], k, b, t, i, more, quoted);
         at += p.bytes;
         k = p.column;
         ok = ok & p.carried;
-        i += 1;
     }
     Told {
         bytes: at,

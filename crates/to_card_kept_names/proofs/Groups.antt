@@ -21,9 +21,8 @@ use Rattle.json_prints.specs.Prints.{Names, SoughtKey}
 use Rattle.json_prints.proofs.Prints.{no_names}
 use Rattle.json_walk.specs.Walk.{json_at}
 use Rattle.json_has.specs.Has.{named, has_name, HasMember}
-use Rattle.to_card_kept_names.specs.declared.Noted.{Noted}
-use Rattle.to_card_kept_names.specs.declared.Noted.TheVariants.{Rows}
-use Rattle.to_card_kept_names.specs.Groups.{names_of, slot_names, group_names, HasName, NotedIn, NotesAll, NotesNames, NotesGroup, rows, Group, NameIndex, Indexes}
+use Rattle.std.specs.Prelude.{Some}
+use Rattle.to_card_kept_names.specs.Groups.{Noted, names_of, slot_names, group_names, HasName, NotedIn, NotesAll, NotesNames, NotesGroup, rows, Group, NameIndex, Indexes}
 
 -- ---- what a group is
 
@@ -57,7 +56,7 @@ module _ (s : Bytes) (slots : List ℕ) (i : ℕ) (r : Noted) (ps fs : List ℕ)
   notes-last e h ns q = notes-stand 15 s 0 r ps fs h ns (last-stands s slots i e ns q)
 
   module _ (n : i ≡ 7 → ⊥) where
-    pub notes-empty : get_or slots (i + 5) 0 ≡ 0 → NotesGroup s slots i (Rows 0) ps fs
+    pub notes-empty : get_or slots (i + 5) 0 ≡ 0 → NotesGroup s slots i (Some 0) ps fs
     notes-empty z ns q = subst (Names s (take 0 ps) (take 0 fs)) (empty-names s slots i n z ns q) (no_names s ps fs)
 
     pub notes-slot : (get_or slots (i + 5) 0 ≡ 0 → ⊥) → NotesNames 14 s (get_or slots (i + 5) 0) r ps fs → NotesGroup s slots i r ps fs
@@ -125,7 +124,7 @@ filled_none s slots places prints ends l = record { next = get_or-set_same ends 
 
 module _ (s : Bytes) (slots places prints ends : List ℕ) (i n : ℕ) (filled : Filled s slots places prints ends i n) (even : length places ≡ length prints) (in_rows : n ≤ length places) (wide : length ends ≡ 9) (few : i < 8) where
   module _ (k : ℕ) (ps fs : List ℕ) (long : length ps ≡ length (mid_of n (length places - n) places)) (longs : length fs ≡ length (mid_of n (length prints - n) prints))
-      (notes : NotesGroup s slots i (Rows k) ps fs) (fits : k ≤ length (mid_of n (length places - n) places)) where
+      (notes : NotesGroup s slots i (Some k) ps fs) (fits : k ≤ length (mid_of n (length places - n) places)) where
     abbrev after : List ℕ
     after = put_mid n (length places - n) places ps
 
@@ -188,10 +187,10 @@ indexed s slots places prints ends i n f even wide h l =
 pub index-there : (s : Bytes) (slots places prints ends : List ℕ) → Indexes s slots places prints ends → (length ends ≡ 0 → ⊥) → NameIndex s slots places prints ends
 index-there s slots places prints ends h n = h (omega (arith, n))
 
-pub rows_in : {room k : ℕ} {r : Noted} → NotedIn room r → r ≡ Rows k → k ≤ room
+pub rows_in : {room k : ℕ} {r : Noted} → NotedIn room r → r ≡ Some k → k ≤ room
 rows_in {room} h e = subst (NotedIn room) e h
 
-pub rows-noted : (s : Bytes) (slots : List ℕ) (i : ℕ) (ps fs : List ℕ) (k : ℕ) (r : Noted) → NotesGroup s slots i r ps fs → r ≡ Rows k → NotesGroup s slots i (Rows k) ps fs
+pub rows-noted : (s : Bytes) (slots : List ℕ) (i : ℕ) (ps fs : List ℕ) (k : ℕ) (r : Noted) → NotesGroup s slots i r ps fs → r ≡ Some k → NotesGroup s slots i (Some k) ps fs
 rows-noted s slots i ps fs k r h e = subst (λ (x : Noted). NotesGroup s slots i x ps fs) e h
 
 -- ---- the names of a group, for what is known of the text

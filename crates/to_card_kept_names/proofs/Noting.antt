@@ -17,7 +17,7 @@ use Rattle.json_walk.specs.declared.Member.{Member}
 use Rattle.json_walk.specs.declared.Member.TheVariants.{At, End, NoObject}
 use Rattle.json_walk.specs.Walk.{json_at, TellsMembers, FirstOf, NextOf}
 use Rattle.json_walk.proofs.Laws.{told-member, told-end, told_none, Over}
-use Rattle.to_card_kept_names.specs.declared.Noted.TheVariants.{Rows}
+use Rattle.std.specs.Prelude.{Some}
 use Rattle.to_card_kept_names.specs.Groups.{names_of, NotesName, NotesNames}
 
 -- ---- one name
@@ -64,7 +64,7 @@ module _ (d : ℕ) (s : Bytes) (at : ℕ) (ps fs : List ℕ) (k : ℕ) (r : Memb
       }
 
   -- no member is left
-  pub noting-last : Over r → NotesNames d s at (Rows k) ps fs
+  pub noting-last : Over r → NotesNames d s at (Some k) ps fs
   noting-last h v e =
       let y = noting v e in
       let l : with-some y.members (map name_of) [] ≡ [] = none_left y.members y.after r h y.told in

@@ -9,8 +9,7 @@ use Rattle.json_strings.specs.Decoded.{decoded_at}
 use Rattle.json_prints.specs.Prints.{Names}
 use Rattle.json_walk.specs.Walk.{json_at}
 use Rattle.card_table.specs.Numbers.{group_count, map_count}
-use Rattle.to_card_kept_names.specs.declared.Noted.{Noted}
-use Rattle.to_card_kept_names.specs.declared.Noted.TheVariants.{Rows, Unfit}
+use Rattle.std.specs.Prelude.{Option as Maybe, Some, None}
 
 -- ---- names
 
@@ -42,14 +41,18 @@ NotesName s at k ps fs true after afters =
     (k < length ps) × ((ns : List Bytes) (n : Bytes) → Names s (take k ps) (take k fs) ns → decoded_at s at ≡ some n → Names s (take (k + 1) after) (take (k + 1) afters) (ns ++ (n ∷ [])))
 NotesName s at k ps fs false after afters = Unit {0}
 
+-- how many rows names took, where each was noted
+abbrev pub Noted : Type 0
+Noted = Maybe ℕ
+
 abbrev pub NotedIn : ℕ → Noted → Type 0
-NotedIn room (Rows n) = n ≤ room
-NotedIn room Unfit = Unit {0}
+NotedIn room (Some n) = n ≤ room
+NotedIn room None = Unit {0}
 
 -- the first rows note these names
 abbrev pub NotesAll : Bytes → List Bytes → Noted → List ℕ → List ℕ → Type 0
-NotesAll s ns (Rows n) ps fs = Names s (take n ps) (take n fs) ns
-NotesAll s ns Unfit ps fs = Unit {0}
+NotesAll s ns (Some n) ps fs = Names s (take n ps) (take n fs) ns
+NotesAll s ns None ps fs = Unit {0}
 
 -- of whatever value stands at a place
 abbrev pub NotesNames : ℕ → Bytes → ℕ → Noted → List ℕ → List ℕ → Type 0

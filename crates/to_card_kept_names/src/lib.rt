@@ -11,14 +11,7 @@ use json_prints::{is_key_noted, print_from};
 use json_skip::skip_value;
 use json_walk::{Member, first_member, next_member};
 
-// How many rows the names took, or that one did not fit: there was no row for it, or its place or its print has more than sixteen bits.
-#[derive(Drop)]
-pub enum Noted {
-    Rows(usize),
-    Unfit,
-}
-
-// The name at a place, noted in the row k, or not.
+// The name at a place, noted in the row k, or not: there was no row for it, or its place or its print has more than sixteen bits.
 fn note_name<'a, 'b>(
     places: &'a mut [u16],
     prints: &'a mut [u16],
@@ -45,14 +38,14 @@ fn note_name<'a, 'b>(
     true
 }
 
-// The names of the members of the value at a place; none where it is no object.
+// The names of the members of the value at a place, none where it is no object: how many rows they took, where each of them was noted.
 fn note_names<'a, 'b>(
     places: &'a mut [u16],
     prints: &'a mut [u16],
     s: &'b [u8],
     at: usize,
     depth: usize,
-) -> Noted
+) -> Option<usize>
     requires { length places.old ≡ length prints.old }
     ensures noted_in { NotedIn (length places.old) result }
     ensures notes_names { NotesNames depth s.now at result places.new prints.new }
@@ -61,10 +54,10 @@ fn note_names<'a, 'b>(
     let mut m = first_member(s, at);
     loop {
         let Member::At { name: q, start: a } = m else {
-            return Noted::Rows(k);
+            return Some(k);
         };
         if !note_name(places, prints, k, s, q) {
-            return Noted::Unfit;
+            return None;
         }
         k += 1;
         let e = skip_value(s, a);
@@ -82,7 +75,7 @@ fn note_group<'a, 'b, 'c>(
     s: &'b [u8],
     slots: &'c [usize],
     i: usize,
-) -> Noted
+) -> Option<usize>
     requires i_lt_group_count { (i < group_count) × (map_slots ≤ length slots.now) }
     requires places_len { length places.old ≡ length prints.old }
     ensures noted_in { NotedIn (length places.old) result }
@@ -94,7 +87,7 @@ fn note_group<'a, 'b, 'c>(
     let k = i + members::MAPS;
     let at = slots[k];
     if at == 0 {
-        return Noted::Rows(0);
+        return Some(0);
     }
     note_names(places, prints, s, at, maps::DEPTH)
 }
@@ -116,7 +109,7 @@ pub fn note_groups<'a, 'b, 'c, 'd>(
     let mut n = 0;
     let mut i = 0;
     while i < maps::GROUPS {
-        let Noted::Rows(k) = note_group(&mut places[n..], &mut prints[n..], s, slots, i) else {
+        let Some(k) = note_group(&mut places[n..], &mut prints[n..], s, slots, i) else {
             return 0;
         };
         n += k;

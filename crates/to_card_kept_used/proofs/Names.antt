@@ -10,8 +10,8 @@ use Rattle.text.specs.Bytes.{Bytes, any, same, among, keep}
 use Rattle.text.proofs.Cases.{by_bool, not-both}
 use Rattle.text.proofs.Same.{same_true}
 use Rattle.json_text.specs.Tree.{Member, member, name_of}
-use Rattle.output.specs.declared.Wrote.{Wrote}
-use Rattle.output.specs.declared.Wrote.TheVariants.{Bytes as Wrote-Bytes, Full}
+use Rattle.output.specs.Put.{Wrote, full}
+use Rattle.std.specs.Prelude.{Ok, Err}
 use Rattle.output.specs.Put.{Puts}
 use Rattle.output.proofs.Laws.{said-full}
 use Rattle.json_has.specs.Has.{named}
@@ -36,11 +36,11 @@ others-have n h (member k v ∷ ms) =
     (λ e. rw e (ap (λ b. same n k || b) (others-have n h ms)))
 
 module _ (s p scratch : Bytes) {w : Wrote} {out : Bytes} (puts : Puts scratch (name_in p) w out) where
-  pub pointer-full : length p ≤ length scratch → w ≡ Full → (r : Bool) → PointerUsed s p r
+  pub pointer-full : length p ≤ length scratch → w ≡ (Err full) → (r : Bool) → PointerUsed s p r
   pointer-full l e r n q =
       absurd (omega (arith, said-full scratch (name_in p) (sym puts.said ∙ e), ap length (is_name p n q), no_longer p n q))
 
-  pub pointer_read : (slots : List ℕ) (k : ℕ) → w ≡ Wrote-Bytes k → (r : Bool) → HasName s slots 7 (take (k - 0) (drop 0 out)) r → PointerUsed s p r
+  pub pointer_read : (slots : List ℕ) (k : ℕ) → w ≡ Ok k → (r : Bool) → HasName s slots 7 (take (k - 0) (drop 0 out)) r → PointerUsed s p r
   pointer_read slots k e r g n q u v ms t o =
       let z : take (k - 0) (drop 0 out) ≡ n = (written k puts e).1 ∙ is_name p n q in
       g (names_of v) (group-last s slots v t) ∙ ap (λ x. among x (names_of v)) z ∙ ap (λ y. among n (with-some y (map name_of) [])) o ∙ others-have n u ms

@@ -12,7 +12,7 @@ ghost use Rattle.to_card_kept_used.specs.Used.{IdUsed, PointerUsed, KeptIn};
 use card_table::maps;
 use class_line::Class;
 use convert_pointer::read_pointer;
-use output::Wrote;
+use output::Full;
 use to_card_kept_names::has_name;
 
 // Whether an entry of the map i has the key. The slots are those of the top-level members, by the list of reserved names: the first map's is the sixth.
@@ -47,7 +47,7 @@ fn pointer_used<'a, 'b, 'c, 'd, 'e, 'f>(
     requires indexes { Indexes s.now slots.now places.now prints.now ends.now }
     ensures { PointerUsed s.now p.now result }
 {
-    let Wrote::Bytes(n) = read_pointer(scratch, p) else {
+    let Ok(n) = read_pointer(scratch, p) else {
         return false;
     };
     has_name(

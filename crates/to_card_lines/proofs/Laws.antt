@@ -17,9 +17,7 @@ use Rattle.line.specs.Grammar.{Line}
 use Rattle.line.specs.Write.{fold, write_line, write_lines, write_card}
 use Rattle.line_pen.specs.Pen.{Fills}
 use Rattle.line_pen.proofs.Filling.{then}
-use Rattle.to_card_lines.specs.declared.Lines.{Lines}
-use Rattle.to_card_lines.specs.declared.Lines.TheVariants.{All}
-use Rattle.to_card_lines.specs.Lines.{line_bytes, lines_bytes, LinesIn}
+use Rattle.to_card_lines.specs.Lines.{line_bytes, lines_bytes, LinesIn, Laid, laid}
 
 -- ---- a card by its parts
 
@@ -87,7 +85,7 @@ pub row_fits : (s : Row) → length s.room < 2 ^ 64 → Fits w64 s.at
 row_fits s h = record { fits = omega (arith, fills-in s.so) }
 
 -- what is written of a part is in the room
-pub lines-in : {room n k : ℕ} {c : Bool} {r : Lines} → LinesIn room r → r ≡ All n k c → n ≤ room
+pub lines-in : {room n k : ℕ} {c : Bool} {r : Laid} → LinesIn room r → r ≡ laid n k c → n ≤ room
 lines-in {room} {n} {k} {c} {r} h e = subst (LinesIn room) e h
 
 -- ---- bounds on the rest of a room, whatever was written there

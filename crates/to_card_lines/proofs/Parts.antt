@@ -1,5 +1,9 @@
 -- A loop that writes one part after the other: what is done, and one part more.
 use mathlib.Core.Path.{◌≡◌, refl, sym, ap, subst, ◌∙◌}
+use Rattle.to_card_pen.proofs.Refusal.{ok-is}
+use Rattle.to_card_lines.specs.declared.Lines.{Lines}
+use Rattle.to_card_pen.specs.Refusal.{no_card}
+use Rattle.std.specs.Prelude.{Err}
 use mathlib.Core.Bool.{Bool, true, false, ◌&&◌}
 use mathlib.Core.List.{List, [], ◌∷◌, append-nil, append_assoc}
 use mathlib.Core.Option.{Option, none, some}
@@ -12,9 +16,7 @@ use Rattle.text.specs.Bytes.{Bytes}
 use Rattle.line.specs.Grammar.{Line}
 use Rattle.line_pen.specs.Pen.{Fills}
 use Rattle.line_pen.proofs.Filling.{then}
-use Rattle.to_card_lines.specs.declared.Lines.{Lines}
-use Rattle.to_card_lines.specs.declared.Lines.TheVariants.{All, Wrong}
-use Rattle.to_card_lines.specs.Lines.{lines_bytes, Part, PartAs, no_lines, join_parts, parts_of}
+use Rattle.to_card_lines.specs.Lines.{lines_bytes, Part, PartAs, no_lines, join_parts, parts_of, Laid, laid}
 use Rattle.to_card_lines.proofs.Laws.{lines_none, lines-append, fills-none, fills-as}
 
 -- a part before others
@@ -62,21 +64,19 @@ pub record Done (room : Bytes) (n lines : ℕ) (ok : Bool) (out : Bytes) (p : Pa
 pub done_none : (room : Bytes) → Done room 0 0 true room no_lines
 done_none room = record { fills = fills-as (sym lines_none) (fills-none room); is-lines = refl; is_ok = refl }
 
-all-bytes : {a b c d : ℕ} {e f : Bool} → All a c e ≡ All b d f → a ≡ b
-all-bytes q = cc
+-- what two equal answers say
+pub all-bytes : {a b c d : ℕ} {e f : Bool} → laid a c e ≡ laid b d f → a ≡ b
+all-bytes q = ap (λ (l : Lines). l.bytes) (ok-is q)
 
-all_lines : {a b c d : ℕ} {e f : Bool} → All a c e ≡ All b d f → c ≡ d
-all_lines q = cc
+pub all_lines : {a b c d : ℕ} {e f : Bool} → laid a c e ≡ laid b d f → c ≡ d
+all_lines q = ap (λ (l : Lines). l.lines) (ok-is q)
 
-all-carried : {a b c d : ℕ} {e f : Bool} → All a c e ≡ All b d f → e ≡ f
-all-carried q = cc
+pub all-carried : {a b c d : ℕ} {e f : Bool} → laid a c e ≡ laid b d f → e ≡ f
+all-carried q = ap (λ (l : Lines). l.carries) (ok-is q)
 
-pub not-all : {n l : ℕ} {c : Bool} → Wrong ≡ All n l c → ⊥
-not-all e = let z : ◌≡◌ {A = ℕ} 0 1 = cc in omega arith
-
-module _ (room : Bytes) (n lines : ℕ) (ok : Bool) (out : Bytes) (p : Part) (done : Done room n lines ok out p) (r : Lines) (last : Bytes) where
+module _ (room : Bytes) (n lines : ℕ) (ok : Bool) (out : Bytes) (p : Part) (done : Done room n lines ok out p) (r : Laid) (last : Bytes) where
   -- one part more is written
-  pub done_on : (x : Part) → PartAs (mid_of n (length out - n) out) r last (some x) → {k l : ℕ} {c : Bool} → r ≡ All k l c
+  pub done_on : (x : Part) → PartAs (mid_of n (length out - n) out) r last (some x) → {k l : ℕ} {c : Bool} → r ≡ laid k l c
       → Done room (n + k) (lines + l) (ok && c) (put_mid n (length out - n) out last) (join_parts p x)
   done_on x w {k} {l} {c} e =
       let a : w.0 ≡ k = all-bytes (sym w.1 ∙ e) in
@@ -90,10 +90,10 @@ module _ (room : Bytes) (n lines : ℕ) (ok : Bool) (out : Bytes) (p : Part) (do
       }
 
 -- all is written
-pub done_all : (room : Bytes) (n lines : ℕ) (ok : Bool) (out : Bytes) (p : Part) → Done room n lines ok out p → (o : Option Part) → o ≡ some p → PartAs room (All n lines ok) out o
+pub done_all : (room : Bytes) (n lines : ℕ) (ok : Bool) (out : Bytes) (p : Part) → Done room n lines ok out p → (o : Option Part) → o ≡ some p → PartAs room (laid n lines ok) out o
 done_all room n lines ok out p d o e =
-    subst (PartAs room (All n lines ok) out) (sym e) (n, ap (λ (x : ℕ). All n x ok) d.is-lines ∙ ap (All n (length p.lines)) d.is_ok, d.fills)
+    subst (PartAs room (laid n lines ok) out) (sym e) (n, ap (λ (x : ℕ). laid n x ok) d.is-lines ∙ ap (laid n (length p.lines)) d.is_ok, d.fills)
 
 -- a part that is none
-pub none-wrong : (room after : Bytes) (o : Option Part) → o ≡ none → PartAs room Wrong after o
-none-wrong room after o e = subst (PartAs room Wrong after) (sym e) refl
+pub none-wrong : (room after : Bytes) (o : Option Part) → o ≡ none → PartAs room (Err no_card) after o
+none-wrong room after o e = subst (PartAs room (Err no_card) after) (sym e) refl

@@ -1,5 +1,6 @@
 -- Lines of a card as they are written, and what a part of a card answers.
-use Rattle.std.specs.Prelude.{◌≡◌, Bool, true, ◌&&◌, List, [], ◌∷◌, ◌++◌, map, ℕ, ◌≤◌, length}
+use Rattle.std.specs.Prelude.{◌≡◌, Bool, true, ◌&&◌, List, [], ◌∷◌, ◌++◌, map, ℕ, ◌≤◌, length, Err, Ok, Result}
+use Rattle.to_card_pen.specs.Refusal.{no_card}
 use Rattle.std.proofs.Math.Option.{Option, none, some}
 use Rattle.text.specs.Choice.{both}
 use Rattle.text.specs.Bytes.{Bytes, flat}
@@ -8,8 +9,8 @@ use Rattle.line.specs.Write.{fold, fold_from, write_line}
 use Rattle.json_strings.specs.Decoded.{decoded_at}
 use Rattle.line_pen.specs.Pen.{Fills}
 use Rattle.to_card_pen.specs.Styles.{written_in, all_stand_in}
+use Rattle.to_card_pen.specs.declared.NoCard.{NoCard}
 use Rattle.to_card_lines.specs.declared.Lines.{Lines}
-use Rattle.to_card_lines.specs.declared.Lines.TheVariants.{All, Wrong}
 use Rattle.to_card_lines.specs.declared.Penned.{Penned}
 
 -- a line folded, with its end
@@ -19,20 +20,27 @@ line_bytes l = fold (write_line l) ++ (13 ∷ 10 ∷ [])
 unfoldable pub lines_bytes : List Line → Bytes
 lines_bytes ls = flat (map line_bytes ls)
 
+-- what a part of a card answers: 12, or its lines
+abbrev pub Laid : Type 0
+Laid = Result Lines NoCard
+
+abbrev pub laid : ℕ → ℕ → Bool → Laid
+laid n k c = Ok (record { bytes = n; lines = k; carries = c })
+
 -- what a part of a card comes to: its lines, and whether lines can carry what it says (13 otherwise)
 pub record Part : Type 0 where
   pub lines : List Line
   pub carried : Bool
 
 -- 12 where there is no part; else its lines, as far as there is room, how many they are, and whether they can carry it
-abbrev pub PartAs : Bytes → Lines → Bytes → Option Part → Type 0
-PartAs room r after none = r ≡ Wrong
-PartAs room r after (some p) = (n : ℕ) × (r ≡ All n (length p.lines) p.carried) × Fills room (lines_bytes p.lines) n after
+abbrev pub PartAs : Bytes → Laid → Bytes → Option Part → Type 0
+PartAs room r after none = r ≡ Err no_card
+PartAs room r after (some p) = (n : ℕ) × (r ≡ laid n (length p.lines) p.carried) × Fills room (lines_bytes p.lines) n after
 
 -- what is written is in the room
-abbrev pub LinesIn : ℕ → Lines → Type 0
-LinesIn room (All n k c) = n ≤ room
-LinesIn room Wrong = Unit {0}
+abbrev pub LinesIn : ℕ → Laid → Type 0
+LinesIn room (Ok l) = l.bytes ≤ room
+LinesIn room (Err e) = Unit {0}
 
 -- Some line is written, its end included, and whether a line can carry its string is told; where the string at the place stands for bytes, it is these.
 pub record StringLine (s : Bytes) (at style : ℕ) (head room : Bytes) (r : Penned) (after : Bytes) : Type 0 where

@@ -6,15 +6,12 @@ ghost use Rattle.to_card_lines.specs.Lines.{StringLine};
 use line_pen::{fill, pen_bytes};
 use to_card_pen::pen_string;
 
-// How many bytes were written, how many lines, and whether lines can carry what they say (13 otherwise); or 12.
+// How many bytes were written, how many lines, and whether lines can carry what they say (13 otherwise). A part of a card answers these, or 12.
 #[derive(Drop)]
-pub enum Lines {
-    All {
-        bytes: usize,
-        lines: usize,
-        carries: bool,
-    },
-    Wrong,
+pub struct Lines {
+    pub bytes: usize,
+    pub lines: usize,
+    pub carries: bool,
 }
 
 // How many bytes of a line were written, its end included, and whether a line can carry its strings.

@@ -1,5 +1,9 @@
 -- The pass over the seven maps, over plain values.
 use mathlib.Core.Path.{◌≡◌, refl, sym, ap, subst, ◌∙◌}
+use Rattle.to_card_pen.proofs.Refusal.{not_ok}
+use Rattle.to_card_lines.proofs.Parts.{all-bytes, all_lines, all-carried}
+use Rattle.to_card_pen.specs.Refusal.{no_card}
+use Rattle.std.specs.Prelude.{Err}
 use mathlib.Core.Bool.{Bool, true, false, ◌&&◌}
 use mathlib.Core.List.{List, [], ◌∷◌, ◌++◌, map, append-nil, append_assoc}
 use mathlib.Core.Option.{Option, none, some}
@@ -26,10 +30,8 @@ use Rattle.convert.specs.Carry.{carried_maps}
 use Rattle.convert.specs.ToCard.{entry_line, maps_lines}
 use Rattle.to_card_entry.specs.Rows.{row_names, Row, line_bytes}
 use Rattle.to_card_entry.proofs.Rows.{organizations}
-use Rattle.to_card_lines.specs.declared.Lines.{Lines}
-use Rattle.to_card_lines.specs.declared.Lines.TheVariants.{All, Wrong}
 use Rattle.to_card_map.specs.Maps.{lines_of, carried_all, LinesAs}
-use Rattle.to_card_lines.specs.Lines.{line_bytes as line_bytes_of, lines_bytes}
+use Rattle.to_card_lines.specs.Lines.{line_bytes as line_bytes_of, lines_bytes, Laid, laid}
 use Rattle.to_card_lines.proofs.Laws.{lines_none, lines-append, fills-none, fills-as}
 use Rattle.to_card_maps.specs.Seven.{value_as, PutsNth, MapsAs, PutsMaps}
 
@@ -39,10 +41,10 @@ pub row-six : {m : Map} {names kinds heads : Bytes} {count form : ℕ} → Row m
 unfolding row_names
 row-six r = ap length r.is-names
 
-pub nth-is : (s : Bytes) (k j slot : ℕ) (room : Bytes) (r : Lines) (after : Bytes) → k ≡ j → ((d : Map) (o : Option Json) → Slot 15 s slot o → LinesAs (get_or maps j d) room r after (value_as (get_or maps j d) o)) → PutsNth s k slot room r after
+pub nth-is : (s : Bytes) (k j slot : ℕ) (room : Bytes) (r : Laid) (after : Bytes) → k ≡ j → ((d : Map) (o : Option Json) → Slot 15 s slot o → LinesAs (get_or maps j d) room r after (value_as (get_or maps j d) o)) → PutsNth s k slot room r after
 nth-is s k j slot room r after e f l d o h = subst (λ (i : ℕ). LinesAs (get_or maps i d) room r after (value_as (get_or maps i d) o)) (sym e) (f d o h)
 
-pub nth_last : (s : Bytes) (k slot : ℕ) (room : Bytes) (r : Lines) (after : Bytes) → (k ≡ 0 → ⊥) → (k ≡ 1 → ⊥) → (k ≡ 2 → ⊥) → (k ≡ 3 → ⊥) → (k ≡ 4 → ⊥) → (k ≡ 5 → ⊥)
+pub nth_last : (s : Bytes) (k slot : ℕ) (room : Bytes) (r : Laid) (after : Bytes) → (k ≡ 0 → ⊥) → (k ≡ 1 → ⊥) → (k ≡ 2 → ⊥) → (k ≡ 3 → ⊥) → (k ≡ 4 → ⊥) → (k ≡ 5 → ⊥)
     → ((d : Map) (o : Option Json) → Slot 15 s slot o → LinesAs (get_or maps 6 d) room r after (value_as (get_or maps 6 d) o)) → PutsNth s k slot room r after
 nth_last s k slot room r after n₀ n₁ n₂ n₃ n₄ n₅ f l = let e : k ≡ 6 = omega arith in nth-is s k 6 slot room r after e f l
 
@@ -141,23 +143,11 @@ Going s slots room k n lines ok out = (ms : List Member) → Indexed 15 s reserv
 pub going-first : (s : Bytes) (slots : List ℕ) (room : Bytes) → Going s slots room 0 0 0 true room
 going-first s slots room ms i = record { done = []; left = left-first ms; fills = fills-as (sym lines_none) (fills-none room); is-lines = refl }
 
-not-all : {n k : ℕ} {c : Bool} → Wrong ≡ All n k c → ⊥
-not-all e = let z : ◌≡◌ {A = ℕ} 0 1 = cc in omega arith
-
-all-bytes : {a b c d : ℕ} {e f : Bool} → All a b e ≡ All c d f → a ≡ c
-all-bytes e = cc
-
-all_lines : {a b c d : ℕ} {e f : Bool} → All a b e ≡ All c d f → b ≡ d
-all_lines e = cc
-
-all-carried : {a b c d : ℕ} {e f : Bool} → All a b e ≡ All c d f → e ≡ f
-all-carried e = cc
-
-maps-as : (room : Bytes) (r : Lines) (after : Bytes) {o p : Option (List (List Entry))} → o ≡ p → MapsAs maps room r after p → MapsAs maps room r after o
+maps-as : (room : Bytes) (r : Laid) (after : Bytes) {o p : Option (List (List Entry))} → o ≡ p → MapsAs maps room r after p → MapsAs maps room r after o
 maps-as room r after e x = subst (MapsAs maps room r after) (sym e) x
 
 module _ (s : Bytes) (slots : List ℕ) (room : Bytes) (k n lines : ℕ) (ok : Bool) (out : Bytes) (going : Going s slots room k n lines ok out) where
-  module _ (h : k < 7) (r : Lines) (last : Bytes) (puts : PutsNth s k (get_or slots (k + 5) 0) (mid_of n (length out - n) out) r last) where
+  module _ (h : k < 7) (r : Laid) (last : Bytes) (puts : PutsNth s k (get_or slots (k + 5) 0) (mid_of n (length out - n) out) r last) where
     now-left : (ms : List Member) (f : Far s slots room k n lines ok out ms) → Left ms (get_or maps k organizations ∷ drop (k + 1) maps) f.done ok
     now-left ms f =
         let e : drop k maps ≡ get_or maps k organizations ∷ drop (k + 1) maps = drop-cons maps k organizations h ∙ ap (λ (i : ℕ). get_or maps k organizations ∷ drop i maps) (sym (add-one k)) in
@@ -166,18 +156,18 @@ module _ (s : Bytes) (slots : List ℕ) (room : Bytes) (k n lines : ℕ) (ok : B
     said : (ms : List Member) → Indexed 15 s reserved slots ms → LinesAs (get_or maps k organizations) (mid_of n (length out - n) out) r last (map_from ms (get_or maps k organizations))
     said ms i = subst (LinesAs (get_or maps k organizations) (mid_of n (length out - n) out) r last) (slot_map k h ms) (puts h organizations (first_at reserved (k + 5) ms) (i (k + 5)))
 
-    pub maps-wrong : (after : Bytes) → r ≡ Wrong → PutsMaps s slots room Wrong after
-    maps-wrong after e ms i = maps-as room Wrong after (left-bad (now-left ms (going ms i)) (by (map_from ms (get_or maps k organizations)) (said ms i))) refl
+    pub maps-wrong : (after : Bytes) → r ≡ Err no_card → PutsMaps s slots room (Err no_card) after
+    maps-wrong after e ms i = maps-as room (Err no_card) after (left-bad (now-left ms (going ms i)) (by (map_from ms (get_or maps k organizations)) (said ms i))) refl
       where
         by : (o : Option (List Entry)) → LinesAs (get_or maps k organizations) (mid_of n (length out - n) out) r last o → o ≡ none
         by none f = refl
-        by (some es) f = absurd (not-all (sym e ∙ f.1))
+        by (some es) f = absurd (not_ok (sym e ∙ f.1))
 
-    pub maps-on : (a b : ℕ) (c : Bool) → r ≡ All a b c → Going s slots room (k + 1) (n + a) (lines + b) (ok && c) (put_mid n (length out - n) out last)
+    pub maps-on : (a b : ℕ) (c : Bool) → r ≡ laid a b c → Going s slots room (k + 1) (n + a) (lines + b) (ok && c) (put_mid n (length out - n) out last)
     maps-on a b c e ms i = by (map_from ms (get_or maps k organizations)) refl (said ms i)
       where
         by : (o : Option (List Entry)) → map_from ms (get_or maps k organizations) ≡ o → LinesAs (get_or maps k organizations) (mid_of n (length out - n) out) r last o → Far s slots room (k + 1) (n + a) (lines + b) (ok && c) (put_mid n (length out - n) out last) ms
-        by none q f = absurd (not-all (sym f ∙ e))
+        by none q f = absurd (not_ok (sym f ∙ e))
         by (some es) q f =
             let m = get_or maps k organizations in
             let g = going ms i in
@@ -191,16 +181,16 @@ module _ (s : Bytes) (slots : List ℕ) (room : Bytes) (k n lines : ℕ) (ok : B
               is-lines = omega (arith, g.is-lines, all_lines z, count-are m es, length-append g.done (map (entry_line m) es));
             }
 
-  pub maps-all : 7 ≤ k → k ≤ 7 → PutsMaps s slots room (All n lines ok) out
+  pub maps-all : 7 ≤ k → k ≤ 7 → PutsMaps s slots room (laid n lines ok) out
   maps-all h l ms i =
       let g = going ms i in
       let e : k ≡ 7 = omega arith in
       let t : Left ms [] g.done ok = subst (λ (j : ℕ). Left ms (drop j maps) g.done ok) e g.left in
       let w = t.goes [] (each-end ms) in
       let x : maps_lines maps w.0 ≡ g.done = w.2 ∙ ap (λ (y : List Line). g.done ++ y) lines_end ∙ append-nil g.done in
-      maps-as room (All n lines ok) out w.1 (
+      maps-as room (laid n lines ok) out w.1 (
         n,
-        ap (λ (y : ℕ). All n y ok) (g.is-lines ∙ ap length (sym x)) ∙ ap (All n (length (maps_lines maps w.0))) (and-end ok ∙ ap (λ (y : Bool). ok && y) (sym carried-end) ∙ sym w.3),
+        ap (λ (y : ℕ). laid n y ok) (g.is-lines ∙ ap length (sym x)) ∙ ap (laid n (length (maps_lines maps w.0))) (and-end ok ∙ ap (λ (y : Bool). ok && y) (sym carried-end) ∙ sym w.3),
         fills-as (ap lines_bytes (sym x)) g.fills,
       )
     where

@@ -12,9 +12,10 @@ use card_table::{
 };
 use to_card_lines::Lines;
 use to_card_map::put_map;
+use to_card_pen::NoCard;
 
 // The map of a row of the table, in a slot.
-fn put_nth(out: &mut [u8], s: &[u8], k: usize, slot: usize) -> Lines
+fn put_nth(out: &mut [u8], s: &[u8], k: usize, slot: usize) -> Result<Lines, NoCard>
     ensures lines_in { LinesIn (length out.old) (length s.now) result }
     ensures out_len_unchanged { length out.new ≡ length out.old }
     ensures puts_nth { PutsNth s.now k slot out.old result out.new }
@@ -104,35 +105,26 @@ fn put_nth(out: &mut [u8], s: &[u8], k: usize, slot: usize) -> Lines
 }
 
 // All seven. The slots are those of the top-level members, by the list of reserved names: the first map's is the sixth.
-pub fn put_maps(out: &mut [u8], s: &[u8], slots: &[usize]) -> Lines
+pub fn put_maps(out: &mut [u8], s: &[u8], slots: &[usize]) -> Result<Lines, NoCard>
     requires s_len_bound { length s.now ≤ room }
     requires map_slots_in_bounds { map_slots ≤ length slots.now }
     ensures lines_in { LinesIn (length out.old) 458758 result }
     ensures out_len_unchanged { length out.new ≡ length out.old }
     ensures puts_maps { PutsMaps s.now slots.now out.old result out.new }
 {
-    let mut k: usize = 0;
     let mut n = 0;
     let mut lines = 0;
     let mut ok = true;
-    while k < maps::COUNT {
+    for k in 0..maps::COUNT {
         let i = k + members::MAPS;
-        let Lines::All {
-            bytes: m,
-            lines: l,
-            carries: c,
-        } = put_nth(&mut out[n..], s, k, slots[i])
-        else {
-            return Lines::Wrong;
-        };
-        n += m;
-        lines += l;
-        ok = ok & c;
-        k += 1;
+        let map = put_nth(&mut out[n..], s, k, slots[i])?;
+        n += map.bytes;
+        lines += map.lines;
+        ok = ok & map.carries;
     }
-    Lines::All {
+    Ok(Lines {
         bytes: n,
         lines,
         carries: ok,
-    }
+    })
 }

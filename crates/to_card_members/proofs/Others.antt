@@ -1,5 +1,7 @@
 -- A member as a part of a card, and all of them in the definitions' words.
 use mathlib.Core.Path.{◌≡◌, refl, sym, ap, subst, ◌∙◌}
+use Rattle.to_card_pen.specs.Refusal.{no_card}
+use Rattle.std.specs.Prelude.{Err}
 use mathlib.Core.Bool.{Bool, true, false, ◌&&◌, not}
 use mathlib.Core.List.{List, [], ◌∷◌, ◌++◌, map, append_assoc}
 use mathlib.Core.Option.{Option, none, some}
@@ -25,9 +27,8 @@ use Rattle.convert.specs.Pointer.{pointer}
 use Rattle.convert.specs.FromJson.{other_members}
 use Rattle.convert.specs.Carry.{carried_param}
 use Rattle.convert.specs.ToCard.{member_line}
-use Rattle.to_card_lines.specs.declared.Lines.TheVariants.{All, Wrong}
 use Rattle.to_card_lines.specs.declared.Penned.{Penned}
-use Rattle.to_card_lines.specs.Lines.{line_bytes, Part, PartAs, no_lines, join_parts, parts_of}
+use Rattle.to_card_lines.specs.Lines.{line_bytes, Part, PartAs, no_lines, join_parts, parts_of, laid}
 use Rattle.to_card_lines.proofs.Laws.{lines_none, lines-one, fills-none, fills-as}
 use Rattle.to_card_head.specs.Head.{TellsFilled}
 use Rattle.to_card_members.specs.Members.{member_bytes, MemberLine, member_part, other_part, members_part, PutsOther}
@@ -65,11 +66,11 @@ module _ (s : Bytes) (name a e : ℕ) (room : Bytes) (k : ℕ) (names : Bytes) (
   where-is : (x : Bytes) → decoded_at s name ≡ some x → eqb k 13 ≡ not (among x reserved)
   where-is x q = ap (λ (i : ℕ). eqb i 13) (place ∙ ap (λ (ns : List Bytes). placed (decoded_at s name) ns) names-are ∙ ap (λ (o : Option Bytes). placed o reserved) q) ∙ other_place x reserved
 
-  pub other-said : (k ≡ 13 → ⊥) → PutsOther s name a e room (All 0 0 true) room
+  pub other-said : (k ≡ 13 → ⊥) → PutsOther s name a e room (laid 0 0 true) room
   unfolding other_part
   other-said n x v q w =
       let z : among x reserved ≡ true = not-false (among x reserved) (sym (where-is x q) ∙ ne_eqb k 13 n) in
-      subst (PartAs room (All 0 0 true) room) (sym (ap (λ (b : Bool). pick b (some no_lines) (provided (filled x) (some (member_part (member x v))))) z)) (0, refl, fills-as (sym lines_none) (fills-none room))
+      subst (PartAs room (laid 0 0 true) room) (sym (ap (λ (b : Bool). pick b (some no_lines) (provided (filled x) (some (member_part (member x v))))) z)) (0, refl, fills-as (sym lines_none) (fills-none room))
 
   module _ (p : k ≡ 13) (b : Bool) (is-filled : TellsFilled s name b) where
     other-is : (x : Bytes) (v : Json) → decoded_at s name ≡ some x → (c : Bool) → b ≡ c → other_part (member x v) ≡ provided c (some (member_part (member x v)))
@@ -79,15 +80,15 @@ module _ (s : Bytes) (name a e : ℕ) (room : Bytes) (k : ℕ) (names : Bytes) (
         let y : filled x ≡ c = sym (is-filled x q) ∙ r in
         ap (λ (d : Bool). pick d (some no_lines) (provided (filled x) (some (member_part (member x v))))) z ∙ ap (λ (d : Bool). provided d (some (member_part (member x v)))) y
 
-    pub other-empty : b ≡ false → (after : Bytes) → PutsOther s name a e room Wrong after
-    other-empty r after x v q w = subst (PartAs room Wrong after) (sym (other-is x v q false r)) refl
+    pub other-empty : b ≡ false → (after : Bytes) → PutsOther s name a e room (Err no_card) after
+    other-empty r after x v q w = subst (PartAs room (Err no_card) after) (sym (other-is x v q false r)) refl
 
-    pub other-line : b ≡ true → (l : Penned) (after : Bytes) → MemberLine s name a e room l after → PutsOther s name a e room (All l.bytes 1 l.carried) after
+    pub other-line : b ≡ true → (l : Penned) (after : Bytes) → MemberLine s name a e room l after → PutsOther s name a e room (laid l.bytes 1 l.carried) after
     other-line r l after m x v q w =
         let t : m.text ≡ x = m.is x q in
-        subst (PartAs room (All l.bytes 1 l.carried) after) (sym (other-is x v q true r)) (
+        subst (PartAs room (laid l.bytes 1 l.carried) after) (sym (other-is x v q true r)) (
           l.bytes,
-          ap (All l.bytes 1) (m.carried ∙ ap carried_param t),
+          ap (laid l.bytes 1) (m.carried ∙ ap carried_param t),
           fills-as (ap (λ (u : Bytes). fold_from 0 (member_bytes u (squeezed (take (e - a) (drop a s)))) ++ (13 ∷ 10 ∷ [])) t ∙ line-bytes x _ v w ∙ sym (lines-one (member_line (member x v)))) m.fills,
         )
 

@@ -11,8 +11,8 @@ use Rattle.text.specs.Bytes.{Bytes, ascii}
 use Rattle.text.specs.Reader.{got}
 use Rattle.text.proofs.Cases.{by_bool, split}
 use Rattle.text.proofs.Fine.{alone}
-use Rattle.output.specs.declared.Wrote.{Wrote}
-use Rattle.output.specs.declared.Wrote.TheVariants.{Bytes as Wrote-Bytes, Full}
+use Rattle.output.specs.Put.{Wrote, full}
+use Rattle.std.specs.Prelude.{Ok, Err}
 use Rattle.output.specs.Put.{put, Puts}
 use Rattle.output.proofs.Laws.{put-over, said-bytes, said-full, length-put}
 use Rattle.json_text.specs.Tree.{Json}
@@ -38,10 +38,10 @@ use Rattle.to_card_members.proofs.Pointers.{text-append}
 
 -- ---- as much as fits
 
-pub fills-bytes : {room bs after : Bytes} {r : Wrote} {n : ℕ} → Puts room bs r after → r ≡ Wrote-Bytes n → Fills room bs n after
+pub fills-bytes : {room bs after : Bytes} {r : Wrote} {n : ℕ} → Puts room bs r after → r ≡ Ok n → Fills room bs n after
 fills-bytes {room} {bs} {after} {r} {n} p e = let w = said-bytes room bs n (sym p.said ∙ e) in record { said = omega (arith, w.0, w.1); left = p.left }
 
-pub fills-full : {room bs after : Bytes} {r : Wrote} → Puts room bs r after → r ≡ Full → Fills room bs (length after) after
+pub fills-full : {room bs after : Bytes} {r : Wrote} → Puts room bs r after → r ≡ (Err full) → Fills room bs (length after) after
 fills-full {room} {bs} {after} {r} p e =
     let w = said-full room bs (sym p.said ∙ e) in
     let l : length after ≡ length room = ap length p.left ∙ length-put room bs in

@@ -1,6 +1,6 @@
 -- Other top-level members as JSPROP lines.
-use Rattle.std.specs.Prelude.{◌≡◌, Bool, true, false, not, List, [], ◌∷◌, ◌++◌, map, ℕ, ◌-◌, ◌≤◌, length, take, drop}
-use Rattle.std.proofs.Math.Option.{Option, none, some}
+use Rattle.std.specs.Prelude.{◌≡◌, false, List, [], ◌∷◌, ◌++◌, map, ℕ, ◌-◌, ◌≤◌, take, drop, Err, Ok}
+use Rattle.std.proofs.Math.Option.{Option, some}
 use Rattle.text.specs.Choice.{pick, chain, provided}
 use Rattle.text.specs.Bytes.{Bytes, ascii, all, among}
 use Rattle.text.specs.Reader.{got, loop}
@@ -21,10 +21,8 @@ use Rattle.convert.specs.Pointer.{pointer}
 use Rattle.convert.specs.FromJson.{other_members}
 use Rattle.convert.specs.Carry.{carried_param}
 use Rattle.convert.specs.ToCard.{member_line}
-use Rattle.to_card_lines.specs.declared.Lines.{Lines}
-use Rattle.to_card_lines.specs.declared.Lines.TheVariants.{All, Wrong}
 use Rattle.to_card_lines.specs.declared.Penned.{Penned}
-use Rattle.to_card_lines.specs.Lines.{Part, PartAs, no_lines, parts_of}
+use Rattle.to_card_lines.specs.Lines.{Part, PartAs, no_lines, parts_of, Laid}
 
 -- some pointer is written, and whether a parameter can carry the name is told; it is that of the string, where it stands for bytes
 pub record Points (s : Bytes) (at : ℕ) (room : Bytes) (column : ℕ) (r : Told) (after : Bytes) : Type 0 where
@@ -45,9 +43,9 @@ pub record MemberLine (s : Bytes) (name a e : ℕ) (room : Bytes) (r : Penned) (
   pub carried : r.carried ≡ carried_param text
 
 -- one line at most, in the room
-abbrev pub OneIn : ℕ → Lines → Type 0
-OneIn room (All n l c) = (n ≤ room) × (l ≤ 1)
-OneIn room Wrong = Unit {0}
+abbrev pub OneIn : ℕ → Laid → Type 0
+OneIn room (Ok l) = (l.bytes ≤ room) × (l.lines ≤ 1)
+OneIn room (Err e) = Unit {0}
 
 -- ---- what a member comes to
 
@@ -64,14 +62,14 @@ members_part ms =
     provided (all (λ m. filled (name_of m)) ms)
     (some (record { lines = map member_line (other_members ms); carried = all (λ m. carried_param (name_of m)) (other_members ms) }))
 
-abbrev pub PutsOther : Bytes → ℕ → ℕ → ℕ → Bytes → Lines → Bytes → Type 0
+abbrev pub PutsOther : Bytes → ℕ → ℕ → ℕ → Bytes → Laid → Bytes → Type 0
 PutsOther s name a e room r after = (k : Bytes) (v : Json) → decoded_at s name ≡ some k → squeezed (take (e - a) (drop a s)) ≡ compact v
     → PartAs room r after (other_part (member k v))
 
-abbrev pub PutsFrom : Bytes → ℕ → Bytes → Lines → Bytes → Type 0
+abbrev pub PutsFrom : Bytes → ℕ → Bytes → Laid → Bytes → Type 0
 PutsFrom s at room r after = (us ms : Members) (t : Bytes) → loop (pair (value 15)) (drop at s) ≡ got us t → decoded_members us ≡ some ms
     → PartAs room r after (parts_of other_part (members_of ms))
 
 -- the members of the object that a text holds
-abbrev pub PutsMembers : Bytes → Bytes → Lines → Bytes → Type 0
+abbrev pub PutsMembers : Bytes → Bytes → Laid → Bytes → Type 0
 PutsMembers s room r after = (v : Json) → json_at 16 s 0 ≡ some v → PartAs room r after (chain (as_object v) members_part)

@@ -16,11 +16,12 @@ use json_index::which_name;
 use json_marks::{separator, skip_space};
 use json_strings::{Byte, next_byte};
 use line_pen::{Pen, fill, pen_byte, pen_bytes};
-use output::Wrote;
-use text::{LEFT_BRACE, RIGHT_BRACE, Turn, look};
+use output::Full;
+use std::ops::ControlFlow;
+use text::{LEFT_BRACE, RIGHT_BRACE, look};
 use to_card_head::is_filled;
 use to_card_lines::{Lines, Penned};
-use to_card_pen::{Told, can_stand, pen_escape, style};
+use to_card_pen::{NoCard, Told, can_stand, pen_escape, style};
 
 // One byte of a pointer.
 fn pen_pointed(out: &mut [u8], column: usize, c: u8) -> Pen
@@ -89,12 +90,10 @@ fn pen_text(out: &mut [u8], column: usize, s: &[u8]) -> Pen
 {
     let mut at = 0;
     let mut k = column;
-    let mut i = 0;
-    while i < s.len() {
-        let p = pen_escape(&mut out[at..], k, s[i], false);
+    for b in s {
+        let p = pen_escape(&mut out[at..], k, *b, false);
         at += p.bytes;
         k = p.column;
-        i += 1;
     }
     Pen {
         bytes: at,
@@ -109,8 +108,8 @@ fn put_value(buffer: &mut [u8], s: &[u8], a: usize, e: usize) -> usize
     ensures { Fills buffer.old (squeezed (take (e - a) (drop a s.now))) result buffer.new }
 {
     match put_compact(buffer, &s[a..e]) {
-        Wrote::Bytes(n) => n,
-        Wrote::Full => buffer.len(),
+        Ok(n) => n,
+        Err(Full) => buffer.len(),
     }
 }
 
@@ -148,7 +147,14 @@ fn put_member(
 }
 
 // A member: no line where another part of the card says it, 12 where its name is empty.
-fn put_other(out: &mut [u8], buffer: &mut [u8], s: &[u8], name: usize, a: usize, e: usize) -> Lines
+fn put_other(
+    out: &mut [u8],
+    buffer: &mut [u8],
+    s: &[u8],
+    name: usize,
+    a: usize,
+    e: usize,
+) -> Result<Lines, NoCard>
     requires a_le_e { a ≤ e }
     requires e_in_bounds { e ≤ length s.now }
     requires out_in_bounds { length out.old ≤ length buffer.old }
@@ -159,27 +165,27 @@ fn put_other(out: &mut [u8], buffer: &mut [u8], s: &[u8], name: usize, a: usize,
 {
     let k = which_name(s, name, &members::NAMES);
     if k != members::OTHER {
-        return Lines::All {
+        return Ok(Lines {
             bytes: 0,
             lines: 0,
             carries: true,
-        };
+        });
     }
     if !is_filled(s, name) {
-        return Lines::Wrong;
+        return Err(NoCard);
     }
     let p = put_member(out, buffer, s, name, a, e);
     let n = p.bytes;
     let ok = p.carried;
-    Lines::All {
+    Ok(Lines {
         bytes: n,
         lines: 1,
         carries: ok,
-    }
+    })
 }
 
 // The members from a place on.
-fn put_from(out: &mut [u8], buffer: &mut [u8], s: &[u8], at: usize) -> Lines
+fn put_from(out: &mut [u8], buffer: &mut [u8], s: &[u8], at: usize) -> Result<Lines, NoCard>
     requires at_in_bounds { at ≤ length s.now }
     requires out_in_bounds { length out.old ≤ length buffer.old }
     ensures lines_in { LinesIn (length out.old) result }
@@ -195,34 +201,27 @@ fn put_from(out: &mut [u8], buffer: &mut [u8], s: &[u8], at: usize) -> Lines
         let q = m.name;
         let a = m.start;
         let e = m.end;
-        let Lines::All {
-            bytes: k,
-            lines: l,
-            carries: c,
-        } = put_other(&mut out[n..], buffer, s, q, a, e)
-        else {
-            return Lines::Wrong;
-        };
-        n += k;
-        lines += l;
-        ok = ok & c;
+        let other = put_other(&mut out[n..], buffer, s, q, a, e)?;
+        n += other.bytes;
+        lines += other.lines;
+        ok = ok & other.carries;
         match separator(s, e, RIGHT_BRACE) {
-            Turn::Go(j) => {
+            ControlFlow::Continue(j) => {
                 i = j;
             }
-            Turn::Stop(r) => {
-                return Lines::All {
+            ControlFlow::Break(r) => {
+                return Ok(Lines {
                     bytes: n,
                     lines,
                     carries: ok,
-                };
+                });
             }
         }
     }
 }
 
 // The other members of the JSON text's object as JSPROP lines, in their order. The buffer is as long as the room, for one value at a time.
-pub fn put_members(out: &mut [u8], buffer: &mut [u8], s: &[u8]) -> Lines
+pub fn put_members(out: &mut [u8], buffer: &mut [u8], s: &[u8]) -> Result<Lines, NoCard>
     requires { length out.old ≤ length buffer.old }
     ensures lines_in { LinesIn (length out.old) result }
     ensures out_len_unchanged { length out.new ≡ length out.old }
@@ -230,15 +229,15 @@ pub fn put_members(out: &mut [u8], buffer: &mut [u8], s: &[u8]) -> Lines
 {
     let i = skip_space(s, 0);
     if look(s, i) != LEFT_BRACE {
-        return Lines::Wrong;
+        return Err(NoCard);
     }
     let j = skip_space(s, i + 1);
     if look(s, j) == RIGHT_BRACE {
-        return Lines::All {
+        return Ok(Lines {
             bytes: 0,
             lines: 0,
             carries: true,
-        };
+        });
     }
     put_from(out, buffer, s, j)
 }

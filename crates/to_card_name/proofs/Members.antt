@@ -1,5 +1,8 @@
 -- The members of name, one by one.
 use mathlib.Core.Path.{◌≡◌, refl, sym, ap, subst, ◌∙◌}
+use Rattle.to_card_pen.specs.declared.NoCard.{NoCard}
+use Rattle.std.specs.Prelude.{Err, Ok, Some, None, Result}
+use Rattle.to_card_pen.specs.Refusal.{no_card}
 use mathlib.Core.Bool.{Bool, true, false, ◌||◌, not}
 use mathlib.Core.List.{List, [], ◌∷◌}
 use mathlib.Core.Option.{Option, none, some, map}
@@ -25,14 +28,10 @@ use Rattle.convert.specs.Carry.{apart}
 use Rattle.convert.specs.FromJson.{Component, component_of, by_kind, is_false}
 use Rattle.to_card_value.specs.Values.{StringIs, TellsString}
 use Rattle.to_card_head.proofs.Slots.{slot-none, slot-some}
-use Rattle.to_card_parts.specs.declared.Array.{Array as Arr}
-use Rattle.to_card_parts.specs.declared.Array.TheVariants.{At as ArrayAt, Empty, Wrong as NoArray}
-use Rattle.to_card_parts.specs.Parts.{ArrayIn, OpenedAs, OpensAs, Elements, values_of, Marked, CheckedAs, ChecksFrom}
+use Rattle.to_card_parts.specs.Parts.{ArrayIn, OpenedAs, OpensAs, Elements, values_of, Marked, CheckedAs, ChecksFrom, Array as Arr}
 use Rattle.to_card_parts.proofs.Elements.{kind-told}
 use Rattle.to_card_order.specs.Order as order
-use Rattle.to_card_name.specs.declared.Full.TheVariants.{At, Absent, Wrong}
-use Rattle.to_card_name.specs.declared.Listed.TheVariants.{At as ListAt, Nothing, Wrong as NoList}
-use Rattle.to_card_name.specs.Name.{ordered_in, full_in, components_in, TellsUnordered, FullAs, TellsFull, ListedAs, ListsAs, TellsParts, TellsApart}
+use Rattle.to_card_name.specs.Name.{ordered_in, full_in, components_in, TellsUnordered, FullAs, TellsFull, ListedAs, ListsAs, TellsParts, TellsApart, rows_at}
 
 -- ---- isOrdered
 
@@ -65,21 +64,21 @@ module _ (s : Bytes) (slot : ℕ) where
 
   -- ---- full
 
-  pub full-absent : slot ≡ 0 → TellsFull s slot Absent
+  pub full-absent : slot ≡ 0 → TellsFull s slot (Ok None)
   full-absent e o h = ap full_in (slot-none 14 s slot o h e)
 
   module _ (n : slot ≡ 0 → ⊥) (q : ℕ) (t : TellsString s slot q) where
-    pub full-wrong : q ≡ 0 → TellsFull s slot Wrong
+    pub full-wrong : q ≡ 0 → TellsFull s slot (Err no_card)
     full-wrong e o h = let v = slot-some 14 s slot o h n in ap full_in v.1 ∙ by (as_string v.0) (t 14 v.0 v.2)
       where
         by : (x : Option Bytes) → StringIs s q x → map some x ≡ none
         by none w = refl
         by (some x) w = absurd (omega (arith, w.0))
 
-    pub full_at : (q ≡ 0 → ⊥) → TellsFull s slot (At q)
-    full_at m o h = let v = slot-some 14 s slot o h n in subst (FullAs s (At q)) (sym (ap full_in v.1)) (by (as_string v.0) (t 14 v.0 v.2))
+    pub full_at : (q ≡ 0 → ⊥) → TellsFull s slot (Ok (Some q))
+    full_at m o h = let v = slot-some 14 s slot o h n in subst (FullAs s (Ok (Some q))) (sym (ap full_in v.1)) (by (as_string v.0) (t 14 v.0 v.2))
       where
-        by : (x : Option Bytes) → StringIs s q x → FullAs s (At q) (map some x)
+        by : (x : Option Bytes) → StringIs s q x → FullAs s (Ok (Some q)) (map some x)
         by none w = absurd (m w)
         by (some x) w = (x, refl, w)
 
@@ -95,11 +94,11 @@ unfolding each
 each_none = refl
 
 module _ (s : Bytes) (slot : ℕ) (m : List ℕ) where
-  pub list-absent : slot ≡ 0 → ListsAs s slot m Nothing
+  pub list-absent : slot ≡ 0 → ListsAs s slot m (Ok None)
   list-absent e o h = ap components_in (slot-none 14 s slot o h e)
 
   module _ (n : slot ≡ 0 → ⊥) where
-    pub list-past : length s < slot → ListsAs s slot m NoList
+    pub list-past : length s < slot → ListsAs s slot m (Err no_card)
     list-past l o h =
         let v = slot-some 14 s slot o h n in
         let u = at-inv 14 s slot v.0 v.2 in
@@ -109,34 +108,38 @@ module _ (s : Bytes) (slot : ℕ) (m : List ℕ) where
       opened : (c : Arr) → r ≡ c → (o : Option Json) → Slot 14 s slot o → (js : Option (List Json)) × OpenedAs s c js × (components_in o ≡ chain js (each component_of))
       opened c e o h = let v = slot-some 14 s slot o h n in (as_array v.0, subst (λ (x : Arr). OpenedAs s x (as_array v.0)) e (opens v.0 v.2), ap components_in v.1)
 
-      pub list-wrong : r ≡ NoArray → ListsAs s slot m NoList
-      list-wrong e o h = let w = opened NoArray e o h in w.2 ∙ ap (λ (x : Option (List Json)). chain x (each component_of)) w.1
+      pub list-wrong : r ≡ Err no_card → ListsAs s slot m (Err no_card)
+      list-wrong e o h = let w = opened (Err no_card) e o h in w.2 ∙ ap (λ (x : Option (List Json)). chain x (each component_of)) w.1
 
-      pub list-empty : r ≡ Empty → ListsAs s slot m Nothing
-      list-empty e o h = let w = opened Empty e o h in w.2 ∙ ap (λ (x : Option (List Json)). chain x (each component_of)) w.1 ∙ each_none
+      pub list-empty : r ≡ Ok None → ListsAs s slot m (Ok None)
+      list-empty e o h = let w = opened (Ok None) e o h in w.2 ∙ ap (λ (x : Option (List Json)). chain x (each component_of)) w.1 ∙ each_none
 
-      module _ (j : ℕ) (e : r ≡ ArrayAt j) (n' : ℕ) (checks : ChecksFrom s j m n') where
+      module _ (j : ℕ) (e : r ≡ Ok (Some j)) (n' : ℕ) (checks : ChecksFrom s j m n') where
         elements : (o : Option Json) → Slot 14 s slot o → (js : Option (List Json)) × (x : Elements s j js) × (components_in o ≡ each component_of (elems_of x.elems))
-        elements o h = let w = opened (ArrayAt j) e o h in (w.0, w.1, w.2 ∙ ap (λ (x : Option (List Json)). chain x (each component_of)) w.1.is)
+        elements o h = let w = opened (Ok (Some j)) e o h in (w.0, w.1, w.2 ∙ ap (λ (x : Option (List Json)). chain x (each component_of)) w.1.is)
 
-        pub list-bad : n' ≡ 0 → ListsAs s slot m NoList
+        pub list-bad : n' ≡ 0 → ListsAs s slot m (Err no_card)
         list-bad f o h = let w = elements o h in w.2 ∙ by (each component_of (elems_of w.1.elems)) (checks w.1.units w.1.elems w.1.rest w.1.read w.1.are)
           where
             by : (x : Option (List Component)) → CheckedAs m n' x → x ≡ none
             by none q = refl
             by (some cs) q = absurd (omega (arith, q.0))
 
-        pub list_at : (n' ≡ 0 → ⊥) → ListsAs s slot m (ListAt j n')
+        pub list_at : (n' ≡ 0 → ⊥) → ListsAs s slot m (rows_at j n')
         list_at f o h =
             let w = elements o h in
             let x = w.1 in
             by (components_in o) (each component_of (elems_of x.elems)) refl w.2 (checks x.units x.elems x.rest x.read x.are)
           where
-            by : (c d : Option (List Component)) → each component_of (elems_of (elements o h).1.elems) ≡ d → c ≡ d → CheckedAs m n' d → ListedAs s m (ListAt j n') c
+            by : (c d : Option (List Component)) → each component_of (elems_of (elements o h).1.elems) ≡ d → c ≡ d → CheckedAs m n' d → ListedAs s m (rows_at j n') c
             by c none g p q = absurd (f q)
             by c (some cs) g p q = let y = (elements o h).1 in (cs, p, record { units = y.units; elems = y.elems; rest = y.rest; read = y.read; are = y.are; is = g }, q.1)
 
-pub array-in : {n j : ℕ} (r : Arr) → ArrayIn n r → r ≡ ArrayAt j → j ≤ n
+-- what an answer is, and what is in it
+pub answer-is : {A : Type 0} {r : Result A NoCard} {x y : A} → r ≡ Ok x → x ≡ y → r ≡ Ok y
+answer-is {A} {r} {x} {y} p q = subst (λ (z : A). r ≡ Ok z) q p
+
+pub array-in : {n j : ℕ} (r : Arr) → ArrayIn n r → r ≡ Ok (Some j) → j ≤ n
 array-in {n} {j} r h e = subst (ArrayIn n) e h
 
 -- ---- marks

@@ -26,9 +26,8 @@ use Rattle.convert.specs.Carry.{carried_text, apart, apart_parts}
 use Rattle.convert.specs.Property.{property}
 use Rattle.convert.specs.ToCard.{line_where, derived_line}
 use Rattle.to_card_value.specs.Values.{StringIs}
-use Rattle.to_card_lines.specs.declared.Lines.TheVariants.{All}
 use Rattle.to_card_lines.specs.declared.Penned.{Penned}
-use Rattle.to_card_lines.specs.Lines.{line_bytes, lines_bytes, PartAs, StringLine}
+use Rattle.to_card_lines.specs.Lines.{line_bytes, lines_bytes, PartAs, StringLine, laid}
 use Rattle.to_card_lines.proofs.Laws.{lines_none, lines-one, lines-append, fills-none, fills-as}
 use Rattle.to_card_parts.specs.Parts.{values_of}
 use Rattle.to_card_order.specs.Order.{order_from, carried_order}
@@ -184,13 +183,13 @@ no-kinds = refl
 
 module _ (s : Bytes) (full : ℕ) (room : Bytes) where
   alone : (f : Option Bytes) (ps : List (List Bytes)) → has_parts ps ≡ false → (n : ℕ) (ok : Bool) (after text : Bytes) → Fills room text n after → text ≡ line_bytes (fn_line (record { full = f; parts = ps }))
-      → ok ≡ with-some f carried_text true → PartAs room (All n 1 ok) after (some (name_lines (record { full = f; parts = ps })))
+      → ok ≡ with-some f carried_text true → PartAs room (laid n 1 ok) after (some (name_lines (record { full = f; parts = ps })))
   unfolding name_lines
   alone f ps h n ok after text w t c =
       let l : line_where (has_parts ps) (n_line ps) ≡ [] = ap (λ (x : Bool). line_where x (n_line ps)) h in
       let k : ok ≡ with-some f carried_text true && parts_carried ps = c ∙ and-end (with-some f carried_text true) ∙ ap (λ (x : Bool). with-some f carried_text true && x) (sym (parts_none ps h)) in (
         n,
-        ap (λ (x : List Line). All n (length (fn_line (record { full = f; parts = ps }) ∷ x)) ok) (sym l) ∙ ap (All n (length (fn_line (record { full = f; parts = ps }) ∷ line_where (has_parts ps) (n_line ps)))) k,
+        ap (λ (x : List Line). laid n (length (fn_line (record { full = f; parts = ps }) ∷ x)) ok) (sym l) ∙ ap (laid n (length (fn_line (record { full = f; parts = ps }) ∷ line_where (has_parts ps) (n_line ps)))) k,
         fills-as (t ∙ sym (lines-one (fn_line (record { full = f; parts = ps }))) ∙ ap (λ (x : List Line). lines_bytes (fn_line (record { full = f; parts = ps }) ∷ x)) (sym l)) w,
       )
 
@@ -202,12 +201,12 @@ module _ (s : Bytes) (full : ℕ) (room : Bytes) where
   unfolding line_bytes fold fold_from breaks width flat joined write_text
   derived-none = sym (ap (λ (x : Bytes). fold x ++ (13 ∷ 10 ∷ [])) (derived-bytes (by_kind []) ∙ ap (λ (ps : List (List Bytes)). ascii "FN;DERIVED=TRUE:" ++ write_text false (joined (ascii " ") (flat ps))) no-kinds))
 
-  pub alone-derived : full ≡ 0 → (n : ℕ) (after : Bytes) → Fills room (ascii "FN;DERIVED=TRUE:\r\n") n after → PutsAlone s full room (All n 1 true) after
+  pub alone-derived : full ≡ 0 → (n : ℕ) (after : Bytes) → Fills room (ascii "FN;DERIVED=TRUE:\r\n") n after → PutsAlone s full room (laid n 1 true) after
   alone-derived e n after w f h =
       let y : f ≡ none = none-at s full f e h in
       alone f (by_kind []) no-parts n true after _ w (derived-none ∙ ap (λ (o : Option Bytes). line_bytes (fn_line (name_of o []))) (sym y)) (sym (ap (λ (o : Option Bytes). with-some o carried_text true) y))
 
-  pub alone-full : (full ≡ 0 → ⊥) → (p : Penned) (after : Bytes) → StringLine s full 1 (ascii "FN:") room p after → PutsAlone s full room (All p.bytes 1 p.carried) after
+  pub alone-full : (full ≡ 0 → ⊥) → (p : Penned) (after : Bytes) → StringLine s full 1 (ascii "FN:") room p after → PutsAlone s full room (laid p.bytes 1 p.carried) after
   alone-full n p after g f h =
       let w = full-line s full f (by_kind []) n h g.text g.is p.carried g.carried in
       alone f (by_kind []) no-parts p.bytes p.carried after _ g.fills w.0 w.1
@@ -216,7 +215,7 @@ module _ (s : Bytes) (full : ℕ) (room : Bytes) where
     pub both-row : Fills room (first.text ++ second.text) (p.bytes + t.bytes) (put_mid p.bytes (length out - p.bytes) out last)
     both-row = then first.fills second.fills
 
-    pub both-lines : PutsBoth s full at m room (All (p.bytes + t.bytes) (1 + t.lines) (p.carried && t.carried)) (put_mid p.bytes (length out - p.bytes) out last)
+    pub both-lines : PutsBoth s full at m room (laid (p.bytes + t.bytes) (1 + t.lines) (p.carried && t.carried)) (put_mid p.bytes (length out - p.bytes) out last)
     unfolding name_lines
     both-lines f h cs l k =
         let a = first.says f h cs l k in
@@ -227,7 +226,7 @@ module _ (s : Bytes) (full : ℕ) (room : Bytes) where
         ap (λ (x : Bytes). x ++ second.text) (a.0 ∙ sym (lines-one fl)) ∙ ap (λ (x : Bytes). lines_bytes (fl ∷ []) ++ x) b.0 ∙ sym (lines-append (fl ∷ []) nl) in
         let c : 1 + t.lines ≡ length (fl ∷ nl) = omega (arith, b.1) in (
           p.bytes + t.bytes,
-          ap (λ (x : ℕ). All (p.bytes + t.bytes) x (p.carried && t.carried)) c
-              ∙ ap (All (p.bytes + t.bytes) (length (fl ∷ nl))) (ap (λ (x : Bool). x && t.carried) a.1 ∙ ap (λ (x : Bool). with-some f carried_text true && x) b.2),
+          ap (λ (x : ℕ). laid (p.bytes + t.bytes) x (p.carried && t.carried)) c
+              ∙ ap (laid (p.bytes + t.bytes) (length (fl ∷ nl))) (ap (λ (x : Bool). x && t.carried) a.1 ∙ ap (λ (x : Bool). with-some f carried_text true && x) b.2),
           fills-as e both-row,
         )

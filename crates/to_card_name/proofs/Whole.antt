@@ -1,5 +1,7 @@
 -- A name by its members, and by its slot.
 use mathlib.Core.Path.{◌≡◌, refl, sym, ap, subst, ◌∙◌}
+use Rattle.to_card_pen.specs.Refusal.{no_card}
+use Rattle.std.specs.Prelude.{Err, Ok, Some, None}
 use mathlib.Core.Bool.{Bool, true, false, ◌&&◌, ◌||◌, not}
 use mathlib.Core.List.{List, [], ◌∷◌}
 use mathlib.Core.Option.{Option, none, some, map}
@@ -19,17 +21,11 @@ use Rattle.json_index.proofs.Fields.{first_field, first-other}
 use Rattle.json_index.proofs.Objects.{at-inv}
 use Rattle.convert.specs.FromJson.{only_members, Component, Name, name_from}
 use Rattle.to_card_value.specs.Values.{StringIs}
-use Rattle.to_card_lines.specs.declared.Lines.{Lines}
-use Rattle.to_card_lines.specs.declared.Lines.TheVariants.{Wrong as Twelve}
-use Rattle.to_card_lines.specs.Lines.{Part, PartAs}
+use Rattle.to_card_lines.specs.Lines.{Part, PartAs, Laid}
 use Rattle.to_card_lines.proofs.Parts.{none-wrong}
 use Rattle.to_card_head.proofs.Slots.{slot-none, slot-some}
 use Rattle.to_card_parts.specs.Parts.{RowsFrom}
-use Rattle.to_card_name.specs.declared.Full.{Full}
-use Rattle.to_card_name.specs.declared.Full.TheVariants.{At, Absent, Wrong}
-use Rattle.to_card_name.specs.declared.Listed.{Listed}
-use Rattle.to_card_name.specs.declared.Listed.TheVariants.{At as ListAt, Nothing, Wrong as NoList}
-use Rattle.to_card_name.specs.Name.{ordered_in, full_in, components_in, name_of, name_lines, TellsUnordered, FullAs, TellsFull, ListedIn, ListedAs, ListsAs, PutsAlone, PutsBoth, PutsList, name_from_slots, PutsSlots, name_given, PutsName}
+use Rattle.to_card_name.specs.Name.{ordered_in, full_in, components_in, name_of, name_lines, TellsUnordered, FullAs, TellsFull, ListedIn, ListedAs, ListsAs, PutsAlone, PutsBoth, PutsList, name_from_slots, PutsSlots, name_given, PutsName, Full, Listing, rows_at}
 use Rattle.to_card_name.proofs.Members.{no_value}
 use Rattle.to_card_name.proofs.Rows.{no-kinds}
 
@@ -46,26 +42,26 @@ clear-seven (suc zero) = refl
 clear-seven (suc (suc zero)) = refl
 clear-seven (suc (suc (suc i))) = clear-four i
 
-pub listed_in : {s : Bytes} {kinds values : List ℕ} {j n : ℕ} (r : Listed) → ListedIn s kinds values r → r ≡ ListAt j n → (j ≤ length s) × RowsFrom s j kinds values n
+pub listed_in : {s : Bytes} {kinds values : List ℕ} {j n : ℕ} (r : Listing) → ListedIn s kinds values r → r ≡ rows_at j n → (j ≤ length s) × RowsFrom s j kinds values n
 listed_in {s} {kinds} {values} r h e = subst (ListedIn s kinds values) e h
 
 -- ---- by the components
 
-module _ (s : Bytes) (full slot : ℕ) (room : Bytes) (m : List ℕ) (l : Listed) (lists : ListsAs s slot m l) where
-  listed : (c : Listed) → l ≡ c → (o : Option Json) → Slot 14 s slot o → ListedAs s m c (components_in o)
-  listed c e o h = subst (λ (x : Listed). ListedAs s m x (components_in o)) e (lists o h)
+module _ (s : Bytes) (full slot : ℕ) (room : Bytes) (m : List ℕ) (l : Listing) (lists : ListsAs s slot m l) where
+  listed : (c : Listing) → l ≡ c → (o : Option Json) → Slot 14 s slot o → ListedAs s m c (components_in o)
+  listed c e o h = subst (λ (x : Listing). ListedAs s m x (components_in o)) e (lists o h)
 
   abbrev lines_of : Option Bytes → Option (List Component) → Option Part
   lines_of f x = map (λ cs. name_lines (name_of f cs)) x
 
-  pub list-twelve : l ≡ NoList → (after : Bytes) → PutsList s full slot room Twelve after
-  list-twelve e after f h o w = none-wrong room after (lines_of f (components_in o)) (ap (lines_of f) (listed NoList e o w))
+  pub list-twelve : l ≡ Err no_card → (after : Bytes) → PutsList s full slot room (Err no_card) after
+  list-twelve e after f h o w = none-wrong room after (lines_of f (components_in o)) (ap (lines_of f) (listed (Err no_card) e o w))
 
-  pub list-alone : l ≡ Nothing → (r : Lines) (after : Bytes) → PutsAlone s full room r after → PutsList s full slot room r after
-  list-alone e r after p f h o w = subst (PartAs room r after) (sym (ap (lines_of f) (listed Nothing e o w))) (p f h)
+  pub list-alone : l ≡ Ok None → (r : Laid) (after : Bytes) → PutsAlone s full room r after → PutsList s full slot room r after
+  list-alone e r after p f h o w = subst (PartAs room r after) (sym (ap (lines_of f) (listed (Ok None) e o w))) (p f h)
 
-  pub list-both : (j n : ℕ) → l ≡ ListAt j n → (r : Lines) (after : Bytes) → PutsBoth s full j m room r after → PutsList s full slot room r after
-  list-both j n e r after p f h o w = let x = listed (ListAt j n) e o w in subst (PartAs room r after) (sym (ap (lines_of f) x.1)) (p f h x.0 x.2 x.3)
+  pub list-both : (j n : ℕ) → l ≡ rows_at j n → (r : Laid) (after : Bytes) → PutsBoth s full j m room r after → PutsList s full slot room r after
+  list-both j n e r after p f h o w = let x = listed (rows_at j n) e o w in subst (PartAs room r after) (sym (ap (lines_of f) x.1)) (p f h x.0 x.2 x.3)
 
 -- ---- by all members
 
@@ -104,13 +100,13 @@ module _ (s : Bytes) (full components ordered other : ℕ) (room : Bytes) where
   abbrev wanted : Option Json → Option Json → Option Json → Option Json → Option Part
   wanted f c i x = map name_lines (name_from_slots f c i x)
 
-  pub slots-other : (other ≡ 0 → ⊥) → (after : Bytes) → PutsSlots s full components ordered other room Twelve after
+  pub slots-other : (other ≡ 0 → ⊥) → (after : Bytes) → PutsSlots s full components ordered other room (Err no_card) after
   unfolding name_from_slots
   slots-other n after f c i x sf sc si sx =
       let v = slot-some 14 s other x sx n in
       none-wrong room after (wanted f c i x) (ap (λ (o : Option Json). part_of (not (is_some o) && (is_some f || is_some c)) (ordered_in i) (full_in f) (components_in c)) v.1 ∙ none-tested (ordered_in i) (full_in f) (components_in c))
 
-  pub slots-neither : (eqb full 0 && eqb components 0) ≡ true → (after : Bytes) → PutsSlots s full components ordered other room Twelve after
+  pub slots-neither : (eqb full 0 && eqb components 0) ≡ true → (after : Bytes) → PutsSlots s full components ordered other room (Err no_card) after
   unfolding name_from_slots
   slots-neither e after f c i x sf sc si sx =
       let a : eqb full 0 ≡ true = and_left (eqb full 0) (eqb components 0) e in
@@ -122,21 +118,21 @@ module _ (s : Bytes) (full components ordered other : ℕ) (room : Bytes) where
       ∙ ap (λ (o : Option Json). part_of (not (is_some x) && (false || is_some o)) (ordered_in i) (full_in f) (components_in c)) z
       ∙ ap (λ (t : Bool). part_of t (ordered_in i) (full_in f) (components_in c)) (and-false (not (is_some x))) ∙ none-tested (ordered_in i) (full_in f) (components_in c))
 
-  pub slots-ordered : (b : Bool) → TellsUnordered s ordered b → b ≡ false → (after : Bytes) → PutsSlots s full components ordered other room Twelve after
+  pub slots-ordered : (b : Bool) → TellsUnordered s ordered b → b ≡ false → (after : Bytes) → PutsSlots s full components ordered other room (Err no_card) after
   unfolding name_from_slots
   slots-ordered b t e after f c i x sf sc si sx =
       none-wrong room after (wanted f c i x)
       (ap (λ (o : Option Bool). part_of (not (is_some x) && (is_some f || is_some c)) o (full_in f) (components_in c)) (not_some (ordered_in i) (sym e ∙ t i si)) ∙ none-ordered (not (is_some x) && (is_some f || is_some c)) (full_in f) (components_in c))
 
   module _ (q : Full) (tells : TellsFull s full q) where
-    pub slots-full : q ≡ Wrong → (after : Bytes) → PutsSlots s full components ordered other room Twelve after
+    pub slots-full : q ≡ Err no_card → (after : Bytes) → PutsSlots s full components ordered other room (Err no_card) after
     unfolding name_from_slots
     slots-full e after f c i x sf sc si sx =
         let y : full_in f ≡ none = subst (λ (z : Full). FullAs s z (full_in f)) e (tells f sf) in
         none-wrong room after (wanted f c i x)
         (ap (λ (o : Option (Option Bytes)). part_of (not (is_some x) && (is_some f || is_some c)) (ordered_in i) o (components_in c)) y ∙ none-full (not (is_some x) && (is_some f || is_some c)) (ordered_in i) (components_in c))
 
-    module _ (no_other : other ≡ 0) (one-there : (eqb full 0 && eqb components 0) ≡ false) (b : Bool) (tells-ordered : TellsUnordered s ordered b) (unordered : b ≡ true) (r : Lines) (after : Bytes) where
+    module _ (no_other : other ≡ 0) (one-there : (eqb full 0 && eqb components 0) ≡ false) (b : Bool) (tells-ordered : TellsUnordered s ordered b) (unordered : b ≡ true) (r : Laid) (after : Bytes) where
       tested : (a b : Bool) (x y : Bool) → a ≡ not x → b ≡ not y → (a && b) ≡ false → (x || y) ≡ true
       tested a b true y e f h = refl
       tested a b false true e f h = refl
@@ -160,12 +156,12 @@ module _ (s : Bytes) (full components ordered other : ℕ) (room : Bytes) where
           ∙ ap (λ (o : Option (Option Bytes)). part_of true (some u.0) o (components_in c)) y ∙ some-full u.0 g (components_in c)))
           (puts g h c sc)
 
-      pub slots-absent : q ≡ Absent → PutsList s 0 components room r after → PutsSlots s full components ordered other room r after
+      pub slots-absent : q ≡ Ok None → PutsList s 0 components room r after → PutsSlots s full components ordered other room r after
       slots-absent e p f c i x sf sc si sx = goes none 0 refl p f c i x sf sc si sx (subst (λ (z : Full). FullAs s z (full_in f)) e (tells f sf))
 
-      pub slots_at : (place : ℕ) → q ≡ At place → PutsList s place components room r after → PutsSlots s full components ordered other room r after
+      pub slots_at : (place : ℕ) → q ≡ Ok (Some place) → PutsList s place components room r after → PutsSlots s full components ordered other room r after
       slots_at place e p f c i x sf sc si sx =
-          let w : FullAs s (At place) (full_in f) = subst (λ (z : Full). FullAs s z (full_in f)) e (tells f sf) in
+          let w : FullAs s (Ok (Some place)) (full_in f) = subst (λ (z : Full). FullAs s z (full_in f)) e (tells f sf) in
           goes (some w.0) place w.2 p f c i x sf sc si sx w.1
 
 -- ---- by the slot
@@ -193,13 +189,13 @@ module _ (s : Bytes) (slot : ℕ) (room : Bytes) where
   abbrev named : Option Json → Option Part
   named o = map name_lines (name_given o)
 
-  pub name-absent : slot ≡ 0 → (r : Lines) (after : Bytes) → PutsAlone s 0 room r after → PutsName s slot room r after
+  pub name-absent : slot ≡ 0 → (r : Laid) (after : Bytes) → PutsAlone s 0 room r after → PutsName s slot room r after
   name-absent e r after p o h =
       let y : o ≡ none = slot-none 15 s slot o h e in
       subst (PartAs room r after) (ap (λ (ps : List (List Bytes)). some (name_lines (record { full = none; parts = ps }))) no-kinds ∙ sym (ap named y)) (p none refl)
 
   module _ (n : slot ≡ 0 → ⊥) where
-    pub name-past : length s < slot → (after : Bytes) → PutsName s slot room Twelve after
+    pub name-past : length s < slot → (after : Bytes) → PutsName s slot room (Err no_card) after
     name-past l after o h =
         let v = slot-some 15 s slot o h n in
         let u = at-inv 15 s slot v.0 v.2 in
@@ -211,16 +207,16 @@ module _ (s : Bytes) (slot : ℕ) (room : Bytes) where
           provided (only_members names ms && (is_some (field (ascii "full") ms) || is_some (field (ascii "components") ms)))
           (chain (ordered_in (field (ascii "isOrdered") ms)) λ ordered. both name_of (full_in (field (ascii "full") ms)) (components_in (field (ascii "components") ms)))
 
-      by-object : (r : Lines) (after : Bytes) → ((o : Option (List Member)) → IndexOf 14 s (parts 44 (ascii "full,components,isOrdered")) xs b o → PartAs room r after (map name_lines (by_members o))) → PutsName s slot room r after
+      by-object : (r : Laid) (after : Bytes) → ((o : Option (List Member)) → IndexOf 14 s (parts 44 (ascii "full,components,isOrdered")) xs b o → PartAs room r after (map name_lines (by_members o))) → PutsName s slot room r after
       unfolding name_from
       by-object r after g o h =
           let v = slot-some 15 s slot o h n in
           subst (PartAs room r after) (sym (ap named v.1)) (g (as_object v.0) (index v.0 v.2))
 
-      pub name-object : b ≡ false → (after : Bytes) → PutsName s slot room Twelve after
-      name-object e after = by-object Twelve after by
+      pub name-object : b ≡ false → (after : Bytes) → PutsName s slot room (Err no_card) after
+      name-object e after = by-object (Err no_card) after by
         where
-          by : (o : Option (List Member)) → IndexOf 14 s (parts 44 (ascii "full,components,isOrdered")) xs b o → PartAs room Twelve after (map name_lines (by_members o))
+          by : (o : Option (List Member)) → IndexOf 14 s (parts 44 (ascii "full,components,isOrdered")) xs b o → PartAs room (Err no_card) after (map name_lines (by_members o))
           by none h = refl
           by (some ms) h = let z : ◌≡◌ {A = ℕ} 0 1 = cc in absurd (omega arith)
 
@@ -233,7 +229,7 @@ module _ (s : Bytes) (slot : ℕ) (room : Bytes) where
       members-are ms = ap (λ (t : Bool). provided (t && (is_some (field (ascii "full") ms) || is_some (field (ascii "components") ms)))
           (chain (ordered_in (field (ascii "isOrdered") ms)) λ ordered. both name_of (full_in (field (ascii "full") ms)) (components_in (field (ascii "components") ms)))) (only-is ms)
 
-      pub name-slots : b ≡ true → (r : Lines) (after : Bytes) → PutsSlots s (get_or xs 0 0) (get_or xs 1 0) (get_or xs 2 0) (get_or xs 3 0) room r after → PutsName s slot room r after
+      pub name-slots : b ≡ true → (r : Laid) (after : Bytes) → PutsSlots s (get_or xs 0 0) (get_or xs 1 0) (get_or xs 2 0) (get_or xs 3 0) room r after → PutsName s slot room r after
       name-slots e r after p = by-object r after by
         where
           slot_of : (ms : List Member) → Indexed 14 s (parts 44 (ascii "full,components,isOrdered")) xs ms → (i : ℕ) → Slot 14 s (get_or xs i 0) (first_at names i ms)

@@ -1,7 +1,7 @@
 // FN and N from the member `name` of the JSON: judged (12), written, and told whether lines can carry them (13).
 #![tactic(auto)]
 
-ghost use Rattle.std.specs.Prelude.{◌≡◌, ◌≤◌, ◌<◌, length};
+ghost use Rattle.std.specs.Prelude.{Ok, ◌≡◌, ◌≤◌, ◌<◌, length};
 ghost use Rattle.json_index.specs.Index.{Clear};
 ghost use Rattle.to_card_lines.specs.Lines.{LinesIn};
 ghost use Rattle.to_card_parts.specs.Parts.{RowsFrom};
@@ -14,36 +14,22 @@ use json_index::index_object;
 use line_pen::{fill, pen_bytes};
 use to_card_lines::{Lines, Penned, put_string_line};
 use to_card_order::{are_apart, pen_order};
-use to_card_parts::{Array, ROWS, list_rows, open_array};
-use to_card_pen::style;
+use to_card_parts::{ROWS, list_rows, open_array};
+use to_card_pen::{NoCard, style};
 use to_card_value::string_in;
 
-// The full name: where its string stands; it is absent; or 12.
+// The components: where the first stands, and how many rows they have.
 #[derive(Drop)]
-pub enum Full {
-    At(usize),
-    Absent,
-    Wrong,
+pub struct Listed {
+    pub first: usize,
+    pub rows: usize,
 }
 
-// The components: where the first stands, and how many rows they have; there are none; or 12.
+// The lines of a name, and whether it says a full name.
 #[derive(Drop)]
-pub enum Listed {
-    At { first: usize, rows: usize },
-    Nothing,
-    Wrong,
-}
-
-// How many bytes and lines of a name were written, whether lines can carry what they say, and whether it says a full name; or 12.
-#[derive(Drop)]
-pub enum Named {
-    All {
-        bytes: usize,
-        lines: usize,
-        carries: bool,
-        full: bool,
-    },
-    Wrong,
+pub struct Named {
+    pub lines: Lines,
+    pub full: bool,
 }
 
 // How many bytes and lines were written, and whether lines can carry what they say.
@@ -72,28 +58,28 @@ fn is_unordered(s: &[u8], slot: usize) -> bool
     }
 }
 
-// The full name in a slot.
-fn full_in(s: &[u8], slot: usize) -> Full
+// The full name in a slot: where its string stands, if it is there.
+fn full_in(s: &[u8], slot: usize) -> Result<Option<usize>, NoCard>
     ensures { TellsFull s.now slot result }
 {
     if slot == 0 {
-        return Full::Absent;
+        return Ok(None);
     }
     let q = string_in(s, slot);
     if q == 0 {
-        return Full::Wrong;
+        return Err(NoCard);
     }
-    Full::At(q)
+    Ok(Some(q))
 }
 
-// The components in a slot: a row for each, and marks of the kinds that have a value.
+// The components in a slot, if there are any: a row for each, and marks of the kinds that have a value.
 fn list_components(
     marks: &mut [usize],
     kinds: &mut [usize],
     values: &mut [usize],
     s: &[u8],
     slot: usize,
-) -> Listed
+) -> Result<Option<Listed>, NoCard>
     requires part_count_in_bounds { part_count ≤ length marks.old }
     requires clear { Clear marks.old }
     requires in_bounds { 16 ≤ length kinds.old }
@@ -102,22 +88,19 @@ fn list_components(
     ensures lists_as { ListsAs s.now slot marks.new result }
 {
     if slot == 0 {
-        return Listed::Nothing;
+        return Ok(None);
     }
     if slot > s.len() {
-        return Listed::Wrong;
+        return Err(NoCard);
     }
-    match open_array(s, slot) {
-        Array::Wrong => Listed::Wrong,
-        Array::Empty => Listed::Nothing,
-        Array::At(j) => {
-            let n = list_rows(marks, kinds, values, s, j);
-            if n == 0 {
-                return Listed::Wrong;
-            }
-            Listed::At { first: j, rows: n }
-        }
+    let Some(j) = open_array(s, slot)? else {
+        return Ok(None);
+    };
+    let n = list_rows(marks, kinds, values, s, j);
+    if n == 0 {
+        return Err(NoCard);
     }
+    Ok(Some(Listed { first: j, rows: n }))
 }
 
 // Whether any kind has a value.
@@ -317,13 +300,13 @@ fn put_n(
 
 // The lines of a name without components.
 fn put_alone(out: &mut [u8], s: &[u8], full: usize) -> Lines
-    ensures lines_in { LinesIn (length out.old) result }
+    ensures lines_in { LinesIn (length out.old) (Ok result) }
     ensures out_len_unchanged { length out.new ≡ length out.old }
-    ensures puts_alone { PutsAlone s.now full out.old result out.new }
+    ensures puts_alone { PutsAlone s.now full out.old (Ok result) out.new }
 {
     if full == 0 {
         let n = fill(out, &lines::EMPTY_FN);
-        return Lines::All {
+        return Lines {
             bytes: n,
             lines: 1,
             carries: true,
@@ -332,7 +315,7 @@ fn put_alone(out: &mut [u8], s: &[u8], full: usize) -> Lines
     let p = put_string_line(out, &lines::FN, style::TEXT, s, full);
     let n = p.bytes;
     let ok = p.carried;
-    Lines::All {
+    Lines {
         bytes: n,
         lines: 1,
         carries: ok,
@@ -355,9 +338,9 @@ fn put_both(
     requires in_bounds { 16 ≤ length kinds.now }
     requires in_bounds_2 { 16 ≤ length values.now }
     requires rows_from { RowsFrom s.now at kinds.now values.now rows }
-    ensures lines_in { LinesIn (length out.old) result }
+    ensures lines_in { LinesIn (length out.old) (Ok result) }
     ensures out_len_unchanged { length out.new ≡ length out.old }
-    ensures puts_both { PutsBoth s.now full at marks.now out.old result out.new }
+    ensures puts_both { PutsBoth s.now full at marks.now out.old (Ok result) out.new }
 {
     let p = put_fn(out, s, full, at, marks, kinds, values, rows);
     let n = p.bytes;
@@ -365,7 +348,7 @@ fn put_both(
     let m = n + t.bytes;
     let k = 1 + t.lines;
     let ok = p.carried & t.carried;
-    Lines::All {
+    Lines {
         bytes: m,
         lines: k,
         carries: ok,
@@ -373,7 +356,7 @@ fn put_both(
 }
 
 // The lines of a name whose full name stands at a place (0: it has none), by the slot of its components.
-fn put_list(out: &mut [u8], s: &[u8], full: usize, components: usize) -> Lines
+fn put_list(out: &mut [u8], s: &[u8], full: usize, components: usize) -> Result<Lines, NoCard>
     ensures lines_in { LinesIn (length out.old) result }
     ensures out_len_unchanged { length out.new ≡ length out.old }
     ensures puts_list { PutsList s.now full components out.old result out.new }
@@ -381,10 +364,9 @@ fn put_list(out: &mut [u8], s: &[u8], full: usize, components: usize) -> Lines
     let mut marks = [0usize; parts::COUNT];
     let mut kinds = [0usize; ROWS];
     let mut values = [0usize; ROWS];
-    match list_components(&mut marks, &mut kinds, &mut values, s, components) {
-        Listed::Wrong => Lines::Wrong,
-        Listed::Nothing => put_alone(out, s, full),
-        Listed::At { first: j, rows: n } => put_both(out, s, full, j, &marks, &kinds, &values, n),
+    match list_components(&mut marks, &mut kinds, &mut values, s, components)? {
+        None => Ok(put_alone(out, s, full)),
+        Some(l) => Ok(put_both(out, s, full, l.first, &marks, &kinds, &values, l.rows)),
     }
 }
 
@@ -396,73 +378,51 @@ fn put_slots(
     components: usize,
     ordered: usize,
     other: usize,
-) -> Lines
+) -> Result<Lines, NoCard>
     ensures lines_in { LinesIn (length out.old) result }
     ensures out_len_unchanged { length out.new ≡ length out.old }
     ensures puts_slots { PutsSlots s.now full components ordered other out.old result out.new }
 {
     if other != 0 {
-        return Lines::Wrong;
+        return Err(NoCard);
     }
     if (full == 0) & (components == 0) {
-        return Lines::Wrong;
+        return Err(NoCard);
     }
     if !is_unordered(s, ordered) {
-        return Lines::Wrong;
+        return Err(NoCard);
     }
-    match full_in(s, full) {
-        Full::Wrong => Lines::Wrong,
-        Full::Absent => put_list(out, s, 0, components),
-        Full::At(q) => put_list(out, s, q, components),
+    match full_in(s, full)? {
+        None => put_list(out, s, 0, components),
+        Some(q) => put_list(out, s, q, components),
     }
 }
 
 // FN, and N where there is a component, by the slot of `name`.
-pub fn put_name(out: &mut [u8], s: &[u8], slot: usize) -> Named
+pub fn put_name(out: &mut [u8], s: &[u8], slot: usize) -> Result<Named, NoCard>
     ensures lines_in { LinesIn (length out.old) (as_lines result) }
     ensures out_len_unchanged { length out.new ≡ length out.old }
     ensures puts_name { PutsName s.now slot out.old (as_lines result) out.new }
     ensures says_full { SaysFull s.now slot result }
 {
     if slot == 0 {
-        let Lines::All {
-            bytes: n,
-            lines: l,
-            carries: ok,
-        } = put_alone(out, s, 0)
-        else {
-            return Named::Wrong;
-        };
-        return Named::All {
-            bytes: n,
-            lines: l,
-            carries: ok,
-            full: false,
-        };
+        let lines = put_alone(out, s, 0);
+        return Ok(Named { lines, full: false });
     }
     if slot > s.len() {
-        return Named::Wrong;
+        return Err(NoCard);
     }
     let mut slots = [0usize; name::SLOTS];
     if !index_object(&mut slots, s, slot, name::DEPTH, &name::NAMES) {
-        return Named::Wrong;
+        return Err(NoCard);
     }
     let a = slots[name::FULL];
     let b = slots[name::COMPONENTS];
     let c = slots[name::ORDERED];
     let d = slots[name::OTHER];
-    let Lines::All {
-        bytes: n,
-        lines: l,
-        carries: ok,
-    } = put_slots(out, s, a, b, c, d)
-    else {
-        return Named::Wrong;
-    };
-    Named::All {
-        bytes: n,
-        lines: l,
-        carries: ok,
+    let lines = put_slots(out, s, a, b, c, d)?;
+    Ok(Named {
+        lines,
         full: a != 0,
-    }
+    })
 }

@@ -1,5 +1,7 @@
 -- Values of a kind noted by their places and prints, and those of another kind that meet them.
 use mathlib.Core.Path.{◌≡◌, refl, sym, ap, subst, ◌∙◌}
+use Rattle.std.specs.Prelude.{Err}
+use Rattle.to_card_pen.specs.Refusal.{no_card}
 use mathlib.Core.Bool.{Bool, true, false, ◌&&◌, ◌||◌, not}
 use mathlib.Core.List.{List, [], ◌∷◌, ◌++◌, append-nil, append_assoc}
 use mathlib.Core.Option.{Option, some}
@@ -7,8 +9,8 @@ use Prim.Native.Nat.{ℕ, zero, suc, ◌+◌, ◌≤◌, ◌<◌}
 use native.Mathlib.Omega.{arith}
 use lib.Dec.{eqb}
 use lib.ListN.{length, take, drop, set, length-set}
-use Rattle.text.specs.declared.Read.{Read}
-use Rattle.text.specs.declared.Turn.TheVariants.{Go, Stop}
+use Rattle.text.specs.Places.{Read}
+use Rattle.std.proofs.Common.{Continue, Break}
 use Rattle.text.specs.Choice.{pick}
 use Rattle.text.specs.Bytes.{Bytes, all, among}
 use Rattle.text.specs.Places.{GivesT}
@@ -24,9 +26,7 @@ use Rattle.convert.specs.Value.{filled}
 use Rattle.convert.specs.Carry.{apart}
 use Rattle.convert.specs.FromJson.{Component, component, component_of, of_kind}
 use Rattle.to_card_head.specs.Head.{TellsFilled}
-use Rattle.to_card_parts.specs.declared.Found.{Found}
-use Rattle.to_card_parts.specs.declared.Found.TheVariants.{Of, Wrong}
-use Rattle.to_card_parts.specs.Parts.{TellsComponent, Lists, values_of, value_if}
+use Rattle.to_card_parts.specs.Parts.{TellsComponent, Lists, values_of, value_if, Finding, found}
 use Rattle.to_card_parts.proofs.Elements.{Far, far-first, now-to, first_of}
 use Rattle.to_card_parts.proofs.Values.{values-none, values-more}
 use Rattle.to_card_parts.proofs.Passes.{found_none, found_some}
@@ -91,22 +91,22 @@ pub parting-first : (s : Bytes) (at kind : ℕ) (places prints : List ℕ) (n : 
 parting-first s at kind places prints n cs l ws h =
     ([], far-first component_of 13 s l.units l.elems l.rest at l.read l.are, sym (ap (λ (vs : List Bytes). apart vs ws) (values-none kind) ∙ apart_none ws))
 
-module _ (s : Bytes) (at kind : ℕ) (places prints : List ℕ) (n i : ℕ) (ok : Bool) (going : Parting s at kind places prints n i ok) (f : Found) (tells : TellsComponent s i f) where
-  pub parts-wrong : f ≡ Wrong → ApartNoted s at kind places prints n ok
+module _ (s : Bytes) (at kind : ℕ) (places prints : List ℕ) (n i : ℕ) (ok : Bool) (going : Parting s at kind places prints n i ok) (f : Finding) (tells : TellsComponent s i f) where
+  pub parts-wrong : f ≡ Err no_card → ApartNoted s at kind places prints n ok
   parts-wrong e cs l ws h =
       let g = going cs l ws h in
       let y = first_of g.1 in
       none-some (sym (y.2 (found_none s f (component_of y.0) (tells y.0 y.1) e)) ∙ l.is)
 
-  module _ (k v : ℕ) (e : f ≡ Of k v) (c : Bool) (met : MeetsNoted s (eqb kind k) v places prints n c) (end : ℕ) (told : EndsAt 13 s i end) where
-    pub parting-on : (j : ℕ) → GivesT s end (sep 93 zero suc (drop end s)) (Go j) → Parting s at kind places prints n j (ok && not c)
+  module _ (k v : ℕ) (e : f ≡ found k v) (c : Bool) (met : MeetsNoted s (eqb kind k) v places prints n c) (end : ℕ) (told : EndsAt 13 s i end) where
+    pub parting-on : (j : ℕ) → GivesT s end (sep 93 zero suc (drop end s)) (Continue j) → Parting s at kind places prints n j (ok && not c)
     parting-on j w cs l ws h =
         let g = going cs l ws h in
         let y = now-to g.1 end told in
         let d = found_some s f (component_of y.val) (tells y.val y.is-val) k v e in
         (g.0 ++ (component k d.0 ∷ []), y.goes (component k d.0) d.1 j w, parted kind k ok c g.0 d.0 ws (met ws h d.0 d.2) g.2)
 
-    pub parts_all : (u : Read) → GivesT s end (sep 93 zero suc (drop end s)) (Stop u) → ApartNoted s at kind places prints n (ok && not c)
+    pub parts_all : (u : Read) → GivesT s end (sep 93 zero suc (drop end s)) (Break u) → ApartNoted s at kind places prints n (ok && not c)
     parts_all u w cs l ws h =
         let g = going cs l ws h in
         let y = now-to g.1 end told in
@@ -207,14 +207,14 @@ noting-first s at one other places prints cs l = (
   record { gone = []; noted = []; these = sym (values-none other); told = sym (apart-nothing (values_of one cs)); are = no_names s places prints },
 )
 
-module _ (s : Bytes) (at one other i : ℕ) (places prints : List ℕ) (n : ℕ) (ok : Bool) (going : Noting s at one other i places prints n ok) (f : Found) (tells : TellsComponent s i f) where
-  pub notes-wrong : f ≡ Wrong → TellsApart s at one other ok
+module _ (s : Bytes) (at one other i : ℕ) (places prints : List ℕ) (n : ℕ) (ok : Bool) (going : Noting s at one other i places prints n ok) (f : Finding) (tells : TellsComponent s i f) where
+  pub notes-wrong : f ≡ Err no_card → TellsApart s at one other ok
   notes-wrong e cs l =
       let g = going cs l in
       let y = first_of g.1 in
       none-some (sym (y.2 (found_none s f (component_of y.0) (tells y.0 y.1) e)) ∙ l.is)
 
-  module _ (k v : ℕ) (e : f ≡ Of k v) (places' prints' : List ℕ) (t : Kept) (notes : NotesValue s at one (eqb other k) v places prints n places' prints' t)
+  module _ (k v : ℕ) (e : f ≡ found k v) (places' prints' : List ℕ) (t : Kept) (notes : NotesValue s at one (eqb other k) v places prints n places' prints' t)
       (end : ℕ) (told : EndsAt 13 s i end) where
     more : (cs : List Component) → Lists s at cs → (past : List Component) (x : Bytes) → decoded_at s v ≡ some x → Keeps s (values_of one cs) (values_of other past) places prints (record { count = n; ok = ok })
         → Keeps s (values_of one cs) (values_of other (past ++ (component k x ∷ []))) places' prints' (record { count = t.count; ok = ok && t.ok })
@@ -222,14 +222,14 @@ module _ (s : Bytes) (at one other i : ℕ) (places prints : List ℕ) (n : ℕ)
         subst (λ (ws : List Bytes). Keeps s (values_of one cs) ws places' prints' (record { count = t.count; ok = ok && t.ok })) (sym (values-more other past (component k x)))
         (keeps_then so (of_kind other (component k x)) t (λ us h. notes.says cs l us h x q))
 
-    pub noting-on : (j : ℕ) → GivesT s end (sep 93 zero suc (drop end s)) (Go j) → Noting s at one other j places' prints' t.count (ok && t.ok)
+    pub noting-on : (j : ℕ) → GivesT s end (sep 93 zero suc (drop end s)) (Continue j) → Noting s at one other j places' prints' t.count (ok && t.ok)
     noting-on j w cs l =
         let g = going cs l in
         let y = now-to g.1 end told in
         let d = found_some s f (component_of y.val) (tells y.val y.is-val) k v e in
         (g.0 ++ (component k d.0 ∷ []), y.goes (component k d.0) d.1 j w, more cs l g.0 d.0 d.2 g.2)
 
-    pub notes-all : (u : Read) → GivesT s end (sep 93 zero suc (drop end s)) (Stop u) → (c : Bool) → ApartNoted s at one places' prints' t.count c → TellsApart s at one other ((ok && t.ok) && c)
+    pub notes-all : (u : Read) → GivesT s end (sep 93 zero suc (drop end s)) (Break u) → (c : Bool) → ApartNoted s at one places' prints' t.count c → TellsApart s at one other ((ok && t.ok) && c)
     notes-all u w c met cs l =
         let g = going cs l in
         let y = now-to g.1 end told in

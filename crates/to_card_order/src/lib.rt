@@ -12,9 +12,10 @@ use json_marks::separator;
 use json_prints::{is_noted_wide, print_at};
 use json_strings::same_text;
 use line_pen::pen_byte;
-use text::{RIGHT_BRACKET, Turn};
+use std::ops::ControlFlow;
+use text::RIGHT_BRACKET;
 use to_card_head::is_filled;
-use to_card_parts::{Ended, Inked, ROWS, component_to_end, pen_listed};
+use to_card_parts::{Inked, ROWS, component_to_end, pen_listed};
 use to_card_pen::Told;
 
 // No value has this print.
@@ -111,8 +112,7 @@ pub fn pen_order(
     let mut c = column;
     let mut b = false;
     let mut ok = true;
-    let mut i = 0;
-    while i < order.len() {
+    for place in order {
         let t = pen_place(
             &mut out[n..],
             c,
@@ -124,14 +124,13 @@ pub fn pen_order(
             kinds,
             values,
             rows,
-            order[i],
+            *place,
             b,
         );
         n += t.bytes;
         c = t.column;
         b = t.begun;
         ok = ok & t.carried;
-        i += 1;
     }
     Told {
         bytes: n,
@@ -167,11 +166,9 @@ fn is_listed(
     requires rows_from { RowsFrom s.now at kinds.now values.now rows }
     ensures { FindsAmong s.now at kind value result }
 {
-    let mut i = 0;
     let mut found = false;
-    while i < rows {
+    for i in 0..rows {
         found = found | agrees(s, kind == kinds[i], value, values[i]);
-        i += 1;
     }
     found
 }
@@ -203,7 +200,7 @@ fn clashes(
     is_listed(s, at, kinds, values, rows, kind, value)
 }
 
-// The print of a value that is asked for and not empty; none for others.
+// The print of a value that is asked for and not empty; none for others. (The number for none is that of `print_at`: an Option made of it would be no plainer.)
 fn value_print(s: &[u8], wanted: bool, value: usize) -> u32
     ensures { PrintsValue s.now wanted value result }
 {
@@ -256,15 +253,24 @@ fn none_met<'a, 'b>(
     let mut i = at;
     let mut ok = true;
     loop {
-        let Ended::Of(k, v, e) = component_to_end(s, i) else {
+        // No `?`: the list was judged before, so there is no 12 to hand on.
+        let Ok(part) = component_to_end(s, i) else {
             return ok;
         };
-        ok = ok & !is_met(s, kind == k, v, places, prints, count);
-        match separator(s, e, RIGHT_BRACKET) {
-            Turn::Go(j) => {
+        ok = ok
+            & !is_met(
+                s,
+                kind == part.found.kind,
+                part.found.value,
+                places,
+                prints,
+                count,
+            );
+        match separator(s, part.end, RIGHT_BRACKET) {
+            ControlFlow::Continue(j) => {
                 i = j;
             }
-            Turn::Stop(r) => {
+            ControlFlow::Break(r) => {
                 return ok;
             }
         }
@@ -334,17 +340,27 @@ fn note_apart<'a, 'b>(
     let mut n = 0;
     let mut ok = true;
     loop {
-        let Ended::Of(k, v, e) = component_to_end(s, i) else {
+        // No `?`: the list was judged before, so there is no 12 to hand on.
+        let Ok(part) = component_to_end(s, i) else {
             return ok;
         };
-        let t = note_value(places, prints, n, s, at, one, other == k, v);
+        let t = note_value(
+            places,
+            prints,
+            n,
+            s,
+            at,
+            one,
+            other == part.found.kind,
+            part.found.value,
+        );
         n = t.count;
         ok = ok & t.ok;
-        match separator(s, e, RIGHT_BRACKET) {
-            Turn::Go(j) => {
+        match separator(s, part.end, RIGHT_BRACKET) {
+            ControlFlow::Continue(j) => {
                 i = j;
             }
-            Turn::Stop(r) => {
+            ControlFlow::Break(r) => {
                 return ok & none_met(s, at, one, places, prints, n);
             }
         }
@@ -380,9 +396,8 @@ pub fn are_apart(
     if rows > ROWS {
         return walk_apart(s, at, one, other);
     }
-    let mut i = 0;
     let mut ok = true;
-    while i < rows {
+    for i in 0..rows {
         ok = ok
             & !clashes(
                 s,
@@ -394,7 +409,6 @@ pub fn are_apart(
                 values[i],
                 other,
             );
-        i += 1;
     }
     ok
 }

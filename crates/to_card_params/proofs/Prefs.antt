@@ -1,5 +1,7 @@
 -- The pref of an entry: the ways out of its reader, and PREF.
 use mathlib.Core.Path.{◌≡◌, refl, sym, ap, subst, ◌∙◌}
+use Rattle.std.specs.Prelude.{Err}
+use Rattle.to_card_pen.specs.Refusal.{no_card}
 use mathlib.Core.Bool.{Bool, true, false}
 use mathlib.Core.List.{[], ◌++◌}
 use mathlib.Core.Option.{Option, none, some}
@@ -22,9 +24,7 @@ use Rattle.json_index.proofs.Objects.{at-inv}
 use Rattle.line_pen.specs.Pen.{Pens}
 use Rattle.line_pen.proofs.Laws.{pens-as, pens-none}
 use Rattle.convert.specs.Value.{is_pref}
-use Rattle.to_card_params.specs.declared.Pref.{Pref}
-use Rattle.to_card_params.specs.declared.Pref.TheVariants.{At, Wrong}
-use Rattle.to_card_params.specs.Params.{code_of, pref_in, span_of, PrefAs, TellsPref, pref_piece}
+use Rattle.to_card_params.specs.Params.{code_of, pref_in, span_of, PrefAs, TellsPref, pref_piece, Sought, pref_at}
 use Rattle.to_card_params.proofs.Walk.{slot-none, slot-some, kind-told}
 
 pub span-past : (s : Bytes) (a e : ℕ) → length s < e → [] ≡ span_of s a e
@@ -39,7 +39,7 @@ pub span-some : (s : Bytes) (a e : ℕ) → e ≤ length s → a < e → take (e
 unfolding span_of
 span-some s a e h l = rw (le-leb e (length s) h, lt-ltb a e l)
 
-pref-as : (s : Bytes) (r : Pref) {o p : Option Bytes} → o ≡ p → PrefAs s r p → PrefAs s r o
+pref-as : (s : Bytes) (r : Sought) {o p : Option Bytes} → o ≡ p → PrefAs s r p → PrefAs s r o
 pref-as s r e x = subst (PrefAs s r) (sym e) x
 
 no_number : (v : Json) → (code_of (kind_of v) ≡ 3 → ⊥) → as_number v ≡ none
@@ -66,18 +66,18 @@ unfolding is_pref
 pref-filled s a e h = split e a (λ l. let z : e - a ≡ 0 = omega arith in let y : false ≡ true = rw z at h in not-both y refl) (λ l. l)
 
 module _ (s : Bytes) (slot : ℕ) where
-  pub pref-absent : slot ≡ 0 → TellsPref s slot (At 0 0)
+  pub pref-absent : slot ≡ 0 → TellsPref s slot (pref_at 0 0)
   unfolding pref_in
-  pref-absent e o h = pref-as s (At 0 0) (ap (λ (x : Option Json). with-some x (λ v. chain (as_number v) λ p. provided (is_pref p) (some p)) (some [])) (slot-none h e))
+  pref-absent e o h = pref-as s (pref_at 0 0) (ap (λ (x : Option Json). with-some x (λ v. chain (as_number v) λ p. provided (is_pref p) (some p)) (some [])) (slot-none h e))
       (0, 0, refl, sym (span_none s 0 0 (omega arith) (omega arith)))
 
   module _ (n : slot ≡ 0 → ⊥) (kd : Kind) (kt : TellsKind s slot kd) (v : ℕ) (vc : v ≡ code_of kd) where
-    pref-value : (r : Pref) → ((j : Json) → json_at 13 s slot ≡ some j → PrefAs s r (chain (as_number j) λ p. provided (is_pref p) (some p))) → TellsPref s slot r
+    pref-value : (r : Sought) → ((j : Json) → json_at 13 s slot ≡ some j → PrefAs s r (chain (as_number j) λ p. provided (is_pref p) (some p))) → TellsPref s slot r
     unfolding pref_in
     pref-value r g o h = let j = slot-some h n in pref-as s r (ap (λ (x : Option Json). with-some x (λ v. chain (as_number v) λ p. provided (is_pref p) (some p)) (some [])) j.1) (g j.0 j.2)
 
-    pub pref-other : (v ≡ 3 → ⊥) → TellsPref s slot Wrong
-    pref-other m = pref-value Wrong (λ j e. pref-as s Wrong (ap (λ (x : Option Bytes). chain x λ p. provided (is_pref p) (some p)) (no_number j (λ z. m (vc ∙ ap code_of (kind-told 12 s slot kd kt j e) ∙ z)))) refl)
+    pub pref-other : (v ≡ 3 → ⊥) → TellsPref s slot (Err no_card)
+    pref-other m = pref-value (Err no_card) (λ j e. pref-as s (Err no_card) (ap (λ (x : Option Bytes). chain x λ p. provided (is_pref p) (some p)) (no_number j (λ z. m (vc ∙ ap code_of (kind-told 12 s slot kd kt j e) ∙ z)))) refl)
 
     module _ (q : v ≡ 3) (r : Part) (told : TellsElement 13 s slot r) (inside : Inside slot (length s) r.start r.end) where
       number-here : (j : Json) → json_at 13 s slot ≡ some j → j ≡ jnum (take (r.end - r.start) (drop r.start s))
@@ -87,11 +87,11 @@ module _ (s : Bytes) (slot : ℕ) where
           let x = a-number u.0 (sym (vc ∙ ap code_of (kt 12 u.0 u.1 u.2)) ∙ q) in
           sym (some_same (ap decoded (sym x.1) ∙ u.3)) ∙ ap jnum (sym ((told u.0 u.1 u.2).as-spelled x.0 x.1))
 
-      pub pref-bad : is_pref (take (r.end - r.start) (drop r.start s)) ≡ false → TellsPref s slot Wrong
-      pref-bad b = pref-value Wrong (λ j e. pref-as s Wrong (ap (λ (x : Json). chain (as_number x) λ p. provided (is_pref p) (some p)) (number-here j e) ∙ ap (λ (u : Bool). provided u (some (take (r.end - r.start) (drop r.start s)))) b) refl)
+      pub pref-bad : is_pref (take (r.end - r.start) (drop r.start s)) ≡ false → TellsPref s slot (Err no_card)
+      pref-bad b = pref-value (Err no_card) (λ j e. pref-as s (Err no_card) (ap (λ (x : Json). chain (as_number x) λ p. provided (is_pref p) (some p)) (number-here j e) ∙ ap (λ (u : Bool). provided u (some (take (r.end - r.start) (drop r.start s)))) b) refl)
 
-      pub pref-good : is_pref (take (r.end - r.start) (drop r.start s)) ≡ true → TellsPref s slot (At r.start r.end)
-      pref-good b = pref-value (At r.start r.end) (λ j e. pref-as s (At r.start r.end) (ap (λ (x : Json). chain (as_number x) λ p. provided (is_pref p) (some p)) (number-here j e) ∙ ap (λ (u : Bool). provided u (some (take (r.end - r.start) (drop r.start s)))) b)
+      pub pref-good : is_pref (take (r.end - r.start) (drop r.start s)) ≡ true → TellsPref s slot (pref_at r.start r.end)
+      pref-good b = pref-value (pref_at r.start r.end) (λ j e. pref-as s (pref_at r.start r.end) (ap (λ (x : Json). chain (as_number x) λ p. provided (is_pref p) (some p)) (number-here j e) ∙ ap (λ (u : Bool). provided u (some (take (r.end - r.start) (drop r.start s)))) b)
           (r.start, r.end, refl, sym (span-some s r.start r.end inside.end-in (pref-filled s r.start r.end b))))
 
 -- ---- PREF

@@ -1,5 +1,8 @@
 -- What the contracts of this crate cite: contexts, features and pref of an entry, and the parameters that they make.
-use Rattle.std.specs.Prelude.{◌≡◌, Bool, true, false, ◌&&◌, ◌||◌, List, [], ◌∷◌, ◌++◌, map, ℕ, zero, suc, ◌-◌, eqb, ltb, leb, length, take, drop, get_or, set}
+use Rattle.std.specs.Prelude.{◌≡◌, Bool, true, false, ◌&&◌, ◌||◌, List, [], ◌∷◌, ◌++◌, map, ℕ, zero, suc, ◌-◌, eqb, ltb, leb, length, take, drop, get_or, set, Err, Result, Ok}
+use Rattle.to_card_params.specs.declared.Pref.{Pref}
+use Rattle.to_card_pen.specs.declared.NoCard.{NoCard}
+use Rattle.to_card_pen.specs.Refusal.{no_card}
 use Rattle.std.proofs.Math.Option.{Option, none, some}
 use Prim.Native.Char.{code}
 use Rattle.text.specs.Choice.{pick, with-some, chain, provided}
@@ -10,9 +13,7 @@ use Rattle.json_access.specs.declared.Kind.TheVariants.{Null, True, False, Numbe
 use Rattle.json_index.specs.Index.{Slot}
 use Rattle.convert.specs.Table.{TypeName, json_type}
 use Rattle.convert.specs.Value.{is_pref}
-use Rattle.convert.specs.FromJson.{flag_of, flags_from}
-use Rattle.to_card_params.specs.declared.Pref.{Pref}
-use Rattle.to_card_params.specs.declared.Pref.TheVariants.{At, Wrong}
+use Rattle.convert.specs.FromJson.{flags_from}
 
 abbrev pub code_of : Kind → ℕ
 code_of Null = 0
@@ -63,11 +64,17 @@ pref_in o = with-some o (λ v. chain (as_number v) λ p. provided (is_pref p) (s
 unfoldable pub span_of : Bytes → ℕ → ℕ → Bytes
 span_of s a e = pick (leb e (length s) && ltb a e) (take (e - a) (drop a s)) []
 
-abbrev pub PrefAs : Bytes → Pref → Option Bytes → Type 0
-PrefAs s r none = r ≡ Wrong
-PrefAs s r (some p) = (a : ℕ) × (e : ℕ) × (r ≡ At a e) × (span_of s a e ≡ p)
+abbrev pub Sought : Type 0
+Sought = Result Pref NoCard
 
-abbrev pub TellsPref : Bytes → ℕ → Pref → Type 0
+abbrev pub pref_at : ℕ → ℕ → Sought
+pref_at a e = Ok (record { start = a; end = e })
+
+abbrev pub PrefAs : Bytes → Sought → Option Bytes → Type 0
+PrefAs s r none = r ≡ Err no_card
+PrefAs s r (some p) = (a : ℕ) × (e : ℕ) × (r ≡ pref_at a e) × (span_of s a e ≡ p)
+
+abbrev pub TellsPref : Bytes → ℕ → Sought → Type 0
 TellsPref s slot r = (o : Option Json) → Slot 13 s slot o → PrefAs s r (pref_in o)
 
 unfoldable pub pref_piece : Bytes → Bytes

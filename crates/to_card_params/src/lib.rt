@@ -15,12 +15,13 @@ use json_index::{nth_name, which_name};
 use json_skip::skip_value;
 use json_walk::{Member, first_member, next_member};
 use line_pen::{Pen, pen_bytes};
+use to_card_pen::NoCard;
 
-// The number's part of the text, empty where there is none; or 12.
+// The number's part of the text, empty where there is none.
 #[derive(Drop)]
-pub enum Pref {
-    At { start: usize, end: usize },
-    Wrong,
+pub struct Pref {
+    pub start: usize,
+    pub end: usize,
 }
 
 // The numbers of the kinds of values that are asked for.
@@ -89,23 +90,23 @@ pub fn flags_in(
 }
 
 // The pref in a slot: a number from 1 to 100, as it is spelled.
-pub fn pref_in(s: &[u8], slot: usize) -> Pref
+pub fn pref_in(s: &[u8], slot: usize) -> Result<Pref, NoCard>
     ensures { TellsPref s.now slot result }
 {
     if slot == 0 {
-        return Pref::At { start: 0, end: 0 };
+        return Ok(Pref { start: 0, end: 0 });
     }
     let v = kind_code(kind_at(s, slot));
     if v != NUMBER {
-        return Pref::Wrong;
+        return Err(NoCard);
     }
     let p = element_at(s, slot, entry::DEPTH);
     let a = p.start;
     let e = p.end;
     if !is_pref(&s[a..e]) {
-        return Pref::Wrong;
+        return Err(NoCard);
     }
-    Pref::At { start: a, end: e }
+    Ok(Pref { start: a, end: e })
 }
 
 // PREF, where there is one.
@@ -177,14 +178,12 @@ pub fn pen_types(out: &mut [u8], column: usize, names: &[u8], row: &[u8]) -> Pen
     let mut at = 0;
     let mut k = column;
     let mut begun = false;
-    let mut c: usize = 0;
-    while c < types::COUNT {
+    for c in 0..types::COUNT {
         let on = row[c] == 1;
         let p = pen_type(&mut out[at..], k, names, c, on, begun);
         at += p.bytes;
         k = p.column;
         begun = begun | on;
-        c += 1;
     }
     Pen {
         bytes: at,

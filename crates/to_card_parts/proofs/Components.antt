@@ -1,5 +1,7 @@
 -- One component, by its members.
 use mathlib.Core.Path.{◌≡◌, refl, sym, ap, subst, ◌∙◌}
+use Rattle.std.specs.Prelude.{Err, Ok, Some, None}
+use Rattle.to_card_pen.specs.Refusal.{no_card}
 use mathlib.Core.Bool.{Bool, true, false}
 use mathlib.Core.List.{List, [], ◌∷◌}
 use mathlib.Core.Option.{Option, none, some}
@@ -22,10 +24,7 @@ use Rattle.convert.specs.Table.{position, component_kinds}
 use Rattle.convert.specs.FromJson.{only_members, Component, component, component_in}
 use Rattle.to_card_value.specs.Values.{StringIs, TellsString}
 use Rattle.to_card_head.proofs.Slots.{slot-none, slot-some}
-use Rattle.to_card_parts.specs.declared.Found.{Found}
-use Rattle.to_card_parts.specs.declared.Found.TheVariants.{Of, Wrong}
-use Rattle.to_card_parts.specs.declared.Array.TheVariants.{At, Empty, Wrong as NoArray}
-use Rattle.to_card_parts.specs.Parts.{kind_from, string_from, ComponentIs, TellsSlots, TellsComponent, OpensAs}
+use Rattle.to_card_parts.specs.Parts.{kind_from, string_from, ComponentIs, TellsSlots, TellsComponent, OpensAs, Finding, found}
 use Rattle.to_card_parts.proofs.Elements.{not-array, empty-array, array-elements}
 
 -- the slots of kind, value and others, before the index
@@ -65,19 +64,19 @@ no-string none = refl
 no-string (some k) = refl
 
 module _ (s : Bytes) (kind value : ℕ) where
-  wrong : (o : Option Component) → o ≡ none → ComponentIs s Wrong o
-  wrong o e = subst (ComponentIs s Wrong) (sym e) refl
+  wrong : (o : Option Component) → o ≡ none → ComponentIs s (Err no_card) o
+  wrong o e = subst (ComponentIs s (Err no_card)) (sym e) refl
 
-  kind-less : (r : (o : Option Json) → Slot 12 s kind o → kind_from o ≡ none) → TellsSlots s kind value Wrong
+  kind-less : (r : (o : Option Json) → Slot 12 s kind o → kind_from o ≡ none) → TellsSlots s kind value (Err no_card)
   kind-less f o o' h h' = wrong (both component (kind_from o) (string_from o')) (ap (λ (x : Option ℕ). both component x (string_from o')) (f o h) ∙ no_kind (string_from o'))
 
-  value-less : (r : (o : Option Json) → Slot 12 s value o → string_from o ≡ none) → TellsSlots s kind value Wrong
+  value-less : (r : (o : Option Json) → Slot 12 s value o → string_from o ≡ none) → TellsSlots s kind value (Err no_card)
   value-less f o o' h h' = wrong (both component (kind_from o) (string_from o')) (ap (both component (kind_from o)) (f o' h') ∙ no-string (kind_from o))
 
-  pub slots-kind : kind ≡ 0 → TellsSlots s kind value Wrong
+  pub slots-kind : kind ≡ 0 → TellsSlots s kind value (Err no_card)
   slots-kind e = kind-less (λ o h. ap kind_from (slot-none 12 s kind o h e))
 
-  pub slots-value : value ≡ 0 → TellsSlots s kind value Wrong
+  pub slots-value : value ≡ 0 → TellsSlots s kind value (Err no_card)
   slots-value e = value-less (λ o h. ap string_from (slot-none 12 s value o h e))
 
   string-of : (x q : ℕ) (o : Option Json) → Slot 12 s x o → (x ≡ 0 → ⊥) → TellsString s x q → StringIs s q (string_from o)
@@ -96,7 +95,7 @@ module _ (s : Bytes) (kind value : ℕ) where
   by-string (some v) = refl
 
   module _ (nk : kind ≡ 0 → ⊥) (q : ℕ) (tq : TellsString s kind q) where
-    pub slots-no-kind : q ≡ 0 → TellsSlots s kind value Wrong
+    pub slots-no-kind : q ≡ 0 → TellsSlots s kind value (Err no_card)
     slots-no-kind e = kind-less (λ o h. by-string o ∙ ap (λ (x : Option Bytes). chain x λ y. position (same y) component_kinds) (none-at q (string_from o) e (string-of kind q o h nk tq)))
 
     module _ (nq : q ≡ 0 → ⊥) (k : ℕ) (names : Bytes) (names-are : parts 44 names ≡ component_kinds) (ek : k ≡ placed (decoded_at s q) (parts 44 names)) where
@@ -107,18 +106,18 @@ module _ (s : Bytes) (kind value : ℕ) where
           by-string o ∙ ap (λ (y : Option Bytes). chain y λ z. position (same z) component_kinds) x.1 ∙ position-placed x.0 component_kinds
           ∙ ap (λ (i : ℕ). pick (ltb i 7) (some i) none) p
 
-      pub slots-strange : 7 ≤ k → TellsSlots s kind value Wrong
+      pub slots-strange : 7 ≤ k → TellsSlots s kind value (Err no_card)
       slots-strange l = kind-less (λ o h. kind-is o h ∙ ap (λ (b : Bool). pick b (some k) none) (le-ltb k 7 l))
 
       module _ (l : k < 7) (nv : value ≡ 0 → ⊥) (v : ℕ) (tv : TellsString s value v) where
-        pub slots-no-value : v ≡ 0 → TellsSlots s kind value Wrong
+        pub slots-no-value : v ≡ 0 → TellsSlots s kind value (Err no_card)
         slots-no-value e = value-less (λ o h. none-at v (string_from o) e (string-of value v o h nv tv))
 
-        pub slots-of : (v ≡ 0 → ⊥) → TellsSlots s kind value (Of k v)
+        pub slots-of : (v ≡ 0 → ⊥) → TellsSlots s kind value (found k v)
         slots-of n o o' h h' =
             let x = some_at v (string_from o') n (string-of value v o' h' nv tv) in
             let e : kind_from o ≡ some k = kind-is o h ∙ ap (λ (b : Bool). pick b (some k) none) (lt-ltb k 7 l) in
-            subst (ComponentIs s (Of k v)) (sym (ap (λ (y : Option ℕ). both component y (string_from o')) e ∙ ap (both component (some k)) x.1)) (v, refl, x.2)
+            subst (ComponentIs s (found k v)) (sym (ap (λ (y : Option ℕ). both component y (string_from o')) e ∙ ap (both component (some k)) x.1)) (v, refl, x.2)
 
 -- ---- the object
 
@@ -138,12 +137,12 @@ unfolding among any same
 differ = refl
 
 module _ (s : Bytes) (at : ℕ) (xs : List ℕ) (r : Bool) (index : Indexes 12 s at (ascii "kind,value") xs r) where
-  pub object-not : r ≡ false → TellsComponent s at Wrong
+  pub object-not : r ≡ false → TellsComponent s at (Err no_card)
   unfolding component_in
   object-not e v w = by (as_object v) (index v w)
     where
       by : (o : Option (List Member)) → IndexOf 12 s (parts 44 (ascii "kind,value")) xs r o
-          → ComponentIs s Wrong (chain o λ ms. provided (only_members names ms) (both component (kind_from (field (ascii "kind") ms)) (string_from (field (ascii "value") ms))))
+          → ComponentIs s (Err no_card) (chain o λ ms. provided (only_members names ms) (both component (kind_from (field (ascii "kind") ms)) (string_from (field (ascii "value") ms))))
       by none h = refl
       by (some ms) h = let z : ◌≡◌ {A = ℕ} 0 1 = cc in absurd (omega arith)
 
@@ -152,7 +151,7 @@ module _ (s : Bytes) (at : ℕ) (xs : List ℕ) (r : Bool) (index : Indexes 12 s
     slot_of ms h i = subst (λ (ns : List Bytes). Slot 12 s (get_or xs i 0) (first_at ns i ms)) names-are (h i)
 
     -- the object's members are the slots', and no others
-    by_members : (f : Found) → ((ms : List Member) → Slot 12 s (get_or xs 0 0) (field (ascii "kind") ms) → Slot 12 s (get_or xs 1 0) (field (ascii "value") ms) → Slot 12 s (get_or xs 2 0) (first_at names 2 ms)
+    by_members : (f : Finding) → ((ms : List Member) → Slot 12 s (get_or xs 0 0) (field (ascii "kind") ms) → Slot 12 s (get_or xs 1 0) (field (ascii "value") ms) → Slot 12 s (get_or xs 2 0) (first_at names 2 ms)
         → ComponentIs s f (provided (only_members names ms) (both component (kind_from (field (ascii "kind") ms)) (string_from (field (ascii "value") ms))))) → TellsComponent s at f
     unfolding component_in
     by_members f g v w = by (as_object v) (index v w)
@@ -170,11 +169,11 @@ module _ (s : Bytes) (at : ℕ) (xs : List ℕ) (r : Bool) (index : Indexes 12 s
     unfolding only_members
     only-is ms h = first-other names ms ∙ sym h.there
 
-    pub object-strange : (get_or xs 2 0 ≡ 0 → ⊥) → TellsComponent s at Wrong
-    object-strange n = by_members Wrong (λ ms a b c.
-        subst (ComponentIs s Wrong) (sym (ap (λ (t : Bool). provided t (both component (kind_from (field (ascii "kind") ms)) (string_from (field (ascii "value") ms)))) (only-is ms c ∙ ne_eqb (get_or xs 2 0) 0 n))) refl)
+    pub object-strange : (get_or xs 2 0 ≡ 0 → ⊥) → TellsComponent s at (Err no_card)
+    object-strange n = by_members (Err no_card) (λ ms a b c.
+        subst (ComponentIs s (Err no_card)) (sym (ap (λ (t : Bool). provided t (both component (kind_from (field (ascii "kind") ms)) (string_from (field (ascii "value") ms)))) (only-is ms c ∙ ne_eqb (get_or xs 2 0) 0 n))) refl)
 
-    pub object_of : get_or xs 2 0 ≡ 0 → (f : Found) → TellsSlots s (get_or xs 0 0) (get_or xs 1 0) f → TellsComponent s at f
+    pub object_of : get_or xs 2 0 ≡ 0 → (f : Finding) → TellsSlots s (get_or xs 0 0) (get_or xs 1 0) f → TellsComponent s at f
     object_of z f t = by_members f (λ ms a b c.
         subst (ComponentIs s f) (sym (ap (λ (t : Bool). provided t (both component (kind_from (field (ascii "kind") ms)) (string_from (field (ascii "value") ms)))) (only-is ms c ∙ eq-eqb (get_or xs 2 0) 0 z)))
         (t (field (ascii "kind") ms) (field (ascii "value") ms) a b))
@@ -182,12 +181,12 @@ module _ (s : Bytes) (at : ℕ) (xs : List ℕ) (r : Bool) (index : Indexes 12 s
 -- ---- the array
 
 module _ (s : Bytes) (at i b : ℕ) (h : Passes is_space s at i) (e : b ≡ byte_at s i) where
-  pub opens_not : (b ≡ 91 → ⊥) → OpensAs s at NoArray
+  pub opens_not : (b ≡ 91 → ⊥) → OpensAs s at (Err no_card)
   opens_not n v w = not-array 13 s at i b h e n v w
 
   module _ (q : b ≡ 91) (j c : ℕ) (k : Passes is_space s (i + 1) j) (f : c ≡ byte_at s j) where
-    pub opens-empty : c ≡ 93 → OpensAs s at Empty
+    pub opens-empty : c ≡ 93 → OpensAs s at (Ok None)
     opens-empty z v w = empty-array 13 s at i b h e q j c k f z v w
 
-    pub opens_at : (c ≡ 93 → ⊥) → OpensAs s at (At j)
+    pub opens_at : (c ≡ 93 → ⊥) → OpensAs s at (Ok (Some j))
     opens_at n v w = let u = array-elements 13 s at i b h e q j c k f n v w in record { units = u.0; elems = u.1; rest = u.2; read = u.3; are = u.4; is = u.5 }

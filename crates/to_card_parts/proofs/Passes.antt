@@ -1,17 +1,20 @@
 -- Passes over the components, over plain values.
 use mathlib.Core.Path.{◌≡◌, refl, sym, ap, subst, ◌∙◌}
+use Rattle.to_card_parts.specs.declared.Found.{Found}
+use Rattle.to_card_pen.proofs.Refusal.{ok-is, not_ok}
+use Rattle.std.specs.Prelude.{Err}
+use Rattle.to_card_pen.specs.Refusal.{no_card}
 use mathlib.Core.Bool.{Bool, true, false, ◌&&◌}
 use mathlib.Core.List.{List, [], ◌∷◌, ◌++◌, append-nil}
 use mathlib.Core.Option.{Option, none, some}
 use Prim.Native.Nat.{ℕ, zero, suc, ◌+◌, ◌-◌, ◌<◌}
-use native.Mathlib.Omega.{arith}
 use borrow.Rule.Slice.PartMut.{mid_of, put_mid}
 use lib.Dec.{eqb}
 use lib.ListN.{length, drop, get_or, set, length-set}
 use lib.Seq.{get_or-set_same, get_or-set_other}
 use borrow.Author.Tests.{eq-eqb, ne_eqb, eqb-true, eqb-false}
-use Rattle.text.specs.declared.Read.{Read}
-use Rattle.text.specs.declared.Turn.TheVariants.{Go, Stop}
+use Rattle.text.specs.Places.{Read}
+use Rattle.std.proofs.Common.{Continue, Break}
 use Rattle.text.specs.Choice.{pick}
 use Rattle.text.specs.Bytes.{Bytes, empty}
 use Rattle.text.specs.Reader.{got, loop}
@@ -28,45 +31,39 @@ use Rattle.line_pen.specs.Pen.{Pens}
 use Rattle.line_pen.proofs.Laws.{pens-none, pens-then}
 use Rattle.convert.specs.Value.{filled}
 use Rattle.convert.specs.FromJson.{Component, component, component_of, of_kind}
-use Rattle.to_card_parts.specs.declared.Found.{Found}
-use Rattle.to_card_parts.specs.declared.Ended.{Ended}
-use Rattle.to_card_parts.specs.declared.Found.TheVariants.{Of, Wrong}
 use Rattle.to_card_parts.specs.declared.Inked.{Inked}
 use Rattle.to_card_head.specs.Head.{TellsFilled}
-use Rattle.to_card_parts.specs.Parts.{found_of, EndIn, KindIn, ComponentIs, TellsComponent, Lists, values_of, Marked, Marks, CheckedAs, ChecksFrom, Says, InksOne, InksKind}
+use Rattle.to_card_parts.specs.Parts.{found_of, EndIn, KindIn, ComponentIs, TellsComponent, Lists, values_of, Marked, Marks, CheckedAs, ChecksFrom, Says, InksOne, InksKind, Finding, found, Ending}
 use Rattle.to_card_parts.proofs.Elements.{Far, far-first, now-to, first_of}
 use Rattle.to_card_parts.proofs.Values.{values-none, values-more, says_none, says_then, says-as}
 
 -- ---- what was found
 
-not-of : {k v : ℕ} → Wrong ≡ Of k v → ⊥
-not-of e = let z : ◌≡◌ {A = ℕ} 0 1 = cc in omega arith
+of-kind : {a b c d : ℕ} → found a b ≡ found c d → a ≡ c
+of-kind e = ap (λ (f : Found). f.kind) (ok-is e)
 
-of-kind : {a b c d : ℕ} → Of a b ≡ Of c d → a ≡ c
-of-kind e = cc
+of-place : {a b c d : ℕ} → found a b ≡ found c d → b ≡ d
+of-place e = ap (λ (f : Found). f.value) (ok-is e)
 
-of-place : {a b c d : ℕ} → Of a b ≡ Of c d → b ≡ d
-of-place e = cc
-
-pub found_none : (s : Bytes) (r : Found) (o : Option Component) → ComponentIs s r o → r ≡ Wrong → o ≡ none
+pub found_none : (s : Bytes) (r : Finding) (o : Option Component) → ComponentIs s r o → r ≡ Err no_card → o ≡ none
 found_none s r none h e = refl
-found_none s r (some (component k x)) h e = absurd (not-of (sym e ∙ h.1))
+found_none s r (some (component k x)) h e = absurd (not_ok (sym e ∙ h.1))
 
-pub found_some : (s : Bytes) (r : Found) (o : Option Component) → ComponentIs s r o → (k v : ℕ) → r ≡ Of k v → (x : Bytes) × (o ≡ some (component k x)) × (decoded_at s v ≡ some x)
-found_some s r none h k v e = absurd (not-of (sym h ∙ e))
+pub found_some : (s : Bytes) (r : Finding) (o : Option Component) → ComponentIs s r o → (k v : ℕ) → r ≡ found k v → (x : Bytes) × (o ≡ some (component k x)) × (decoded_at s v ≡ some x)
+found_some s r none h k v e = absurd (not_ok (sym h ∙ e))
 found_some s r (some (component l x)) h k v e =
     let a : l ≡ k = of-kind (sym h.1 ∙ e) in
     let b : h.0 ≡ v = of-place (sym h.1 ∙ e) in
     (x, ap (λ (i : ℕ). some (component i x)) a, ap (decoded_at s) (sym b) ∙ h.2)
 
 -- the same of a component with its end
-pub ended-found : {r q : Ended} → r ≡ q → found_of r ≡ found_of q
+pub ended-found : {r q : Ending} → r ≡ q → found_of r ≡ found_of q
 ended-found e = ap found_of e
 
-pub ended-in : (s : Bytes) (at : ℕ) {r q : Ended} → EndIn s at r → r ≡ q → EndIn s at q
+pub ended-in : (s : Bytes) (at : ℕ) {r q : Ending} → EndIn s at r → r ≡ q → EndIn s at q
 ended-in s at w e = subst (EndIn s at) e w
 
-pub kind-in : {k v : ℕ} (r : Found) → KindIn r → r ≡ Of k v → k < 7
+pub kind-in : {k v : ℕ} (r : Finding) → KindIn r → r ≡ found k v → k < 7
 kind-in {k} {v} r h e = subst KindIn e h
 
 -- ---- marks
@@ -126,22 +123,22 @@ Checking s at i m = (us es : Elems) (t : Bytes) → loop (item (value 13)) (drop
 pub checking-first : (s : Bytes) (at : ℕ) (m : List ℕ) → Clear m → Checking s at at m
 checking-first s at m h us es t e f = ([], far-first component_of 13 s us es t at e f, λ i l. eq-eqb (get_or m i 0) 0 (h i) ∙ sym (ap empty (values-none i)))
 
-module _ (s : Bytes) (at i : ℕ) (m : List ℕ) (going : Checking s at i m) (f : Found) (tells : TellsComponent s i f) where
-  pub checks-wrong : f ≡ Wrong → (after : List ℕ) → ChecksFrom s at after 0
+module _ (s : Bytes) (at i : ℕ) (m : List ℕ) (going : Checking s at i m) (f : Finding) (tells : TellsComponent s i f) where
+  pub checks-wrong : f ≡ Err no_card → (after : List ℕ) → ChecksFrom s at after 0
   checks-wrong e after us es t x y =
       let g = going us es t x y in
       let n = first_of g.1 in
       subst (CheckedAs after 0) (sym (n.2 (found_none s f (component_of n.0) (tells n.0 n.1) e))) refl
 
-  module _ (k v : ℕ) (e : f ≡ Of k v) (after : List ℕ) (l : k < length m) (marks : Marks s v k m after) (end : ℕ) (told : EndsAt 13 s i end) where
-    pub checking-on : (j : ℕ) → GivesT s end (sep 93 zero suc (drop end s)) (Go j) → Checking s at j after
+  module _ (k v : ℕ) (e : f ≡ found k v) (after : List ℕ) (l : k < length m) (marks : Marks s v k m after) (end : ℕ) (told : EndsAt 13 s i end) where
+    pub checking-on : (j : ℕ) → GivesT s end (sep 93 zero suc (drop end s)) (Continue j) → Checking s at j after
     checking-on j w us es t x y =
         let g = going us es t x y in
         let n = now-to g.1 end told in
         let c = found_some s f (component_of n.val) (tells n.val n.is-val) k v e in
         (g.0 ++ (component k c.0 ∷ []), n.goes (component k c.0) c.1 j w, marked-on m after g.0 k c.0 l (marks.is c.0 c.2) g.2)
 
-    pub checks-all : (z : Read) → GivesT s end (sep 93 zero suc (drop end s)) (Stop z) → (n : ℕ) → 0 < n → ChecksFrom s at after n
+    pub checks-all : (z : Read) → GivesT s end (sep 93 zero suc (drop end s)) (Break z) → (n : ℕ) → 0 < n → ChecksFrom s at after n
     checks-all z w q h us es t x y =
         let g = going us es t x y in
         let n = now-to g.1 end told in
@@ -163,8 +160,8 @@ inking-first s at style mark kind begun room column = record {
 }
 
 module _ (s : Bytes) (at style mark kind : ℕ) (begun : Bool) (room : Bytes) (column i n c : ℕ) (b ok : Bool) (out : Bytes) (going : Inking s at style mark kind begun room column i n c b ok out)
-    (f : Found) (tells : TellsComponent s i f) where
-  pub inks-wrong : f ≡ Wrong → InksKind s at style mark kind begun room column (record { bytes = n; column = c; begun = b; carried = ok }) out
+    (f : Finding) (tells : TellsComponent s i f) where
+  pub inks-wrong : f ≡ Err no_card → InksKind s at style mark kind begun room column (record { bytes = n; column = c; begun = b; carried = ok }) out
   inks-wrong e = record {
     text = going.text;
     pens = going.pens;
@@ -174,7 +171,7 @@ module _ (s : Bytes) (at style mark kind : ℕ) (begun : Bool) (room : Bytes) (c
         none-some (sym (x.2 (found_none s f (component_of x.0) (tells x.0 x.1) e)) ∙ l.is);
   }
 
-  module _ (k v : ℕ) (e : f ≡ Of k v) (w : Inked) (last : Bytes) (one : InksOne s v style mark (eqb kind k) b (mid_of n (length out - n) out) c w last)
+  module _ (k v : ℕ) (e : f ≡ found k v) (w : Inked) (last : Bytes) (one : InksOne s v style mark (eqb kind k) b (mid_of n (length out - n) out) c w last)
       (end : ℕ) (told : EndsAt 13 s i end) where
     more : (past : List Component) (x : Bytes) → decoded_at s v ≡ some x → Says style mark begun (values_of kind past) going.text b ok
         → Says style mark begun (values_of kind (past ++ (component k x ∷ []))) (going.text ++ one.text) w.begun (ok && w.carried)
@@ -183,7 +180,7 @@ module _ (s : Bytes) (at style mark kind : ℕ) (begun : Bool) (room : Bytes) (c
     pub inked : Pens room column (going.text ++ one.text) (record { bytes = n + w.bytes; column = w.column }) (put_mid n (length out - n) out last)
     inked = pens-then going.pens one.pens
 
-    pub inking-on : (j : ℕ) → GivesT s end (sep 93 zero suc (drop end s)) (Go j)
+    pub inking-on : (j : ℕ) → GivesT s end (sep 93 zero suc (drop end s)) (Continue j)
         → Inking s at style mark kind begun room column j (n + w.bytes) w.column w.begun (ok && w.carried) (put_mid n (length out - n) out last)
     inking-on j z = record {
       text = going.text ++ one.text;
@@ -195,7 +192,7 @@ module _ (s : Bytes) (at style mark kind : ℕ) (begun : Bool) (room : Bytes) (c
           (g.0 ++ (component k d.0 ∷ []), x.goes (component k d.0) d.1 j z, more g.0 d.0 d.2 g.2);
     }
 
-    pub inks-all : (z : Read) → GivesT s end (sep 93 zero suc (drop end s)) (Stop z)
+    pub inks-all : (z : Read) → GivesT s end (sep 93 zero suc (drop end s)) (Break z)
         → InksKind s at style mark kind begun room column (record { bytes = n + w.bytes; column = w.column; begun = w.begun; carried = ok && w.carried }) (put_mid n (length out - n) out last)
     inks-all z q = record {
       text = going.text ++ one.text;

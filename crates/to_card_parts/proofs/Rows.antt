@@ -12,8 +12,8 @@ use borrow.Rule.Slice.PartMut.{mid_of, put_mid}
 use lib.Dec.{eqb}
 use lib.ListN.{length, take, drop, get_or, set, length-append}
 use lib.Seq.{get_or-set_same, get_or-set_other}
-use Rattle.text.specs.declared.Read.{Read}
-use Rattle.text.specs.declared.Turn.TheVariants.{Go, Stop}
+use Rattle.text.specs.Places.{Read}
+use Rattle.std.proofs.Common.{Continue, Break}
 use Rattle.text.specs.Bytes.{Bytes}
 use Rattle.text.specs.Places.{GivesT}
 use Rattle.text.proofs.Choices.{some_same}
@@ -24,10 +24,8 @@ use Rattle.json_access.specs.Access.{EndsAt}
 use Rattle.line_pen.specs.Pen.{Pens}
 use Rattle.line_pen.proofs.Laws.{pens-none, pens-then}
 use Rattle.convert.specs.FromJson.{Component, component, component_of, of_kind}
-use Rattle.to_card_parts.specs.declared.Found.{Found}
-use Rattle.to_card_parts.specs.declared.Found.TheVariants.{Of}
 use Rattle.to_card_parts.specs.declared.Inked.{Inked}
-use Rattle.to_card_parts.specs.Parts.{TellsComponent, Lists, values_of, CheckedAs, ChecksFrom, Says, InksOne, InksKind, Rows, RowsFrom, AddsRow}
+use Rattle.to_card_parts.specs.Parts.{TellsComponent, Lists, values_of, CheckedAs, ChecksFrom, Says, InksOne, InksKind, Rows, RowsFrom, AddsRow, Finding, found}
 use Rattle.to_card_parts.proofs.Elements.{Far, far-first, now-to}
 use Rattle.to_card_parts.proofs.Passes.{found_some}
 use Rattle.to_card_parts.proofs.Values.{values-none, values-more, says_none, says_then, says-as}
@@ -92,8 +90,8 @@ Listing s at i kinds values n = n ≤ 16 → (cs : List Component) (l : Lists s 
 pub listing-first : (s : Bytes) (at : ℕ) (kinds values : List ℕ) → Listing s at at kinds values 0
 listing-first s at kinds values le cs l = ([], far-first component_of 13 s l.units l.elems l.rest at l.read l.are, rows_none s kinds values)
 
-module _ (s : Bytes) (at i : ℕ) (kinds values : List ℕ) (n : ℕ) (going : Listing s at i kinds values n) (f : Found) (tells : TellsComponent s i f) (end : ℕ) (told : EndsAt 13 s i end)
-    (k v : ℕ) (e : f ≡ Of k v) (l : 16 ≤ length kinds) (m : 16 ≤ length values) (kinds' values' : List ℕ) (n' : ℕ) (adds : AddsRow kinds values n k v kinds' values' n') where
+module _ (s : Bytes) (at i : ℕ) (kinds values : List ℕ) (n : ℕ) (going : Listing s at i kinds values n) (f : Finding) (tells : TellsComponent s i f) (end : ℕ) (told : EndsAt 13 s i end)
+    (k v : ℕ) (e : f ≡ found k v) (l : 16 ≤ length kinds) (m : 16 ≤ length values) (kinds' values' : List ℕ) (n' : ℕ) (adds : AddsRow kinds values n k v kinds' values' n') where
   more_rows : n' ≤ 16 → (past : List Component) (x : Bytes) → decoded_at s v ≡ some x → Rows s kinds values n past → Rows s kinds' values' n' (past ++ (component k x ∷ []))
   more_rows le past x q h =
       let a = adds.added le in
@@ -103,7 +101,7 @@ module _ (s : Bytes) (at i : ℕ) (kinds values : List ℕ) (n : ℕ) (going : L
       let w = subst (λ (z : List ℕ). Rows s z (set values n v) n' cs) (sym a.2) u in
       subst (λ (z : List ℕ). Rows s kinds' z n' cs) (sym a.3) w
 
-  pub listing-on : (j : ℕ) → GivesT s end (sep 93 zero suc (drop end s)) (Go j) → Listing s at j kinds' values' n'
+  pub listing-on : (j : ℕ) → GivesT s end (sep 93 zero suc (drop end s)) (Continue j) → Listing s at j kinds' values' n'
   listing-on j w le cs y =
       let a = adds.added le in
       let g = going (omega (arith, a.0)) cs y in
@@ -111,7 +109,7 @@ module _ (s : Bytes) (at i : ℕ) (kinds values : List ℕ) (n : ℕ) (going : L
       let c = found_some s f (component_of x.val) (tells x.val x.is-val) k v e in
       (g.0 ++ (component k c.0 ∷ []), x.goes (component k c.0) c.1 j w, more_rows le g.0 c.0 c.2 g.2)
 
-  pub lists-all : (z : Read) → GivesT s end (sep 93 zero suc (drop end s)) (Stop z) → RowsFrom s at kinds' values' n'
+  pub lists-all : (z : Read) → GivesT s end (sep 93 zero suc (drop end s)) (Break z) → RowsFrom s at kinds' values' n'
   lists-all z w le cs y =
       let a = adds.added le in
       let g = going (omega (arith, a.0)) cs y in

@@ -1,5 +1,9 @@
 -- The components of a name: what a pass over them says, and their values kind by kind.
-use Rattle.std.specs.Prelude.{◌≡◌, Bool, true, false, ◌&&◌, ◌||◌, not, List, [], ◌∷◌, ◌++◌, map, ℕ, ◌+◌, ◌≤◌, ◌<◌, eqb, length, drop, get_or, set}
+use Rattle.std.specs.Prelude.{◌≡◌, Bool, true, ◌&&◌, ◌||◌, not, List, [], ◌∷◌, ◌++◌, map, ℕ, ◌+◌, ◌≤◌, ◌<◌, eqb, length, drop, get_or, set, Err, Ok, Result, Option as Maybe, Some, None}
+use Rattle.to_card_parts.specs.declared.Ended.{Ended}
+use Rattle.to_card_parts.specs.declared.Found.{Found}
+use Rattle.to_card_pen.specs.declared.NoCard.{NoCard}
+use Rattle.to_card_pen.specs.Refusal.{no_card}
 use Rattle.std.proofs.Math.Option.{Option, none, some}
 use Rattle.text.specs.Choice.{pick, both, chain}
 use Rattle.text.specs.Bytes.{Bytes, all, empty, each, flat, same}
@@ -15,12 +19,6 @@ use Rattle.convert.specs.Table.{position, component_kinds}
 use Rattle.convert.specs.Value.{filled}
 use Rattle.convert.specs.FromJson.{Component, component, component_of, of_kind}
 use Rattle.card_table.specs.Numbers.{part_count}
-use Rattle.to_card_parts.specs.declared.Found.{Found}
-use Rattle.to_card_parts.specs.declared.Found.TheVariants.{Of, Wrong}
-use Rattle.to_card_parts.specs.declared.Ended.{Ended}
-use Rattle.to_card_parts.specs.declared.Ended.TheVariants.{Of as EndedOf, Wrong as NoComponent}
-use Rattle.to_card_parts.specs.declared.Array.{Array}
-use Rattle.to_card_parts.specs.declared.Array.TheVariants.{At, Empty, Wrong as NoArray}
 use Rattle.to_card_parts.specs.declared.Inked.{Inked}
 
 -- ---- one component
@@ -31,29 +29,38 @@ kind_from o = chain o λ k. chain (as_string k) λ x. position (same x) componen
 abbrev pub string_from : Option Json → Option Bytes
 string_from o = chain o as_string
 
-abbrev pub KindIn : Found → Type 0
-KindIn (Of k p) = k < part_count
-KindIn Wrong = Unit {0}
+abbrev pub Finding : Type 0
+Finding = Result Found NoCard
+
+abbrev pub found : ℕ → ℕ → Finding
+found k p = Ok (record { kind = k; value = p })
+
+abbrev pub KindIn : Finding → Type 0
+KindIn (Ok f) = f.kind < part_count
+KindIn (Err e) = Unit {0}
 
 -- its kind, and the place of its value
-abbrev pub ComponentIs : Bytes → Found → Option Component → Type 0
-ComponentIs s r none = r ≡ Wrong
-ComponentIs s r (some (component k x)) = (p : ℕ) × (r ≡ Of k p) × (decoded_at s p ≡ some x)
+abbrev pub ComponentIs : Bytes → Finding → Option Component → Type 0
+ComponentIs s r none = r ≡ Err no_card
+ComponentIs s r (some (component k x)) = (p : ℕ) × (r ≡ found k p) × (decoded_at s p ≡ some x)
 
-abbrev pub TellsSlots : Bytes → ℕ → ℕ → Found → Type 0
+abbrev pub TellsSlots : Bytes → ℕ → ℕ → Finding → Type 0
 TellsSlots s kind value r = (o o' : Option Json) → Slot 12 s kind o → Slot 12 s value o' → ComponentIs s r (both component (kind_from o) (string_from o'))
 
-abbrev pub TellsComponent : Bytes → ℕ → Found → Type 0
+abbrev pub TellsComponent : Bytes → ℕ → Finding → Type 0
 TellsComponent s at r = (v : Json) → json_at 13 s at ≡ some v → ComponentIs s r (component_of v)
 
 -- the same, and the place after it
-abbrev pub found_of : Ended → Found
-found_of (EndedOf k p e) = Of k p
-found_of NoComponent = Wrong
+abbrev pub Ending : Type 0
+Ending = Result Ended NoCard
 
-abbrev pub EndIn : Bytes → ℕ → Ended → Type 0
-EndIn s at (EndedOf k p e) = ValueEnds 12 s at e
-EndIn s at NoComponent = Unit {0}
+abbrev pub found_of : Ending → Finding
+found_of (Ok f) = Ok f.found
+found_of (Err e) = Err e
+
+abbrev pub EndIn : Bytes → ℕ → Ending → Type 0
+EndIn s at (Ok f) = ValueEnds 12 s at f.end
+EndIn s at (Err e) = Unit {0}
 
 -- ---- the array of them
 
@@ -66,15 +73,19 @@ pub record Elements (s : Bytes) (j : ℕ) (o : Option (List Json)) : Type 0 wher
   pub are : decoded_elems units ≡ some elems
   pub is : o ≡ some (elems_of elems)
 
+-- an array: where its first element stands, if it has one
+abbrev pub Array : Type 0
+Array = Result (Maybe ℕ) NoCard
+
 abbrev pub OpenedAs : Bytes → Array → Option (List Json) → Type 0
-OpenedAs s (At j) o = Elements s j o
-OpenedAs s Empty o = o ≡ some []
-OpenedAs s NoArray o = o ≡ none
+OpenedAs s (Ok (Some j)) o = Elements s j o
+OpenedAs s (Ok None) o = o ≡ some []
+OpenedAs s (Err e) o = o ≡ none
 
 abbrev pub ArrayIn : ℕ → Array → Type 0
-ArrayIn n (At j) = j ≤ n
-ArrayIn n Empty = Unit {0}
-ArrayIn n NoArray = Unit {0}
+ArrayIn n (Ok (Some j)) = j ≤ n
+ArrayIn n (Ok None) = Unit {0}
+ArrayIn n (Err e) = Unit {0}
 
 abbrev pub OpensAs : Bytes → ℕ → Array → Type 0
 OpensAs s at r = (v : Json) → json_at 14 s at ≡ some v → OpenedAs s r (as_array v)

@@ -10,9 +10,10 @@ use card_table::{component, parts};
 use json_index::{index_to_end, which_name};
 use json_marks::{separator, skip_space};
 use line_pen::pen_byte;
-use text::{LEFT_BRACKET, RIGHT_BRACKET, Turn, look};
+use std::ops::ControlFlow;
+use text::{LEFT_BRACKET, RIGHT_BRACKET, look};
 use to_card_head::is_filled;
-use to_card_pen::pen_string;
+use to_card_pen::{NoCard, pen_string};
 use to_card_value::string_in;
 
 // So many components have a row each; more are gone through again where they are asked for.
@@ -20,26 +21,18 @@ pub const ROWS: usize = 16;
 
 pub const MORE: usize = ROWS + 1;
 
-// A component: the place of its kind among the kinds, and the place of its value; or 12.
+// A component: the place of its kind among the kinds, and the place of its value.
 #[derive(Drop)]
-pub enum Found {
-    Of { kind: usize, value: usize },
-    Wrong,
+pub struct Found {
+    pub kind: usize,
+    pub value: usize,
 }
 
 // The same, and the place after the component.
 #[derive(Drop)]
-pub enum Ended {
-    Of(usize, usize, usize),
-    Wrong,
-}
-
-// An array: where its first element stands; or it has none; or it is no array.
-#[derive(Drop)]
-pub enum Array {
-    At(usize),
-    Empty,
-    Wrong,
+pub struct Ended {
+    pub found: Found,
+    pub end: usize,
 }
 
 // How many bytes were written, the column after them, whether a value has been written, and whether a line can carry what was.
@@ -52,33 +45,33 @@ pub struct Inked {
 }
 
 // A component, by the slots of its kind and its value.
-fn component_of(s: &[u8], kind: usize, value: usize) -> Found
+fn component_of(s: &[u8], kind: usize, value: usize) -> Result<Found, NoCard>
     ensures kind_in { KindIn result }
     ensures tells_slots { TellsSlots s.now kind value result }
 {
     if kind == 0 {
-        return Found::Wrong;
+        return Err(NoCard);
     }
     if value == 0 {
-        return Found::Wrong;
+        return Err(NoCard);
     }
     let q = string_in(s, kind);
     if q == 0 {
-        return Found::Wrong;
+        return Err(NoCard);
     }
     let k = which_name(s, q, &parts::KINDS);
     if k >= parts::COUNT {
-        return Found::Wrong;
+        return Err(NoCard);
     }
     let v = string_in(s, value);
     if v == 0 {
-        return Found::Wrong;
+        return Err(NoCard);
     }
-    Found::Of { kind: k, value: v }
+    Ok(Found { kind: k, value: v })
 }
 
 // The component at a place, and the place after it.
-pub fn component_to_end(s: &[u8], at: usize) -> Ended
+pub fn component_to_end(s: &[u8], at: usize) -> Result<Ended, NoCard>
     requires { at ≤ length s.now }
     ensures kind_in { KindIn (found_of result) }
     ensures tells_component { TellsComponent s.now at (found_of result) }
@@ -87,35 +80,33 @@ pub fn component_to_end(s: &[u8], at: usize) -> Ended
     let mut slots = [0usize; component::SLOTS];
     let end = index_to_end(&mut slots, s, at, component::DEPTH, &component::NAMES);
     if end == 0 {
-        return Ended::Wrong;
+        return Err(NoCard);
     }
     let a = slots[component::KIND];
     let b = slots[component::VALUE];
     let other = slots[component::OTHER];
     if other != 0 {
-        return Ended::Wrong;
+        return Err(NoCard);
     }
-    let Found::Of { kind: k, value: v } = component_of(s, a, b) else {
-        return Ended::Wrong;
-    };
-    Ended::Of(k, v, end)
+    let found = component_of(s, a, b)?;
+    Ok(Ended { found, end })
 }
 
-// The array at a place.
-pub fn open_array(s: &[u8], at: usize) -> Array
+// The array at a place: where its first element stands, if it has one.
+pub fn open_array(s: &[u8], at: usize) -> Result<Option<usize>, NoCard>
     requires { at ≤ length s.now }
     ensures array_in { ArrayIn (length s.now) result }
     ensures opens_as { OpensAs s.now at result }
 {
     let i = skip_space(s, at);
     if look(s, i) != LEFT_BRACKET {
-        return Array::Wrong;
+        return Err(NoCard);
     }
     let j = skip_space(s, i + 1);
     if look(s, j) == RIGHT_BRACKET {
-        return Array::Empty;
+        return Ok(None);
     }
-    Array::At(j)
+    Ok(Some(j))
 }
 
 // Marks the kind of a value that is not empty.
@@ -169,16 +160,16 @@ pub fn list_rows(
     let mut i = at;
     let mut n = 0;
     loop {
-        let Ended::Of(k, v, e) = component_to_end(s, i) else {
+        let Ok(part) = component_to_end(s, i) else {
             return 0;
         };
-        mark_kind(marks, s, k, v);
-        n = put_row(kinds, values, n, k, v);
-        match separator(s, e, RIGHT_BRACKET) {
-            Turn::Go(j) => {
+        mark_kind(marks, s, part.found.kind, part.found.value);
+        n = put_row(kinds, values, n, part.found.kind, part.found.value);
+        match separator(s, part.end, RIGHT_BRACKET) {
+            ControlFlow::Continue(j) => {
                 i = j;
             }
-            Turn::Stop(r) => {
+            ControlFlow::Break(r) => {
                 return n;
             }
         }
@@ -275,7 +266,8 @@ fn pen_kind(
     let mut b = begun;
     let mut ok = true;
     loop {
-        let Ended::Of(k, v, e) = component_to_end(s, i) else {
+        // No `?`: the list was judged before, so there is no 12 to hand on.
+        let Ok(part) = component_to_end(s, i) else {
             return Inked {
                 bytes: n,
                 column: c,
@@ -283,16 +275,25 @@ fn pen_kind(
                 carried: ok,
             };
         };
-        let t = pen_value(&mut out[n..], c, style, mark, s, v, kind == k, b);
+        let t = pen_value(
+            &mut out[n..],
+            c,
+            style,
+            mark,
+            s,
+            part.found.value,
+            kind == part.found.kind,
+            b,
+        );
         n += t.bytes;
         c = t.column;
         b = t.begun;
         ok = ok & t.carried;
-        match separator(s, e, RIGHT_BRACKET) {
-            Turn::Go(j) => {
+        match separator(s, part.end, RIGHT_BRACKET) {
+            ControlFlow::Continue(j) => {
                 i = j;
             }
-            Turn::Stop(r) => {
+            ControlFlow::Break(r) => {
                 return Inked {
                     bytes: n,
                     column: c,
@@ -327,12 +328,11 @@ pub fn pen_listed(
     if rows > ROWS {
         return pen_kind(out, column, style, mark, s, at, kind, begun);
     }
-    let mut i = 0;
     let mut n = 0;
     let mut c = column;
     let mut b = begun;
     let mut ok = true;
-    while i < rows {
+    for i in 0..rows {
         let t = pen_value(
             &mut out[n..],
             c,
@@ -347,7 +347,6 @@ pub fn pen_listed(
         c = t.column;
         b = t.begun;
         ok = ok & t.carried;
-        i += 1;
     }
     Inked {
         bytes: n,

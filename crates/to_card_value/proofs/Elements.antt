@@ -8,8 +8,8 @@ use native.Mathlib.Omega.{arith}
 use lib.Dec.{eqb}
 use lib.ListN.{drop}
 use borrow.Author.Tests.{eq-eqb, ne_eqb, eqb-true, eqb-false}
-use Rattle.text.specs.declared.Read.{Read}
-use Rattle.text.specs.declared.Turn.TheVariants.{Go, Stop}
+use Rattle.text.specs.Places.{Read}
+use Rattle.std.proofs.Common.{Continue, Break}
 use Rattle.text.specs.Choice.{both}
 use Rattle.text.specs.Bytes.{Bytes, is, each}
 use Rattle.text.specs.Reader.{Got, got, under, on, Step, more, last, after, loop}
@@ -139,12 +139,12 @@ item-here d s i rest t e =
     record { val = b.0; rest-val = b.1; others = r.0; is-value = b.2; turn = turn-of d (drop i s) b.0 b.1 b.2; is = r.1 }
 
 module _ (d : ℕ) (s : Bytes) (i : ℕ) (rest : Elems) (t : Bytes) (e : loop (item (value d)) (drop i s) ≡ got rest t) (z : Here d s i rest) (x : ℕ) (ends : z.rest-val ≡ drop x s) where
-  others-on : (j : ℕ) → GivesT s x (sep 93 zero suc (drop x s)) (Go j) → (us : Elems) × (loop (item (value d)) (drop j s) ≡ got us t) × (econs z.val us ≡ rest)
+  others-on : (j : ℕ) → GivesT s x (sep 93 zero suc (drop x s)) (Continue j) → (us : Elems) × (loop (item (value d)) (drop j s) ≡ got us t) × (econs z.val us ≡ rest)
   others-on j w =
       let f : item (value d) (drop i s) ≡ got (more (econs z.val)) (drop j s) = z.turn ∙ ap (sep 93 _ _) ends ∙ sep-go (econs z.val enil) (econs z.val) 93 w in
       under-inv (econs z.val) (loop (item (value d)) (drop j s)) (sym (loop-more (item (value d)) (item-takes d) (drop i s) (drop j s) (econs z.val) f) ∙ e)
 
-  others-none : (r : Read) → GivesT s x (sep 93 zero suc (drop x s)) (Stop r) → econs z.val enil ≡ rest
+  others-none : (r : Read) → GivesT s x (sep 93 zero suc (drop x s)) (Break r) → econs z.val enil ≡ rest
   others-none r w =
       let l = loop-split (item (value d)) (item-takes d) (drop i s) rest t e in
       let n = sep-stop (econs z.val enil) (econs z.val) 93 w l.0 l.1 (sym (ap (sep 93 _ _) ends) ∙ sym z.turn ∙ l.2) in
@@ -167,8 +167,8 @@ pub record Now {A : Type 0} (f : Json → Option A) (d : ℕ) (s : Bytes) (js : 
   pub val : Json
   pub is-val : json_at d s r.start ≡ some val
   pub fails : f val ≡ none → each f js ≡ none
-  pub goes : (y : A) → f val ≡ some y → (j : ℕ) → GivesT s r.end (sep 93 zero suc (drop r.end s)) (Go j) → Far f d s js t j (done ++ (y ∷ []))
-  pub ends : (y : A) → f val ≡ some y → (v : Read) → GivesT s r.end (sep 93 zero suc (drop r.end s)) (Stop v) → each f js ≡ some (done ++ (y ∷ []))
+  pub goes : (y : A) → f val ≡ some y → (j : ℕ) → GivesT s r.end (sep 93 zero suc (drop r.end s)) (Continue j) → Far f d s js t j (done ++ (y ∷ []))
+  pub ends : (y : A) → f val ≡ some y → (v : Read) → GivesT s r.end (sep 93 zero suc (drop r.end s)) (Break v) → each f js ≡ some (done ++ (y ∷ []))
 
 each-one : {A : Type 0} (f : Json → Option A) (x : Json) (xs : List Json) → each f (x ∷ xs) ≡ both ◌∷◌ (f x) (each f xs)
 unfolding each

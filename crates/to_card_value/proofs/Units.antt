@@ -1,5 +1,7 @@
 -- Units of an organization: one, and the ways out of the pass over them.
 use mathlib.Core.Path.{◌≡◌, refl, sym, ap, subst, ◌∙◌}
+use Rattle.std.specs.Prelude.{Err}
+use Rattle.to_card_pen.specs.Refusal.{no_card}
 use mathlib.Core.Bool.{Bool, true, false, ◌&&◌, ◌||◌, not}
 use mathlib.Core.List.{List, [], ◌∷◌, ◌++◌, map, append_assoc, append-nil}
 use mathlib.Core.Option.{Option, none, some}
@@ -7,8 +9,8 @@ use Prim.Native.Nat.{ℕ, zero, suc, ◌+◌, ◌-◌, ◌<◌}
 use native.Mathlib.Omega.{arith}
 use borrow.Rule.Slice.PartMut.{mid_of, put_mid}
 use lib.ListN.{length, drop, get_or}
-use Rattle.text.specs.declared.Read.{Read}
-use Rattle.text.specs.declared.Turn.TheVariants.{Go, Stop}
+use Rattle.text.specs.Places.{Read}
+use Rattle.std.proofs.Common.{Continue, Break}
 use Rattle.text.specs.Choice.{with-some, is_some, chain, provided}
 use Rattle.text.specs.Bytes.{Bytes, ascii, any, all, among, flat, each, parts, on_head}
 use Rattle.text.specs.Reader.{got, loop}
@@ -29,9 +31,7 @@ use Rattle.convert.specs.Value.{filled}
 use Rattle.convert.specs.FromJson.{only_members, unit_from}
 use Rattle.to_card_params.proofs.Walk.{slot-none, slot-some, none-past}
 use Rattle.to_card_value.specs.declared.Inked.{Inked}
-use Rattle.to_card_value.specs.declared.Ink.{Ink}
-use Rattle.to_card_value.specs.declared.Ink.TheVariants.{Done, Wrong}
-use Rattle.to_card_value.specs.Values.{StringIs, TellsText, TellsUnit, unit_piece, unit_carried, UnitInks, units_piece, UnitsAs, UnitsFrom, units_in, TellsUnits}
+use Rattle.to_card_value.specs.Values.{StringIs, TellsText, TellsUnit, unit_piece, unit_carried, UnitInks, units_piece, UnitsAs, UnitsFrom, units_in, TellsUnits, Ink, inked}
 use Rattle.to_card_value.proofs.Elements.{not-array, empty-array, array-elements, Far, far-first, now_of}
 
 -- ---- one unit: an object with a name alone
@@ -152,19 +152,19 @@ pub record Going (s : Bytes) (at : ℕ) (room : Bytes) (column i n k : ℕ) (ok 
 pub going-first : (s : Bytes) (at : ℕ) (room : Bytes) (column : ℕ) → Going s at room column at 0 column true false room
 going-first s at room column = record { bytes = []; pens = pens-none room column; so = λ us es t e f. ([], far-first unit_from 12 s us es t at e f, sym no-piece, sym no-carried, sym no-filled) }
 
-done-is : {n k : ℕ} {a b c d : Bool} → a ≡ b → c ≡ d → Done n k a c ≡ Done n k b d
-done-is {n} {k} {a} {b} {c} {d} e f = ap (λ (x : Bool). Done n k x c) e ∙ ap (Done n k b) f
+done-is : {n k : ℕ} {a b c d : Bool} → a ≡ b → c ≡ d → inked n k a c ≡ inked n k b d
+done-is {n} {k} {a} {b} {c} {d} e f = ap (λ (x : Bool). inked n k x c) e ∙ ap (inked n k b) f
 
 units-as : (room : Bytes) (column : ℕ) (r : Ink) (after : Bytes) {o p : Option (List Bytes)} → o ≡ p → UnitsAs room column r after p → UnitsAs room column r after o
 units-as room column r after e x = subst (UnitsAs room column r after) (sym e) x
 
 module _ (s : Bytes) (at : ℕ) (room : Bytes) (column i n k : ℕ) (ok full : Bool) (out : Bytes) (g : Going s at room column i n k ok full out) (r : Part) (told : TellsElement 12 s i r)
     (q : ℕ) (unit : TellsUnit s r.start q) where
-  pub units-wrong : (after : Bytes) → q ≡ 0 → UnitsFrom s at room column Wrong after
+  pub units-wrong : (after : Bytes) → q ≡ 0 → UnitsFrom s at room column (Err no_card) after
   units-wrong after z us es t e f =
       let y = g.so us es t e f in
       let w = now_of y.1 r told in
-      units-as room column Wrong after (w.fails (by (unit_from w.val) (unit w.val w.is-val))) refl
+      units-as room column (Err no_card) after (w.fails (by (unit_from w.val) (unit w.val w.is-val))) refl
     where
       by : (o : Option Bytes) → StringIs s q o → o ≡ none
       by none h = refl
@@ -186,7 +186,7 @@ module _ (s : Bytes) (at : ℕ) (room : Bytes) (column i n k : ℕ) (ok full : B
       ap (λ (l : Bool). l || p.filled) c ∙ ap (λ (l : Bool). any filled done || l) (ink.filled x e) ∙ any-more done x,
     )
 
-    pub units-on : (j : ℕ) → GivesT s r.end (sep 93 zero suc (drop r.end s)) (Go j) → Going s at room column j (n + p.bytes) p.column (ok && p.carried) (full || p.filled) (put_mid n (length out - n) out last)
+    pub units-on : (j : ℕ) → GivesT s r.end (sep 93 zero suc (drop r.end s)) (Continue j) → Going s at room column j (n + p.bytes) p.column (ok && p.carried) (full || p.filled) (put_mid n (length out - n) out last)
     units-on j v = record {
       bytes = g.bytes ++ ink.bytes;
       pens = pens-on;
@@ -198,46 +198,46 @@ module _ (s : Bytes) (at : ℕ) (room : Bytes) (column i n k : ℕ) (ok full : B
           (y.0 ++ (x.0 ∷ []), w.goes x.0 x.1 j v, z.0, z.1, z.2);
     }
 
-    pub units-all : (v : Read) → GivesT s r.end (sep 93 zero suc (drop r.end s)) (Stop v)
-        → UnitsFrom s at room column (Done (n + p.bytes) p.column (ok && p.carried) (full || p.filled)) (put_mid n (length out - n) out last)
+    pub units-all : (v : Read) → GivesT s r.end (sep 93 zero suc (drop r.end s)) (Break v)
+        → UnitsFrom s at room column (inked (n + p.bytes) p.column (ok && p.carried) (full || p.filled)) (put_mid n (length out - n) out last)
     units-all v b us es t e f =
         let y = g.so us es t e f in
         let w = now_of y.1 r told in
         let x = taken (unit_from w.val) (unit w.val w.is-val) in
         let z = so_far y.0 x.0 x.2 y.2 y.3 y.4 in
-        units-as room column (Done (n + p.bytes) p.column (ok && p.carried) (full || p.filled)) (put_mid n (length out - n) out last) (w.ends x.0 x.1 v b)
+        units-as room column (inked (n + p.bytes) p.column (ok && p.carried) (full || p.filled)) (put_mid n (length out - n) out last) (w.ends x.0 x.1 v b)
         (n + p.bytes, p.column, done-is z.1 z.2, pens-as z.0 pens-on)
 
 -- ---- by the slot
 
 module _ (s : Bytes) (slot : ℕ) (room : Bytes) (column : ℕ) where
-  no-units : UnitsAs room column (Done 0 column true false) room (some [])
+  no-units : UnitsAs room column (inked 0 column true false) room (some [])
   no-units = (0, column, done-is (sym no-carried) (sym no-filled), pens-as (sym no-piece) (pens-none room column))
 
-  pub units-absent : slot ≡ 0 → TellsUnits s slot room column (Done 0 column true false) room
+  pub units-absent : slot ≡ 0 → TellsUnits s slot room column (inked 0 column true false) room
   unfolding units_in
-  units-absent e o h = units-as room column (Done 0 column true false) room (ap (λ (x : Option Json). with-some x (λ v. chain (as_array v) (each unit_from)) (some [])) (slot-none h e)) no-units
+  units-absent e o h = units-as room column (inked 0 column true false) room (ap (λ (x : Option Json). with-some x (λ v. chain (as_array v) (each unit_from)) (some [])) (slot-none h e)) no-units
 
   module _ (n : slot ≡ 0 → ⊥) where
     by_value : (r : Ink) (after : Bytes) → ((v : Json) → json_at 13 s slot ≡ some v → UnitsAs room column r after (chain (as_array v) (each unit_from))) → TellsUnits s slot room column r after
     unfolding units_in
     by_value r after g o h = let v = slot-some h n in units-as room column r after (ap (λ (x : Option Json). with-some x (λ v. chain (as_array v) (each unit_from)) (some [])) v.1) (g v.0 v.2)
 
-    pub units-past : (after : Bytes) → length s < slot → TellsUnits s slot room column Wrong after
-    units-past after l = by_value Wrong after (λ v e. none-past 13 s slot v l e)
+    pub units-past : (after : Bytes) → length s < slot → TellsUnits s slot room column (Err no_card) after
+    units-past after l = by_value (Err no_card) after (λ v e. none-past 13 s slot v l e)
 
     module _ (i b : ℕ) (h : Passes is_space s slot i) (e : b ≡ byte_at s i) where
-      pub units-none : (after : Bytes) → (b ≡ 91 → ⊥) → TellsUnits s slot room column Wrong after
-      units-none after m = by_value Wrong after (λ v w. units-as room column Wrong after (ap (λ (o : Option (List Json)). chain o (each unit_from)) (not-array 12 s slot i b h e m v w)) refl)
+      pub units-none : (after : Bytes) → (b ≡ 91 → ⊥) → TellsUnits s slot room column (Err no_card) after
+      units-none after m = by_value (Err no_card) after (λ v w. units-as room column (Err no_card) after (ap (λ (o : Option (List Json)). chain o (each unit_from)) (not-array 12 s slot i b h e m v w)) refl)
 
       module _ (q : b ≡ 91) (j c : ℕ) (k : Passes is_space s (i + 1) j) (f : c ≡ byte_at s j) where
         each_nil : each unit_from [] ≡ some []
         unfolding each
         each_nil = refl
 
-        pub units-empty : c ≡ 93 → TellsUnits s slot room column (Done 0 column true false) room
-        units-empty m = by_value (Done 0 column true false) room (λ v w.
-            units-as room column (Done 0 column true false) room (ap (λ (o : Option (List Json)). chain o (each unit_from)) (empty-array 12 s slot i b h e q j c k f m v w) ∙ each_nil) no-units)
+        pub units-empty : c ≡ 93 → TellsUnits s slot room column (inked 0 column true false) room
+        units-empty m = by_value (inked 0 column true false) room (λ v w.
+            units-as room column (inked 0 column true false) room (ap (λ (o : Option (List Json)). chain o (each unit_from)) (empty-array 12 s slot i b h e q j c k f m v w) ∙ each_nil) no-units)
 
         pub units-full : (c ≡ 93 → ⊥) → (r : Ink) (after : Bytes) → UnitsFrom s j room column r after → TellsUnits s slot room column r after
         units-full m r after g = by_value r after (λ v w.

@@ -1,5 +1,10 @@
 -- Whole values: organizations, and any form.
 use mathlib.Core.Path.{◌≡◌, refl, sym, ap, subst, ◌∙◌}
+use Rattle.to_card_value.specs.declared.Inked.{Inked}
+use Rattle.to_card_value.specs.declared.Put.{Put}
+use Rattle.to_card_pen.proofs.Refusal.{ok-is, not_ok}
+use Rattle.std.specs.Prelude.{Err}
+use Rattle.to_card_pen.specs.Refusal.{no_card}
 use mathlib.Core.Bool.{Bool, true, false, ◌&&◌, ◌||◌, not}
 use mathlib.Core.List.{List, [], ◌∷◌, ◌++◌, map, append_assoc, append-nil}
 use mathlib.Core.Option
@@ -26,34 +31,33 @@ use Rattle.to_card_pen.proofs.Styles.{written-raw, written-text, written-parts, 
 use Rattle.convert.specs.Value.{filled, is_tel_uri}
 use Rattle.convert.specs.Carry.{carried_raw, carried_text}
 use Rattle.to_card_params.proofs.Walk.{slot-none, slot-some}
-use Rattle.to_card_value.specs.declared.Ink.{Ink}
-use Rattle.to_card_value.specs.declared.Ink.TheVariants.{Done, Wrong}
-use Rattle.to_card_value.specs.declared.Put.{Put}
-use Rattle.to_card_value.specs.declared.Put.TheVariants.{Line, Refused}
-use Rattle.to_card_value.specs.Values.{StringIs, TellsString, TellsText, blank_of, tel_of, Inks, unit_piece, unit_carried, InkIn, units_piece, UnitsAs, units_in, TellsUnits, name_in, NameAs, TellsName, org_in, texts_in, value_in, carried_in, ValueAs, TellsOrg, TellsValue}
+use Rattle.to_card_value.specs.Values.{StringIs, TellsString, TellsText, blank_of, tel_of, Inks, unit_piece, unit_carried, InkIn, units_piece, UnitsAs, units_in, TellsUnits, name_in, NameAs, TellsName, org_in, texts_in, value_in, carried_in, ValueAs, TellsOrg, TellsValue, Ink, inked, Written, written}
 use Rattle.to_card_value.proofs.Pieces.{stands_parts}
 
 -- ---- answers
 
-not_done : {n k : ℕ} {c f : Bool} → Wrong ≡ Done n k c f → ⊥
-not_done e = let z : ◌≡◌ {A = ℕ} 0 1 = cc in omega arith
+done-bytes : {n k m l : ℕ} {c f d g : Bool} → inked n k c f ≡ inked m l d g → n ≡ m
+done-bytes e = ap (λ (t : Inked). t.bytes) (ok-is e)
 
-done-bytes : {n k m l : ℕ} {c f d g : Bool} → Done n k c f ≡ Done m l d g → n ≡ m
-done-bytes e = cc
+done-column : {n k m l : ℕ} {c f d g : Bool} → inked n k c f ≡ inked m l d g → k ≡ l
+done-column e = ap (λ (t : Inked). t.column) (ok-is e)
 
-done-column : {n k m l : ℕ} {c f d g : Bool} → Done n k c f ≡ Done m l d g → k ≡ l
-done-column e = cc
+done-carried : {n k m l : ℕ} {c f d g : Bool} → inked n k c f ≡ inked m l d g → c ≡ d
+done-carried e = ap (λ (t : Inked). t.carried) (ok-is e)
 
-done-carried : {n k m l : ℕ} {c f d g : Bool} → Done n k c f ≡ Done m l d g → c ≡ d
-done-carried e = cc
+done-filled : {n k m l : ℕ} {c f d g : Bool} → inked n k c f ≡ inked m l d g → f ≡ g
+done-filled e = ap (λ (t : Inked). t.filled) (ok-is e)
 
-done-filled : {n k m l : ℕ} {c f d g : Bool} → Done n k c f ≡ Done m l d g → f ≡ g
-done-filled e = cc
+pub line-bytes : {a b : ℕ} {c d : Bool} → written a c ≡ written b d → a ≡ b
+line-bytes e = ap (λ (p : Put). p.bytes) (ok-is e)
 
-done-is : {n k : ℕ} {a b c d : Bool} → a ≡ b → c ≡ d → Done n k a c ≡ Done n k b d
-done-is {n} {k} {a} {b} {c} {d} e f = ap (λ (x : Bool). Done n k x c) e ∙ ap (Done n k b) f
+pub line-carried : {a b : ℕ} {c d : Bool} → written a c ≡ written b d → c ≡ d
+line-carried e = ap (λ (p : Put). p.carries) (ok-is e)
 
-pub ink-in : {room n k : ℕ} {c f : Bool} {r : Ink} → InkIn room r → r ≡ Done n k c f → n ≤ room
+done-is : {n k : ℕ} {a b c d : Bool} → a ≡ b → c ≡ d → inked n k a c ≡ inked n k b d
+done-is {n} {k} {a} {b} {c} {d} e f = ap (λ (x : Bool). inked n k x c) e ∙ ap (inked n k b) f
+
+pub ink-in : {room n k : ℕ} {c f : Bool} {r : Ink} → InkIn room r → r ≡ inked n k c f → n ≤ room
 ink-in {room} {n} {k} {c} {f} {r} h e = subst (InkIn room) e h
 
 -- ---- bounds of a part that is lent, whatever was written
@@ -82,9 +86,9 @@ name-as : (room : Bytes) (column : ℕ) (r : Ink) (after : Bytes) {o p : Option 
 name-as room column r after e x = subst (NameAs room column r after) (sym e) x
 
 module _ (s : Bytes) (slot : ℕ) (room : Bytes) (column : ℕ) (after : Bytes) where
-  pub name-absent : {p : Pen} → slot ≡ 0 → Pens room column (ascii ":") p after → TellsName s slot room column (Done p.bytes p.column true false) after
+  pub name-absent : {p : Pen} → slot ≡ 0 → Pens room column (ascii ":") p after → TellsName s slot room column (inked p.bytes p.column true false) after
   unfolding name_in
-  name-absent {p} e q o h = name-as room column (Done p.bytes p.column true false) after (ap (λ (x : Option Json). with-some x as_string (some [])) (slot-none h e))
+  name-absent {p} e q o h = name-as room column (inked p.bytes p.column true false) after (ap (λ (x : Option Json). with-some x as_string (some [])) (slot-none h e))
       (p.bytes, p.column, done-is (sym no-carried) refl, pens-as (ap (λ (x : Bytes). ascii ":" ++ x) (sym no_text)) q)
 
   module _ (n : slot ≡ 0 → ⊥) (q : ℕ) (t : TellsString s slot q) where
@@ -92,17 +96,17 @@ module _ (s : Bytes) (slot : ℕ) (room : Bytes) (column : ℕ) (after : Bytes) 
     unfolding name_in
     by_value r g o h = let v = slot-some h n in name-as room column r after (ap (λ (x : Option Json). with-some x as_string (some [])) v.1) (g (as_string v.0) (t 13 v.0 v.2))
 
-    pub name-wrong : q ≡ 0 → TellsName s slot room column Wrong after
-    name-wrong e = by_value Wrong by
+    pub name-wrong : q ≡ 0 → TellsName s slot room column (Err no_card) after
+    name-wrong e = by_value (Err no_card) by
       where
-        by : (x : Option Bytes) → StringIs s q x → NameAs room column Wrong after x
+        by : (x : Option Bytes) → StringIs s q x → NameAs room column (Err no_card) after x
         by none h = refl
         by (some x) h = absurd (omega (arith, h.0))
 
-    pub name-there : {p : Told} {b : Bool} → (q ≡ 0 → ⊥) → Inks s q (ascii ":") 2 room column p after → b ≡ blank_of (decoded_at s q) → TellsName s slot room column (Done p.bytes p.column p.carried (not b)) after
-    name-there {p} {b} m i e = by_value (Done p.bytes p.column p.carried (not b)) by
+    pub name-there : {p : Told} {b : Bool} → (q ≡ 0 → ⊥) → Inks s q (ascii ":") 2 room column p after → b ≡ blank_of (decoded_at s q) → TellsName s slot room column (inked p.bytes p.column p.carried (not b)) after
+    name-there {p} {b} m i e = by_value (inked p.bytes p.column p.carried (not b)) by
       where
-        by : (x : Option Bytes) → StringIs s q x → NameAs room column (Done p.bytes p.column p.carried (not b)) after x
+        by : (x : Option Bytes) → StringIs s q x → NameAs room column (inked p.bytes p.column p.carried (not b)) after x
         by none h = absurd (m h)
         by (some x) h = (
           p.bytes,
@@ -142,20 +146,20 @@ org-carried : (n : Bytes) (us : List Bytes) → (carried_text n && all unit_carr
 unfolding carried_in all
 org-carried n us = ap (λ (b : Bool). carried_text n && b) (sym (units-carried us))
 
-value_as : (form : ℕ) (room : Bytes) (column : ℕ) (r : Put) (after : Bytes) {o p : Option (List Bytes)} → o ≡ p → ValueAs form room column r after p → ValueAs form room column r after o
+value_as : (form : ℕ) (room : Bytes) (column : ℕ) (r : Written) (after : Bytes) {o p : Option (List Bytes)} → o ≡ p → ValueAs form room column r after p → ValueAs form room column r after o
 value_as form room column r after e x = subst (ValueAs form room column r after) (sym e) x
 
 module _ (s : Bytes) (name units : ℕ) (room : Bytes) (column : ℕ) (out : Bytes) (x : Ink) (named : TellsName s name room column x out) where
-  pub org-no-name : (after : Bytes) → x ≡ Wrong → TellsOrg s name units room column Refused after
-  org-no-name after e c u h g = value_as 4 room column Refused after (org-is c u) (by (name_in c) (named c h))
+  pub org-no-name : (after : Bytes) → x ≡ Err no_card → TellsOrg s name units room column (Err no_card) after
+  org-no-name after e c u h g = value_as 4 room column (Err no_card) after (org-is c u) (by (name_in c) (named c h))
     where
-      by : (o : Option Bytes) → NameAs room column x out o → ValueAs 4 room column Refused after (chain o λ n. chain (units_in u) λ us. provided (any filled (n ∷ us)) (some (n ∷ keep filled us)))
+      by : (o : Option Bytes) → NameAs room column x out o → ValueAs 4 room column (Err no_card) after (chain o λ n. chain (units_in u) λ us. provided (any filled (n ∷ us)) (some (n ∷ keep filled us)))
       by none p = refl
-      by (some n) p = absurd (not_done (sym e ∙ p.2))
+      by (some n) p = absurd (not_ok (sym e ∙ p.2))
 
-  module _ (n k : ℕ) (ok f : Bool) (e : x ≡ Done n k ok f) (last : Bytes) (y : Ink) (told : TellsUnits s units (mid_of n (length out - n) out) k y last) where
+  module _ (n k : ℕ) (ok f : Bool) (e : x ≡ inked n k ok f) (last : Bytes) (y : Ink) (told : TellsUnits s units (mid_of n (length out - n) out) k y last) where
     name_done : (o : Option Bytes) → NameAs room column x out o → (v : Bytes) × (o ≡ some v) × (ok ≡ carried_text v) × (f ≡ filled v) × Pens room column (ascii ":" ++ write_text true v) (record { bytes = n; column = k }) out
-    name_done none p = absurd (not_done (sym p ∙ e))
+    name_done none p = absurd (not_ok (sym p ∙ e))
     name_done (some v) p =
         let z = sym e ∙ p.2 in (
           v,
@@ -166,19 +170,19 @@ module _ (s : Bytes) (name units : ℕ) (room : Bytes) (column : ℕ) (out : Byt
               (subst (λ (a : ℕ). Pens room column (ascii ":" ++ write_text true v) (record { bytes = p.0; column = a }) out) (sym (done-column z)) p.3),
         )
 
-    pub org-no-units : (after : Bytes) → y ≡ Wrong → TellsOrg s name units room column Refused after
+    pub org-no-units : (after : Bytes) → y ≡ Err no_card → TellsOrg s name units room column (Err no_card) after
     org-no-units after q c u h g =
         let v = name_done (name_in c) (named c h) in
-        value_as 4 room column Refused after (org-is c u ∙ ap (λ (o : Option Bytes). chain o λ n. chain (units_in u) λ us. provided (any filled (n ∷ us)) (some (n ∷ keep filled us))) v.1) (by v.0 (units_in u) (told u g))
+        value_as 4 room column (Err no_card) after (org-is c u ∙ ap (λ (o : Option Bytes). chain o λ n. chain (units_in u) λ us. provided (any filled (n ∷ us)) (some (n ∷ keep filled us))) v.1) (by v.0 (units_in u) (told u g))
       where
-        by : (v : Bytes) (o : Option (List Bytes)) → UnitsAs (mid_of n (length out - n) out) k y last o → ValueAs 4 room column Refused after (chain o λ us. provided (any filled (v ∷ us)) (some (v ∷ keep filled us)))
+        by : (v : Bytes) (o : Option (List Bytes)) → UnitsAs (mid_of n (length out - n) out) k y last o → ValueAs 4 room column (Err no_card) after (chain o λ us. provided (any filled (v ∷ us)) (some (v ∷ keep filled us)))
         by v none p = refl
-        by v (some us) p = absurd (not_done (sym q ∙ p.2))
+        by v (some us) p = absurd (not_ok (sym q ∙ p.2))
 
-    module _ (m l : ℕ) (every any' : Bool) (q : y ≡ Done m l every any') where
+    module _ (m l : ℕ) (every any' : Bool) (q : y ≡ inked m l every any') where
       units-done : (o : Option (List Bytes)) → UnitsAs (mid_of n (length out - n) out) k y last o
           → (us : List Bytes) × (o ≡ some us) × (every ≡ all unit_carried us) × (any' ≡ any filled us) × Pens (mid_of n (length out - n) out) k (units_piece us) (record { bytes = m; column = l }) last
-      units-done none p = absurd (not_done (sym p ∙ q))
+      units-done none p = absurd (not_ok (sym p ∙ q))
       units-done (some us) p =
           let z = sym q ∙ p.2 in (
             us,
@@ -196,20 +200,20 @@ module _ (s : Bytes) (name units : ℕ) (room : Bytes) (column : ℕ) (out : Byt
           ∙ ap (λ (o : Option (List Bytes)). chain o λ us. provided (any filled (v ∷ us)) (some (v ∷ keep filled us))) b
           ∙ ap (λ (t : Bool). provided (t || any filled us) (some (v ∷ keep filled us))) (sym i) ∙ ap (λ (t : Bool). provided (f || t) (some (v ∷ keep filled us))) (sym j)
 
-      pub org-nothing : (after : Bytes) → not (f || any') ≡ true → TellsOrg s name units room column Refused after
+      pub org-nothing : (after : Bytes) → not (f || any') ≡ true → TellsOrg s name units room column (Err no_card) after
       org-nothing after t c u h g =
           let v = name_done (name_in c) (named c h) in
           let w = units-done (units_in u) (told u g) in
-          value_as 4 room column Refused after (org-both c u v.0 w.0 v.1 w.1 v.3 w.3 ∙ ap (λ (b : Bool). provided b (some (v.0 ∷ keep filled w.0))) (not-true (f || any') t)) refl
+          value_as 4 room column (Err no_card) after (org-both c u v.0 w.0 v.1 w.1 v.3 w.3 ∙ ap (λ (b : Bool). provided b (some (v.0 ∷ keep filled w.0))) (not-true (f || any') t)) refl
 
-      pub org-line : not (f || any') ≡ false → TellsOrg s name units room column (Line (n + m) (ok && every)) (put_mid n (length out - n) out last)
+      pub org-line : not (f || any') ≡ false → TellsOrg s name units room column (written (n + m) (ok && every)) (put_mid n (length out - n) out last)
       org-line t c u h g =
           let v = name_done (name_in c) (named c h) in
           let w = units-done (units_in u) (told u g) in
-          value_as 4 room column (Line (n + m) (ok && every)) (put_mid n (length out - n) out last)
+          value_as 4 room column (written (n + m) (ok && every)) (put_mid n (length out - n) out last)
           (org-both c u v.0 w.0 v.1 w.1 v.3 w.3 ∙ ap (λ (b : Bool). provided b (some (v.0 ∷ keep filled w.0))) (not-false (f || any') t)) (
             n + m,
-            ap (Line (n + m)) (ap (λ (b : Bool). b && every) v.2 ∙ ap (λ (b : Bool). carried_text v.0 && b) w.2 ∙ org-carried v.0 w.0),
+            ap (written (n + m)) (ap (λ (b : Bool). b && every) v.2 ∙ ap (λ (b : Bool). carried_text v.0 && b) w.2 ∙ org-carried v.0 w.0),
             Fills-of (pens-as (org-value v.0 w.0) (pens-then v.4 w.4)),
           )
 
@@ -271,48 +275,48 @@ module _ (form : ℕ) (n : form ≡ 4 → ⊥) (x : Bytes) where
   text-carried f = rw (ne_eqb form 2 f) (stands-text x ∙ one-text x)
 
 module _ (s : Bytes) (content units form : ℕ) (room : Bytes) (column : ℕ) (after : Bytes) where
-  pub value-org : (r : Put) → form ≡ 4 → TellsOrg s content units room column r after → TellsValue s content units form room column r after
+  pub value-org : (r : Written) → form ≡ 4 → TellsOrg s content units room column r after → TellsValue s content units form room column r after
   unfolding texts_in
   value-org r e g c u h k = subst (λ (f : ℕ). ValueAs f room column r after (texts_in f c u)) (sym e) (g c u h k)
 
   module _ (n : form ≡ 4 → ⊥) (q : ℕ) (t : TellsText s content q) where
-    by-text : (r : Put) → ((x : Option Bytes) → StringIs s q x → ValueAs form room column r after (Option.map (λ v. v ∷ []) x)) → TellsValue s content units form room column r after
+    by-text : (r : Written) → ((x : Option Bytes) → StringIs s q x → ValueAs form room column r after (Option.map (λ v. v ∷ []) x)) → TellsValue s content units form room column r after
     unfolding texts_in
     by-text r g c u h k = value_as form room column r after (ap (λ (b : Bool). pick b (org_in c u) (Option.map (λ v. v ∷ []) (chain c as_string))) (ne_eqb form 4 n)) (g (chain c as_string) (t 13 c h))
 
-    pub value_none : q ≡ 0 → TellsValue s content units form room column Refused after
-    value_none e = by-text Refused by
+    pub value_none : q ≡ 0 → TellsValue s content units form room column (Err no_card) after
+    value_none e = by-text (Err no_card) by
       where
-        by : (x : Option Bytes) → StringIs s q x → ValueAs form room column Refused after (Option.map (λ v. v ∷ []) x)
+        by : (x : Option Bytes) → StringIs s q x → ValueAs form room column (Err no_card) after (Option.map (λ v. v ∷ []) x)
         by none h = refl
         by (some x) h = absurd (omega (arith, h.0))
 
     module _ (m : q ≡ 0 → ⊥) (tel : Bool) (is-tel : tel ≡ (eqb form 3 && tel_of (decoded_at s q))) (p : Told) where
       some-value : (x : Bytes) (lead : Bytes) (style : ℕ) → decoded_at s q ≡ some x → Inks s q lead style room column p after → lead ++ written_in style x ≡ value_in form (x ∷ []) → all_stand_in style x ≡ carried_in form (x ∷ [])
-          → ValueAs form room column (Line p.bytes p.carried) after (some (x ∷ []))
+          → ValueAs form room column (written p.bytes p.carried) after (some (x ∷ []))
       some-value x lead style e i a b =
-          (p.bytes, ap (Line p.bytes) (i.carried ∙ ap (all_stand_in style) (i.is x e) ∙ b), Fills-of (pens-as (ap (λ (y : Bytes). lead ++ written_in style y) (i.is x e) ∙ a) i.pens))
+          (p.bytes, ap (written p.bytes) (i.carried ∙ ap (all_stand_in style) (i.is x e) ∙ b), Fills-of (pens-as (ap (λ (y : Bytes). lead ++ written_in style y) (i.is x e) ∙ a) i.pens))
 
       tel-of : (x : Bytes) → decoded_at s q ≡ some x → (eqb form 3 && is_tel_uri x) ≡ tel
       tel-of x e = sym (is-tel ∙ ap (λ (o : Option Bytes). eqb form 3 && tel_of o) e)
 
-      pub value-tel : tel ≡ true → Inks s q (ascii ";VALUE=uri:") 0 room column p after → TellsValue s content units form room column (Line p.bytes p.carried) after
-      value-tel e i = by-text (Line p.bytes p.carried) by
+      pub value-tel : tel ≡ true → Inks s q (ascii ";VALUE=uri:") 0 room column p after → TellsValue s content units form room column (written p.bytes p.carried) after
+      value-tel e i = by-text (written p.bytes p.carried) by
         where
-          by : (x : Option Bytes) → StringIs s q x → ValueAs form room column (Line p.bytes p.carried) after (Option.map (λ v. v ∷ []) x)
+          by : (x : Option Bytes) → StringIs s q x → ValueAs form room column (written p.bytes p.carried) after (Option.map (λ v. v ∷ []) x)
           by none h = absurd (m h)
           by (some x) h = some-value x (ascii ";VALUE=uri:") 0 h.1 i (tel-value form n x (tel-of x h.1 ∙ e)) (tel-carried form n x (tel-of x h.1 ∙ e))
 
-      pub value-raw : tel ≡ false → form ≡ 2 → Inks s q (ascii ":") 0 room column p after → TellsValue s content units form room column (Line p.bytes p.carried) after
-      value-raw e f i = by-text (Line p.bytes p.carried) by
+      pub value-raw : tel ≡ false → form ≡ 2 → Inks s q (ascii ":") 0 room column p after → TellsValue s content units form room column (written p.bytes p.carried) after
+      value-raw e f i = by-text (written p.bytes p.carried) by
         where
-          by : (x : Option Bytes) → StringIs s q x → ValueAs form room column (Line p.bytes p.carried) after (Option.map (λ v. v ∷ []) x)
+          by : (x : Option Bytes) → StringIs s q x → ValueAs form room column (written p.bytes p.carried) after (Option.map (λ v. v ∷ []) x)
           by none h = absurd (m h)
           by (some x) h = some-value x (ascii ":") 0 h.1 i (raw-value form n x (tel-of x h.1 ∙ e) f) (raw_carried form n x f)
 
-      pub value-text : tel ≡ false → (form ≡ 2 → ⊥) → Inks s q (ascii ":") 1 room column p after → TellsValue s content units form room column (Line p.bytes p.carried) after
-      value-text e f i = by-text (Line p.bytes p.carried) by
+      pub value-text : tel ≡ false → (form ≡ 2 → ⊥) → Inks s q (ascii ":") 1 room column p after → TellsValue s content units form room column (written p.bytes p.carried) after
+      value-text e f i = by-text (written p.bytes p.carried) by
         where
-          by : (x : Option Bytes) → StringIs s q x → ValueAs form room column (Line p.bytes p.carried) after (Option.map (λ v. v ∷ []) x)
+          by : (x : Option Bytes) → StringIs s q x → ValueAs form room column (written p.bytes p.carried) after (Option.map (λ v. v ∷ []) x)
           by none h = absurd (m h)
           by (some x) h = some-value x (ascii ":") 1 h.1 i (text-value form n x (tel-of x h.1 ∙ e) f) (text-carried form n x f)

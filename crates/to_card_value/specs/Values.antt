@@ -1,5 +1,8 @@
 -- The strings of an entry by the slots of its members, and how they stand in a line. Forms are numbers: see `form_code`.
-use Rattle.std.specs.Prelude.{◌≡◌, Bool, true, false, ◌&&◌, ◌||◌, not, List, [], ◌∷◌, ◌++◌, map, ℕ, suc, ◌≤◌, ◌<◌, eqb, ltb, leb, length, drop}
+use Rattle.std.specs.Prelude.{◌≡◌, Bool, true, false, ◌&&◌, ◌||◌, not, List, [], ◌∷◌, ◌++◌, map, ℕ, suc, ◌≤◌, ◌<◌, eqb, ltb, leb, drop, Err, Result, Ok}
+use Rattle.to_card_value.specs.declared.Put.{Put}
+use Rattle.to_card_pen.specs.declared.NoCard.{NoCard}
+use Rattle.to_card_pen.specs.Refusal.{no_card}
 use Rattle.std.proofs.Math.Option
 use Rattle.std.proofs.Math.Option.{Option, none, some}
 use Prim.Native.Char.{code}
@@ -23,10 +26,6 @@ use Rattle.convert.specs.Value.{filled, head_or, is_tel_uri}
 use Rattle.convert.specs.FromJson.{unit_from}
 use Rattle.convert.specs.Carry.{carried_raw, carried_text}
 use Rattle.to_card_value.specs.declared.Inked.{Inked}
-use Rattle.to_card_value.specs.declared.Ink.{Ink}
-use Rattle.to_card_value.specs.declared.Ink.TheVariants.{Done, Wrong}
-use Rattle.to_card_value.specs.declared.Put.{Put}
-use Rattle.to_card_value.specs.declared.Put.TheVariants.{Line, Refused}
 
 abbrev pub form_code : Form → ℕ
 form_code text = 0
@@ -101,14 +100,27 @@ pub record UnitInks (s : Bytes) (at : ℕ) (room : Bytes) (column : ℕ) (r : In
   pub filled : (x : Bytes) → decoded_at s at ≡ some x → r.filled ≡ filled x
   pub pens : Pens room column bytes (pen_as r) after
 
+-- what a piece of the value answers, and the whole of it
+abbrev pub Ink : Type 0
+Ink = Result Inked NoCard
+
+abbrev pub inked : ℕ → ℕ → Bool → Bool → Ink
+inked n k c f = Ok (record { bytes = n; column = k; carried = c; filled = f })
+
+abbrev pub Written : Type 0
+Written = Result Put NoCard
+
+abbrev pub written : ℕ → Bool → Written
+written n c = Ok (record { bytes = n; carries = c })
+
 -- what is written is in the room
 abbrev pub InkIn : ℕ → Ink → Type 0
-InkIn room (Done n k c f) = n ≤ room
-InkIn room Wrong = Unit {0}
+InkIn room (Ok t) = t.bytes ≤ room
+InkIn room (Err e) = Unit {0}
 
 -- these bytes, whether a line can carry them, and whether any string was filled
 abbrev pub InkedBy : Bytes → ℕ → Ink → Bytes → Bytes → Bool → Bool → Type 0
-InkedBy room column r after bs c f = (n : ℕ) × (k : ℕ) × (r ≡ Done n k c f) × Pens room column bs (record { bytes = n; column = k }) after
+InkedBy room column r after bs c f = (n : ℕ) × (k : ℕ) × (r ≡ inked n k c f) × Pens room column bs (record { bytes = n; column = k }) after
 
 -- ---- organizations
 
@@ -116,7 +128,7 @@ unfoldable pub units_piece : List Bytes → Bytes
 units_piece us = flat (map unit_piece us)
 
 abbrev pub UnitsAs : Bytes → ℕ → Ink → Bytes → Option (List Bytes) → Type 0
-UnitsAs room column r after none = r ≡ Wrong
+UnitsAs room column r after none = r ≡ Err no_card
 UnitsAs room column r after (some us) = InkedBy room column r after (units_piece us) (all unit_carried us) (any filled us)
 
 abbrev pub UnitsFrom : Bytes → ℕ → Bytes → ℕ → Ink → Bytes → Type 0
@@ -133,7 +145,7 @@ unfoldable pub name_in : Option Json → Option Bytes
 name_in o = with-some o as_string (some [])
 
 abbrev pub NameAs : Bytes → ℕ → Ink → Bytes → Option Bytes → Type 0
-NameAs room column r after none = r ≡ Wrong
+NameAs room column r after none = r ≡ Err no_card
 NameAs room column r after (some n) = InkedBy room column r after (ascii ":" ++ write_text true n) (carried_text n) (filled n)
 
 abbrev pub TellsName : Bytes → ℕ → Bytes → ℕ → Ink → Bytes → Type 0
@@ -158,16 +170,16 @@ value_in form vs =
 unfoldable pub carried_in : ℕ → List Bytes → Bool
 carried_in form vs = pick (eqb form 2) (all carried_raw vs) (all carried_text vs)
 
-abbrev pub PutIn : ℕ → Put → Type 0
-PutIn room (Line n c) = n ≤ room
-PutIn room Refused = Unit {0}
+abbrev pub PutIn : ℕ → Written → Type 0
+PutIn room (Ok p) = p.bytes ≤ room
+PutIn room (Err e) = Unit {0}
 
-abbrev pub ValueAs : ℕ → Bytes → ℕ → Put → Bytes → Option (List Bytes) → Type 0
-ValueAs form room column r after none = r ≡ Refused
-ValueAs form room column r after (some vs) = (n : ℕ) × (r ≡ Line n (carried_in form vs)) × Fills room (fold_from column (value_in form vs)) n after
+abbrev pub ValueAs : ℕ → Bytes → ℕ → Written → Bytes → Option (List Bytes) → Type 0
+ValueAs form room column r after none = r ≡ Err no_card
+ValueAs form room column r after (some vs) = (n : ℕ) × (r ≡ written n (carried_in form vs)) × Fills room (fold_from column (value_in form vs)) n after
 
-abbrev pub TellsOrg : Bytes → ℕ → ℕ → Bytes → ℕ → Put → Bytes → Type 0
+abbrev pub TellsOrg : Bytes → ℕ → ℕ → Bytes → ℕ → Written → Bytes → Type 0
 TellsOrg s name units room column r after = (c u : Option Json) → Slot 13 s name c → Slot 13 s units u → ValueAs 4 room column r after (org_in c u)
 
-abbrev pub TellsValue : Bytes → ℕ → ℕ → ℕ → Bytes → ℕ → Put → Bytes → Type 0
+abbrev pub TellsValue : Bytes → ℕ → ℕ → ℕ → Bytes → ℕ → Written → Bytes → Type 0
 TellsValue s content units form room column r after = (c u : Option Json) → Slot 13 s content c → Slot 13 s units u → ValueAs form room column r after (texts_in form c u)

@@ -12,8 +12,9 @@ use json_index::index_object;
 use json_marks::{separator, skip_space};
 use json_strings::Byte;
 use line_pen::pen_bytes;
-use text::{LEFT_BRACKET, QUOTE, RIGHT_BRACKET, Turn, look};
-use to_card_pen::{Told, byte_at, is_control, pen_string, style};
+use std::ops::ControlFlow;
+use text::{LEFT_BRACKET, QUOTE, RIGHT_BRACKET, look};
+use to_card_pen::{NoCard, Told, byte_at, is_control, pen_string, style};
 
 // How many bytes were written, the column after them, whether a line can carry them, and whether any string was filled.
 #[derive(Drop)]
@@ -24,23 +25,11 @@ pub struct Inked {
     pub filled: bool,
 }
 
-// The same, or 12.
+// How many bytes of the line were written, and whether a line can carry the strings.
 #[derive(Drop)]
-pub enum Ink {
-    Done {
-        bytes: usize,
-        column: usize,
-        carried: bool,
-        filled: bool,
-    },
-    Wrong,
-}
-
-// How many bytes of the line were written, and whether a line can carry the strings; or 12.
-#[derive(Drop)]
-pub enum Put {
-    Line { bytes: usize, carries: bool },
-    Refused,
+pub struct Put {
+    pub bytes: usize,
+    pub carries: bool,
 }
 
 // The place after the first quote, where the value at a place is a string; else 0.
@@ -211,7 +200,7 @@ fn pen_unit(out: &mut [u8], column: usize, s: &[u8], at: usize) -> Inked
 }
 
 // The units from a place of their array on.
-fn put_units_from(out: &mut [u8], column: usize, s: &[u8], at: usize) -> Ink
+fn put_units_from(out: &mut [u8], column: usize, s: &[u8], at: usize) -> Result<Inked, NoCard>
     requires { at ≤ length s.now }
     ensures ink_in { InkIn (length out.old) result }
     ensures out_len_unchanged { length out.new ≡ length out.old }
@@ -228,7 +217,7 @@ fn put_units_from(out: &mut [u8], column: usize, s: &[u8], at: usize) -> Ink
         let e = p.end;
         let q = unit_in(s, a);
         if q == 0 {
-            return Ink::Wrong;
+            return Err(NoCard);
         }
         let t = pen_unit(&mut out[n..], k, s, q);
         n += t.bytes;
@@ -236,56 +225,56 @@ fn put_units_from(out: &mut [u8], column: usize, s: &[u8], at: usize) -> Ink
         ok = ok & t.carried;
         filled = filled | t.filled;
         match separator(s, e, RIGHT_BRACKET) {
-            Turn::Go(j) => {
+            ControlFlow::Continue(j) => {
                 i = j;
             }
-            Turn::Stop(r) => {
-                return Ink::Done {
+            ControlFlow::Break(r) => {
+                return Ok(Inked {
                     bytes: n,
                     column: k,
                     carried: ok,
                     filled: filled,
-                };
+                });
             }
         }
     }
 }
 
 // The units in a slot.
-fn put_units(out: &mut [u8], column: usize, s: &[u8], slot: usize) -> Ink
+fn put_units(out: &mut [u8], column: usize, s: &[u8], slot: usize) -> Result<Inked, NoCard>
     ensures ink_in { InkIn (length out.old) result }
     ensures out_len_unchanged { length out.new ≡ length out.old }
     ensures tells_units { TellsUnits s.now slot out.old column result out.new }
 {
     if slot == 0 {
-        return Ink::Done {
+        return Ok(Inked {
             bytes: 0,
             column: column,
             carried: true,
             filled: false,
-        };
+        });
     }
     if slot > s.len() {
-        return Ink::Wrong;
+        return Err(NoCard);
     }
     let i = skip_space(s, slot);
     if look(s, i) != LEFT_BRACKET {
-        return Ink::Wrong;
+        return Err(NoCard);
     }
     let j = skip_space(s, i + 1);
     if look(s, j) == RIGHT_BRACKET {
-        return Ink::Done {
+        return Ok(Inked {
             bytes: 0,
             column: column,
             carried: true,
             filled: false,
-        };
+        });
     }
     put_units_from(out, column, s, j)
 }
 
 // The colon and the name of an organization, which may be absent.
-fn put_name(out: &mut [u8], column: usize, s: &[u8], slot: usize) -> Ink
+fn put_name(out: &mut [u8], column: usize, s: &[u8], slot: usize) -> Result<Inked, NoCard>
     ensures ink_in { InkIn (length out.old) result }
     ensures out_len_unchanged { length out.new ≡ length out.old }
     ensures tells_name { TellsName s.now slot out.old column result out.new }
@@ -294,63 +283,53 @@ fn put_name(out: &mut [u8], column: usize, s: &[u8], slot: usize) -> Ink
         let p = pen_bytes(out, column, b":");
         let n = p.bytes;
         let k = p.column;
-        return Ink::Done {
+        return Ok(Inked {
             bytes: n,
             column: k,
             carried: true,
             filled: false,
-        };
+        });
     }
     let q = string_in(s, slot);
     if q == 0 {
-        return Ink::Wrong;
+        return Err(NoCard);
     }
     let t = pen_text(out, column, b":", style::PARTS, s, q);
     let n = t.bytes;
     let k = t.column;
     let ok = t.carried;
     let blank = is_blank(s, q);
-    Ink::Done {
+    Ok(Inked {
         bytes: n,
         column: k,
         carried: ok,
         filled: !blank,
-    }
+    })
 }
 
 // An organization: its name, then its units; something must be left of them.
-fn put_organization(out: &mut [u8], column: usize, s: &[u8], name: usize, units: usize) -> Put
+fn put_organization(
+    out: &mut [u8],
+    column: usize,
+    s: &[u8],
+    name: usize,
+    units: usize,
+) -> Result<Put, NoCard>
     ensures put_in { PutIn (length out.old) result }
     ensures out_len_unchanged { length out.new ≡ length out.old }
     ensures tells_org { TellsOrg s.now name units out.old column result out.new }
 {
-    let Ink::Done {
-        bytes: n,
-        column: k,
-        carried: ok,
-        filled: f,
-    } = put_name(out, column, s, name)
-    else {
-        return Put::Refused;
-    };
-    let Ink::Done {
-        bytes: m,
-        column: l,
-        carried: all,
-        filled: g,
-    } = put_units(&mut out[n..], k, s, units)
-    else {
-        return Put::Refused;
-    };
-    let any = f | g;
+    let begun = put_name(out, column, s, name)?;
+    let rest = put_units(&mut out[begun.bytes..], begun.column, s, units)?;
+    let any = begun.filled | rest.filled;
     if !any {
-        return Put::Refused;
+        return Err(NoCard);
     }
-    let t = n + m;
-    Put::Line {
+    let t = begun.bytes + rest.bytes;
+    Ok(Put {
         bytes: t,
-        carries: ok & all,
-    }
+        carries: begun.carried & rest.carried,
+    })
 }
 
 // The strings of an entry by its slots, after the line's other parameters: VALUE where it is needed, the colon, and the value.
@@ -361,7 +340,7 @@ pub fn put_value(
     content: usize,
     units: usize,
     form: u8,
-) -> Put
+) -> Result<Put, NoCard>
     ensures put_in { PutIn (length out.old) result }
     ensures out_len_unchanged { length out.new ≡ length out.old }
     ensures tells_value { TellsValue s.now content units form out.old column result out.new }
@@ -371,31 +350,31 @@ pub fn put_value(
     }
     let q = text_in(s, content);
     if q == 0 {
-        return Put::Refused;
+        return Err(NoCard);
     }
     if is_tel(form, s, q) {
         let t = pen_text(out, column, &values::URI_LEAD, style::RAW, s, q);
         let n = t.bytes;
         let ok = t.carried;
-        return Put::Line {
+        return Ok(Put {
             bytes: n,
             carries: ok,
-        };
+        });
     }
     if form == links::FORM_BYTE {
         let t = pen_text(out, column, b":", style::RAW, s, q);
         let n = t.bytes;
         let ok = t.carried;
-        return Put::Line {
+        return Ok(Put {
             bytes: n,
             carries: ok,
-        };
+        });
     }
     let t = pen_text(out, column, b":", style::TEXT, s, q);
     let n = t.bytes;
     let ok = t.carried;
-    Put::Line {
+    Ok(Put {
         bytes: n,
         carries: ok,
-    }
+    })
 }

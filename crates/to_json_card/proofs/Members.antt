@@ -20,8 +20,8 @@ use Rattle.line.specs.Text.{read_text}
 use Rattle.convert.specs.Value.{read_name}
 use Rattle.line_table.specs.Table.{line_in, Holds}
 use Rattle.line_unfold.specs.Table.{line_at}
-use Rattle.output.specs.declared.Wrote.{Wrote}
-use Rattle.output.specs.declared.Wrote.TheVariants.{Bytes as Wrote-Bytes, Full}
+use Rattle.output.specs.Put.{Wrote, full}
+use Rattle.std.specs.Prelude.{Ok, Err}
 use Rattle.output.specs.Put.{Puts, Rest}
 use Rattle.output.proofs.Rests.{rest_all, rest-as, rest-next, rest-stop}
 use Rattle.convert.specs.Table.{Slot, slot_of}
@@ -183,10 +183,10 @@ module _ {scratch starts codes : List ℕ} {n : ℕ} {cs : List Classed} (h : Cl
         left : Rest room (members_in cs) (((44 ∷ []) ++ member_bytes the_member) ++ after (members_of (drop (k + 1) cs))) j out
         left = rest-as (ap after member-next ∙ after-cons the_member (members_of (drop (k + 1) cs))) m
 
-        pub members-stop : w ≡ Full → Puts room (members_in cs) Full (put_mid j (length out - j) out last)
+        pub members-stop : w ≡ (Err full) → Puts room (members_in cs) (Err full) (put_mid j (length out - j) out last)
         members-stop f = rest-stop _ left (p the_member (is_member_lem q)) f
 
-        pub members-next : (i : ℕ) → w ≡ Wrote-Bytes i → Rest room (members_in cs) (after (members_of (drop (k + 1) cs))) (j + i) (put_mid j (length out - j) out last)
+        pub members-next : (i : ℕ) → w ≡ Ok i → Rest room (members_in cs) (after (members_of (drop (k + 1) cs))) (j + i) (put_mid j (length out - j) out last)
         members-next i f = rest-next _ left (p the_member (is_member_lem q)) f
 
 -- ---- a line is no longer than all of them

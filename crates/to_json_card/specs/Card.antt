@@ -5,7 +5,7 @@ use Prim.Native.Char.{code}
 use Rattle.text.specs.Bytes.{Bytes, flat}
 use Rattle.json_text.specs.Tree.{Json, Member, member}
 use Rattle.line.specs.Grammar.{Line, read_line}
-use Rattle.output.specs.declared.Wrote.{Wrote}
+use Rattle.output.specs.Put.{Wrote}
 use Rattle.output.specs.Put.{Puts}
 use Rattle.convert.specs.Classify.{Seen, as_member, Classed, classify}
 use Rattle.convert.specs.Table.{maps}

@@ -4,12 +4,11 @@ use Rattle.std.proofs.Math.Option.{some}
 use Prim.Native.Char.{code}
 use Rattle.text.specs.Choice.{pick, is_some}
 use Rattle.text.specs.Bytes.{Bytes, ascii, empty, lowered, keep, flat}
-use Rattle.line.specs.Grammar.{Line}
 use Rattle.line.specs.Text.{read_text, split_text}
 use Rattle.line_text.specs.Read.{plain_text}
 use Rattle.json_text.specs.Tree.{member, jstr}
 use Rattle.json_text.specs.Compact.{quoted}
-use Rattle.output.specs.declared.Wrote.{Wrote}
+use Rattle.output.specs.Put.{Wrote}
 use Rattle.output.specs.Put.{Puts}
 use Rattle.convert.specs.Table.{Slot, slot_of}
 use Rattle.convert.specs.Model.{Entry}
@@ -17,6 +16,7 @@ use Rattle.convert.specs.Value.{filled}
 use Rattle.convert.specs.Classify.{Seen, entry_of}
 use Rattle.convert.specs.ToJson.{where', entry_json}
 use Rattle.line_table.specs.Table.{line_in}
+use Rattle.convert_params.specs.declared.Rows.{Rows}
 use Rattle.convert_entry.specs.Rows.{Is}
 use Rattle.convert_put.specs.Pieces.{kind_piece, content_piece, value_piece, member_bytes, before}
 use Rattle.table_entry.specs.Key.{Rowed}
@@ -33,8 +33,8 @@ pub record RowPieces (w : Slot) (i kind : ℕ) : Type 0 where
   pub kinds : before (where' (not (empty w.map.kinds)) (member (ascii "kind") (jstr (get_or w.map.kinds w.which [])))) ≡ kind_piece kind
 
 -- the table's line converts, for something seen before and some slot with that row of the table of maps
-pub record MapLine (s : Bytes) (t C F T : List ℕ) (i types form : ℕ) : Type 0 where
-  pub rowed : Rowed s t C F T
+pub record MapLine (s : Bytes) (t : List ℕ) (R : Rows) (i types form : ℕ) : Type 0 where
+  pub rowed : Rowed s t R
   pub seen : Seen
   pub slot : Slot
   pub entry : Entry

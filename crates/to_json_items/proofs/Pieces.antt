@@ -15,8 +15,8 @@ use Rattle.line.specs.Text.{split_text}
 use Rattle.convert.specs.Table.{component_kinds}
 use Rattle.json_text.specs.Compact.{quoted}
 use Rattle.output.specs.Put.{Puts, Rest}
-use Rattle.output.specs.declared.Wrote.{Wrote}
-use Rattle.output.specs.declared.Wrote.TheVariants.{Bytes as Wrote-Bytes, Full}
+use Rattle.output.specs.Put.{Wrote, full}
+use Rattle.std.specs.Prelude.{Ok, Err}
 use Rattle.output.proofs.Rests.{rest_all, rest-as, rest-next, rest-stop, rest-done}
 use Rattle.line_text.specs.Read.{plain_text}
 use Rattle.line_text.specs.Split.{PartEnds}
@@ -113,14 +113,14 @@ module _ (k d : ℕ) (others : List Bytes) (v : Bytes) {whole room out : Bytes} 
       ∙ ap (λ b. pick b (item_piece begun k t) [] ++ listed k (begun || b) (keep (is_own others) later)) (sym own)) h.rest
 
   module _ {r : Wrote} {last : Bytes} (w : Puts (mid_of at (length out - at) out) piece r last) where
-    pub putting-full : r ≡ Full → Puts room whole Full (put_mid at (length out - at) out last)
+    pub putting-full : r ≡ (Err full) → Puts room whole (Err full) (put_mid at (length out - at) out last)
     putting-full f = rest-stop (listed k (begun || on) (keep (is_own others) later)) turn w f
 
-    module _ (n : ℕ) (f : r ≡ Wrote-Bytes n) where
+    module _ (n : ℕ) (f : r ≡ Ok n) where
       pub wrote : Rest room whole (listed k (begun || on) (keep (is_own others) later)) (at + n) (put_mid at (length out - at) out last)
       wrote = rest-next (listed k (begun || on) (keep (is_own others) later)) turn w f
 
-      pub putting-last : length v ≤ e → Puts room whole (Wrote-Bytes (at + n)) (put_mid at (length out - at) out last)
+      pub putting-last : length v ≤ e → Puts room whole (Ok (at + n)) (put_mid at (length out - at) out last)
       putting-last l =
           rest-done (ap (λ b. listed k (begun || on) (keep (is_own others) (map plain_text (pick b (split_text d (drop (e + 1) v)) [])))) (le-ltb e (length v) l) ∙ no_items k (begun || on) (is_own others)) wrote
 

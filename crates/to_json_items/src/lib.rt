@@ -16,7 +16,7 @@ use convert_put::put_plain;
 use convert_values::{is_among, is_noted, note_values};
 use line_limits::CARD;
 use line_text::part_end;
-use output::{Wrote, put_byte, put_text};
+use output::{Full, put_byte, put_text};
 
 // A list of so many bytes is read for each value: it is not noted.
 const SHORT: usize = 64;
@@ -44,7 +44,7 @@ fn is_own<'a, 'b, 'c>(
     !is_among(u, o)
 }
 
-fn put_lead(out: &mut [u8], k: usize) -> Wrote
+fn put_lead(out: &mut [u8], k: usize) -> Result<usize, Full>
     ensures { Puts out.old (lead k) result out.new }
 {
     if k == parts::SURNAME {
@@ -71,7 +71,7 @@ fn put_lead(out: &mut [u8], k: usize) -> Wrote
     put_text(out, &parts::UNIT_HEAD)
 }
 
-fn put_item_head(out: &mut [u8], begun: bool, k: usize) -> Wrote
+fn put_item_head(out: &mut [u8], begun: bool, k: usize) -> Result<usize, Full>
     ensures { Puts out.old (item_head begun k) result out.new }
 {
     if begun {
@@ -83,39 +83,31 @@ fn put_item_head(out: &mut [u8], begun: bool, k: usize) -> Wrote
     if k == parts::UNITS_ALONE {
         return put_text(out, &parts::UNITS_ALONE_HEAD);
     }
-    Wrote::Bytes(0)
+    Ok(0)
 }
 
-fn put_item(out: &mut [u8], begun: bool, k: usize, u: &[u8]) -> Wrote
+fn put_item(out: &mut [u8], begun: bool, k: usize, u: &[u8]) -> Result<usize, Full>
     requires { is_some (read_text u.now) ≡ true }
     ensures { Puts out.old (item_piece begun k (plain_text u.now)) result out.new }
 {
-    let Wrote::Bytes(a) = put_item_head(out, begun, k) else {
-        return Wrote::Full;
-    };
-    let Wrote::Bytes(b) = put_lead(&mut out[a..], k) else {
-        return Wrote::Full;
-    };
+    let a = put_item_head(out, begun, k)?;
+    let b = put_lead(&mut out[a..], k)?;
     let ab = a + b;
-    let Wrote::Bytes(c) = put_plain(&mut out[ab..], u) else {
-        return Wrote::Full;
-    };
+    let c = put_plain(&mut out[ab..], u)?;
     let ac = ab + c;
-    let Wrote::Bytes(d) = put_byte(&mut out[ac..], b'}') else {
-        return Wrote::Full;
-    };
+    let d = put_byte(&mut out[ac..], b'}')?;
     let ad = ac + d;
-    Wrote::Bytes(ad)
+    Ok(ad)
 }
 
-fn put_item_if(out: &mut [u8], on: bool, begun: bool, k: usize, u: &[u8]) -> Wrote
+fn put_item_if(out: &mut [u8], on: bool, begun: bool, k: usize, u: &[u8]) -> Result<usize, Full>
     requires { is_some (read_text u.now) ≡ true }
     ensures { Puts out.old (pick on (item_piece begun k (plain_text u.now)) []) result out.new }
 {
     if on {
         return put_item(out, begun, k, u);
     }
-    Wrote::Bytes(0)
+    Ok(0)
 }
 
 // The values of v, split at bare separators d, as items of kind k: those that are filled and not among the values of o, which may be noted.
@@ -129,7 +121,7 @@ fn put_own<'a, 'b, 'c, 'd>(
     noted: bool,
     places: &'d [u16],
     prints: &'d [u16],
-) -> Wrote
+) -> Result<usize, Full>
     requires { Readable d v.now × Readable (code ",") o.now × (noted ≡ true → Noted o.now places.now prints.now) }
     ensures { Puts out.old (listed k begun (keep (is_own (texts_of (code ",") o.now)) (texts_of d v.now))) result out.new }
 {
@@ -139,12 +131,10 @@ fn put_own<'a, 'b, 'c, 'd>(
     loop {
         let e = part_end(v, i, d);
         let on = is_own(&v[i..e], o, noted, places, prints);
-        let Wrote::Bytes(n) = put_item_if(&mut out[at..], on, some, k, &v[i..e]) else {
-            return Wrote::Full;
-        };
+        let n = put_item_if(&mut out[at..], on, some, k, &v[i..e])?;
         at += n;
         if e >= v.len() {
-            return Wrote::Bytes(at);
+            return Ok(at);
         }
         some = some | on;
         i = e + 1;
@@ -152,7 +142,14 @@ fn put_own<'a, 'b, 'c, 'd>(
 }
 
 // The same where o is long: its values are noted once, and not read again for each of v.
-fn put_noted(out: &mut [u8], v: &[u8], d: u8, o: &[u8], k: usize, begun: bool) -> Wrote
+fn put_noted(
+    out: &mut [u8],
+    v: &[u8],
+    d: u8,
+    o: &[u8],
+    k: usize,
+    begun: bool,
+) -> Result<usize, Full>
     requires { Readable d v.now × Readable (code ",") o.now × (length o.now ≤ card_room) }
     ensures { Puts out.old (listed k begun (keep (is_own (texts_of (code ",") o.now)) (texts_of d v.now))) result out.new }
 {
@@ -164,7 +161,14 @@ fn put_noted(out: &mut [u8], v: &[u8], d: u8, o: &[u8], k: usize, begun: bool) -
 
 // The values of v, split at bare separators d, as items of kind k: those that are filled and not among the values of o. Nearly always o is short,
 // and read for each value of v.
-pub fn put_items(out: &mut [u8], v: &[u8], d: u8, o: &[u8], k: usize, begun: bool) -> Wrote
+pub fn put_items(
+    out: &mut [u8],
+    v: &[u8],
+    d: u8,
+    o: &[u8],
+    k: usize,
+    begun: bool,
+) -> Result<usize, Full>
     requires { Readable d v.now × Readable (code ",") o.now }
     ensures { Puts out.old (listed k begun (keep (is_own (texts_of (code ",") o.now)) (texts_of d v.now))) result out.new }
 {
@@ -177,8 +181,6 @@ pub fn put_items(out: &mut [u8], v: &[u8], d: u8, o: &[u8], k: usize, begun: boo
     }
     let none = [0u16; 1];
     // The answer is made anew: so it goes over in two halves, as it was just stored, and not as a whole that would wait for them.
-    let Wrote::Bytes(n) = put_own(out, v, d, o, k, begun, false, &none, &none) else {
-        return Wrote::Full;
-    };
-    Wrote::Bytes(n)
+    let n = put_own(out, v, d, o, k, begun, false, &none, &none)?;
+    Ok(n)
 }

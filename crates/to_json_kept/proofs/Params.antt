@@ -16,7 +16,8 @@ use Rattle.convert.specs.ToJson.{values_json, param_json}
 use Rattle.convert_put.specs.Pieces.{member_bytes, inside}
 use Rattle.convert_put.proofs.Compact.{quoted-append, inside-append}
 use Rattle.output.specs.Put.{Puts, Sofar}
-use Rattle.output.specs.declared.Wrote.TheVariants.{Bytes as Wrote-Bytes, Full}
+use Rattle.std.specs.Prelude.{Ok, Err}
+use Rattle.output.specs.Put.{full}
 use Rattle.output.proofs.Laws.{start, done, more, puts-as, sofar-as}
 use Rattle.line_table.specs.Table.{name_at, rows_in, line_in}
 use Rattle.line_table.specs.Spread.{names_of}
@@ -143,8 +144,8 @@ module _ (s : Bytes) (t : List ℕ) {g : Bool} {out₀ : List ℕ} {n : ℕ} {ou
         ∙ sym (ap (λ ms. g || not (empty ms)) (members-more s t k on e));
   }
 
-  pub going-full : {out' : List ℕ} → Puts out₀ (inside g (members s t k) ++ piece) Full out' → n ≡ get_or t 6 0
-      → Puts out₀ (inside g (map param_json (kept_line (line_in s t)).params)) Full out'
+  pub going-full : {out' : List ℕ} → Puts out₀ (inside g (members s t k) ++ piece) (Err full) out' → n ≡ get_or t 6 0
+      → Puts out₀ (inside g (map param_json (kept_line (line_in s t)).params)) (Err full) out'
   going-full p is =
       let z : get_or t 6 0 ≡ (n - (k + 1)) + (k + 1) = omega (arith, is) in
       let q = names-on s t (k + 1) (n - (k + 1)) (get_or t 6 0) z in
@@ -155,7 +156,7 @@ module _ (s : Bytes) (t : List ℕ) {g : Bool} {out₀ : List ℕ} {n : ℕ} {ou
       (more (inside (g || not (empty ms)) rest) p)
 
 pub going-all : (s : Bytes) (t : List ℕ) {g : Bool} {out₀ : List ℕ} {n : ℕ} {out : List ℕ} {at k : ℕ} {begun : Bool} → Going s t g out₀ n out at k begun → n ≤ k → n ≡ get_or t 6 0
-    → Puts out₀ (inside g (map param_json (kept_line (line_in s t)).params)) (Wrote-Bytes at) out
+    → Puts out₀ (inside g (map param_json (kept_line (line_in s t)).params)) (Ok at) out
 going-all s t {g = g} {n = n} {k = k} h l is =
     let z : k ≡ get_or t 6 0 = omega (arith, h.upto) in
     puts-as (ap (inside g) (ap (members s t) z ∙ whole-params s t)) (done h.so)

@@ -6,7 +6,7 @@ use Rattle.text.specs.Bytes.{Bytes, ascii, empty, lowered, flat}
 use Rattle.json_text.specs.Compact.{quoted, written}
 use Rattle.line.specs.Params.{values_named, value_type}
 use Rattle.convert.specs.ToJson.{values_json}
-use Rattle.line_table.specs.Table.{part, value_at, line_in}
+use Rattle.line_table.specs.Table.{value_at, line_in}
 
 -- a parameter of that name in lower case: all its values, wherever they stand
 abbrev pub param_piece : Bool → Bytes → List ℕ → Bytes → Bytes

@@ -18,39 +18,38 @@ use card_table::{kept, params};
 use json_write::put_string;
 use line_name::is_named;
 use line_table::table;
-use output::{Wrote, put_byte, put_text};
+use output::{Full, put_byte, put_text};
 use to_json_kept_values::{is_first, put_lower, put_values};
 
-fn put_comma(out: &mut [u8], begun: bool) -> Wrote
+fn put_comma(out: &mut [u8], begun: bool) -> Result<usize, Full>
     ensures { Puts out.old (pick begun (ascii ",") []) result out.new }
 {
     if begun {
         return put_byte(out, b',');
     }
-    Wrote::Bytes(0)
+    Ok(0)
 }
 
 // The parameter whose name stands from a to b: one string, or an array of all values of that name.
-fn put_param(out: &mut [u8], begun: bool, s: &[u8], t: &[usize], a: usize, b: usize) -> Wrote
+fn put_param(
+    out: &mut [u8],
+    begun: bool,
+    s: &[u8],
+    t: &[usize],
+    a: usize,
+    b: usize,
+) -> Result<usize, Full>
     requires { Sound s.now t.now × Span s.now a b }
     ensures { Puts out.old (param_piece begun s.now t.now (part s.now a b)) result out.new }
 {
-    let Wrote::Bytes(c) = put_comma(out, begun) else {
-        return Wrote::Full;
-    };
-    let Wrote::Bytes(d) = put_lower(&mut out[c..], &s[a..b]) else {
-        return Wrote::Full;
-    };
+    let c = put_comma(out, begun)?;
+    let d = put_lower(&mut out[c..], &s[a..b])?;
     let cd = c + d;
-    let Wrote::Bytes(e) = put_byte(&mut out[cd..], b':') else {
-        return Wrote::Full;
-    };
+    let e = put_byte(&mut out[cd..], b':')?;
     let ce = cd + e;
-    let Wrote::Bytes(f) = put_values(&mut out[ce..], s, t, a, b) else {
-        return Wrote::Full;
-    };
+    let f = put_values(&mut out[ce..], s, t, a, b)?;
     let cf = ce + f;
-    Wrote::Bytes(cf)
+    Ok(cf)
 }
 
 fn put_param_if(
@@ -61,14 +60,14 @@ fn put_param_if(
     t: &[usize],
     a: usize,
     b: usize,
-) -> Wrote
+) -> Result<usize, Full>
     requires { Sound s.now t.now × Span s.now a b }
     ensures { Puts out.old (pick on (param_piece begun s.now t.now (part s.now a b)) []) result out.new }
 {
     if on {
         return put_param(out, begun, s, t, a, b);
     }
-    Wrote::Bytes(0)
+    Ok(0)
 }
 
 fn is_value(s: &[u8], t: &[usize], k: usize) -> bool
@@ -93,27 +92,23 @@ fn is_param(s: &[u8], t: &[usize], k: usize) -> bool
 }
 
 // The parameters, merged by name in the order in which the names first come, without VALUE. The flag says that the group came before.
-fn put_params(out: &mut [u8], grouped: bool, s: &[u8], t: &[usize]) -> Wrote
+fn put_params(out: &mut [u8], grouped: bool, s: &[u8], t: &[usize]) -> Result<usize, Full>
     requires { Sound s.now t.now }
     ensures { Puts out.old (inside grouped (map param_json (kept_line (line_in s.now t.now)).params)) result out.new }
 {
     let n = t[table::COUNT];
     let mut at = 0;
-    let mut k: usize = 0;
     let mut begun = grouped;
-    while k < n {
+    for k in 0..n {
         let on = is_param(s, t, k);
         let i = table::ROW * k + table::ROWS;
         let a = t[i];
         let b = t[i + table::ROW_NAME_END];
-        let Wrote::Bytes(m) = put_param_if(&mut out[at..], on, begun, s, t, a, b) else {
-            return Wrote::Full;
-        };
+        let m = put_param_if(&mut out[at..], on, begun, s, t, a, b)?;
         at += m;
         begun = begun | on;
-        k += 1;
     }
-    Wrote::Bytes(at)
+    Ok(at)
 }
 
 // The row of the first VALUE, or the number of rows.
@@ -133,7 +128,7 @@ fn value_row(s: &[u8], t: &[usize]) -> usize
 }
 
 // VALUE in lower case, or "unknown".
-fn put_type(out: &mut [u8], s: &[u8], t: &[usize]) -> Wrote
+fn put_type(out: &mut [u8], s: &[u8], t: &[usize]) -> Result<usize, Full>
     requires { Sound s.now t.now }
     ensures { Puts out.old (quoted (value_type (line_in s.now t.now).params) []) result out.new }
 {
@@ -147,79 +142,57 @@ fn put_type(out: &mut [u8], s: &[u8], t: &[usize]) -> Wrote
     put_lower(out, &s[a..b])
 }
 
-fn put_group_member(out: &mut [u8], g: &[u8]) -> Wrote
+fn put_group_member(out: &mut [u8], g: &[u8]) -> Result<usize, Full>
     ensures { Puts out.old (flat (ascii "\"group\":" ∷ quoted (lowered g.now) [] ∷ [])) result out.new }
 {
-    let Wrote::Bytes(a) = put_text(out, &kept::GROUP_HEAD) else {
-        return Wrote::Full;
-    };
-    let Wrote::Bytes(b) = put_lower(&mut out[a..], g) else {
-        return Wrote::Full;
-    };
+    let a = put_text(out, &kept::GROUP_HEAD)?;
+    let b = put_lower(&mut out[a..], g)?;
     let ab = a + b;
-    Wrote::Bytes(ab)
+    Ok(ab)
 }
 
-fn put_group(out: &mut [u8], g: &[u8]) -> Wrote
+fn put_group(out: &mut [u8], g: &[u8]) -> Result<usize, Full>
     ensures { Puts out.old (group_piece g.now) result out.new }
 {
     if g.len() == 0 {
-        return Wrote::Bytes(0);
+        return Ok(0);
     }
     put_group_member(out, g)
 }
 
 // `["name",{` and the group.
-fn put_head(out: &mut [u8], name: &[u8], group: &[u8]) -> Wrote
+fn put_head(out: &mut [u8], name: &[u8], group: &[u8]) -> Result<usize, Full>
     ensures { Puts out.old (head_piece name.now group.now) result out.new }
 {
-    let Wrote::Bytes(a) = put_byte(out, b'[') else {
-        return Wrote::Full;
-    };
-    let Wrote::Bytes(b) = put_lower(&mut out[a..], name) else {
-        return Wrote::Full;
-    };
+    let a = put_byte(out, b'[')?;
+    let b = put_lower(&mut out[a..], name)?;
     let ab = a + b;
-    let Wrote::Bytes(c) = put_text(&mut out[ab..], b",{") else {
-        return Wrote::Full;
-    };
+    let c = put_text(&mut out[ab..], b",{")?;
     let ac = ab + c;
-    let Wrote::Bytes(d) = put_group(&mut out[ac..], group) else {
-        return Wrote::Full;
-    };
+    let d = put_group(&mut out[ac..], group)?;
     let ad = ac + d;
-    Wrote::Bytes(ad)
+    Ok(ad)
 }
 
 // `},`, the type and the value.
-fn put_tail(out: &mut [u8], value: &[u8], s: &[u8], t: &[usize]) -> Wrote
+fn put_tail(out: &mut [u8], value: &[u8], s: &[u8], t: &[usize]) -> Result<usize, Full>
     requires { Sound s.now t.now }
     ensures { Puts out.old (tail_piece s.now t.now value.now) result out.new }
 {
-    let Wrote::Bytes(a) = put_text(out, b"},") else {
-        return Wrote::Full;
-    };
-    let Wrote::Bytes(b) = put_type(&mut out[a..], s, t) else {
-        return Wrote::Full;
-    };
+    let a = put_text(out, b"},")?;
+    let b = put_type(&mut out[a..], s, t)?;
     let ab = a + b;
-    let Wrote::Bytes(c) = put_byte(&mut out[ab..], b',') else {
-        return Wrote::Full;
-    };
+    let c = put_byte(&mut out[ab..], b',')?;
     let ac = ab + c;
-    let Wrote::Bytes(d) = put_string(&mut out[ac..], value) else {
-        return Wrote::Full;
-    };
+    let d = put_string(&mut out[ac..], value)?;
     let ad = ac + d;
-    let Wrote::Bytes(e) = put_byte(&mut out[ad..], b']') else {
-        return Wrote::Full;
-    };
+    let e = put_byte(&mut out[ad..], b']')?;
     let ae = ad + e;
-    Wrote::Bytes(ae)
+    Ok(ae)
 }
 
 // The entry of vCardProps that a kept line becomes.
-pub fn put_kept(out: &mut [u8], s: &[u8], t: &[usize]) -> Wrote
+pub fn put_kept(out: &mut [u8], s: &[u8], t: &[usize]) -> Result<usize, Full>
     requires { Sound s.now t.now }
     ensures { Puts out.old (written (kept_json (kept_line (line_in s.now t.now))) []) result out.new }
 {
@@ -227,18 +200,12 @@ pub fn put_kept(out: &mut [u8], s: &[u8], t: &[usize]) -> Wrote
     let b = t[table::NAME_END];
     let c = t[table::GROUP];
     let d = t[table::GROUP_END];
-    let Wrote::Bytes(x) = put_head(out, &s[a..b], &s[c..d]) else {
-        return Wrote::Full;
-    };
-    let Wrote::Bytes(y) = put_params(&mut out[x..], c < d, s, t) else {
-        return Wrote::Full;
-    };
+    let x = put_head(out, &s[a..b], &s[c..d])?;
+    let y = put_params(&mut out[x..], c < d, s, t)?;
     let xy = x + y;
     let e = t[table::VALUE];
     let f = t[table::VALUE_END];
-    let Wrote::Bytes(z) = put_tail(&mut out[xy..], &s[e..f], s, t) else {
-        return Wrote::Full;
-    };
+    let z = put_tail(&mut out[xy..], &s[e..f], s, t)?;
     let xyz = xy + z;
-    Wrote::Bytes(xyz)
+    Ok(xyz)
 }

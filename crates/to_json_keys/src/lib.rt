@@ -10,24 +10,18 @@ ghost use Rattle.to_json_keys.specs.Taken.{Spells, Numbers, Marks, NextFree, Nex
 use convert_tests::same_bytes;
 use json_write::put_number;
 use line_limits::LINES;
-use output::{Wrote, put_byte, put_text};
+use output::{Full, put_byte, put_text};
 
 // A made key.
-pub fn put_key(out: &mut [u8], prefix: &[u8], n: usize) -> Wrote
+pub fn put_key(out: &mut [u8], prefix: &[u8], n: usize) -> Result<usize, Full>
     ensures { Puts out.old (numbered prefix.now n) result out.new }
 {
-    let Wrote::Bytes(a) = put_text(out, prefix) else {
-        return Wrote::Full;
-    };
-    let Wrote::Bytes(b) = put_byte(&mut out[a..], b'-') else {
-        return Wrote::Full;
-    };
+    let a = put_text(out, prefix)?;
+    let b = put_byte(&mut out[a..], b'-')?;
     let ab = a + b;
-    let Wrote::Bytes(c) = put_number(&mut out[ab..], n) else {
-        return Wrote::Full;
-    };
+    let c = put_number(&mut out[ab..], n)?;
     let abc = ab + c;
-    Wrote::Bytes(abc)
+    Ok(abc)
 }
 
 // What a digit stands for.
@@ -62,8 +56,7 @@ fn spelled_number(d: &[u8]) -> usize
         return 0;
     }
     let mut n = digit(first);
-    let mut i = 1;
-    while i < d.len() {
+    for i in 1..d.len() {
         let b = d[i];
         if b < b'0' {
             return 0;
@@ -75,7 +68,6 @@ fn spelled_number(d: &[u8]) -> usize
             return 0;
         }
         n = n * 10 + digit(b);
-        i += 1;
     }
     if n > LAST {
         return 0;

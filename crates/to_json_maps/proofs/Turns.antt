@@ -10,8 +10,8 @@ use lib.Seq.{take_at}
 use borrow.Rule.Slice.PartMut.{mid_of, put_mid}
 use Rattle.text.specs.Choice.{pick}
 use Rattle.text.specs.Bytes.{Bytes, empty, flat, lowered}
-use Rattle.output.specs.declared.Wrote.{Wrote}
-use Rattle.output.specs.declared.Wrote.TheVariants.{Bytes as Wrote-Bytes, Full}
+use Rattle.output.specs.Put.{Wrote, full}
+use Rattle.std.specs.Prelude.{Ok, Err}
 use Rattle.output.specs.Put.{Puts, Rest}
 use Rattle.output.proofs.Laws.{first, put-fits, said-full, puts-as}
 use Rattle.output.proofs.Rests.{rest_all, rest-as, rest-next, rest-stop}
@@ -30,8 +30,10 @@ use Rattle.from_card_lines.specs.Classified.{Classified}
 use Rattle.from_card_lines.proofs.Lines.{count-is, few-lines, no_more}
 use Rattle.to_json_keys.specs.Taken.{Blocked, Next, Going}
 use Rattle.to_json_keys.proofs.Going.{going-first, going-own, made-key, going-made}
-use Rattle.to_json_maps.specs.declared.Turn.{Turn}
-use Rattle.to_json_maps.specs.declared.Turn.TheVariants.{Put, Full as Filled}
+use Rattle.std.specs.Prelude.{Result, IsErr}
+use Rattle.text.proofs.Cases.{not-both}
+use Rattle.output.specs.declared.Full.{Full}
+use Rattle.to_json_maps.specs.declared.Put.{Put}
 use Rattle.to_json_maps.specs.Maps.{map_at, entries_of, ids_of, head_piece, entry_piece, map_from, Enters, Converts, Turning, HasTurn, wrote_of, Goes, PutsTurn, map_bytes}
 use Rattle.to_json_maps.proofs.Whole.{map_whole}
 use Rattle.to_json_maps.proofs.Rows.{slot_map, slot_is}
@@ -58,18 +60,24 @@ module _ {s : Bytes} {t : List ℕ} {i : ℕ} {e : Entry} (x : Converts s t i e)
 
 -- ---- what was written to the front of a room
 
-pub put_front : (room x : Bytes) (r : Wrote) (out : Bytes) (n : ℕ) → Puts room x r out → r ≡ Wrote-Bytes n → take (n - 0) out ≡ x
+pub put_front : (room x : Bytes) (r : Wrote) (out : Bytes) (n : ℕ) → Puts room x r out → r ≡ Ok n → take (n - 0) out ≡ x
 put_front room x r out n p e =
     let s = first p e in
     let l : length x ≤ length room = omega (arith, s.is, s.fits) in
     let z : n - 0 ≡ length x = omega (arith, s.is) in
     ap (λ m. take m out) z ∙ ap (take (length x)) (s.left ∙ put-fits room x l) ∙ take_at x (drop (length x) room) (length x) refl
 
-pub fits-front : (room x : Bytes) (r : Wrote) (out : Bytes) (n : ℕ) → Puts room x r out → r ≡ Wrote-Bytes n → n ≤ length out
+pub fits-front : (room x : Bytes) (r : Wrote) (out : Bytes) (n : ℕ) → Puts room x r out → r ≡ Ok n → n ≤ length out
 fits-front room x r out n p e = let s = first p e in omega (arith, s.fits, s.same)
 
-pub never-full : {P : Type 0} (room x : Bytes) (r : Wrote) (out : Bytes) → Puts room x r out → r ≡ Full → length x ≤ length room → P
+pub never-full : {P : Type 0} (room x : Bytes) (r : Wrote) (out : Bytes) → Puts room x r out → r ≡ (Err full) → length x ≤ length room → P
 never-full room x r out p e l = absurd (omega (arith, said-full room x (sym p.said ∙ e)))
+
+-- what `?` hands on where an entry had no room
+pub stopped : {room x out : Bytes} (prefix : Bytes) (ids used : List Bytes) (r : Result Put Full) → IsErr r → Puts room x (Err full) out
+    → Puts room x (wrote_of r) out × Goes prefix ids used r
+stopped prefix ids used (Ok p) h q = not-both h refl
+stopped prefix ids used (Err e) h q = (q, tt)
 
 pub said-as : {room x out : Bytes} {r q : Wrote} → r ≡ q → Puts room x r out → Puts room x q out
 said-as {room} {x} {out} e p = subst (λ r. Puts room x r out) e p
@@ -150,7 +158,7 @@ module _ {scratch starts codes : List ℕ} {n : ℕ} {cs : List Classed} (h : Cl
       pub has-turn : length p ≤ 16 → HasTurn s p row i taken from
       has-turn short = record { ids = ids_of (entries_of i cs); used = m.used; entry = e; turning = turning; short = short }
 
-      module _ (same : p ≡ (map_at i).prefix) (w : Turn) (last : Bytes) (t : PutsTurn (mid_of at (length out - at) out) s p row i begun taken from w last) where
+      module _ (same : p ≡ (map_at i).prefix) (w : Result Put Full) (last : Bytes) (t : PutsTurn (mid_of at (length out - at) out) s p row i begun taken from w last) where
         abbrev key : Bytes
         key = key_or p m.used e.key
 
@@ -162,11 +170,11 @@ module _ {scratch starts codes : List ℕ} {n : ℕ} {cs : List Classed} (h : Cl
             ∙ ap (λ x. entry_piece (map_at i) begun (key_or x m.used e.key) e ++ map_from (map_at i) (key_or x m.used e.key ∷ m.used) true (entries_of i (drop (k + 1) cs))) (sym same))
             m.rest
 
-        pub mapping-stop : w ≡ Filled → Puts room (map_bytes i cs) Full (put_mid at (length out - at) out last)
+        pub mapping-stop : w ≡ Err full → Puts room (map_bytes i cs) (Err full) (put_mid at (length out - at) out last)
         mapping-stop f = rest-stop _ next-left (t (ids_of (entries_of i cs)) m.used e turning).0 (ap wrote_of f)
 
-        pub mapping-next : (bytes next : ℕ) → w ≡ Put bytes next → Mapping room p i n cs (k + 1) next true (at + bytes) (put_mid at (length out - at) out last)
-        mapping-next bytes next f = record {
+        pub mapping-next : (put : Put) → w ≡ Ok put → Mapping room p i n cs (k + 1) put.next true (at + put.bytes) (put_mid at (length out - at) out last)
+        mapping-next put f = record {
           used = key ∷ m.used;
           going = subst (Goes p (ids_of (entries_of i cs)) (key ∷ m.used)) f (t (ids_of (entries_of i cs)) m.used e turning).1;
           few = omega (arith, m.few);

@@ -1,5 +1,5 @@
 -- A map's member, written entry by entry: its name before the first, a comma before each other, a brace after the last.
-use Rattle.std.specs.Prelude.{◌≡◌, Bool, true, false, not, List, [], ◌∷◌, ◌++◌, map, ℕ, zero, suc, ◌+◌, ◌≤◌, ◌<◌, length, get_or}
+use Rattle.std.specs.Prelude.{◌≡◌, Bool, true, false, not, List, [], ◌∷◌, ◌++◌, map, ℕ, ◌≤◌, ◌<◌, length, get_or}
 use Rattle.std.proofs.Math.Option.{some}
 use Prim.Native.Char.{code}
 use Rattle.text.specs.Choice.{pick}
@@ -7,8 +7,7 @@ use Rattle.text.specs.Bytes.{Bytes, empty, flat, keep, among, lowered}
 use Rattle.json_text.specs.Tree.{Member, member, object}
 use Rattle.json_text.specs.Compact.{quoted}
 use Rattle.line.specs.Grammar.{Line, read_line}
-use Rattle.output.specs.declared.Wrote.{Wrote}
-use Rattle.output.specs.declared.Wrote.TheVariants.{Bytes as Wrote-Bytes, Full}
+use Rattle.output.specs.Put.{Wrote, full}
 use Rattle.output.specs.Put.{Puts}
 use Rattle.convert.specs.Table.{Map, maps, text, Slot, slot_of}
 use Rattle.convert.specs.Model.{Entry}
@@ -21,10 +20,12 @@ use Rattle.line_table.specs.Table.{line_in}
 use Rattle.from_card_lines.specs.Classified.{Classified}
 use Rattle.to_json_keys.specs.Taken.{Taken, Blocked, Going}
 use Rattle.convert_put.specs.Pieces.{member_bytes, after, closing}
+use Rattle.convert_params.specs.declared.Rows.{Rows}
 use Rattle.table_entry.specs.Key.{Rowed}
 use Rattle.card_table.specs.Numbers.{map_count}
-use Rattle.to_json_maps.specs.declared.Turn.{Turn}
-use Rattle.to_json_maps.specs.declared.Turn.TheVariants.{Put, Full as Filled}
+use Rattle.std.specs.Prelude.{Result, Ok, Err}
+use Rattle.output.specs.declared.Full.{Full}
+use Rattle.to_json_maps.specs.declared.Put.{Put}
 
 -- ---- the table's rows by their places
 
@@ -90,8 +91,8 @@ pub record Converts (s : Bytes) (t : List ℕ) (i : ℕ) (e : Entry) : Type 0 wh
   pub index : slot.index ≡ i
   pub entry : entry_of seen slot (line_in s t) ≡ some e
 
-pub record HasEntry (s : Bytes) (t C F T : List ℕ) (i : ℕ) : Type 0 where
-  pub rowed : Rowed s t C F T
+pub record HasEntry (s : Bytes) (t : List ℕ) (R : Rows) (i : ℕ) : Type 0 where
+  pub rowed : Rowed s t R
   pub entry : Entry
   pub converts : Converts s t i entry
 
@@ -143,16 +144,16 @@ pub record HasTurn (s prefix : Bytes) (row : List ℕ) (i : ℕ) (taken : Bool) 
   pub short : length prefix ≤ 16
 
 -- how much was written
-abbrev pub wrote_of : Turn → Wrote
-wrote_of (Put n next) = Wrote-Bytes n
-wrote_of Filled = Full
+abbrev pub wrote_of : Result Put Full → Wrote
+wrote_of (Ok p) = Ok p.bytes
+wrote_of (Err e) = Err full
 
 -- where the next made number is sought
-abbrev pub Goes : Bytes → List Bytes → List Bytes → Turn → Type 0
-Goes prefix ids used (Put n next) = Going prefix ids used next
-Goes prefix ids used Filled = Unit {0}
+abbrev pub Goes : Bytes → List Bytes → List Bytes → Result Put Full → Type 0
+Goes prefix ids used (Ok p) = Going prefix ids used p.next
+Goes prefix ids used (Err e) = Unit {0}
 
-abbrev pub PutsTurn : Bytes → Bytes → Bytes → List ℕ → ℕ → Bool → Bool → ℕ → Turn → Bytes → Type 0
+abbrev pub PutsTurn : Bytes → Bytes → Bytes → List ℕ → ℕ → Bool → Bool → ℕ → Result Put Full → Bytes → Type 0
 PutsTurn room s prefix row i begun taken from r out =
     (ids used : List Bytes) (e : Entry) → Turning s prefix row i taken from ids used e
     → Puts room (entry_piece (map_at i) begun (key_or prefix used e.key) e) (wrote_of r) out × Goes prefix ids (key_or prefix used e.key ∷ used) r

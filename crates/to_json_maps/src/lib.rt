@@ -3,6 +3,7 @@
 
 ghost use Rattle.std.specs.Prelude.{◌≡◌, false, ◌∷◌, [], ◌+◌, ◌≤◌, ◌<◌, eqb, length};
 ghost use Rattle.text.specs.Bytes.{code, is, any};
+ghost use Rattle.from_card_lines.specs.Classified.{of_lines};
 ghost use Rattle.output.specs.Put.{Puts};
 ghost use Rattle.convert.specs.Keys.{numbered};
 ghost use Rattle.line_table.specs.Table.{table_length};
@@ -11,9 +12,11 @@ ghost use Rattle.to_json_maps.specs.Maps.{map_at, prefix_of, head_piece, Enterin
 
 use card_table::{emails, links, maps, nicknames, notes, organizations, params, phones, titles};
 use class_properties::{form_of, types_of};
+use convert_params::Rows;
+use from_card_lines::ClassedLines;
 use line_table::fill;
 use line_unfold::line_at;
-use output::{Wrote, put_byte, put_text};
+use output::{Full, put_byte, put_text};
 use table_params::scan_rows;
 use to_json_entry::{kind_of_line, put_map_line};
 use to_json_keys::{ROW, mark_key, next_number, put_key};
@@ -24,7 +27,7 @@ const KEY: usize = 32;
 const PREFIX: usize = 16;
 
 // What comes before an entry of the map i: its member's name, or a comma where there is an entry before.
-fn put_map_head(out: &mut [u8], i: usize, begun: bool) -> Wrote
+fn put_map_head(out: &mut [u8], i: usize, begun: bool) -> Result<usize, Full>
     ensures { Puts out.old (head_piece (map_at i) begun) result out.new }
 {
     if begun {
@@ -55,7 +58,7 @@ fn put_map_head(out: &mut [u8], i: usize, begun: bool) -> Wrote
 }
 
 // The prefix of the keys that are made for the map i.
-fn put_prefix(out: &mut [u8], i: usize) -> Wrote
+fn put_prefix(out: &mut [u8], i: usize) -> Result<usize, Full>
     ensures { Puts out.old (prefix_of i) result out.new }
 {
     if i == nicknames::MAP {
@@ -79,7 +82,7 @@ fn put_prefix(out: &mut [u8], i: usize) -> Wrote
     if i == organizations::MAP {
         return put_text(out, &organizations::PREFIX);
     }
-    Wrote::Bytes(0)
+    Ok(0)
 }
 
 // Whether a line has a dash, as PROP-ID has: most lines have none, and so no PROP-ID. No early way out: the loop is a vector loop.
@@ -87,10 +90,8 @@ fn has_dash(line: &[u8]) -> bool
     ensures { result ≡ false → any (is (code "-")) line.now ≡ false }
 {
     let mut found = false;
-    let mut i = 0;
-    while i < line.len() {
-        found = found | (line[i] == b'-');
-        i += 1;
+    for b in line {
+        found = found | (*b == b'-');
     }
     found
 }
@@ -132,45 +133,36 @@ fn mark_ids(
     row: &mut [u8],
     t: &mut [usize],
     prefix: &[u8],
-    scratch: &[u8],
-    starts: &[usize],
-    codes: &[u8],
-    n: usize,
+    lines: ClassedLines<'_>,
     i: usize,
 ) -> bool
-    requires { Unmarked row.old × (table_length ≤ length t.old) × HasLines scratch.now starts.now codes.now n × (i < 16) }
-    ensures { MarksIds prefix.now scratch.now starts.now codes.now n i row.new result }
+    requires { Unmarked row.old × (table_length ≤ length t.old) × of_lines HasLines lines × (i < 16) }
+    ensures { of_lines (MarksIds prefix.now) lines.entry i row.new result }
 {
     let mut any = false;
-    let mut k = 0;
-    while k < n {
-        if !is_of(codes[k], i) {
-            k += 1;
+    for k in 0..lines.count {
+        if !is_of(lines.codes[k], i) {
             continue;
         }
-        let s = line_at(scratch, starts, k);
+        let s = line_at(lines.scratch, lines.starts, k);
         let on = mark_line(row, t, s, prefix);
         any = any | on;
-        k += 1;
     }
     any
 }
 
 // Whether a line of the map i may have a PROP-ID: none has where there is no dash.
-fn may_have_ids(scratch: &[u8], starts: &[usize], codes: &[u8], n: usize, i: usize) -> bool
-    requires { HasLines scratch.now starts.now codes.now n × (i < 16) }
-    ensures { result ≡ false → NoIds scratch.now starts.now codes.now n i }
+fn may_have_ids(lines: ClassedLines<'_>, i: usize) -> bool
+    requires { of_lines HasLines lines × (i < 16) }
+    ensures { result ≡ false → of_lines NoIds lines.entry i }
 {
-    let mut k = 0;
-    while k < n {
-        if !is_of(codes[k], i) {
-            k += 1;
+    for k in 0..lines.count {
+        if !is_of(lines.codes[k], i) {
             continue;
         }
-        if has_dash(line_at(scratch, starts, k)) {
+        if has_dash(line_at(lines.scratch, lines.starts, k)) {
             return true;
         }
-        k += 1;
     }
     false
 }
@@ -182,39 +174,21 @@ fn put_keyed(
     out: &mut [u8],
     s: &[u8],
     t: &[usize],
-    counts: &[usize],
-    froms: &[usize],
-    tos: &[usize],
+    rows: Rows<'_>,
     i: usize,
     begun: bool,
     key: &[u8],
-) -> Wrote
-    requires { HasEntry s.now t.now counts.now froms.now tos.now i }
+) -> Result<usize, Full>
+    requires { HasEntry s.now t.now rows i }
     ensures { PutsKeyed out.old s.now t.now i begun key.now result out.new }
 {
     let types = types_of(i);
     let form = form_of(i);
     let kind = kind_of_line(s, t);
-    let Wrote::Bytes(a) = put_map_head(out, i, begun) else {
-        return Wrote::Full;
-    };
-    let Wrote::Bytes(b) = put_map_line(
-        &mut out[a..],
-        s,
-        t,
-        counts,
-        froms,
-        tos,
-        i,
-        types,
-        form,
-        kind,
-        key,
-    ) else {
-        return Wrote::Full;
-    };
+    let a = put_map_head(out, i, begun)?;
+    let b = put_map_line(&mut out[a..], s, t, rows, i, types, form, kind, key)?;
     let ab = a + b;
-    Wrote::Bytes(ab)
+    Ok(ab)
 }
 
 // The same with the made key of that number.
@@ -222,29 +196,25 @@ fn put_made(
     out: &mut [u8],
     s: &[u8],
     t: &[usize],
-    counts: &[usize],
-    froms: &[usize],
-    tos: &[usize],
+    rows: Rows<'_>,
     i: usize,
     begun: bool,
     prefix: &[u8],
     number: usize,
-) -> Wrote
-    requires { HasEntry s.now t.now counts.now froms.now tos.now i × (length (numbered prefix.now number) ≤ 32) }
+) -> Result<usize, Full>
+    requires { HasEntry s.now t.now rows i × (length (numbered prefix.now number) ≤ 32) }
     ensures { PutsKeyed out.old s.now t.now i begun (numbered prefix.now number) result out.new }
 {
     let mut key = [0u8; KEY];
-    let Wrote::Bytes(k) = put_key(&mut key, prefix, number) else {
-        return Wrote::Full;
-    };
-    put_keyed(out, s, t, counts, froms, tos, i, begun, &key[0..k])
+    let k = put_key(&mut key, prefix, number)?;
+    put_keyed(out, s, t, rows, i, begun, &key[0..k])
 }
 
 // How many bytes were written, and from which number on the next made key is sought.
-#[derive(Drop)]
-pub enum Turn {
-    Put { bytes: usize, next: usize },
-    Full,
+#[derive(Clone, Copy)]
+pub struct Put {
+    pub bytes: usize,
+    pub next: usize,
 }
 
 // A line of the map i as an entry with its PROP-ID, or else the next made key.
@@ -258,7 +228,7 @@ fn put_turn(
     row: &[u8],
     taken: bool,
     from: usize,
-) -> Turn
+) -> Result<Put, Full>
     requires { (table_length ≤ length t.old) × HasTurn s.now prefix.now row.now i taken from }
     ensures { PutsTurn out.old s.now prefix.now row.now i begun taken from result out.new }
 {
@@ -266,150 +236,91 @@ fn put_turn(
     let mut froms = [0usize; params::COUNT];
     let mut tos = [0usize; params::COUNT];
     if !fill(t, s) {
-        return Turn::Full;
+        return Err(Full);
     }
     scan_rows(&mut counts, &mut froms, &mut tos, s, t);
+    let rows = Rows {
+        counts: &counts,
+        froms: &froms,
+        tos: &tos,
+    };
     let ids = counts[params::PROP_ID];
     if ids == 0 {
         let number = next_number(row, taken, from);
         let next = number + 1;
-        let Wrote::Bytes(bytes) = put_made(
-            out, s, t, &counts, &froms, &tos, i, begun, prefix, number,
-        ) else {
-            return Turn::Full;
-        };
-        return Turn::Put { bytes, next };
+        let bytes = put_made(out, s, t, rows, i, begun, prefix, number)?;
+        return Ok(Put { bytes, next });
     }
     let a = froms[params::PROP_ID];
     let b = tos[params::PROP_ID];
-    let Wrote::Bytes(bytes) = put_keyed(out, s, t, &counts, &froms, &tos, i, begun, &s[a..b]) else {
-        return Turn::Full;
-    };
-    Turn::Put { bytes, next: from }
+    let bytes = put_keyed(out, s, t, rows, i, begun, &s[a..b])?;
+    Ok(Put { bytes, next: from })
 }
 
 // The entries of the map i, in the order of their lines.
 fn put_entries(
     out: &mut [u8],
     t: &mut [usize],
-    scratch: &[u8],
-    starts: &[usize],
-    codes: &[u8],
-    n: usize,
+    lines: ClassedLines<'_>,
     i: usize,
     prefix: &[u8],
     row: &[u8],
     taken: bool,
-) -> Wrote
-    requires { (table_length ≤ length t.old) × HasMap scratch.now starts.now codes.now n i prefix.now row.now taken }
-    ensures { PutsMap out.old scratch.now starts.now codes.now n i result out.new }
+) -> Result<usize, Full>
+    requires { (table_length ≤ length t.old) × of_lines HasMap lines i prefix.now row.now taken }
+    ensures { of_lines (PutsMap out.old) lines.entry i result out.new }
 {
     let mut at = 0;
-    let mut k = 0;
     let mut from = 1;
     let mut begun = false;
-    while k < n {
-        if !is_of(codes[k], i) {
-            k += 1;
+    for k in 0..lines.count {
+        if !is_of(lines.codes[k], i) {
             continue;
         }
-        let s = line_at(scratch, starts, k);
-        let Turn::Put { bytes, next } = put_turn(
-            &mut out[at..],
-            t,
-            s,
-            i,
-            begun,
-            prefix,
-            row,
-            taken,
-            from,
-        ) else {
-            return Wrote::Full;
-        };
-        at += bytes;
-        from = next;
+        let s = line_at(lines.scratch, lines.starts, k);
+        let put = put_turn(&mut out[at..], t, s, i, begun, prefix, row, taken, from)?;
+        at += put.bytes;
+        from = put.next;
         begun = true;
-        k += 1;
     }
     if !begun {
-        return Wrote::Bytes(at);
+        return Ok(at);
     }
-    let Wrote::Bytes(m) = put_byte(&mut out[at..], b'}') else {
-        return Wrote::Full;
-    };
+    let m = put_byte(&mut out[at..], b'}')?;
     let all = at + m;
-    Wrote::Bytes(all)
+    Ok(all)
 }
 
 // The member of the map i. A row is cleared only where there are PROP-IDs to mark in it.
 fn put_map(
     out: &mut [u8],
     t: &mut [usize],
-    scratch: &[u8],
-    starts: &[usize],
-    codes: &[u8],
-    n: usize,
+    lines: ClassedLines<'_>,
     i: usize,
-) -> Wrote
-    requires { (table_length ≤ length t.old) × HasLines scratch.now starts.now codes.now n × (i < map_count) }
-    ensures { PutsMap out.old scratch.now starts.now codes.now n i result out.new }
+) -> Result<usize, Full>
+    requires { (table_length ≤ length t.old) × of_lines HasLines lines × (i < map_count) }
+    ensures { of_lines (PutsMap out.old) lines.entry i result out.new }
 {
     let mut prefix = [0u8; PREFIX];
-    let Wrote::Bytes(p) = put_prefix(&mut prefix, i) else {
-        return Wrote::Full;
-    };
-    if !may_have_ids(scratch, starts, codes, n, i) {
+    let p = put_prefix(&mut prefix, i)?;
+    if !may_have_ids(lines, i) {
         let none = [0u8; 1];
-        return put_entries(
-            out,
-            t,
-            scratch,
-            starts,
-            codes,
-            n,
-            i,
-            &prefix[0..p],
-            &none,
-            false,
-        );
+        return put_entries(out, t, lines, i, &prefix[0..p], &none, false);
     }
     let mut row = [0u8; ROW];
-    let taken = mark_ids(&mut row, t, &prefix[0..p], scratch, starts, codes, n, i);
-    put_entries(
-        out,
-        t,
-        scratch,
-        starts,
-        codes,
-        n,
-        i,
-        &prefix[0..p],
-        &row,
-        taken,
-    )
+    let taken = mark_ids(&mut row, t, &prefix[0..p], lines, i);
+    put_entries(out, t, lines, i, &prefix[0..p], &row, taken)
 }
 
 // The members of all maps, in the table's order.
-pub fn put_maps(
-    out: &mut [u8],
-    t: &mut [usize],
-    scratch: &[u8],
-    starts: &[usize],
-    codes: &[u8],
-    n: usize,
-) -> Wrote
-    requires { (table_length ≤ length t.old) × HasLines scratch.now starts.now codes.now n }
-    ensures { PutsMaps out.old scratch.now starts.now codes.now n result out.new }
+pub fn put_maps(out: &mut [u8], t: &mut [usize], lines: ClassedLines<'_>) -> Result<usize, Full>
+    requires { (table_length ≤ length t.old) × of_lines HasLines lines }
+    ensures { of_lines (PutsMaps out.old) lines.entry result out.new }
 {
     let mut at = 0;
-    let mut i: usize = 0;
-    while i < maps::COUNT {
-        let Wrote::Bytes(m) = put_map(&mut out[at..], t, scratch, starts, codes, n, i) else {
-            return Wrote::Full;
-        };
+    for i in 0..maps::COUNT {
+        let m = put_map(&mut out[at..], t, lines, i)?;
         at += m;
-        i += 1;
     }
-    Wrote::Bytes(at)
+    Ok(at)
 }

@@ -20,8 +20,8 @@ use Rattle.json_text.specs.Read.{Reading, tree, refused, reading}
 use Rattle.json_text.specs.Compact.{spelled_all, quoted, written, compact}
 use Rattle.line_text.specs.Read.{plain_text}
 use Rattle.output.specs.Put.{Puts}
-use Rattle.output.specs.declared.Wrote.{Wrote}
-use Rattle.output.specs.declared.Wrote.TheVariants.{Bytes as Wrote-Bytes, Full}
+use Rattle.output.specs.Put.{Wrote, full}
+use Rattle.std.specs.Prelude.{Ok, Err}
 use Rattle.output.proofs.Laws.{said-bytes, said-full, put-fits}
 use Rattle.json_compact.specs.Squeezed.{squeezed}
 use Rattle.json_compact.proofs.Text.{squeezed-compact}
@@ -176,10 +176,10 @@ plain-short v = by (text_from false v) refl
     by (some t) e = short false v t e
     by none e = omega arith
 
-pub never-full : {P : Type 0} (room v : Bytes) {r : Wrote} {out : Bytes} → Puts room (plain_text v) r out → length v ≤ length room → r ≡ Full → P
+pub never-full : {P : Type 0} (room v : Bytes) {r : Wrote} {out : Bytes} → Puts room (plain_text v) r out → length v ≤ length room → r ≡ (Err full) → P
 never-full room v p l e = absurd (omega (arith, said-full room (plain_text v) (sym p.said ∙ e), plain-short v))
 
-pub scratch-holds : (room v : Bytes) {r : Wrote} {out : Bytes} (k : ℕ) → Puts room (plain_text v) r out → r ≡ Wrote-Bytes k → (take (k - 0) out ≡ plain_text v) × (k ≤ length out)
+pub scratch-holds : (room v : Bytes) {r : Wrote} {out : Bytes} (k : ℕ) → Puts room (plain_text v) r out → r ≡ Ok k → (take (k - 0) out ≡ plain_text v) × (k ≤ length out)
 scratch-holds room v {out = out} k p e =
     let q = said-bytes room (plain_text v) k (sym p.said ∙ e) in
     let z : k - 0 ≡ length (plain_text v) = omega (arith, q.0) in

@@ -10,15 +10,16 @@ ghost use Rattle.convert_pointer.specs.Name.{name_in, Pointing};
 ghost use Rattle.to_json_member.specs.Line.{MemberLine, PutsMember};
 
 use card_table::params;
+use convert_params::Rows;
 use convert_pointer::{pointer_byte, pointer_next};
 use json_compact::put_compact;
 use json_write::put_byte_spelled;
 use line_table::table;
 use line_text::read_text;
-use output::{Wrote, put_byte, put_text};
+use output::{Full, put_byte, put_text};
 
 // The name that a pointer spells, as JSON without quotes.
-fn spell_pointer(out: &mut [u8], p: &[u8]) -> Wrote
+fn spell_pointer(out: &mut [u8], p: &[u8]) -> Result<usize, Full>
     requires { Pointing p.now }
     ensures { Puts out.old (spelled_all (name_in p.now)) result out.new }
 {
@@ -26,36 +27,26 @@ fn spell_pointer(out: &mut [u8], p: &[u8]) -> Wrote
     let mut i = 0;
     while i < p.len() {
         let b = pointer_byte(p, i);
-        let Wrote::Bytes(n) = put_byte_spelled(&mut out[at..], b) else {
-            return Wrote::Full;
-        };
+        let n = put_byte_spelled(&mut out[at..], b)?;
         at += n;
         i = pointer_next(p, i);
     }
-    Wrote::Bytes(at)
+    Ok(at)
 }
 
 // The member: the name from its pointer, the value from its JSON text.
-fn put_pointed(out: &mut [u8], p: &[u8], text: &[u8]) -> Wrote
+fn put_pointed(out: &mut [u8], p: &[u8], text: &[u8]) -> Result<usize, Full>
     requires { Pointing p.now }
     ensures { Puts out.old (flat (ascii "\"" ∷ spelled_all (name_in p.now) ∷ ascii "\":" ∷ squeezed text.now ∷ [])) result out.new }
 {
-    let Wrote::Bytes(a) = put_byte(out, b'"') else {
-        return Wrote::Full;
-    };
-    let Wrote::Bytes(b) = spell_pointer(&mut out[a..], p) else {
-        return Wrote::Full;
-    };
+    let a = put_byte(out, b'"')?;
+    let b = spell_pointer(&mut out[a..], p)?;
     let ab = a + b;
-    let Wrote::Bytes(c) = put_text(&mut out[ab..], b"\":") else {
-        return Wrote::Full;
-    };
+    let c = put_text(&mut out[ab..], b"\":")?;
     let ac = ab + c;
-    let Wrote::Bytes(d) = put_compact(&mut out[ac..], text) else {
-        return Wrote::Full;
-    };
+    let d = put_compact(&mut out[ac..], text)?;
     let ad = ac + d;
-    Wrote::Bytes(ad)
+    Ok(ad)
 }
 
 // The line's value is read as TEXT into the scratch, which is at least as long as the line.
@@ -64,19 +55,15 @@ pub fn put_member_line(
     scratch: &mut [u8],
     s: &[u8],
     t: &[usize],
-    counts: &[usize],
-    froms: &[usize],
-    tos: &[usize],
-) -> Wrote
-    requires { MemberLine s.now t.now counts.now froms.now tos.now × (length s.now ≤ length scratch.old) }
+    rows: Rows<'_>,
+) -> Result<usize, Full>
+    requires { MemberLine s.now t.now rows × (length s.now ≤ length scratch.old) }
     ensures { PutsMember out.old s.now t.now result out.new }
 {
     let a = t[table::VALUE];
     let b = t[table::VALUE_END];
-    let Wrote::Bytes(k) = read_text(scratch, &s[a..b]) else {
-        return Wrote::Full;
-    };
-    let c = froms[params::JSPTR];
-    let d = tos[params::JSPTR];
+    let k = read_text(scratch, &s[a..b])?;
+    let c = rows.froms[params::JSPTR];
+    let d = rows.tos[params::JSPTR];
     put_pointed(out, &s[c..d], &scratch[0..k])
 }

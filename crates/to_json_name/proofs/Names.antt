@@ -16,8 +16,8 @@ use Rattle.line.specs.Text.{read_text}
 use Rattle.json_text.specs.Tree.{Json, Member, member, object, array, jstr, from_members}
 use Rattle.json_text.specs.Compact.{spelled, spelled_all, quoted, written, written_members, members_after}
 use Rattle.output.specs.Put.{Puts, Rest}
-use Rattle.output.specs.declared.Wrote.{Wrote}
-use Rattle.output.specs.declared.Wrote.TheVariants.{Bytes as Wrote-Bytes, Full}
+use Rattle.output.specs.Put.{Wrote, full}
+use Rattle.std.specs.Prelude.{Ok, Err}
 use Rattle.output.proofs.Laws.{said-bytes}
 use Rattle.output.proofs.Rests.{rest-as, rest-next, rest-stop}
 use Rattle.line_text.specs.Read.{plain_text}
@@ -143,10 +143,10 @@ module _ (v : Bytes) (k : ℕ) (b : Bool) (l : k < 7) {room whole out last : Byt
   abbrev later : Bytes
   later = components_from (7 - (k + 1)) v (k + 1) (b || not (empty (values_of v k)))
 
-  pub parts-full : r ≡ Full → Puts room whole Full (put_mid at (length out - at) out last)
+  pub parts-full : r ≡ (Err full) → Puts room whole (Err full) (put_mid at (length out - at) out last)
   parts-full e = rest-stop later (rest-as (turn v k b l) h) w e
 
-  pub parts-on : (n : ℕ) → r ≡ Wrote-Bytes n → Rest room whole (components_from (7 - (k + 1)) v (k + 1) (b || ltb 0 n)) (at + n) (put_mid at (length out - at) out last)
+  pub parts-on : (n : ℕ) → r ≡ Ok n → Rest room whole (components_from (7 - (k + 1)) v (k + 1) (b || ltb 0 n)) (at + n) (put_mid at (length out - at) out last)
   parts-on n e =
       rest-as (ap (λ c. components_from (7 - (k + 1)) v (k + 1) (b || c))
       (some_written k b (values_of v k) n (said-bytes (mid_of at (length out - at) out) (listed k b (values_of v k)) n (sym w.said ∙ e)).0))

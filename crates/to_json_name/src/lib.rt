@@ -16,7 +16,7 @@ ghost use Rattle.to_json_name.specs.Name.{PartFrom, other_part, values_of, compo
 use card_table::{members, name, parts};
 use convert_put::put_plain;
 use line_text::part_end;
-use output::{Wrote, put_byte, put_text};
+use output::{Full, put_byte, put_text};
 use to_json_items::put_items;
 
 // Where part k of N begins; a missing one at the end.
@@ -24,14 +24,12 @@ fn part_from(v: &[u8], k: usize) -> usize
     ensures { PartFrom v.now k result }
 {
     let mut at = 0;
-    let mut j: usize = 0;
-    while j < k {
+    for j in 0..k {
         let e = part_end(v, at, b';');
         if e >= v.len() {
             return v.len();
         }
         at = e + 1;
-        j += 1;
     }
     at
 }
@@ -50,7 +48,14 @@ fn other_part(k: usize) -> usize
 }
 
 // The components of part k, which stands from a to b.
-fn put_part(out: &mut [u8], v: &[u8], k: usize, a: usize, b: usize, begun: bool) -> Wrote
+fn put_part(
+    out: &mut [u8],
+    v: &[u8],
+    k: usize,
+    a: usize,
+    b: usize,
+    begun: bool,
+) -> Result<usize, Full>
     requires { NameSound v.now × PartFrom v.now k a × PartEnds (code ";") v.now a b }
     ensures { Puts out.old (listed k begun (values_of v.now k)) result out.new }
 {
@@ -74,71 +79,57 @@ fn part_after(v: &[u8], e: usize) -> usize
 }
 
 // The components of all seven parts.
-fn put_parts(out: &mut [u8], v: &[u8]) -> Wrote
+fn put_parts(out: &mut [u8], v: &[u8]) -> Result<usize, Full>
     requires { NameSound v.now }
     ensures { Puts out.old (components_from part_count v.now 0 false) result out.new }
 {
     let mut at = 0;
-    let mut k: usize = 0;
     let mut from = 0;
     let mut begun = false;
-    while k < parts::COUNT {
+    for k in 0..parts::COUNT {
         let end = part_end(v, from, b';');
-        let Wrote::Bytes(n) = put_part(&mut out[at..], v, k, from, end, begun) else {
-            return Wrote::Full;
-        };
+        let n = put_part(&mut out[at..], v, k, from, end, begun)?;
         at += n;
         begun = begun | (0 < n);
         from = part_after(v, end);
-        k += 1;
     }
-    Wrote::Bytes(at)
+    Ok(at)
 }
 
 // N's value as the array of components.
-fn put_components(out: &mut [u8], v: &[u8]) -> Wrote
+fn put_components(out: &mut [u8], v: &[u8]) -> Result<usize, Full>
     requires { NameSound v.now }
     ensures { Puts out.old (flat (ascii "[" ∷ components_from part_count v.now 0 false ∷ ascii "]" ∷ [])) result out.new }
 {
-    let Wrote::Bytes(a) = put_byte(out, b'[') else {
-        return Wrote::Full;
-    };
-    let Wrote::Bytes(b) = put_parts(&mut out[a..], v) else {
-        return Wrote::Full;
-    };
+    let a = put_byte(out, b'[')?;
+    let b = put_parts(&mut out[a..], v)?;
     let ab = a + b;
-    let Wrote::Bytes(c) = put_byte(&mut out[ab..], b']') else {
-        return Wrote::Full;
-    };
+    let c = put_byte(&mut out[ab..], b']')?;
     let abc = ab + c;
-    Wrote::Bytes(abc)
+    Ok(abc)
 }
 
-fn put_full(out: &mut [u8], v: &[u8]) -> Wrote
+fn put_full(out: &mut [u8], v: &[u8]) -> Result<usize, Full>
     requires { is_some (read_text v.now) ≡ true }
     ensures { Puts out.old (flat (ascii "\"full\":" ∷ quoted (plain_text v.now) [] ∷ [])) result out.new }
 {
-    let Wrote::Bytes(a) = put_text(out, &name::FULL_HEAD) else {
-        return Wrote::Full;
-    };
-    let Wrote::Bytes(b) = put_plain(&mut out[a..], v) else {
-        return Wrote::Full;
-    };
+    let a = put_text(out, &name::FULL_HEAD)?;
+    let b = put_plain(&mut out[a..], v)?;
     let ab = a + b;
-    Wrote::Bytes(ab)
+    Ok(ab)
 }
 
-fn put_full_if(out: &mut [u8], full: bool, v: &[u8]) -> Wrote
+fn put_full_if(out: &mut [u8], full: bool, v: &[u8]) -> Result<usize, Full>
     requires { full ≡ true → is_some (read_text v.now) ≡ true }
     ensures { Puts out.old (full_piece full v.now) result out.new }
 {
     if full {
         return put_full(out, v);
     }
-    Wrote::Bytes(0)
+    Ok(0)
 }
 
-fn put_parts_head(out: &mut [u8], full: bool) -> Wrote
+fn put_parts_head(out: &mut [u8], full: bool) -> Result<usize, Full>
     ensures { Puts out.old (pick full (ascii ",\"components\":") (ascii "\"components\":")) result out.new }
 {
     if full {
@@ -147,59 +138,59 @@ fn put_parts_head(out: &mut [u8], full: bool) -> Wrote
     put_text(out, &name::COMPONENTS_HEAD)
 }
 
-fn put_parts_member(out: &mut [u8], full: bool, v: &[u8]) -> Wrote
+fn put_parts_member(out: &mut [u8], full: bool, v: &[u8]) -> Result<usize, Full>
     requires { NameSound v.now }
     ensures { Puts out.old (flat (pick full (ascii ",\"components\":") (ascii "\"components\":") ∷ flat (ascii "[" ∷ components_from part_count v.now 0 false ∷ ascii "]" ∷ []) ∷ [])) result out.new }
 {
-    let Wrote::Bytes(a) = put_parts_head(out, full) else {
-        return Wrote::Full;
-    };
-    let Wrote::Bytes(b) = put_components(&mut out[a..], v) else {
-        return Wrote::Full;
-    };
+    let a = put_parts_head(out, full)?;
+    let b = put_components(&mut out[a..], v)?;
     let ab = a + b;
-    Wrote::Bytes(ab)
+    Ok(ab)
 }
 
-fn put_parts_if(out: &mut [u8], full: bool, parts: bool, v: &[u8]) -> Wrote
+fn put_parts_if(out: &mut [u8], full: bool, parts: bool, v: &[u8]) -> Result<usize, Full>
     requires { parts ≡ true → NameSound v.now }
     ensures { Puts out.old (parts_piece full parts v.now) result out.new }
 {
     if parts {
         return put_parts_member(out, full, v);
     }
-    Wrote::Bytes(0)
+    Ok(0)
 }
 
-fn put_name_member(out: &mut [u8], full: bool, fv: &[u8], parts: bool, nv: &[u8]) -> Wrote
+fn put_name_member(
+    out: &mut [u8],
+    full: bool,
+    fv: &[u8],
+    parts: bool,
+    nv: &[u8],
+) -> Result<usize, Full>
     requires { NamesSound full fv.now parts nv.now }
     ensures { Puts out.old (flat (ascii ",\"name\":{" ∷ full_piece full fv.now ∷ parts_piece full parts nv.now ∷ ascii "}" ∷ [])) result out.new }
 {
-    let Wrote::Bytes(a) = put_text(out, &members::NAME_HEAD) else {
-        return Wrote::Full;
-    };
-    let Wrote::Bytes(b) = put_full_if(&mut out[a..], full, fv) else {
-        return Wrote::Full;
-    };
+    let a = put_text(out, &members::NAME_HEAD)?;
+    let b = put_full_if(&mut out[a..], full, fv)?;
     let ab = a + b;
-    let Wrote::Bytes(c) = put_parts_if(&mut out[ab..], full, parts, nv) else {
-        return Wrote::Full;
-    };
+    let c = put_parts_if(&mut out[ab..], full, parts, nv)?;
     let ac = ab + c;
-    let Wrote::Bytes(d) = put_byte(&mut out[ac..], b'}') else {
-        return Wrote::Full;
-    };
+    let d = put_byte(&mut out[ac..], b'}')?;
     let ad = ac + d;
-    Wrote::Bytes(ad)
+    Ok(ad)
 }
 
 // The member `name`, from the value of the FN line that converts, if any, and that of the N line, if any.
-pub fn put_name(out: &mut [u8], full: bool, fv: &[u8], parts: bool, nv: &[u8]) -> Wrote
+pub fn put_name(
+    out: &mut [u8],
+    full: bool,
+    fv: &[u8],
+    parts: bool,
+    nv: &[u8],
+) -> Result<usize, Full>
     requires { NamesSound full fv.now parts nv.now }
     ensures { Puts out.old (name_bytes full fv.now parts nv.now) result out.new }
 {
     if full | parts {
         return put_name_member(out, full, fv, parts, nv);
     }
-    Wrote::Bytes(0)
+    Ok(0)
 }

@@ -16,8 +16,8 @@ use Rattle.json_text.specs.Compact.{written}
 use Rattle.line.specs.Grammar.{Line, read_line}
 use Rattle.line_table.specs.Table.{line_in, Holds}
 use Rattle.line_unfold.specs.Table.{line_at}
-use Rattle.output.specs.declared.Wrote.{Wrote}
-use Rattle.output.specs.declared.Wrote.TheVariants.{Bytes as Wrote-Bytes, Full}
+use Rattle.output.specs.Put.{Wrote, full}
+use Rattle.std.specs.Prelude.{Ok, Err}
 use Rattle.output.specs.Put.{Puts, Rest}
 use Rattle.output.proofs.Laws.{puts-as}
 use Rattle.output.proofs.Rests.{rest_all, rest-as, rest-next, rest-stop}
@@ -128,10 +128,10 @@ module _ {scratch starts codes : List ℕ} {n : ℕ} {cs : List Classed} (h : Cl
         left : Rest room (props_bytes (kept_of cs)) (prop_piece b the_kept ++ props_from true (kept_of (drop (k + 1) cs))) j out
         left = rest-as (ap (props_from b) kept_next ∙ from_cons b the_kept (kept_of (drop (k + 1) cs))) m
 
-        pub props-stop : w ≡ Full → Puts room (props_bytes (kept_of cs)) Full (put_mid j (length out - j) out last)
+        pub props-stop : w ≡ (Err full) → Puts room (props_bytes (kept_of cs)) (Err full) (put_mid j (length out - j) out last)
         props-stop f = rest-stop _ left (p the_kept (is-kept q)) f
 
-        pub props-next : (i : ℕ) → w ≡ Wrote-Bytes i → Rest room (props_bytes (kept_of cs)) (props_from true (kept_of (drop (k + 1) cs))) (j + i) (put_mid j (length out - j) out last)
+        pub props-next : (i : ℕ) → w ≡ Ok i → Rest room (props_bytes (kept_of cs)) (props_from true (kept_of (drop (k + 1) cs))) (j + i) (put_mid j (length out - j) out last)
         props-next i f = rest-next _ left (p the_kept (is-kept q)) f
 
   pub props-skip : {room : Bytes} {j : ℕ} (b : Bool) {out : Bytes} (k : ℕ) (l : k < n) (r : Bool) → r ≡ eqb (get_or codes k 0) 16 → r ≡ false

@@ -7,7 +7,7 @@ use Rattle.text.specs.Bytes.{Bytes, ascii, empty, flat}
 use Rattle.json_text.specs.Tree.{member, array, jstr}
 use Rattle.json_text.specs.Compact.{written}
 use Rattle.line.specs.Grammar.{Line, read_line}
-use Rattle.output.specs.declared.Wrote.{Wrote}
+use Rattle.output.specs.Put.{Wrote}
 use Rattle.output.specs.Put.{Puts}
 use Rattle.convert.specs.Value.{filled}
 use Rattle.to_json_head.specs.Head.{start_bytes}

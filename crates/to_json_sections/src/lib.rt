@@ -2,20 +2,22 @@
 #![tactic(auto)]
 
 ghost use Rattle.std.specs.Prelude.{◌≡◌, ◌≤◌, length};
+ghost use Rattle.from_card_lines.specs.Classified.{of_lines};
 ghost use Rattle.output.specs.Put.{Puts};
 ghost use Rattle.to_json_maps.specs.Maps.{HasLines};
 ghost use Rattle.line_table.specs.Table.{table_length};
 ghost use Rattle.to_json_sections.specs.Sections.{prop_head, HasKept, PutsProp, PutsProps, FirstOf, PutsStart, PutsKind};
 
 use card_table::{classes, members};
+use from_card_lines::ClassedLines;
 use line_table::{fill, table};
 use line_unfold::line_at;
-use output::{Wrote, put_byte, put_text};
+use output::{Full, put_byte, put_text};
 use to_json_head::{put_kind, put_start};
 use to_json_kept::put_kept;
 use to_json_maps::is_of;
 
-fn put_prop_head(out: &mut [u8], begun: bool) -> Wrote
+fn put_prop_head(out: &mut [u8], begun: bool) -> Result<usize, Full>
     ensures { Puts out.old (prop_head begun) result out.new }
 {
     if begun {
@@ -25,59 +27,41 @@ fn put_prop_head(out: &mut [u8], begun: bool) -> Wrote
 }
 
 // A kept line, after the member's name or a comma.
-fn put_prop(out: &mut [u8], t: &mut [usize], s: &[u8], begun: bool) -> Wrote
+fn put_prop(out: &mut [u8], t: &mut [usize], s: &[u8], begun: bool) -> Result<usize, Full>
     requires { (table_length ≤ length t.old) × HasKept s.now }
     ensures { PutsProp out.old s.now begun result out.new }
 {
     if !fill(t, s) {
-        return Wrote::Full;
+        return Err(Full);
     }
-    let Wrote::Bytes(a) = put_prop_head(out, begun) else {
-        return Wrote::Full;
-    };
-    let Wrote::Bytes(b) = put_kept(&mut out[a..], s, t) else {
-        return Wrote::Full;
-    };
+    let a = put_prop_head(out, begun)?;
+    let b = put_kept(&mut out[a..], s, t)?;
     let ab = a + b;
-    Wrote::Bytes(ab)
+    Ok(ab)
 }
 
 // vCardProps: the kept lines, in their order.
-pub fn put_props(
-    out: &mut [u8],
-    t: &mut [usize],
-    scratch: &[u8],
-    starts: &[usize],
-    codes: &[u8],
-    n: usize,
-) -> Wrote
-    requires { (table_length ≤ length t.old) × HasLines scratch.now starts.now codes.now n }
-    ensures { PutsProps out.old scratch.now starts.now codes.now n result out.new }
+pub fn put_props(out: &mut [u8], t: &mut [usize], lines: ClassedLines<'_>) -> Result<usize, Full>
+    requires { (table_length ≤ length t.old) × of_lines HasLines lines }
+    ensures { of_lines (PutsProps out.old) lines.entry result out.new }
 {
     let mut at = 0;
-    let mut k = 0;
     let mut begun = false;
-    while k < n {
-        if !is_of(codes[k], classes::KEPT) {
-            k += 1;
+    for k in 0..lines.count {
+        if !is_of(lines.codes[k], classes::KEPT) {
             continue;
         }
-        let s = line_at(scratch, starts, k);
-        let Wrote::Bytes(m) = put_prop(&mut out[at..], t, s, begun) else {
-            return Wrote::Full;
-        };
+        let s = line_at(lines.scratch, lines.starts, k);
+        let m = put_prop(&mut out[at..], t, s, begun)?;
         at += m;
         begun = true;
-        k += 1;
     }
     if !begun {
-        return Wrote::Bytes(at);
+        return Ok(at);
     }
-    let Wrote::Bytes(m) = put_byte(&mut out[at..], b']') else {
-        return Wrote::Full;
-    };
+    let m = put_byte(&mut out[at..], b']')?;
     let all = at + m;
-    Wrote::Bytes(all)
+    Ok(all)
 }
 
 // The first line whose class has that number, or n.
@@ -85,12 +69,10 @@ pub fn first_of(codes: &[u8], n: usize, q: usize) -> usize
     requires { n ≤ length codes.now }
     ensures { FirstOf codes.now n q result }
 {
-    let mut k = 0;
-    while k < n {
+    for k in 0..n {
         if is_of(codes[k], q) {
             return k;
         }
-        k += 1;
     }
     n
 }
@@ -101,21 +83,18 @@ pub fn put_start_of(
     t: &mut [usize],
     stem: &[u8],
     number: usize,
-    scratch: &[u8],
-    starts: &[usize],
-    codes: &[u8],
-    n: usize,
-) -> Wrote
-    requires { (table_length ≤ length t.old) × HasLines scratch.now starts.now codes.now n }
-    ensures { PutsStart out.old stem.now number scratch.now starts.now codes.now n result out.new }
+    lines: ClassedLines<'_>,
+) -> Result<usize, Full>
+    requires { (table_length ≤ length t.old) × of_lines HasLines lines }
+    ensures { of_lines (PutsStart out.old stem.now number) lines.entry result out.new }
 {
-    let k = first_of(codes, n, classes::UID);
-    if k >= n {
+    let k = first_of(lines.codes, lines.count, classes::UID);
+    if k >= lines.count {
         return put_start(out, false, stem, stem, number);
     }
-    let s = line_at(scratch, starts, k);
+    let s = line_at(lines.scratch, lines.starts, k);
     if !fill(t, s) {
-        return Wrote::Full;
+        return Err(Full);
     }
     let a = t[table::VALUE];
     let b = t[table::VALUE_END];
@@ -123,24 +102,17 @@ pub fn put_start_of(
 }
 
 // The kind, where there is a KIND line.
-pub fn put_kind_of(
-    out: &mut [u8],
-    t: &mut [usize],
-    scratch: &[u8],
-    starts: &[usize],
-    codes: &[u8],
-    n: usize,
-) -> Wrote
-    requires { (table_length ≤ length t.old) × HasLines scratch.now starts.now codes.now n }
-    ensures { PutsKind out.old scratch.now starts.now codes.now n result out.new }
+pub fn put_kind_of(out: &mut [u8], t: &mut [usize], lines: ClassedLines<'_>) -> Result<usize, Full>
+    requires { (table_length ≤ length t.old) × of_lines HasLines lines }
+    ensures { of_lines (PutsKind out.old) lines.entry result out.new }
 {
-    let k = first_of(codes, n, classes::KIND);
-    if k >= n {
-        return Wrote::Bytes(0);
+    let k = first_of(lines.codes, lines.count, classes::KIND);
+    if k >= lines.count {
+        return Ok(0);
     }
-    let s = line_at(scratch, starts, k);
+    let s = line_at(lines.scratch, lines.starts, k);
     if !fill(t, s) {
-        return Wrote::Full;
+        return Err(Full);
     }
     let a = t[table::VALUE];
     let b = t[table::VALUE_END];

@@ -11,8 +11,8 @@ use lib.Seq.{drop-cons}
 use borrow.Author.Tests.{le-leb, lt-leb, lt-ltb, leb-false}
 use Rattle.text.specs.Bytes.{Bytes, between}
 use Rattle.text.proofs.Cases.{range, in_range, or_left, or_right}
-use Rattle.text.specs.declared.Read.{Read}
-use Rattle.text.specs.declared.Read.TheVariants.{Next, Bad}
+use Rattle.text.specs.Places.{Read}
+use Rattle.std.specs.Prelude.{Ok, Err}
 use Rattle.utf8.specs.Met.{Alike, NextIs, Met, OneMore}
 use Rattle.text.specs.Utf8.{Due, start, due, broken, at_start, lead, tails, run, next, utf8}
 
@@ -81,8 +81,8 @@ first-met s at {low} {high} {k} h d n e =
     (m.0, first_step s at h d ∙ m.1 k)
 
 pub one_more : (s : Bytes) (at k : ℕ) (r : Read) → Two s at k → Met (tails k) s ((at + 1) + 1) r → OneMore s at r
-one_more s at k (Next e) m t = (omega (arith, t.0), t.1, m.1 ∙ t.2)
-one_more s at k (Bad x) m t = ap at_start m.1 ∙ t
+one_more s at k (Ok e) m t = (omega (arith, t.0), t.1, m.1 ∙ t.2)
+one_more s at k (Err x) m t = ap at_start m.1 ∙ t
 
 pub one-as : (s : Bytes) (at : ℕ) {r x : Read} → OneMore s at r → r ≡ x → OneMore s at x
 one-as s at o e = subst (λ y. OneMore s at y) e o

@@ -2,8 +2,8 @@
 use Rattle.std.specs.Prelude.{◌≡◌, Bool, true, false, ℕ, ◌+◌, ◌≤◌, ◌<◌, length, drop}
 use Rattle.text.specs.Bytes.{Bytes}
 use Rattle.text.specs.Utf8.{Due, start, due, at_start, tails, run}
-use Rattle.text.specs.declared.Read.{Read}
-use Rattle.text.specs.declared.Read.TheVariants.{Next, Bad}
+use Rattle.text.specs.Places.{Read}
+use Rattle.std.specs.Prelude.{Ok, Err}
 
 -- from a on there are whole characters where there are from b on
 abbrev pub Alike : Bytes → ℕ → ℕ → Type 0
@@ -16,10 +16,10 @@ NextIs s at low high false = (k : ℕ) → at_start (run (due low high k) (drop 
 
 -- what is due stands there, and a character may begin after it; or no whole characters follow
 abbrev pub Met : Due → Bytes → ℕ → Read → Type 0
-Met d s at (Next e) = (at ≤ e) × (e ≤ length s) × (run d (drop at s) ≡ run start (drop e s))
-Met d s at (Bad x) = at_start (run d (drop at s)) ≡ false
+Met d s at (Ok e) = (at ≤ e) × (e ≤ length s) × (run d (drop at s) ≡ run start (drop e s))
+Met d s at (Err x) = at_start (run d (drop at s)) ≡ false
 
 -- the same for one character
 abbrev pub OneMore : Bytes → ℕ → Read → Type 0
-OneMore s at (Next e) = (at < e) × (e ≤ length s) × Alike s at e
-OneMore s at (Bad x) = at_start (run start (drop at s)) ≡ false
+OneMore s at (Ok e) = (at < e) × (e ≤ length s) × Alike s at e
+OneMore s at (Err x) = at_start (run start (drop at s)) ≡ false

@@ -74,16 +74,13 @@ fn tails_end(s: &[u8], at: usize, n: u8) -> Read
     requires { at ≤ length s.now }
     ensures { Met (tails n) s.now at result }
 {
-    let mut i = at;
-    let mut left = n;
-    while left > 0 {
+    let end = at + n as usize;
+    for i in at..end {
         if !is_next(s, i, 0x80, 0xbf) {
-            return Read::Bad(i);
+            return Err(i);
         }
-        i += 1;
-        left -= 1;
     }
-    Read::Next(i)
+    Ok(end)
 }
 
 // The character that begins at a place.
@@ -93,22 +90,22 @@ fn character_end(s: &[u8], at: usize) -> Read
 {
     match due_after(s[at]) {
         Due::Start => {
-            return Read::Next(at + 1);
+            return Ok(at + 1);
         }
         Due::Byte(low, high, n) => {
             let second = at + 1;
             if !is_next(s, second, low, high) {
-                return Read::Bad(second);
+                return Err(second);
             }
             return tails_end(s, second + 1, n);
         }
         Due::Broken => {
-            return Read::Bad(at);
+            return Err(at);
         }
     }
 }
 
-// Where the ASCII from `at` on ends, byte by byte.
+// Where the ASCII from `at` on ends, byte by byte. The place is the answer: a `for` is no plainer.
 fn ascii_from(s: &[u8], at: usize) -> usize
     requires { at ≤ length s.now }
     ensures { (at ≤ result) × (result ≤ length s.now) × Alike s.now at result }
@@ -129,10 +126,8 @@ fn has_wide(s: &[u8], at: usize) -> bool
     ensures { result ≡ false → Alike s.now at (at + 16) }
 {
     let mut found = false;
-    let mut k = 0;
-    while k < 16 {
-        found = found | (s[at + k] >= 128);
-        k += 1;
+    for k in 0..16 {
+        found |= s[at + k] >= 128;
     }
     found
 }
@@ -173,10 +168,10 @@ pub fn is_utf8(s: &[u8]) -> bool
             return true;
         }
         match character_end(s, a) {
-            Read::Next(e) => {
+            Ok(e) => {
                 i = e;
             }
-            Read::Bad(_) => {
+            Err(_) => {
                 return false;
             }
         }

@@ -2,7 +2,7 @@
 #![tactic(auto)]
 
 use json_to_card::json_to_card;
-use served::Outcome;
+use served::Refusal;
 use std::io;
 use std::io::Read;
 
@@ -21,7 +21,7 @@ fn main(rt: HostRuntime) -> io::Result<()> {
         .read_to_end(&mut json)?;
     let mut out = [0u8; line_limits::CARD];
     match json_to_card(json.as_slice(), &mut out) {
-        Outcome::Written(k) => say_card(&rt, &out, k),
-        Outcome::Refused { number, place } => println!(rt; "{number} {place}"),
+        Ok(k) => say_card(&rt, &out, k),
+        Err(Refusal { number, place }) => println!(rt; "{number} {place}"),
     }
 }

@@ -11,4 +11,4 @@ returns-in_default c = never-full _ _ _ _ c.put_text.ensures c.in_default.is c.i
 
 pub returns : goal.returns
 returns c =
-    serves-written c.args.out.now c.args.text.now _ _ _ c.requires c.if-text-out.false c.put_text.ensures c.in-Bytes.is
+    serves-written c.args.out.now c.args.text.now _ _ _ c.requires c.if-text-out.false c.put_text.ensures c.in-Ok.is

@@ -7,4 +7,4 @@ returns-in_default c =
 
 pub returns : goal.returns
 returns c =
-    λ cs x. made-json c.args.res.now _ c.put_card.result _ c.in-Bytes.k (c.put_card.ensures cs x) c.in-Bytes.is
+    λ cs x. made-json c.args.res.now _ c.put_card.result _ c.in-Ok.k (c.put_card.ensures cs x) c.in-Ok.is

@@ -9,28 +9,14 @@ returns-in_default c =
     (sym c.read_text.ensures.said ∙ c.in_default.is))
 
 pub slice_bounds-read-end : goal.slice_bounds-read-end
-slice_bounds-read-end c = (written c.in-Bytes.n c.read_text.ensures c.in-Bytes.is).0
+slice_bounds-read-end c = (written c.in-Ok.n c.read_text.ensures c.in-Ok.is).0
 
-pub returns-in-Sound : goal.returns-in-Sound
-returns-in-Sound c =
-    sym (ap soundly c.in-Sound.is) ∙ judged-text c.args.v.now _ c.read.result
-    c.requires.small (written
-    c.in-Bytes.n
-    c.read_text.ensures
-    c.in-Bytes.is).1 c.read.ensures.value
+pub returns-in-Ok-read : goal.returns-in-Ok-read
+returns-in-Ok-read c =
+    sym (ap soundly c.in-Ok-read.is) ∙ judged-text c.args.v.now _ c.read.result
+    c.requires.small (written c.in-Ok.n c.read_text.ensures c.in-Ok.is).1 c.read.ensures.value
 
-pub returns-in-Large : goal.returns-in-Large
-returns-in-Large c =
-    sym (ap soundly c.in-Large.is) ∙ judged-text c.args.v.now _ c.read.result
-    c.requires.small (written
-    c.in-Bytes.n
-    c.read_text.ensures
-    c.in-Bytes.is).1 c.read.ensures.value
-
-pub returns-in-NotJson : goal.returns-in-NotJson
-returns-in-NotJson c =
-    sym (ap soundly c.in-NotJson.is) ∙ judged-text c.args.v.now _ c.read.result
-    c.requires.small (written
-    c.in-Bytes.n
-    c.read_text.ensures
-    c.in-Bytes.is).1 c.read.ensures.value
+pub returns-in-Err : goal.returns-in-Err
+returns-in-Err c =
+    sym (ap soundly c.in-Err.is) ∙ judged-text c.args.v.now _ c.read.result
+    c.requires.small (written c.in-Ok.n c.read_text.ensures c.in-Ok.is).1 c.read.ensures.value

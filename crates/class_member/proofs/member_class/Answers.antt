@@ -10,11 +10,11 @@ use Rattle.table_entry.proofs.Entry.{value-is}
 use Rattle.class_member.proofs.Members.{member-many, member-others, member-unbare, member-unpointed, member-head, member-section, member-invalid, member-at}
 use Rattle.class_member.proofs.member_class.Goals as goal
 
-pub returns-then-counts-ne1 : goal.returns-then-counts-ne1
-returns-then-counts-ne1 c =
+pub returns-then-rows-ne1 : goal.returns-then-rows-ne1
+returns-then-rows-ne1 c =
     member-many c.args.s.now
     c.args.t.now c.requires.0.row
-    c.if-counts-ne1.true
+    c.if-rows-ne1.true
 
 pub returns-then-not-none_but_pointer : goal.returns-then-not-none_but_pointer
 returns-then-not-none_but_pointer c =
@@ -32,17 +32,17 @@ returns-then-not-is_bare c =
 pub slice_bounds-is_pointer-count : goal.slice_bounds-is_pointer-count
 slice_bounds-is_pointer-count c =
     let v = held_first (c.requires.0.row.held 4 (omega arith))
-    (λ e. omega (arith, c.if-counts-ne1.false)) in omega (arith, v.ordered, v.within)
+    (λ e. omega (arith, c.if-rows-ne1.false)) in omega (arith, v.ordered, v.within)
 
 pub slice_bounds-is_pointer-start : goal.slice_bounds-is_pointer-start
 slice_bounds-is_pointer-start c =
     let v = held_first (c.requires.0.row.held 4 (omega arith))
-    (λ e. omega (arith, c.if-counts-ne1.false)) in omega (arith, v.ordered, v.within)
+    (λ e. omega (arith, c.if-rows-ne1.false)) in omega (arith, v.ordered, v.within)
 
 pub slice_bounds-is_pointer-end : goal.slice_bounds-is_pointer-end
 slice_bounds-is_pointer-end c =
     let v = held_first (c.requires.0.row.held 4 (omega arith))
-    (λ e. omega (arith, c.if-counts-ne1.false)) in omega (arith, v.ordered, v.within)
+    (λ e. omega (arith, c.if-rows-ne1.false)) in omega (arith, v.ordered, v.within)
 
 pub returns-then-not-is_pointer : goal.returns-then-not-is_pointer
 returns-then-not-is_pointer c =
@@ -50,7 +50,7 @@ returns-then-not-is_pointer c =
     c.args.s.now
     c.args.t.now
     c.requires.0.row
-    c.if-counts-ne1.false
+    c.if-rows-ne1.false
     (sym c.none_but_pointer.ensures ∙ c.if-not-none_but_pointer.false)
     (sym c.is_pointer.ensures ∙ c.if-not-is_pointer.true)
 
@@ -58,26 +58,26 @@ pub slice_bounds-is_head-count : goal.slice_bounds-is_head-count
 slice_bounds-is_head-count c =
     let v = held_first
     (c.requires.0.row.held 4 (omega arith))
-    (λ e. omega (arith, c.if-counts-ne1.false)) in omega (arith, v.ordered, v.within)
+    (λ e. omega (arith, c.if-rows-ne1.false)) in omega (arith, v.ordered, v.within)
 
 pub slice_bounds-is_head-start : goal.slice_bounds-is_head-start
 slice_bounds-is_head-start c =
     let v = held_first
     (c.requires.0.row.held 4 (omega arith))
-    (λ e. omega (arith, c.if-counts-ne1.false)) in omega (arith, v.ordered, v.within)
+    (λ e. omega (arith, c.if-rows-ne1.false)) in omega (arith, v.ordered, v.within)
 
 pub slice_bounds-is_head-end : goal.slice_bounds-is_head-end
 slice_bounds-is_head-end c =
     let v = held_first
     (c.requires.0.row.held 4 (omega arith))
-    (λ e. omega (arith, c.if-counts-ne1.false)) in omega (arith, v.ordered, v.within)
+    (λ e. omega (arith, c.if-rows-ne1.false)) in omega (arith, v.ordered, v.within)
 
 pub returns-then-is_head : goal.returns-then-is_head
 returns-then-is_head c =
     member-head c.args.s.now
     c.args.t.now
     c.requires.0.row
-    c.if-counts-ne1.false (sym
+    c.if-rows-ne1.false (sym
     c.none_but_pointer.ensures ∙ not-false _
     (ap not c.if-not-none_but_pointer.false)) (sym c.is_pointer.ensures ∙ not-false
     _ (ap not c.if-not-is_pointer.false)) c.is_head.result false c.is_head.ensures c.if-is_head.true
@@ -86,7 +86,7 @@ pub slice_bounds-is_section-count : goal.slice_bounds-is_section-count
 slice_bounds-is_section-count c =
     let v = held_first
     (c.requires.0.row.held
-    4 (omega arith)) (λ e. omega (arith, c.if-counts-ne1.false)) in omega (
+    4 (omega arith)) (λ e. omega (arith, c.if-rows-ne1.false)) in omega (
       arith,
       v.ordered,
       v.within,
@@ -96,7 +96,7 @@ pub slice_bounds-is_section-start : goal.slice_bounds-is_section-start
 slice_bounds-is_section-start c =
     let v = held_first
     (c.requires.0.row.held
-    4 (omega arith)) (λ e. omega (arith, c.if-counts-ne1.false)) in omega (
+    4 (omega arith)) (λ e. omega (arith, c.if-rows-ne1.false)) in omega (
       arith,
       v.ordered,
       v.within,
@@ -106,7 +106,7 @@ pub slice_bounds-is_section-end : goal.slice_bounds-is_section-end
 slice_bounds-is_section-end c =
     let v = held_first
     (c.requires.0.row.held
-    4 (omega arith)) (λ e. omega (arith, c.if-counts-ne1.false)) in omega (
+    4 (omega arith)) (λ e. omega (arith, c.if-rows-ne1.false)) in omega (
       arith,
       v.ordered,
       v.within,
@@ -117,7 +117,7 @@ returns-then-is_section c =
     member-section c.args.s.now
     c.args.t.now
     c.requires.0.row
-    c.if-counts-ne1.false (sym
+    c.if-rows-ne1.false (sym
     c.none_but_pointer.ensures ∙ not-false _
     (ap not c.if-not-none_but_pointer.false)) (sym
     c.is_pointer.ensures ∙ c.if-not-is_pointer.false)
@@ -129,7 +129,7 @@ returns-then-not-is_json c =
     member-invalid c.args.s.now
     c.args.t.now
     c.requires.0.row
-    c.if-counts-ne1.false
+    c.if-rows-ne1.false
     (sym
     c.none_but_pointer.ensures
     ∙ not-false _
@@ -150,12 +150,12 @@ returns c =
     (c.requires.0.row.held
     4 (omega arith)) (λ e. omega (
       arith,
-      c.if-counts-ne1.false,
+      c.if-rows-ne1.false,
     ))
     in member-at c.args.s.now
     c.args.t.now
     c.requires.0.row
-    c.if-counts-ne1.false
+    c.if-rows-ne1.false
     (sym
     c.none_but_pointer.ensures
     ∙ not-false _

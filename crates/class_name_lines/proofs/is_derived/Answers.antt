@@ -4,10 +4,10 @@ use Rattle.convert_entry.proofs.Tests.{held_first}
 use Rattle.class_name_lines.proofs.Derived.{derived-many, derived-others, derived-true}
 use Rattle.class_name_lines.proofs.is_derived.Goals as goal
 
-pub returns-then-counts-ne1 : goal.returns-then-counts-ne1
-returns-then-counts-ne1 c =
+pub returns-then-rows-ne1 : goal.returns-then-rows-ne1
+returns-then-rows-ne1 c =
     derived-many c.args.s.now c.args.t.now
-    c.requires.row c.if-counts-ne1.true
+    c.requires.row c.if-rows-ne1.true
 
 pub returns-then-not-none_but_derived : goal.returns-then-not-none_but_derived
 returns-then-not-none_but_derived c =
@@ -35,6 +35,6 @@ returns c =
     derived-true c.args.s.now
     c.args.t.now
     c.requires.row
-    c.if-counts-ne1.false
+    c.if-rows-ne1.false
     (sym c.none_but_derived.ensures ∙ c.if-not-none_but_derived.false) ∙ sym
     c.is_named.ensures

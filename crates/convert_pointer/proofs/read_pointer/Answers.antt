@@ -1,4 +1,4 @@
-use Prim.Native.Nat.{◌-◌}
+use Rattle.output.proofs.Laws.{failed}
 use native.Mathlib.Nat.{le_refl}
 use native.Mathlib.Omega.{arith}
 use Rattle.output.proofs.Rests.{rest_all, rest-as, rest-next, rest-stop, rest-done, rest_in, rest-fit, rest-same}
@@ -20,13 +20,14 @@ slice_bounds-put_byte-start c = rest_in c.loop-i.invariant.2
 pub slice_bounds-put_byte-end : goal.slice_bounds-put_byte-end
 slice_bounds-put_byte-end c = le_refl _
 
-pub returns-in_default : goal.returns-in_default
-returns-in_default c =
-    rest-stop _ (rest-as (name-to c.args.p.now c.loop-i.i c.loop-i.invariant.1 c.loop-i-test.true c.pointer_byte-b.result c.pointer_byte-b.ensures) c.loop-i.invariant.2) c.put_byte.ensures c.in_default.is
+pub returns-in_err-n : goal.returns-in_err-n
+returns-in_err-n c =
+    failed c.from_residual.ensures.0
+    (rest-stop _ (rest-as (name-to c.args.p.now c.loop-i.i c.loop-i.invariant.1 c.loop-i-test.true c.pointer_byte-b.result c.pointer_byte-b.ensures) c.loop-i.invariant.2) c.put_byte.ensures c.in_err-n.was)
 
 pub overflow_add-at : goal.overflow_add-at
 overflow_add-at c =
-    rest-fit (rest-next _ (rest-as (name-to c.args.p.now c.loop-i.i c.loop-i.invariant.1 c.loop-i-test.true c.pointer_byte-b.result c.pointer_byte-b.ensures) c.loop-i.invariant.2) c.put_byte.ensures c.in-Bytes.is) c.well_formed.0.0
+    rest-fit (rest-next _ (rest-as (name-to c.args.p.now c.loop-i.i c.loop-i.invariant.1 c.loop-i-test.true c.pointer_byte-b.result c.pointer_byte-b.ensures) c.loop-i.invariant.2) c.put_byte.ensures c.in_ok-n.was) c.well_formed.0.0
 
 pub pointer_next-i-requires : goal.pointer_next-i-requires
 pointer_next-i-requires c = (c.loop-i.invariant.1, c.loop-i-test.true)
@@ -41,7 +42,7 @@ loop-i-preserved c =
     c.pointer_next-i.result c.pointer_next-i.ensures in (
       h.1,
       h.2,
-      rest-as h.3 (rest-next _ (rest-as (name-to c.args.p.now c.loop-i.i c.loop-i.invariant.1 c.loop-i-test.true c.pointer_byte-b.result c.pointer_byte-b.ensures) c.loop-i.invariant.2) c.put_byte.ensures c.in-Bytes.is),
+      rest-as h.3 (rest-next _ (rest-as (name-to c.args.p.now c.loop-i.i c.loop-i.invariant.1 c.loop-i-test.true c.pointer_byte-b.result c.pointer_byte-b.ensures) c.loop-i.invariant.2) c.put_byte.ensures c.in_ok-n.was),
     )
 
 pub shape_of-out : goal.shape_of-out

@@ -9,6 +9,3 @@ use Rattle.convert_put.proofs.put_flags.Given as goal
 
 abbrev pub invariant-loop-c : goal.invariant-loop-c
 invariant-loop-c l = (l.c ≤ l.hi) × Rest l.initial.out (flags_from (l.hi - l.lo) l.row l.lo false) (flags_from (l.hi - l.c) l.row l.c l.begun) l.at l.out
-
-abbrev pub decreases-loop-c : goal.decreases-loop-c
-decreases-loop-c l = l.hi - l.c

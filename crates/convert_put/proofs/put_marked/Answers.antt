@@ -1,22 +1,22 @@
+use Rattle.output.proofs.Laws.{failed}
 use Rattle.convert_put.specs.Pieces.{flag_name}
 use native.Mathlib.Nat.{le_refl}
 use mathlib.Core.List.{[], ◌∷◌}
-use Rattle.output.proofs.Rows.{Here, first!, next!, none, stop!, all, in!, fit!, same!, length-puts}
+use Rattle.output.proofs.Rows.{Here, first!, next!, none, stop!, all, in!, fit!, same! }
 use Rattle.convert_put.proofs.put_marked.Goals as goal
-use Rattle.convert_put.proofs.put_marked.Goals.{In-Bytes, In-Bytes-put_flag_name}
+use Rattle.convert_put.proofs.put_marked.Goals.{In_ok-a, In_ok-b}
 
-abbrev s₁ : In-Bytes → Here
-s₁ c = first! (flag_name c.args.c ∷ []) c.put_flag_head.ensures c.in-Bytes.is
+abbrev s₁ : In_ok-a → Here
+s₁ c = first! (flag_name c.args.c ∷ []) c.put_flag_head.ensures c.in_ok-a.was
 
-abbrev s₂ : In-Bytes-put_flag_name → Here
+abbrev s₂ : In_ok-b → Here
 s₂ c =
-    next! (s₁ (goal.at.In-Bytes-put_flag_name c).In-Bytes) c.put_flag_name.ensures c.in-Bytes-put_flag_name.is
+    next! (s₁ (goal.at.In_ok-b c).In_ok-a) c.put_flag_name.ensures c.in_ok-b.was
 
-pub shape_of-out-in_default : goal.shape_of-out-in_default
-shape_of-out-in_default c = length-puts (none [] c.put_flag_head.ensures c.in_default.is)
-
-pub returns-in_default : goal.returns-in_default
-returns-in_default c = none _ c.put_flag_head.ensures c.in_default.is
+pub returns-in_err-a : goal.returns-in_err-a
+returns-in_err-a c =
+    failed c.from_residual.ensures.0
+    (none _ c.put_flag_head.ensures c.in_err-a.was)
 
 pub slice_bounds-put_flag_name-count : goal.slice_bounds-put_flag_name-count
 slice_bounds-put_flag_name-count c = in! (s₁ c)
@@ -27,11 +27,10 @@ slice_bounds-put_flag_name-start c = in! (s₁ c)
 pub slice_bounds-put_flag_name-end : goal.slice_bounds-put_flag_name-end
 slice_bounds-put_flag_name-end c = le_refl _
 
-pub shape_of-out-in_default-put_flag_name : goal.shape_of-out-in_default-put_flag_name
-shape_of-out-in_default-put_flag_name c = length-puts (stop! (s₁ (goal.at.shape_of-out-in_default-put_flag_name c).In-Bytes) c.put_flag_name.ensures c.in_default-put_flag_name.is)
-
-pub returns-in_default-put_flag_name : goal.returns-in_default-put_flag_name
-returns-in_default-put_flag_name c = stop! (s₁ (goal.at.returns-in_default-put_flag_name c).In-Bytes) c.put_flag_name.ensures c.in_default-put_flag_name.is
+pub returns-in_err-b : goal.returns-in_err-b
+returns-in_err-b c =
+    failed c.from_residual-in_err-b.ensures.0
+    (stop! (s₁ (goal.at.returns-in_err-b c).In_ok-a) c.put_flag_name.ensures c.in_err-b.was)
 
 pub overflow_add-ab : goal.overflow_add-ab
 overflow_add-ab c = fit! (s₂ c) c.well_formed.0.0

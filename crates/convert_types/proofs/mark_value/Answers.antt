@@ -1,6 +1,5 @@
 use borrow.Author.Rules.{rules}
 use mathlib.Core.Path.{refl, sym, ◌∙◌}
-use Prim.Native.Nat.{◌-◌}
 use native.Mathlib.Omega.{arith}
 use Rattle.convert_types.proofs.Turns.{value-bad, value-last, value_on}
 use Rattle.convert_types.proofs.mark_value.Goals as goal

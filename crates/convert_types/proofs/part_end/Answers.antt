@@ -1,4 +1,3 @@
-use Prim.Native.Nat.{◌-◌}
 use Rattle.convert_types.proofs.Places.{part-here, part_out, part-on}
 use Rattle.convert_types.proofs.part_end.Goals as goal
 

@@ -1,5 +1,4 @@
 use mathlib.Core.Path.{refl}
-use Prim.Native.Nat.{◌-◌}
 use native.Mathlib.Omega.{arith}
 use Rattle.line_text.specs.Read.{plain_text}
 use Rattle.convert_values.proofs.Texts.{part-good, seek_found, seek-on, seek-none}

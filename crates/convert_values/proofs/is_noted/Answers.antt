@@ -1,6 +1,5 @@
 use native.Mathlib.Omega.{arith}
 use mathlib.Core.Path.{◌∙◌}
-use Prim.Native.Nat.{◌-◌}
 use Rattle.line_text.specs.Read.{plain_text}
 use Rattle.convert_values.proofs.Texts.{part-good}
 use Rattle.convert_values.proofs.Noting.{clear_none, clear-to, clear-more, level, row-good, row-part, row_same, found-row, found_none}

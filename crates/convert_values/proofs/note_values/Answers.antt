@@ -1,6 +1,5 @@
 use native.Mathlib.Omega.{arith}
 use mathlib.Core.Path.{refl, ◌∙◌}
-use Prim.Native.Nat.{◌-◌}
 use Rattle.convert_values.proofs.Noting.{walk_start, walk-room, walk_rows, walk_end, walk-on}
 use Rattle.convert_values.proofs.note_values.Goals as goal
 

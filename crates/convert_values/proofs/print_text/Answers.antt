@@ -1,6 +1,5 @@
 use native.Mathlib.Omega.{arith}
 use mathlib.Core.Path.{refl}
-use Prim.Native.Nat.{◌-◌}
 use Rattle.line_text.proofs.Reading.{onward}
 use Rattle.convert_values.proofs.Noting.{print-on, print-bad, print-end}
 use Rattle.convert_values.proofs.print_text.Goals as goal

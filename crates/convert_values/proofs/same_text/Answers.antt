@@ -1,5 +1,4 @@
 use mathlib.Core.Path.{refl}
-use Prim.Native.Nat.{◌-◌}
 use native.Mathlib.Omega.{arith}
 use Rattle.line_text.proofs.Reading.{onward}
 use Rattle.convert_values.proofs.Texts.{compare-on, compare-no, compare-bad, compare-end}

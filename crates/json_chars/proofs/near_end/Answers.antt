@@ -1,6 +1,5 @@
 use borrow.Author.Rules.{rules}
 use native.Mathlib.Omega.{arith}
-use Prim.Native.Nat.{◌-◌}
 use Rattle.json_chars.proofs.Laws.{plain-on, unmarked-none, unmarked-one, unmarked-join}
 use Rattle.json_chars.proofs.near_end.Goals as goal
 

@@ -4,10 +4,10 @@ use mathlib.Core.Bool.{false}
 use lib.ListN.{drop}
 use borrow.Author.Tests.{le-ltb}
 use Rattle.text.specs.Places.{GivesT}
-use Rattle.text.specs.declared.Read.{Read}
-use Rattle.text.specs.declared.Read.TheVariants.{Bad}
-use Rattle.text.specs.declared.Turn.{Turn}
-use Rattle.text.specs.declared.Turn.TheVariants.{Stop}
+use Rattle.text.specs.Places.{Read}
+use Rattle.std.specs.Prelude.{Result, ℕ, Err}
+use Rattle.text.specs.Places.{Turn}
+use Rattle.std.proofs.Common.{Break}
 use Rattle.text.proofs.Characters.{lead_high}
 use Rattle.text.proofs.Places.{Between-in, gives_as}
 use Rattle.utf8.specs.Due.{due_of}
@@ -26,14 +26,14 @@ pub returns-then-b-eq-QUOTE : goal.returns-then-b-eq-QUOTE
 returns-then-b-eq-QUOTE c = char-end _ _ c.look-b.result c.look-b.ensures.0 c.if-b-eq-QUOTE.true (omega arith)
 
 -- what stood after a backslash
-escaped : (c : After-escape_at) {r : Value} → c.escape_at.result ≡ r → Read-as (goal.at.After-escape_at c).Start (turn_of (place_of r))
+escaped : (c : After-escape_at) {r : Result Value ℕ} → c.escape_at.result ≡ r → Read-as (goal.at.After-escape_at c).Start (turn_of (place_of r))
 escaped c q = char-escape _ _ c.look-b.result c.look-b.ensures.0 c.if-b-eq-QUOTE.false c.if-b-eq-BACKSLASH.true _ (by_place _ (tells_as c.escape_at.ensures q))
 
-pub returns-in-Of : goal.returns-in-Of
-returns-in-Of c = escaped (goal.at.returns-in-Of c).After-escape_at c.in-Of.is
+pub returns-in-Ok : goal.returns-in-Ok
+returns-in-Ok c = escaped (goal.at.returns-in-Ok c).After-escape_at c.in-Ok.is
 
-pub returns-in-Wrong : goal.returns-in-Wrong
-returns-in-Wrong c = escaped (goal.at.returns-in-Wrong c).After-escape_at c.in-Wrong.is
+pub returns-in-Err : goal.returns-in-Err
+returns-in-Err c = escaped (goal.at.returns-in-Err c).After-escape_at c.in-Err.is
 
 pub returns-then-in_range : goal.returns-then-in_range
 returns-then-in_range c =
@@ -42,7 +42,7 @@ returns-then-in_range c =
     char-plain _ _ c.look-b.result c.look-b.ensures.0 c.if-b-eq-QUOTE.false c.if-b-eq-BACKSLASH.false t (omega arith)
 
 -- no character starts here
-none : (c : Else-in_range) → is_lead c.look-b.result ≡ false → Read-as (goal.at.Else-in_range c).Start (Stop (Bad c.args.at))
+none : (c : Else-in_range) → is_lead c.look-b.result ≡ false → Read-as (goal.at.Else-in_range c).Start (Break (Err c.args.at))
 none c h = char-none _ _ c.look-b.result c.look-b.ensures.0 c.if-b-eq-QUOTE.false c.if-b-eq-BACKSLASH.false (sym c.in_range.ensures ∙ c.if-in_range.false) h c.requires
 
 pub returns-then-b-gt255 : goal.returns-then-b-gt255
@@ -57,11 +57,11 @@ wide c q =
     char-wide _ _ look.result look.ensures.0 c.if-b-eq-QUOTE.false c.if-b-eq-BACKSLASH.false
     several due _ (gives_as c.wide_end.ensures q)
 
-pub returns-in-Next : goal.returns-in-Next
-returns-in-Next c = wide (goal.at.returns-in-Next c).After-wide_end c.in-Next.is
+pub returns-in-Ok-wide_end : goal.returns-in-Ok-wide_end
+returns-in-Ok-wide_end c = wide (goal.at.returns-in-Ok-wide_end c).After-wide_end c.in-Ok-wide_end.is
 
-pub returns-in-Bad : goal.returns-in-Bad
-returns-in-Bad c = wide (goal.at.returns-in-Bad c).After-wide_end c.in-Bad.is
+pub returns-in-Err-wide_end : goal.returns-in-Err-wide_end
+returns-in-Err-wide_end c = wide (goal.at.returns-in-Err-wide_end c).After-wide_end c.in-Err-wide_end.is
 
 pub returns-in-Start : goal.returns-in-Start
 returns-in-Start c = none (goal.at.returns-in-Start c).Else-in_range (by-lead _ (sym (ap due_of c.in-Start.is) ∙ c.due_after.ensures))

@@ -1,6 +1,6 @@
 use Prim.Native.Nat.{◌≤◌}
 use lib.ListN.{length, drop}
-use Rattle.text.specs.declared.Read.{Read}
+use Rattle.text.specs.Places.{Read}
 use Rattle.text.specs.Places.{Gives}
 use Rattle.json_text.specs.Syntax.{tail_bytes}
 use Rattle.json_chars.proofs.tails_end.Given as goal

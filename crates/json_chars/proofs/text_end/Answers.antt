@@ -1,6 +1,5 @@
 use borrow.Author.Rules.{rules}
 use native.Mathlib.Omega.{arith}
-use Prim.Native.Nat.{◌-◌}
 use Rattle.text.proofs.Places.{turn-as}
 use Rattle.json_chars.proofs.Laws.{string-on, unmarked-none, unmarked-join, unmarked-wide}
 use Rattle.json_chars.proofs.text_end.Goals as goal
@@ -28,15 +27,15 @@ pub next_character-requires : goal.next_character-requires
 next_character-requires c = c.plain_end-from.ensures.lower_bound.1
 
 pub loop-at-smaller : goal.loop-at-smaller
-loop-at-smaller c = let h = turn-as c.next_character.ensures c.in-Go.is in omega (arith, h.within.0, h.within.1, c.plain_end-from.ensures.lower_bound.0)
+loop-at-smaller c = let h = turn-as c.next_character.ensures c.in-Continue.is in omega (arith, h.within.0, h.within.1, c.plain_end-from.ensures.lower_bound.0)
 
 pub loop-at-preserved : goal.loop-at-preserved
 loop-at-preserved c =
     let s = c.args.s.now in
     let loop = c.loop-at in
     let look = c.look in
-    let j = c.in-Go.j in
-    let h = turn-as c.next_character.ensures c.in-Go.is in
+    let j = c.in-Continue.j in
+    let h = turn-as c.next_character.ensures c.in-Continue.is in
     let from = c.plain_end-from.result in
     let wide = unmarked-wide s from look.result look.ensures.0 (omega (arith, h.within.0, h.within.1)) (omega (arith, c.if-look-lt128.false)) j h in (
       omega (arith, loop.invariant.0, c.plain_end-from.ensures.lower_bound.0, h.within.0),
@@ -45,8 +44,8 @@ loop-at-preserved c =
       unmarked-join s loop.invariant.3 (unmarked-join s c.plain_end-from.ensures.unmarked wide),
     )
 
-pub returns-in-Stop : goal.returns-in-Stop
-returns-in-Stop c =
+pub returns-in-Break : goal.returns-in-Break
+returns-in-Break c =
     let loop = c.loop-at in
     record {
       lower_bound = (omega (arith, loop.invariant.0, c.plain_end-from.ensures.lower_bound.0), c.plain_end-from.ensures.lower_bound.1);

@@ -1,7 +1,6 @@
 use borrow.Author.Rules.{rules}
 use native.Mathlib.Omega.{arith}
 use mathlib.Core.Path.{subst}
-use Prim.Native.Nat.{◌-◌}
 use Rattle.json_compact.specs.Stands.{Deletes}
 use Rattle.json_compact.proofs.Stands.{deletes-none, deletes-more}
 use Rattle.json_compact.proofs.has_delete.Goals as goal

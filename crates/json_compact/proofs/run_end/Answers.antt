@@ -1,6 +1,6 @@
 use native.Mathlib.Omega.{arith}
 use mathlib.Core.Path.{sym, ◌∙◌}
-use Prim.Native.Nat.{◌-◌, ◌<◌}
+use Prim.Native.Nat.{◌<◌}
 use lib.ListN.{length}
 use Rattle.json_compact.proofs.Stands.{stands-none, stands-then, stands-byte}
 use Rattle.json_compact.proofs.run_end.Goals as goal

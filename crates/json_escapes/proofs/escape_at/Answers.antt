@@ -5,34 +5,25 @@ use Prim.Native.Nat.{◌+◌}
 use Rattle.text.specs.Reader.{under}
 use Rattle.json_text.specs.Grammar.{is_short}
 use Rattle.json_text.proofs.Fine.{short-256}
-use Rattle.json_escapes.proofs.Laws.{tells_as, esc-u, esc-short, esc-none, short-in}
+use Rattle.json_escapes.proofs.Laws.{tells-handed, esc-u, esc-short, esc-none, short-in}
 use Rattle.json_escapes.proofs.escape_at.Goals as goal
 
-pub overflow_add-result : goal.overflow_add-result
-overflow_add-result c = let w = tells_as c.code_at.ensures c.in-Of.is in omega (arith, w.within.2)
-
-pub returns-in-Wrong : goal.returns-in-Wrong
-returns-in-Wrong c =
-    let args = c.args in
+pub returns-in_err-v : goal.returns-in_err-v
+returns-in_err-v c =
     let look = c.look-b in
-    let if1 = c.if-b-eq-LETTER_U in
-    let code_at = c.code_at in
-    let w = tells_as code_at.ensures c.in-Wrong.is in record {
-      is = esc-u args.s.now args.at look.result look.ensures.0 if1.true ∙ ap (under (λ v. 256 + v)) w.is;
-      within = omega
-          (arith, w.within);
+    let w = c.in_err-v.ensures in
+    tells-handed c.from_residual.ensures.1 record {
+      is = esc-u c.args.s.now c.args.at look.result look.ensures.0 c.if-b-eq-LETTER_U.true ∙ ap (under (λ v. 256 + v)) w.is;
+      within = omega (arith, w.within);
     }
 
-pub returns-in-Of : goal.returns-in-Of
-returns-in-Of c =
-    let args = c.args in
+pub returns-then-b-eq-LETTER_U : goal.returns-then-b-eq-LETTER_U
+returns-then-b-eq-LETTER_U c =
     let look = c.look-b in
-    let if1 = c.if-b-eq-LETTER_U in
-    let code_at = c.code_at in
-    let w = tells_as code_at.ensures c.in-Of.is in record {
-      is = esc-u args.s.now args.at look.result look.ensures.0 if1.true ∙ ap (under (λ v. 256 + v)) w.is;
-      within = omega
-          (arith, w.within);
+    let w = c.in_ok-v.ensures in
+    record {
+      is = esc-u c.args.s.now c.args.at look.result look.ensures.0 c.if-b-eq-LETTER_U.true ∙ ap (under (λ v. 256 + v)) w.is;
+      within = omega (arith, w.within);
     }
 
 pub short_of-requires : goal.short_of-requires

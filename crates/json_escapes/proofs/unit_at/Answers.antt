@@ -10,26 +10,26 @@ use Rattle.json_escapes.proofs.unit_at.Goals as goal
 pub returns-then-b-eq-QUOTE : goal.returns-then-b-eq-QUOTE
 returns-then-b-eq-QUOTE c = (unit-end c.args.s.now c.args.at c.look-b.result c.look-b.ensures.0 c.if-b-eq-QUOTE.true, omega arith)
 
-pub returns-in-Wrong : goal.returns-in-Wrong
-returns-in-Wrong c =
+pub returns-in-Err : goal.returns-in-Err
+returns-in-Err c =
     let args = c.args in
     let look = c.look-b in
     let if1 = c.if-b-eq-QUOTE in
     let if2 = c.if-b-eq-BACKSLASH in
     let escape-at = c.escape_at in
-    let w = tells_as escape-at.ensures c.in-Wrong.is in (
+    let w = tells_as escape-at.ensures c.in-Err.is in (
       unit-escape args.s.now args.at look.result look.ensures.0 if1.false if2.true ∙ ap (under push) w.is,
       omega (arith, w.within),
     )
 
-pub returns-in-Of : goal.returns-in-Of
-returns-in-Of c =
+pub returns-in-Ok : goal.returns-in-Ok
+returns-in-Ok c =
     let args = c.args in
     let look = c.look-b in
     let if1 = c.if-b-eq-QUOTE in
     let if2 = c.if-b-eq-BACKSLASH in
     let escape-at = c.escape_at in
-    let w = tells_as escape-at.ensures c.in-Of.is in (
+    let w = tells_as escape-at.ensures c.in-Ok.is in (
       unit-escape args.s.now args.at look.result look.ensures.0 if1.false if2.true ∙ ap (under push) w.is,
       omega (arith, w.within),
     )

@@ -1,5 +1,4 @@
 use mathlib.Core.Path.{refl, subst}
-use Prim.Native.Nat.{◌-◌}
 use native.Mathlib.Omega.{arith}
 use Rattle.json_index.specs.Index.{Together}
 use Rattle.json_index.proofs.Together.{raw-as, byte-same, together-first, together-on, skims-first, skims-on}

@@ -1,11 +1,7 @@
 use mathlib.Core.Path.{◌≡◌}
 use Prim.Native.Nat.{◌+◌, ◌-◌, ◌≤◌}
-use lib.ListN.{length}
 use Rattle.json_index.specs.Index.{Together, Skims}
 use Rattle.json_index.proofs.alike.Given as goal
 
 abbrev pub invariant-loop-k : goal.invariant-loop-k
 invariant-loop-k l = (l.at ≤ l.i) × (l.k ≡ l.a + (l.i - l.at)) × Together l.s l.at l.names l.a l.i l.k × Skims l.s l.at l.i
-
-abbrev pub decreases-loop-k : goal.decreases-loop-k
-decreases-loop-k l = length l.names - l.k

@@ -3,7 +3,7 @@ use Rattle.json_strings.specs.Decoded.{decoded_at}
 use Rattle.json_access.specs.declared.Places.{Places}
 use native.Mathlib.Omega.{arith}
 use mathlib.Core.Path.{refl, ap, ◌∙◌}
-use Prim.Native.Nat.{◌<◌, ◌-◌}
+use Prim.Native.Nat.{◌<◌}
 use lib.ListN.{length}
 use Rattle.text.proofs.Places.{turn-as}
 use Rattle.json_index.proofs.Names.{placed-le}
@@ -29,7 +29,7 @@ separator-requires c = record { at_in_bounds = c.member_called-m.ensures.inside.
 
 pub loop-j-smaller : goal.loop-j-smaller
 loop-j-smaller c =
-    let h = turn-as c.separator.ensures c.in-Go.is in
+    let h = turn-as c.separator.ensures c.in-Continue.is in
     omega (arith, h.within.0, h.within.1, c.member_called-m.ensures.inside.from c.loop-j.invariant.0, c.member_called-m.ensures.inside.ordered)
 
 pub loop-j-preserved : goal.loop-j-preserved
@@ -38,7 +38,7 @@ loop-j-preserved c =
     let l = c.loop-j in
     let listed = c.member_called-m.ensures.lists in
     let places : Places = record { name = listed.0; start = c.member_called-m.result.start; end = c.member_called-m.result.end } in
-    let h = turn-as c.separator.ensures c.in-Go.is in
+    let h = turn-as c.separator.ensures c.in-Continue.is in
     let p = placed-le (decoded_at a.s.now listed.0) (parts 44 a.names.now) in
     let in-k : c.member_called-m.result.number < length l.slots = omega (arith, p, listed.2, c.requires.names_in_bounds, l.invariant.2) in
     let not-0 : 0 < c.member_called-m.result.start = omega (arith, c.requires.at_nonzero, l.invariant.1, c.member_called-m.ensures.inside.from l.invariant.0) in
@@ -50,19 +50,19 @@ loop-j-preserved c =
       rest-on a.depth a.s.now a.at l.i l.invariant.4 places listed.1 _ h,
     )
 
-pub shape_of-slots-in-Stop : goal.shape_of-slots-in-Stop
-shape_of-slots-in-Stop c =
+pub shape_of-slots-in-Break : goal.shape_of-slots-in-Break
+shape_of-slots-in-Break c =
     let l = c.loop-j in
     let m = c.member_called-m.result in
     ap length c.note.ensures ∙ length-noted l.slots m.number m.start ∙ l.invariant.2
 
-pub returns-in-Stop : goal.returns-in-Stop
-returns-in-Stop c =
+pub returns-in-Break : goal.returns-in-Break
+returns-in-Break c =
     let a = c.args in
     let l = c.loop-j in
     let listed = c.member_called-m.ensures.lists in
     let places : Places = record { name = listed.0; start = c.member_called-m.result.start; end = c.member_called-m.result.end } in
-    let h = turn-as c.separator.ensures c.in-Stop.is in
+    let h = turn-as c.separator.ensures c.in-Break.is in
     let p = placed-le (decoded_at a.s.now listed.0) (parts 44 a.names.now) in
     let in-k : c.member_called-m.result.number < length l.slots = omega (arith, p, listed.2, c.requires.names_in_bounds, l.invariant.2) in
     let not-0 : 0 < c.member_called-m.result.start = omega (arith, c.requires.at_nonzero, l.invariant.1, c.member_called-m.ensures.inside.from l.invariant.0) in

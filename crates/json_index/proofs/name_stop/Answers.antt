@@ -1,4 +1,3 @@
-use Prim.Native.Nat.{◌-◌}
 use Rattle.json_index.proofs.Names.{ends-here, ends-out, ends_on}
 use Rattle.json_index.proofs.name_stop.Goals as goal
 

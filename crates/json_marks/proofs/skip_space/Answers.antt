@@ -1,6 +1,5 @@
 use native.Mathlib.Omega.{arith}
 use mathlib.Core.Path.{sym, ◌∙◌}
-use Prim.Native.Nat.{◌-◌}
 use Rattle.text.proofs.Places.{passing-from, passing-in, passing-on, passing-end}
 use Rattle.json_text.specs.Grammar.{is_space}
 use Rattle.json_text.proofs.Fine.{space-256}

@@ -1,38 +1,23 @@
-use Rattle.text.proofs.Places.{gives_as, then_next, then-bad, then-end}
+use Rattle.text.proofs.Handed.{handed}
+use Rattle.text.proofs.Places.{then_next, then-bad, then-end}
 use Rattle.json_text.specs.Syntax.{number}
 use Rattle.json_numbers.proofs.number_end.Goals as goal
 
-pub int_end-requires : goal.int_end-requires
-int_end-requires c = (gives_as c.opt_end.ensures c.in-Next.is).within.1
-
-pub frac_end-requires : goal.frac_end-requires
-frac_end-requires c = (gives_as c.int_end.ensures c.in-Next-int_end.is).within.1
-
-pub exp_end-requires : goal.exp_end-requires
-exp_end-requires c = (gives_as c.frac_end.ensures c.in-Next-frac_end.is).within.1
-
-pub returns-in-Bad : goal.returns-in-Bad
+pub returns-in_err-k : goal.returns-in_err-k
 unfolding number
-returns-in-Bad c = then-bad _ (gives_as c.opt_end.ensures c.in-Bad.is)
+returns-in_err-k c = handed c.from_residual.ensures.1 (then-bad _ c.in_err-k.ensures)
 
-pub returns-in-Bad-int_end : goal.returns-in-Bad-int_end
+pub returns-in_err-j : goal.returns-in_err-j
 unfolding number
-returns-in-Bad-int_end c = then_next _ (gives_as c.opt_end.ensures c.in-Next.is) λ x. then-bad _ (gives_as c.int_end.ensures c.in-Bad-int_end.is)
+returns-in_err-j c = handed c.from_residual-in_err-j.ensures.1 (then_next _ c.in_ok-k.ensures λ x. then-bad _ c.in_err-j.ensures)
 
-pub returns-in-Bad-frac_end : goal.returns-in-Bad-frac_end
+pub returns-in_err-i : goal.returns-in_err-i
 unfolding number
-returns-in-Bad-frac_end c =
-    let opt-end = c.opt_end in
-    let int-end = c.int_end in
-    let frac-end = c.frac_end in
-    then_next _ (gives_as opt-end.ensures c.in-Next.is) λ x. then_next _ (gives_as int-end.ensures c.in-Next-int_end.is) λ y. then-bad _
-    (gives_as frac-end.ensures c.in-Bad-frac_end.is)
+returns-in_err-i c =
+    handed c.from_residual-in_err-i.ensures.1
+    (then_next _ c.in_ok-k.ensures λ x. then_next _ c.in_ok-j.ensures λ y. then-bad _ c.in_err-i.ensures)
 
-pub returns-in-Next-frac_end : goal.returns-in-Next-frac_end
+pub returns : goal.returns
 unfolding number
-returns-in-Next-frac_end c =
-    let opt-end = c.opt_end in
-    let int-end = c.int_end in
-    let frac-end = c.frac_end in
-    then_next _ (gives_as opt-end.ensures c.in-Next.is) λ x. then_next _ (gives_as int-end.ensures c.in-Next-int_end.is) λ y. then_next _
-    (gives_as frac-end.ensures c.in-Next-frac_end.is) λ z. then-end _ c.exp_end.ensures
+returns c =
+    then_next _ c.in_ok-k.ensures λ x. then_next _ c.in_ok-j.ensures λ y. then_next _ c.in_ok-i.ensures λ z. then-end _ c.exp_end.ensures

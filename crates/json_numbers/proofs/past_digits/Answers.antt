@@ -1,6 +1,5 @@
 use native.Mathlib.Omega.{arith}
 use mathlib.Core.Path.{sym, ◌∙◌}
-use Prim.Native.Nat.{◌-◌}
 use Rattle.text.proofs.Places.{passing-from, passing-in, passing-on, passing-end}
 use Rattle.text.specs.Bytes.{is_digit}
 use Rattle.json_text.proofs.Fine.{digit-256}

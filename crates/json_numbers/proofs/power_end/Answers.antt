@@ -1,14 +1,12 @@
-use Rattle.text.proofs.Places.{gives_as, then_next, then-bad, then-end}
+use Rattle.text.proofs.Handed.{handed}
+use Rattle.text.proofs.Places.{then_next, then-bad, then-end}
 use Rattle.json_numbers.specs.Power.{power}
 use Rattle.json_numbers.proofs.power_end.Goals as goal
 
-pub digits_end-requires : goal.digits_end-requires
-digits_end-requires c = (gives_as c.sign_end.ensures c.in-Next.is).within.1
-
-pub returns-in-Bad : goal.returns-in-Bad
+pub returns-in_err-i : goal.returns-in_err-i
 unfolding power
-returns-in-Bad c = then-bad _ (gives_as c.sign_end.ensures c.in-Bad.is)
+returns-in_err-i c = handed c.from_residual.ensures.1 (then-bad _ c.in_err-i.ensures)
 
-pub returns-in-Next : goal.returns-in-Next
+pub returns : goal.returns
 unfolding power
-returns-in-Next c = then_next _ (gives_as c.sign_end.ensures c.in-Next.is) λ g. then-end _ c.digits_end.ensures
+returns c = then_next _ c.in_ok-i.ensures λ g. then-end _ c.digits_end.ensures

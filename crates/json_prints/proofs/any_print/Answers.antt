@@ -1,7 +1,6 @@
 use borrow.Author.Rules.{rules}
 use native.Mathlib.Omega.{arith}
 use mathlib.Core.Path.{subst}
-use Prim.Native.Nat.{◌-◌}
 use Rattle.json_prints.specs.Prints.{Absent}
 use Rattle.json_prints.proofs.Prints.{absent_more, absent_none}
 use Rattle.json_prints.proofs.any_print.Goals as goal

@@ -1,6 +1,5 @@
 use native.Mathlib.Omega.{arith}
 use mathlib.Core.Path.{sym, ◌∙◌}
-use Prim.Native.Nat.{◌-◌}
 use Rattle.json_strings.specs.Decoded.{decoded_at}
 use Rattle.json_prints.proofs.Prints.{clear-absent, clear-on, sought-yes, sought-no}
 use Rattle.json_prints.proofs.is_noted_wide.Goals as goal

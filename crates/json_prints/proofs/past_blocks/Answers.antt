@@ -1,6 +1,6 @@
 use borrow.Author.Rules.{rules}
 use native.Mathlib.Omega.{arith}
-use Prim.Native.Nat.{◌+◌, ◌-◌}
+use Prim.Native.Nat.{◌+◌}
 use Rattle.json_prints.proofs.Prints.{absent-as, absent_none, absent-join}
 use Rattle.json_prints.proofs.past_blocks.Goals as goal
 

@@ -1,6 +1,9 @@
 use borrow.Author.Rules.{rules}
 use native.Mathlib.Omega.{arith}
-use Prim.Native.Nat.{◌-◌}
+use mathlib.Core.Path.{subst}
+use mathlib.Core.Bool.{false}
+use Prim.Native.Nat.{◌≤◌}
+use Rattle.json_prints.specs.Prints.{Absent}
 use Rattle.json_prints.proofs.Prints.{absent_none, absent-next}
 use Rattle.json_prints.proofs.print_in.Goals as goal
 
@@ -20,4 +23,7 @@ loop-k-preserved c =
     )
 
 pub returns : goal.returns
-returns c = c.loop-k.invariant
+returns c =
+    let args = c.args in
+    subst (λ (n : _). (args.from ≤ n) × (n ≤ args.to) × Absent args.prints.now args.p args.from n false) (omega (arith, c.loop-k.invariant.1, c.loop-k-test.false))
+    c.loop-k.invariant

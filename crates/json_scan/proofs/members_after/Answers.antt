@@ -6,10 +6,10 @@ use Rattle.json_scan.proofs.After.{later-go, later-stop}
 use Rattle.json_scan.proofs.members_after.Goals as goal
 
 pub members_from-requires : goal.members_from-requires
-members_from-requires c = (turn-as c.separator.ensures c.in-Go.is).within.1
+members_from-requires c = (turn-as c.separator.ensures c.in-Continue.is).within.1
 
-pub returns-in-Stop : goal.returns-in-Stop
-returns-in-Stop c = later-stop mnil (loop (pair (value c.args.depth))) 125 c.args.s.now c.args.at (turn-as c.separator.ensures c.in-Stop.is)
+pub returns-in-Break : goal.returns-in-Break
+returns-in-Break c = later-stop mnil (loop (pair (value c.args.depth))) 125 c.args.s.now c.args.at (turn-as c.separator.ensures c.in-Break.is)
 
-pub returns-in-Go : goal.returns-in-Go
-returns-in-Go c = later-go mnil (loop (pair (value c.args.depth))) 125 c.args.s.now c.args.at (turn-as c.separator.ensures c.in-Go.is) c.members_from.ensures
+pub returns-in-Continue : goal.returns-in-Continue
+returns-in-Continue c = later-go mnil (loop (pair (value c.args.depth))) 125 c.args.s.now c.args.at (turn-as c.separator.ensures c.in-Continue.is) c.members_from.ensures

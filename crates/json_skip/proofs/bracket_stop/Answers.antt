@@ -1,5 +1,4 @@
 use mathlib.Core.Path.{refl, sym, ap, ◌∙◌}
-use Prim.Native.Nat.{◌-◌}
 use native.Mathlib.Omega.{arith}
 use Rattle.json_skip.specs.Skip.{outside, closed}
 use Rattle.json_skip.proofs.Steps.{below-opens, below-shuts, brackets-none, brackets-string, brackets-open, brackets-last, brackets-shut, brackets-plain}

@@ -26,20 +26,20 @@ returns-then-b c = record {
   skips = skips-bracket _ _ _ _ c.skip_space-i.ensures c.look-b.ensures.0 _ c.if-b.true c.bracket_stop.ensures;
 }
 
-pub returns-in-Next : goal.returns-in-Next
-returns-in-Next c =
+pub returns-in-Ok : goal.returns-in-Ok
+returns-in-Ok c =
     let h = c.skip_space-i.ensures in
     let s = c.args.s.now in
-    let g = gives_as (scalar-in s _ c.scalar_end.ensures) c.in-Next.is in record {
+    let g = gives_as (scalar-in s _ c.scalar_end.ensures) c.in-Ok.is in record {
       lower_bound = (λ l. omega (arith, h.from, g.within.0), g.within.1);
       skips = skips-scalar _ _ _ _ h c.look-b.ensures.0 _ c.if-b.false g;
     }
 
-pub returns-in-Bad : goal.returns-in-Bad
-returns-in-Bad c =
+pub returns-in-Err : goal.returns-in-Err
+returns-in-Err c =
     let h = c.skip_space-i.ensures in
     let s = c.args.s.now in
-    let g = gives_as (scalar-in s _ c.scalar_end.ensures) c.in-Bad.is in record {
+    let g = gives_as (scalar-in s _ c.scalar_end.ensures) c.in-Err.is in record {
       lower_bound = (λ l. omega (arith, h.from, g.within.0), g.within.1);
       skips = skips-none _ _ _ _ h c.look-b.ensures.0 _ c.if-b.false g;
     }

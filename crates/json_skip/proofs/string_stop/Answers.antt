@@ -1,5 +1,4 @@
 use mathlib.Core.Path.{refl, ◌∙◌}
-use Prim.Native.Nat.{◌-◌}
 use native.Mathlib.Omega.{arith}
 use Rattle.json_skip.proofs.Steps.{string-none, string-end, string-plain, string-escape, string-short}
 use Rattle.json_skip.proofs.string_stop.Goals as goal

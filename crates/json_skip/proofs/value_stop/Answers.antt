@@ -1,5 +1,4 @@
 use mathlib.Core.Path.{refl, ◌∙◌}
-use Prim.Native.Nat.{◌-◌}
 use native.Mathlib.Omega.{arith}
 use Rattle.json_skip.proofs.Steps.{string-none, string-end, string-escape, string-short}
 use Rattle.json_skip.proofs.Soft.{Paused, hard, paused}

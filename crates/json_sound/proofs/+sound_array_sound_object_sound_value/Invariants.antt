@@ -1,22 +1,8 @@
-use borrow.Author.Rules.{rules}
-use native.Mathlib.Omega.{arith}
 use Prim.Native.Nat.{◌+◌, ◌*◌, ◌-◌, ◌≤◌}
-use native.Mathlib.Nat.{le_refl}
-use mathlib.Core.Path.{◌≡◌, refl, sym, subst, ◌∙◌}
-use mathlib.Core.List.{[]}
-use lib.ListN.{length, drop}
-use borrow.Rule.Slice.PartMut.{same_len_mid, take_put}
-use Rattle.text.proofs.Places.{turn-as}
-use Rattle.json_text.specs.Syntax.{elements, pairs, scalar, value}
-use Rattle.json_text.proofs.Fine.{scalar-fine}
-use Rattle.json_scan.proofs.First.{scalar-in}
-use Rattle.json_sound.specs.Sound.{is_sound, sound_elems, sound_members}
-use Rattle.json_sound.specs.Noted.{NotesIn}
-use Rattle.json_sound.proofs.Judging.{judged-as, onward-as, onward-up, onward-sound, onward-unsound, onward-fine}
-use Rattle.json_sound.proofs.Walk.{ToElems, elems-none, elems-begin, elems-bad, elems-rest, elems-on, elems-last}
-use Rattle.json_sound.proofs.Walk.{ToMembers, members-none, members-begin, name-bad, name-rest, members-bad, members-rest, members-on, members-last}
-use Rattle.json_sound.proofs.Values.{string-in, judges-string, judges-flat, judges-scalar, judges-array, judges-object}
-use Prim.Native.Nat.{ℕ, ◌<◌}
+use mathlib.Core.Path.{◌≡◌}
+use lib.ListN.{length}
+use Rattle.json_sound.proofs.Walk.{ToElems}
+use Rattle.json_sound.proofs.Walk.{ToMembers}
 use Rattle.json_sound.proofs.+sound_array_sound_object_sound_value.Given as goal
 
 abbrev pub decreases-sound_array : goal.decreases-sound_array

@@ -1,6 +1,6 @@
 use native.Mathlib.Omega.{arith}
 use mathlib.Core.Path.{refl}
-use Prim.Native.Nat.{◌-◌, ◌+◌}
+use Prim.Native.Nat.{◌+◌}
 use Rattle.json_sound.proofs.Starts.{PlainAt, plain_at, starts-on, starts-twice}
 use Rattle.json_sound.proofs.name_start.Goals as goal
 use Rattle.json_sound.proofs.name_start.Goals.{Else-not-is_raw, Else-not-is_raw-2}

@@ -12,16 +12,8 @@ use Rattle.json_prints.specs.Prints.{meets, print_of}
 use Rattle.json_strings.specs.Decoded.{decoded_at}
 use Rattle.json_strings.proofs.Names.{name-string}
 use Rattle.json_prints.proofs.Prints.{no-print, a-print, meets-among, names-noted}
-use Rattle.json_sound.proofs.Names.{name-takes, not-paired, already}
+use Rattle.json_sound.proofs.Names.{name-takes, not-paired, already, no_name}
 use Rattle.json_sound.proofs.note_name.Goals as goal
-
-pub name_start-w-requires : goal.name_start-w-requires
-name_start-w-requires c =
-    let mark = c.mark in
-    (gives_as mark.ensures c.in-Next.is).within.1
-
-pub name_rest-requires : goal.name_rest-requires
-name_rest-requires c = c.name_start-w.ensures.1
 
 pub print_rest-m-requires : goal.print_rest-m-requires
 print_rest-m-requires c =
@@ -31,14 +23,13 @@ print_rest-m-requires c =
 pub returns-then-m-eq65536 : goal.returns-then-m-eq65536
 returns-then-m-eq65536 c =
     let args = c.args in
-    let mark = c.mark in
     let name-start = c.name_start-w in
     let name-rest = c.name_rest in
     let s = args.s.now in
     let at = args.at in
-    let from = c.in-Next.q in
-    let g = gives_as mark.ensures c.in-Next.is in
-    let h = gives_as (name-rest.ensures at from g name-start.ensures.4) c.in-Next-name_rest.is in
+    let from = c.in_ok-q.q in
+    let g = c.in_ok-q.ensures in
+    let h = gives_as (name-rest.ensures at from g name-start.ensures.4) c.in_ok-v.was in
     let a = at_next (name (drop at s)) h in
     let z = name-string s at a.0 _ a.1 from g in
     let w = name-takes s at c.requires.at_in_bounds _ _ g h in
@@ -62,14 +53,13 @@ is_noted-requires c =
 pub returns-then-is_noted : goal.returns-then-is_noted
 returns-then-is_noted c =
     let args = c.args in
-    let mark = c.mark in
     let name-start = c.name_start-w in
     let name-rest = c.name_rest in
     let s = args.s.now in
     let at = args.at in
-    let from = c.in-Next.q in
-    let g = gives_as mark.ensures c.in-Next.is in
-    let h = gives_as (name-rest.ensures at from g name-start.ensures.4) c.in-Next-name_rest.is in
+    let from = c.in_ok-q.q in
+    let g = c.in_ok-q.ensures in
+    let h = gives_as (name-rest.ensures at from g name-start.ensures.4) c.in_ok-v.was in
     let a = at_next (name (drop at s)) h in
     let z = name-string s at a.0 _ a.1 from g in
     let w = name-takes s at c.requires.at_in_bounds _ _ g h in
@@ -84,48 +74,43 @@ returns-then-is_noted c =
 pub overflow_cast-places : goal.overflow_cast-places
 overflow_cast-places c =
     let args = c.args in
-    let mark = c.mark in
     let name-start = c.name_start-w in
     let name-rest = c.name_rest in
     let s = args.s.now in
     let at = args.at in
-    let from = c.in-Next.q in
-    let g = gives_as mark.ensures c.in-Next.is in
-    let h = gives_as (name-rest.ensures at from g name-start.ensures.4) c.in-Next-name_rest.is in
+    let from = c.in_ok-q.q in
+    let g = c.in_ok-q.ensures in
+    let h = gives_as (name-rest.ensures at from g name-start.ensures.4) c.in_ok-v.was in
     omega (arith, (name-takes s at c.requires.at_in_bounds _ _ g h).1, h.within.1, c.requires.s_len_bound, c.requires.count_in_bounds, c.requires.count_in_bounds_2)
 
-pub returns-in-Bad : goal.returns-in-Bad
+pub returns-in_err-q : goal.returns-in_err-q
 unfolding name
-returns-in-Bad c =
-    let mark = c.mark in
-    let g = then-bad _ (gives_as mark.ensures c.in-Bad.is) in
-    record { notes = λ ns h. at-bad _ g; notes_in = g.within }
+returns-in_err-q c =
+    let g = then-bad _ c.in_err-q.ensures in
+    let z = no_name _ _ _ _ _ _ _ _ _ c.from_residual.ensures.1 (at-bad (name (drop c.args.at c.args.s.now)) g) g.within in
+    record { notes = z.0; notes_in = z.1 }
 
-pub returns-in-Bad-name_rest : goal.returns-in-Bad-name_rest
-returns-in-Bad-name_rest c =
+pub returns-in_err-v : goal.returns-in_err-v
+returns-in_err-v c =
     let args = c.args in
-    let mark = c.mark in
     let name-start = c.name_start-w in
     let name-rest = c.name_rest in
-    let s = args.s.now in
-    let at = args.at in
-    let from = c.in-Next.q in
-    let g = gives_as mark.ensures c.in-Next.is in
-    let h = gives_as (name-rest.ensures at from g name-start.ensures.4) c.in-Bad-name_rest.is in
-    record { notes = λ ns k. at-bad _ h; notes_in = h.within }
+    let g = c.in_ok-q.ensures in
+    let h = gives_as (name-rest.ensures args.at c.in_ok-q.q g name-start.ensures.4) c.in_err-v.was in
+    let z = no_name _ _ _ _ _ _ _ _ _ c.from_residual-in_err-v.ensures.1 (at-bad (name (drop args.at args.s.now)) h) h.within in
+    record { notes = z.0; notes_in = z.1 }
 
-pub returns-else-is_noted : goal.returns-else-is_noted
-returns-else-is_noted c =
+pub returns : goal.returns
+returns c =
     let args = c.args in
-    let mark = c.mark in
     let name-start = c.name_start-w in
     let name-rest = c.name_rest in
     let if1 = c.if-m-eq65536 in
     let s = args.s.now in
     let at = args.at in
-    let from = c.in-Next.q in
-    let g = gives_as mark.ensures c.in-Next.is in
-    let h = gives_as (name-rest.ensures at from g name-start.ensures.4) c.in-Next-name_rest.is in
+    let from = c.in_ok-q.q in
+    let g = c.in_ok-q.ensures in
+    let h = gives_as (name-rest.ensures at from g name-start.ensures.4) c.in_ok-v.was in
     let a = at_next (name (drop at s)) h in
     let z = name-string s at a.0 _ a.1 from g in
     let w = name-takes s at c.requires.at_in_bounds _ _ g h in

@@ -1,7 +1,8 @@
 use borrow.Author.Rules.{rules}
 use native.Mathlib.Omega.{arith}
-use Prim.Native.Nat.{ℕ, ◌+◌, ◌-◌, ◌<◌}
+use Prim.Native.Nat.{ℕ, ◌+◌, ◌<◌}
 use lib.ListN.{length, get_or}
+use Rattle.std.specs.Prelude.{Ok}
 use Rattle.json_sound.specs.declared.Sounded.TheVariants.{Sound}
 use Rattle.json_sound.specs.Sound.{Follows}
 use Rattle.json_sound.proofs.Escapes.{follows-none, follows_then, follows-text, follows-judged}
@@ -38,7 +39,7 @@ returns-then-look-eq-QUOTE c =
     let from = c.text_end-from.result in
     let look = c.look in
     let w : from < length s = omega (arith, look.ensures.1, c.if-look-eq-QUOTE.true) in record {
-      judged = follows-judged s args.at from (past (goal.at.returns-then-look-eq-QUOTE c).After-text_end-from) (Sound (from + 1)) (omega arith) (chars-end s from look.result look.ensures.0 c.if-look-eq-QUOTE.true);
+      judged = follows-judged s args.at from (past (goal.at.returns-then-look-eq-QUOTE c).After-text_end-from) (Ok (Sound (from + 1))) (omega arith) (chars-end s from look.result look.ensures.0 c.if-look-eq-QUOTE.true);
       onward = (omega (arith, c.loop-at.invariant.0, c.text_end-from.ensures.lower_bound.0), omega arith);
     }
 

@@ -1,6 +1,7 @@
 use native.Mathlib.Omega.{arith}
 use Prim.Native.Nat.{◌+◌}
 use lib.ListN.{length}
+use Rattle.std.specs.Prelude.{Ok}
 use Rattle.json_sound.specs.declared.Sounded.TheVariants.{Sound}
 use Rattle.json_sound.proofs.Judging.{onward-up}
 use Rattle.json_sound.proofs.Plain.{chars-end}
@@ -11,7 +12,7 @@ returns-then-look-eq-QUOTE c =
     let args = c.args in
     let look = c.look in
     let i = c.raw_end-i.result in record {
-      judged = c.raw_end-i.ensures.to_chars (Sound (i + 1)) (chars-end args.s.now i look.result look.ensures.0 c.if-look-eq-QUOTE.true);
+      judged = c.raw_end-i.ensures.to_chars (Ok (Sound (i + 1))) (chars-end args.s.now i look.result look.ensures.0 c.if-look-eq-QUOTE.true);
       onward = (omega (arith, c.raw_end-i.ensures.lower_bound), omega (arith, look.ensures.1, c.if-look-eq-QUOTE.true));
     }
 

@@ -1,36 +1,31 @@
 use mathlib.Core.Path.{sym, ◌∙◌}
 use lib.ListN.{drop}
-use Rattle.text.specs.declared.Read.TheVariants.{Next}
-use Rattle.text.proofs.Places.{gives_as, at-bad}
+use Rattle.std.specs.Prelude.{Ok}
+use Rattle.text.proofs.Places.{at-bad}
 use Rattle.json_text.specs.Syntax.{characters}
 use Rattle.json_text.proofs.Fine.{characters-fine}
-use Rattle.json_sound.proofs.Judging.{onward-fine}
+use Rattle.json_sound.proofs.Judging.{onward-fine, bad-handed}
 use Rattle.json_sound.proofs.Plain.{chars-alone, chars-paired}
 use Rattle.json_sound.proofs.sound_twice.Goals as goal
 
+pub returns-in_err-e : goal.returns-in_err-e
+returns-in_err-e c =
+    let g = c.in_err-e.ensures in
+    let h = bad-handed _ _ _ _ _ _ c.from_residual.ensures.1 (at-bad (characters (drop c.args.at c.args.s.now)) g) g.within in
+    record { judged = h.0; onward = h.1 }
+
 pub returns-then-not-is_paired : goal.returns-then-not-is_paired
 returns-then-not-is_paired c =
-    let args = c.args in
-    let s = args.s.now in
-    let g = gives_as c.string_end.ensures c.in-Next.is in
-    let to = c.in-Next.e in
+    let g = c.in_ok-e.ensures in
     record {
-      judged = chars-alone s args.at (Next to) g (sym c.is_paired.ensures ∙ c.if-not-is_paired.true);
-      onward = onward-fine characters characters-fine s args.at c.requires (Next to) g;
+      judged = chars-alone c.args.s.now c.args.at (Ok c.in_ok-e.e) g (sym c.is_paired.ensures ∙ c.if-not-is_paired.true);
+      onward = onward-fine characters characters-fine c.args.s.now c.args.at c.requires (Ok c.in_ok-e.e) g;
     }
 
-pub returns-in-Bad : goal.returns-in-Bad
-returns-in-Bad c =
-    let g = gives_as c.string_end.ensures c.in-Bad.is in
-    record { judged = at-bad (characters (drop c.args.at c.args.s.now)) g; onward = g.within }
-
-pub returns-else-not-is_paired : goal.returns-else-not-is_paired
-returns-else-not-is_paired c =
-    let args = c.args in
-    let s = args.s.now in
-    let g = gives_as c.string_end.ensures c.in-Next.is in
-    let to = c.in-Next.e in
+pub returns : goal.returns
+returns c =
+    let g = c.in_ok-e.ensures in
     record {
-      judged = chars-paired s args.at (Next to) g (sym c.is_paired.ensures ∙ c.if-not-is_paired.false);
-      onward = onward-fine characters characters-fine s args.at c.requires (Next to) g;
+      judged = chars-paired c.args.s.now c.args.at (Ok c.in_ok-e.e) g (sym c.is_paired.ensures ∙ c.if-not-is_paired.false);
+      onward = onward-fine characters characters-fine c.args.s.now c.args.at c.requires (Ok c.in_ok-e.e) g;
     }

@@ -1,7 +1,6 @@
 use borrow.Author.Rules.{rules}
 use native.Mathlib.Nat.{le_refl}
 use native.Mathlib.Omega.{arith}
-use Prim.Native.Nat.{◌-◌}
 use Rattle.output.proofs.Laws.{within}
 use Rattle.json_strings.proofs.Bare.{copied_none, copied-run, copied-then, copied-held}
 use Rattle.json_strings.proofs.copy_bare.Goals as goal

@@ -2,7 +2,6 @@ use mathlib.Core.Path.{ap}
 use mathlib.Core.Bool.{not}
 use borrow.Author.Rules.{rules}
 use native.Mathlib.Omega.{arith}
-use Prim.Native.Nat.{◌-◌}
 use Rattle.json_strings.proofs.Bare.{bare-taken, copied_none, copied-one}
 use Rattle.json_strings.proofs.copy_from.Goals as goal
 

@@ -2,7 +2,6 @@ use borrow.Author.Rules.{rules}
 use native.Mathlib.Omega.{arith}
 use mathlib.Core.Path.{refl, sym, ap, ◌∙◌}
 use mathlib.Core.Option.{Option}
-use Prim.Native.Nat.{◌-◌}
 use Rattle.text.specs.Bytes.{Bytes}
 use Rattle.json_strings.specs.Decoded.{spells}
 use Rattle.json_strings.proofs.Laws.{decoded-past}

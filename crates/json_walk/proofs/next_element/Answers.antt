@@ -13,17 +13,17 @@ returns-then-at-s c =
     record { element_in = ((λ l. absurd (omega (arith, c.if-at-s.true))), omega arith); next_element_of = element-past a.s.now a.at c.if-at-s.true (End (length a.s.now)) }
 
 pub skip_space-requires : goal.skip_space-requires
-skip_space-requires c = (turn-as c.separator.ensures c.in-Go.is).within.1
+skip_space-requires c = (turn-as c.separator.ensures c.in-Continue.is).within.1
 
-pub returns-in-Go : goal.returns-in-Go
-returns-in-Go c =
+pub returns-in-Continue : goal.returns-in-Continue
+returns-in-Continue c =
     let p = c.skip_space.ensures in
-    let g = turn-as c.separator.ensures c.in-Go.is in
+    let g = turn-as c.separator.ensures c.in-Continue.is in
     record { element_in = (omega (arith, g.within.0, p.from), p.to); next_element_of = element-next c.args.s.now c.args.at _ _ g p }
 
-pub returns-in-Stop : goal.returns-in-Stop
-returns-in-Stop c =
+pub returns-in-Break : goal.returns-in-Break
+returns-in-Break c =
     let a = c.args in
-    let g = turn-as c.separator.ensures c.in-Stop.is in
+    let g = turn-as c.separator.ensures c.in-Break.is in
     let l : a.at ≤ length a.s.now = omega (arith, c.if-at-s.false) in
     record { element_in = stop-in a.s.now a.at 93 _ _ g c.place.ensures; next_element_of = element-last a.s.now a.at _ l (closes_here a.s.now a.at 93 _ _ g c.place.ensures) }

@@ -17,11 +17,11 @@ returns-then-at-s c =
       next_reads = λ l. absurd (omega (arith, c.if-at-s.true));
     }
 
-pub returns-in-Go : goal.returns-in-Go
-returns-in-Go c =
+pub returns-in-Continue : goal.returns-in-Continue
+returns-in-Continue c =
     let a = c.args in
-    let g = turn-as c.separator.ensures c.in-Go.is in
-    let z : NextReads a.s.now a.at (At c.head_at-h.result.name c.head_at-h.result.start) = (c.in-Go.j, g, c.head_at-h.ensures.tells_head) in
+    let g = turn-as c.separator.ensures c.in-Continue.is in
+    let z : NextReads a.s.now a.at (At c.head_at-h.result.name c.head_at-h.result.start) = (c.in-Continue.j, g, c.head_at-h.ensures.tells_head) in
     let l : a.at ≤ length a.s.now = omega (arith, c.if-at-s.false) in
     record {
       member_in = (c.head_at-h.ensures.name_in_bounds, omega (arith, g.within.0, c.head_at-h.ensures.at_le_start.0 g.within.1), c.head_at-h.ensures.at_le_start.1);
@@ -29,10 +29,10 @@ returns-in-Go c =
       next_reads = z;
     }
 
-pub returns-in-Stop : goal.returns-in-Stop
-returns-in-Stop c =
+pub returns-in-Break : goal.returns-in-Break
+returns-in-Break c =
     let a = c.args in
-    let g = turn-as c.separator.ensures c.in-Stop.is in
+    let g = turn-as c.separator.ensures c.in-Break.is in
     let z = closes_here a.s.now a.at 125 _ _ g c.place.ensures in
     let l : a.at ≤ length a.s.now = omega (arith, c.if-at-s.false) in
     record { member_in = stop-in a.s.now a.at 125 _ _ g c.place.ensures; next_of = next-told a.s.now a.at (End _) l z; next_reads = z }

@@ -1,4 +1,3 @@
-use Prim.Native.Nat.{◌-◌}
 use native.Mathlib.Omega.{arith}
 use mathlib.Core.Path.{sym, ◌∙◌}
 use Rattle.output.proofs.Rests.{Going, going, rest_all, rest-as, rest-byte, rest-no-byte, rest-done, rest-same}

@@ -1,4 +1,4 @@
-use Prim.Native.Nat.{◌-◌}
+use Rattle.output.proofs.Laws.{failed}
 use native.Mathlib.Nat.{le_refl}
 use native.Mathlib.Omega.{arith}
 use mathlib.Core.Path.{refl, sym}
@@ -6,11 +6,11 @@ use mathlib.Core.List.{[], append-nil}
 use Rattle.output.proofs.Rests.{Going, going, rest_all, rest-as, rest-next, rest-stop, rest-done, rest_in, rest-fit, rest-same}
 use Rattle.json_write.proofs.Sixteen.{rest-copied}
 use Rattle.json_write.proofs.put_bare.Goals as goal
-use Rattle.json_write.proofs.put_bare.Goals.{In-Bytes}
+use Rattle.json_write.proofs.put_bare.Goals.{In_ok-n}
 
 -- after the last bytes
-abbrev wrote : In-Bytes → Going
-wrote c = going (rest-next [] (rest-as (sym (append-nil _)) c.loop-out.invariant) c.bare_from.ensures c.in-Bytes.is)
+abbrev wrote : In_ok-n → Going
+wrote c = going (rest-next [] (rest-as (sym (append-nil _)) c.loop-out.invariant) c.bare_from.ensures c.in_ok-n.was)
 
 pub loop-out-init : goal.loop-out-init
 loop-out-init c = rest_all _ _
@@ -44,8 +44,10 @@ slice_bounds-bare_from-start c = rest_in c.loop-out.invariant
 pub slice_bounds-bare_from-end : goal.slice_bounds-bare_from-end
 slice_bounds-bare_from-end c = le_refl _
 
-pub returns-in_default : goal.returns-in_default
-returns-in_default c = rest-stop [] (rest-as (sym (append-nil _)) c.loop-out.invariant) c.bare_from.ensures c.in_default.is
+pub returns-in_err-n : goal.returns-in_err-n
+returns-in_err-n c =
+    failed c.from_residual.ensures.0
+    (rest-stop [] (rest-as (sym (append-nil _)) c.loop-out.invariant) c.bare_from.ensures c.in_err-n.was)
 
 pub overflow_add-kn : goal.overflow_add-kn
 overflow_add-kn c = rest-fit (wrote c).left c.well_formed.0.0

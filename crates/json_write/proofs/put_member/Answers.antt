@@ -1,27 +1,26 @@
+use Rattle.output.proofs.Laws.{failed}
 use native.Mathlib.Nat.{le_refl}
 use mathlib.Core.List.{[], ◌∷◌}
 use Rattle.json_text.specs.Compact.{quoted}
 use Rattle.output.proofs.Laws.{puts-as}
 use Rattle.json_write.proofs.Spelling.{member-row}
-use Rattle.output.proofs.Rows.{Here, first!, next!, none, stop!, all, in!, fit!, same!, length-puts}
+use Rattle.output.proofs.Rows.{Here, first!, next!, none, stop!, all, in!, fit!, same! }
 use Rattle.json_write.proofs.put_member.Goals as goal
-use Rattle.json_write.proofs.put_member.Goals.{In-Bytes, In-Bytes-put_string}
+use Rattle.json_write.proofs.put_member.Goals.{In_ok-a, In_ok-b}
 
-abbrev s₁ : In-Bytes → Here
-s₁ c = first! (quoted c.args.text.now [] ∷ []) c.put_name.ensures c.in-Bytes.is
+abbrev s₁ : In_ok-a → Here
+s₁ c = first! (quoted c.args.text.now [] ∷ []) c.put_name.ensures c.in_ok-a.was
 
-abbrev s₂ : In-Bytes-put_string → Here
+abbrev s₂ : In_ok-b → Here
 s₂ c =
-    next! (s₁ (goal.at.In-Bytes-put_string c).In-Bytes) c.put_string.ensures c.in-Bytes-put_string.is
+    next! (s₁ (goal.at.In_ok-b c).In_ok-a) c.put_string.ensures c.in_ok-b.was
 
-pub shape_of-out-in_default : goal.shape_of-out-in_default
-shape_of-out-in_default c = length-puts (none [] c.put_name.ensures c.in_default.is)
-
-pub returns-in_default : goal.returns-in_default
-returns-in_default c =
-    let args = c.args in
+pub returns-in_err-a : goal.returns-in_err-a
+returns-in_err-a c =
+    failed c.from_residual.ensures.0
+    (let args = c.args in
     let put-name = c.put_name in
-    puts-as (member-row args.name.now args.text.now) (none _ put-name.ensures c.in_default.is)
+    puts-as (member-row args.name.now args.text.now) (none _ put-name.ensures c.in_err-a.was))
 
 pub slice_bounds-put_string-count : goal.slice_bounds-put_string-count
 slice_bounds-put_string-count c = in! (s₁ c)
@@ -32,15 +31,13 @@ slice_bounds-put_string-start c = in! (s₁ c)
 pub slice_bounds-put_string-end : goal.slice_bounds-put_string-end
 slice_bounds-put_string-end c = le_refl _
 
-pub shape_of-out-in_default-put_string : goal.shape_of-out-in_default-put_string
-shape_of-out-in_default-put_string c = length-puts (stop! (s₁ (goal.at.shape_of-out-in_default-put_string c).In-Bytes) c.put_string.ensures c.in_default-put_string.is)
-
-pub returns-in_default-put_string : goal.returns-in_default-put_string
-returns-in_default-put_string c =
-    let args = c.args in
+pub returns-in_err-b : goal.returns-in_err-b
+returns-in_err-b c =
+    failed c.from_residual-in_err-b.ensures.0
+    (let args = c.args in
     let put-string = c.put_string in
     puts-as (member-row args.name.now args.text.now)
-    (stop! (s₁ (goal.at.returns-in_default-put_string c).In-Bytes) put-string.ensures c.in_default-put_string.is)
+    (stop! (s₁ (goal.at.returns-in_err-b c).In_ok-a) put-string.ensures c.in_err-b.was))
 
 pub overflow_add-ab : goal.overflow_add-ab
 overflow_add-ab c = fit! (s₂ c) c.well_formed.0.0

@@ -1,23 +1,23 @@
+use Rattle.output.proofs.Laws.{failed}
 use native.Mathlib.Nat.{le_refl}
 use mathlib.Core.List.{[], ◌∷◌}
 use Rattle.output.proofs.Laws.{puts-as}
 use Rattle.json_write.proofs.Spelling.{name-row}
-use Rattle.output.proofs.Rows.{Here, first!, next!, none, stop!, all, in!, fit!, same!, length-puts}
+use Rattle.output.proofs.Rows.{Here, first!, next!, none, stop!, all, in!, fit!, same! }
 use Rattle.json_write.proofs.put_name.Goals as goal
-use Rattle.json_write.proofs.put_name.Goals.{In-Bytes, In-Bytes-put_byte}
+use Rattle.json_write.proofs.put_name.Goals.{In_ok-a, In_ok-b}
 
-abbrev s₁ : In-Bytes → Here
-s₁ c = first! ((58 ∷ []) ∷ []) c.put_string.ensures c.in-Bytes.is
+abbrev s₁ : In_ok-a → Here
+s₁ c = first! ((58 ∷ []) ∷ []) c.put_string.ensures c.in_ok-a.was
 
-abbrev s₂ : In-Bytes-put_byte → Here
+abbrev s₂ : In_ok-b → Here
 s₂ c =
-    next! (s₁ (goal.at.In-Bytes-put_byte c).In-Bytes) c.put_byte.ensures c.in-Bytes-put_byte.is
+    next! (s₁ (goal.at.In_ok-b c).In_ok-a) c.put_byte.ensures c.in_ok-b.was
 
-pub shape_of-out-in_default : goal.shape_of-out-in_default
-shape_of-out-in_default c = length-puts (none [] c.put_string.ensures c.in_default.is)
-
-pub returns-in_default : goal.returns-in_default
-returns-in_default c = puts-as (name-row c.args.s.now) (none _ c.put_string.ensures c.in_default.is)
+pub returns-in_err-a : goal.returns-in_err-a
+returns-in_err-a c =
+    failed c.from_residual.ensures.0
+    (puts-as (name-row c.args.s.now) (none _ c.put_string.ensures c.in_err-a.was))
 
 pub slice_bounds-put_byte-count : goal.slice_bounds-put_byte-count
 slice_bounds-put_byte-count c = in! (s₁ c)
@@ -28,11 +28,10 @@ slice_bounds-put_byte-start c = in! (s₁ c)
 pub slice_bounds-put_byte-end : goal.slice_bounds-put_byte-end
 slice_bounds-put_byte-end c = le_refl _
 
-pub shape_of-out-in_default-put_byte : goal.shape_of-out-in_default-put_byte
-shape_of-out-in_default-put_byte c = length-puts (stop! (s₁ (goal.at.shape_of-out-in_default-put_byte c).In-Bytes) c.put_byte.ensures c.in_default-put_byte.is)
-
-pub returns-in_default-put_byte : goal.returns-in_default-put_byte
-returns-in_default-put_byte c = puts-as (name-row c.args.s.now) (stop! (s₁ (goal.at.returns-in_default-put_byte c).In-Bytes) c.put_byte.ensures c.in_default-put_byte.is)
+pub returns-in_err-b : goal.returns-in_err-b
+returns-in_err-b c =
+    failed c.from_residual-in_err-b.ensures.0
+    (puts-as (name-row c.args.s.now) (stop! (s₁ (goal.at.returns-in_err-b c).In_ok-a) c.put_byte.ensures c.in_err-b.was))
 
 pub overflow_add-ab : goal.overflow_add-ab
 overflow_add-ab c = fit! (s₂ c) c.well_formed.0.0

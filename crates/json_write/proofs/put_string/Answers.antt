@@ -1,28 +1,28 @@
+use Rattle.output.proofs.Laws.{failed}
 use Rattle.json_text.specs.Compact.{spelled_all}
 use native.Mathlib.Nat.{le_refl}
 use mathlib.Core.List.{[], ◌∷◌}
 use Rattle.output.proofs.Laws.{puts-as}
 use Rattle.json_write.proofs.Spelling.{quoted-row, spelled-whole}
-use Rattle.output.proofs.Rows.{Here, first!, next!, none, stop!, all, in!, fit!, same!, length-puts}
+use Rattle.output.proofs.Rows.{Here, first!, next!, none, stop!, all, in!, fit!, same! }
 use Rattle.json_write.proofs.put_string.Goals as goal
-use Rattle.json_write.proofs.put_string.Goals.{In-Bytes, In-Bytes-put_byte, In-Bytes-put_spelled}
+use Rattle.json_write.proofs.put_string.Goals.{In_ok-a, In_ok-c, In_ok-b}
 
-abbrev s₁ : In-Bytes → Here
-s₁ c = first! (spelled_all c.args.s.now ∷ (34 ∷ []) ∷ []) c.put_byte.ensures c.in-Bytes.is
+abbrev s₁ : In_ok-a → Here
+s₁ c = first! (spelled_all c.args.s.now ∷ (34 ∷ []) ∷ []) c.put_byte.ensures c.in_ok-a.was
 
-abbrev s₂ : In-Bytes-put_spelled → Here
+abbrev s₂ : In_ok-b → Here
 s₂ c =
-    next! (s₁ (goal.at.In-Bytes-put_spelled c).In-Bytes) (puts-as (spelled-whole _) c.put_spelled.ensures) c.in-Bytes-put_spelled.is
+    next! (s₁ (goal.at.In_ok-b c).In_ok-a) (puts-as (spelled-whole _) c.put_spelled.ensures) c.in_ok-b.was
 
-abbrev s₃ : In-Bytes-put_byte → Here
+abbrev s₃ : In_ok-c → Here
 s₃ c =
-    next! (s₂ (goal.at.In-Bytes-put_byte c).In-Bytes-put_spelled) c.put_byte-2.ensures c.in-Bytes-put_byte.is
+    next! (s₂ (goal.at.In_ok-c c).In_ok-b) c.put_byte-2.ensures c.in_ok-c.was
 
-pub shape_of-out-in_default : goal.shape_of-out-in_default
-shape_of-out-in_default c = length-puts (none [] c.put_byte.ensures c.in_default.is)
-
-pub returns-in_default : goal.returns-in_default
-returns-in_default c = puts-as (quoted-row c.args.s.now) (none _ c.put_byte.ensures c.in_default.is)
+pub returns-in_err-a : goal.returns-in_err-a
+returns-in_err-a c =
+    failed c.from_residual.ensures.0
+    (puts-as (quoted-row c.args.s.now) (none _ c.put_byte.ensures c.in_err-a.was))
 
 pub slice_bounds-put_spelled-count : goal.slice_bounds-put_spelled-count
 slice_bounds-put_spelled-count c = in! (s₁ c)
@@ -33,11 +33,10 @@ slice_bounds-put_spelled-start c = in! (s₁ c)
 pub slice_bounds-put_spelled-end : goal.slice_bounds-put_spelled-end
 slice_bounds-put_spelled-end c = le_refl _
 
-pub shape_of-out-in_default-put_spelled : goal.shape_of-out-in_default-put_spelled
-shape_of-out-in_default-put_spelled c = length-puts (stop! (s₁ (goal.at.shape_of-out-in_default-put_spelled c).In-Bytes) (puts-as (spelled-whole _) c.put_spelled.ensures) c.in_default-put_spelled.is)
-
-pub returns-in_default-put_spelled : goal.returns-in_default-put_spelled
-returns-in_default-put_spelled c = puts-as (quoted-row c.args.s.now) (stop! (s₁ (goal.at.returns-in_default-put_spelled c).In-Bytes) (puts-as (spelled-whole _) c.put_spelled.ensures) c.in_default-put_spelled.is)
+pub returns-in_err-b : goal.returns-in_err-b
+returns-in_err-b c =
+    failed c.from_residual-in_err-b.ensures.0
+    (puts-as (quoted-row c.args.s.now) (stop! (s₁ (goal.at.returns-in_err-b c).In_ok-a) (puts-as (spelled-whole _) c.put_spelled.ensures) c.in_err-b.was))
 
 pub overflow_add-ab : goal.overflow_add-ab
 overflow_add-ab c = fit! (s₂ c) c.well_formed.0.0
@@ -51,11 +50,10 @@ slice_bounds-put_byte-start c = in! (s₂ c)
 pub slice_bounds-put_byte-end : goal.slice_bounds-put_byte-end
 slice_bounds-put_byte-end c = le_refl _
 
-pub shape_of-out-in_default-put_byte : goal.shape_of-out-in_default-put_byte
-shape_of-out-in_default-put_byte c = length-puts (stop! (s₂ (goal.at.shape_of-out-in_default-put_byte c).In-Bytes-put_spelled) c.put_byte-2.ensures c.in_default-put_byte.is)
-
-pub returns-in_default-put_byte : goal.returns-in_default-put_byte
-returns-in_default-put_byte c = puts-as (quoted-row c.args.s.now) (stop! (s₂ (goal.at.returns-in_default-put_byte c).In-Bytes-put_spelled) c.put_byte-2.ensures c.in_default-put_byte.is)
+pub returns-in_err-c : goal.returns-in_err-c
+returns-in_err-c c =
+    failed c.from_residual-in_err-c.ensures.0
+    (puts-as (quoted-row c.args.s.now) (stop! (s₂ (goal.at.returns-in_err-c c).In_ok-b) c.put_byte-2.ensures c.in_err-c.was))
 
 pub overflow_add-abc : goal.overflow_add-abc
 overflow_add-abc c = fit! (s₃ c) c.well_formed.0.0

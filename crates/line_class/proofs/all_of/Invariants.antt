@@ -5,8 +5,5 @@ use Rattle.text.specs.Bytes.{all}
 use Rattle.line_class.proofs.Agree.{by_table}
 use Rattle.line_class.proofs.all_of.Given as goal
 
-abbrev pub invariant-loop-i : goal.invariant-loop-i
-invariant-loop-i l = all (by_table l.table l.mask) (drop l.i l.s) ≡ all (by_table l.table l.mask) l.s
-
-abbrev pub decreases-loop-i : goal.decreases-loop-i
-decreases-loop-i l = length l.s - l.i
+abbrev pub invariant-loop-b : goal.invariant-loop-b
+invariant-loop-b l = all (by_table l.table l.mask) (drop l.b-index l.s) ≡ all (by_table l.table l.mask) l.s

@@ -6,8 +6,5 @@ use Rattle.text.specs.Bytes.{any}
 use Rattle.line.specs.Class.{is_control}
 use Rattle.line_class.proofs.has_control.Given as goal
 
-abbrev pub invariant-loop-i : goal.invariant-loop-i
-invariant-loop-i l = any is_control l.line ≡ l.found || any is_control (drop l.i l.line)
-
-abbrev pub decreases-loop-i : goal.decreases-loop-i
-decreases-loop-i l = length l.line - l.i
+abbrev pub invariant-loop-b : goal.invariant-loop-b
+invariant-loop-b l = any is_control l.line ≡ l.found || any is_control (drop l.b-index l.line)

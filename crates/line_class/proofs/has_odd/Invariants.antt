@@ -6,8 +6,5 @@ use Rattle.text.specs.Bytes.{any}
 use Rattle.line_class.specs.Odd.{is_odd}
 use Rattle.line_class.proofs.has_odd.Given as goal
 
-abbrev pub invariant-loop-i : goal.invariant-loop-i
-invariant-loop-i l = any is_odd l.line ≡ l.found || any is_odd (drop l.i l.line)
-
-abbrev pub decreases-loop-i : goal.decreases-loop-i
-decreases-loop-i l = length l.line - l.i
+abbrev pub invariant-loop-b : goal.invariant-loop-b
+invariant-loop-b l = any is_odd l.line ≡ l.found || any is_odd (drop l.b-index l.line)

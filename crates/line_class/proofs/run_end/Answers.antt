@@ -1,4 +1,3 @@
-use Prim.Native.Nat.{◌-◌}
 use mathlib.Core.Path.{refl, sym, ◌∙◌}
 use Rattle.line_class.proofs.Runs.{run_on, run-stops, run_out}
 use Rattle.line_class.proofs.run_end.Goals as goal

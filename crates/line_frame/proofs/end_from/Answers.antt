@@ -1,7 +1,6 @@
-use Prim.Native.Nat.{◌-◌}
 use mathlib.Core.Path.{sym, ◌∙◌}
 use native.Mathlib.Omega.{arith}
-use Rattle.line_frame.specs.declared.End.TheVariants.{At, Missing}
+use Rattle.std.specs.Prelude.{Some, None}
 use Rattle.line_frame.proofs.Frames.{ends-out, ends-here, ends-early, begins-again, ends_on}
 use Rattle.line_frame.proofs.end_from.Goals as goal
 
@@ -22,7 +21,7 @@ returns-then-next-s c =
     let args = c.args in
     let loop = c.loop-i in
     let next-line = c.next_line-line in
-    loop.invariant Missing
+    loop.invariant None
     (ends-early args.s.now loop.i _ next-line.ensures (sym c.is_end.ensures ∙ c.if-is_end.true)
     c.if-next-s.true)
 
@@ -31,7 +30,7 @@ returns-then-is_end c =
     let args = c.args in
     let loop = c.loop-i in
     let next-line = c.next_line-line in
-    loop.invariant (At loop.i)
+    loop.invariant (Some loop.i)
     (ends-here args.s.now loop.i _ next-line.ensures (sym c.is_end.ensures ∙ c.if-is_end.true)
     c.if-next-s.false)
 
@@ -51,7 +50,7 @@ returns-then-is_begin c =
     let next-line = c.next_line-line in
     let is-end = c.is_end in
     let if1 = c.if-is_end in
-    loop.invariant Missing
+    loop.invariant None
     (begins-again args.s.now loop.i _ next-line.ensures (sym is-end.ensures ∙ if1.false)
     (sym c.is_begin.ensures ∙ c.if-is_begin.true))
 
@@ -70,4 +69,4 @@ loop-i-preserved c =
     (sym c.is_begin.ensures ∙ c.if-is_begin.false) p)
 
 pub returns : goal.returns
-returns c = c.loop-i.invariant Missing (ends-out c.args.s.now c.loop-i.i c.loop-i-test.false)
+returns c = c.loop-i.invariant None (ends-out c.args.s.now c.loop-i.i c.loop-i-test.false)

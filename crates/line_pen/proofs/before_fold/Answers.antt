@@ -1,6 +1,7 @@
-use Prim.Native.Nat.{◌-◌}
 use native.Mathlib.Omega.{arith}
-use mathlib.Core.Path.{sym, ◌∙◌}
+use mathlib.Core.Path.{◌≡◌, sym, subst, ◌∙◌}
+use lib.ListN.{length}
+use Rattle.line_pen.specs.Pen.{Stands}
 use Rattle.line_pen.proofs.Laws.{stands-early, stands-more}
 use Rattle.line_pen.proofs.before_fold.Goals as goal
 
@@ -28,4 +29,6 @@ loop-n-preserved c =
     stands-more c.args.s.now c.loop-n.invariant c.loop-n-test.true (omega (arith, c.if-column-n-ge75.false)) free
 
 pub returns : goal.returns
-returns c = c.loop-n.invariant
+returns c =
+    let e : c.loop-n.n ≡ length c.args.s.now = omega (arith, c.loop-n-test.false, c.loop-n.invariant.within) in
+    subst (Stands c.args.column c.args.s.now) e c.loop-n.invariant

@@ -1,6 +1,5 @@
 use native.Mathlib.Omega.{arith}
 use native.Mathlib.Nat.{le_refl}
-use Prim.Native.Nat.{◌-◌}
 use lib.Seq.{take_all}
 use Rattle.line_pen.proofs.Laws.{pens-none, pens-in, pens-length, pens-then, pens-as, one_more, stands-in, copied, Here, first! }
 use Rattle.line_pen.proofs.pen_long.Goals as goal

@@ -1,5 +1,4 @@
 use borrow.Author.Rules.{rules}
-use Prim.Native.Nat.{◌-◌}
 use native.Mathlib.Omega.{arith}
 use Rattle.line_table.proofs.Filling.{params-start, params-end, params-off, params-many, params-bad, param-laid, params-on}
 use Rattle.line_table.proofs.fill_params.Goals as goal
@@ -39,13 +38,13 @@ fill_param-requires c =
     let loop = c.loop-at in
     (omega (arith, loop.invariant.long, c.requires.0), omega (arith, c.look-b.ensures.1, c.if-b-ne-SEMICOLON.false))
 
-pub returns-in_default : goal.returns-in_default
-returns-in_default c =
+pub returns-in_err-laid : goal.returns-in_err-laid
+returns-in_err-laid c =
     let loop = c.loop-at in
     let look = c.look-b in
     let if2 = c.if-b-ne-SEMICOLON in
     let fill-param = c.fill_param in
-    params-bad loop.invariant look.ensures.0 if2.false _ _ fill-param.ensures c.in_default.is
+    rw c.from_residual.ensures (params-bad loop.invariant look.ensures.0 if2.false _ _ fill-param.ensures c.in_err-laid.was)
 
 pub overflow_add-k : goal.overflow_add-k
 overflow_add-k c = omega (arith, c.if-k-ge-PARAMS.false)
@@ -56,7 +55,7 @@ loop-at-smaller c =
     let look = c.look-b in
     let if2 = c.if-b-ne-SEMICOLON in
     let fill-param = c.fill_param in
-    let v = param-laid loop.invariant look.ensures.0 if2.false _ _ fill-param.ensures c.in-Upto.is in
+    let v = param-laid loop.invariant look.ensures.0 if2.false _ _ fill-param.ensures c.in_ok-laid.was in
     omega (arith, v.from, v.within)
 
 pub loop-at-preserved : goal.loop-at-preserved
@@ -66,4 +65,4 @@ loop-at-preserved c =
     let if2 = c.if-b-ne-SEMICOLON in
     let fill-param = c.fill_param in
     let if3 = c.if-k-ge-PARAMS in
-    params-on loop.invariant look.ensures.0 if2.false _ _ fill-param.ensures c.in-Upto.is (search rules) (omega (arith, if3.false))
+    params-on loop.invariant look.ensures.0 if2.false _ _ fill-param.ensures c.in_ok-laid.was (search rules) (omega (arith, if3.false))

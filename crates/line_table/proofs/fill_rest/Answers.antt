@@ -21,4 +21,4 @@ returns c =
     let if1 = c.if-is_frame_name in
     let fill-params = c.fill_params in
     line-held args.s.now args.group args.name args.end c.requires.read_from (sym is-frame-name.ensures ∙ if1.false) c.requires.table_length_in_bounds.1 c.requires.table_length_in_bounds.2
-    args.t.now _ _ _ c.requires.table_length_in_bounds.0 (search rules) _ fill-params.ensures c.in-Upto.is c.put_head.ensures
+    args.t.now _ _ c.requires.table_length_in_bounds.0 (search rules) _ fill-params.ensures c.in-Some.is c.put_head.ensures

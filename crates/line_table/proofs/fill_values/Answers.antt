@@ -1,5 +1,4 @@
 use borrow.Author.Rules.{rules}
-use Prim.Native.Nat.{◌-◌}
 use native.Mathlib.Omega.{arith}
 use Rattle.line_table.specs.Table.{Span}
 use Rattle.line_table.proofs.Filling.{values-start, values-many, values-off, value-here, values-on, values-end}
@@ -19,11 +18,11 @@ returns-then-m-ge-VALUES c = values-many c.loop-m.invariant (omega (arith, c.if-
 pub value_at-requires : goal.value_at-requires
 value_at-requires c = c.loop-m.invariant.reading.to
 
-pub shape_of-t-in_default : goal.shape_of-t-in_default
-shape_of-t-in_default c = c.loop-m.invariant.long
+pub shape_of-t-in_err-value : goal.shape_of-t-in_err-value
+shape_of-t-in_err-value c = c.loop-m.invariant.long
 
-pub returns-in_default : goal.returns-in_default
-returns-in_default c = values-off c.loop-m.invariant c.value_at.ensures c.in_default.is
+pub returns-in_err-value : goal.returns-in_err-value
+returns-in_err-value c = rw c.from_residual.ensures (values-off c.loop-m.invariant c.value_at.ensures c.in_err-value.was)
 
 pub put_row-m-requires : goal.put_row-m-requires
 put_row-m-requires c =
@@ -34,7 +33,7 @@ pub look-requires : goal.look-requires
 look-requires c =
     let loop = c.loop-m in
     let value-at = c.value_at in
-    (value-here loop.invariant value-at.ensures c.in-At.is).within
+    (value-here loop.invariant value-at.ensures c.in_ok-value.was).within
 
 pub returns-then-look-ne-COMMA : goal.returns-then-look-ne-COMMA
 returns-then-look-ne-COMMA c =
@@ -43,7 +42,7 @@ returns-then-look-ne-COMMA c =
     let loop = c.loop-m in
     let value-at = c.value_at in
     let name : Span _ _ _ = record { ordered = pre.2; within = pre.3 } in
-    values-end loop.invariant value-at.ensures c.in-At.is (omega (arith, if1.false)) pre.0 name c.put_row-m.ensures c.look.ensures.0 c.if-look-ne-COMMA.true
+    values-end loop.invariant value-at.ensures c.in_ok-value.was (omega (arith, if1.false)) pre.0 name c.put_row-m.ensures c.look.ensures.0 c.if-look-ne-COMMA.true
 
 pub overflow_add-i : goal.overflow_add-i
 overflow_add-i c = omega (arith, c.look.ensures.1, c.if-look-ne-COMMA.false)
@@ -52,7 +51,7 @@ pub loop-m-smaller : goal.loop-m-smaller
 loop-m-smaller c =
     let loop = c.loop-m in
     let value-at = c.value_at in
-    let v = value-here loop.invariant value-at.ensures c.in-At.is in
+    let v = value-here loop.invariant value-at.ensures c.in_ok-value.was in
     omega (arith, c.look.ensures.1, c.if-look-ne-COMMA.false, v.from, v.ordered, v.before, v.within)
 
 pub loop-m-preserved : goal.loop-m-preserved
@@ -62,5 +61,5 @@ loop-m-preserved c =
     let loop = c.loop-m in
     let value-at = c.value_at in
     let name : Span _ _ _ = record { ordered = pre.2; within = pre.3 } in
-    values-on loop.invariant value-at.ensures c.in-At.is (omega (arith, if1.false)) pre.0 name c.put_row-m.ensures c.look.ensures.0 c.if-look-ne-COMMA.false
+    values-on loop.invariant value-at.ensures c.in_ok-value.was (omega (arith, if1.false)) pre.0 name c.put_row-m.ensures c.look.ensures.0 c.if-look-ne-COMMA.false
     (omega (arith, c.look.ensures.1, c.if-look-ne-COMMA.false)) (search rules)

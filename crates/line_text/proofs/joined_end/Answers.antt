@@ -1,4 +1,3 @@
-use Prim.Native.Nat.{◌-◌}
 use Rattle.line_text.proofs.Splitting.{joined-none, joined-one}
 use Rattle.line_text.proofs.joined_end.Goals as goal
 

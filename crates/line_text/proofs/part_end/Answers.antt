@@ -1,4 +1,3 @@
-use Prim.Native.Nat.{◌-◌}
 use native.Mathlib.Omega.{arith}
 use Rattle.line_text.proofs.Splitting.{part-here, part_out, part-on, char-onward}
 use Rattle.line_text.proofs.part_end.Goals as goal

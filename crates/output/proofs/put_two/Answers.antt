@@ -1,21 +1,21 @@
+use Rattle.output.proofs.Laws.{failed}
 use native.Mathlib.Nat.{le_refl}
 use mathlib.Core.List.{[], ◌∷◌}
 use Rattle.output.proofs.Rows.{Here, first!, next!, none, stop!, all, in!, fit!, same!, length-puts}
 use Rattle.output.proofs.put_two.Goals as goal
-use Rattle.output.proofs.put_two.Goals.{In-Bytes, In-Bytes-put_text}
+use Rattle.output.proofs.put_two.Goals.{In_ok-n, In_ok-m}
 
-abbrev s₁ : In-Bytes → Here
-s₁ c = first! (c.args.b.now ∷ []) c.put_text.ensures c.in-Bytes.is
+abbrev s₁ : In_ok-n → Here
+s₁ c = first! (c.args.b.now ∷ []) c.put_text.ensures c.in_ok-n.was
 
-abbrev s₂ : In-Bytes-put_text → Here
+abbrev s₂ : In_ok-m → Here
 s₂ c =
-    next! (s₁ (goal.at.In-Bytes-put_text c).In-Bytes) c.put_text-2.ensures c.in-Bytes-put_text.is
+    next! (s₁ (goal.at.In_ok-m c).In_ok-n) c.put_text-2.ensures c.in_ok-m.was
 
-pub shape_of-out-in_default : goal.shape_of-out-in_default
-shape_of-out-in_default c = length-puts (none [] c.put_text.ensures c.in_default.is)
-
-pub returns-in_default : goal.returns-in_default
-returns-in_default c = none _ c.put_text.ensures c.in_default.is
+pub returns-in_err-n : goal.returns-in_err-n
+returns-in_err-n c =
+    failed c.from_residual.ensures.0
+    (none _ c.put_text.ensures c.in_err-n.was)
 
 pub slice_bounds-put_text-count : goal.slice_bounds-put_text-count
 slice_bounds-put_text-count c = in! (s₁ c)
@@ -26,11 +26,10 @@ slice_bounds-put_text-start c = in! (s₁ c)
 pub slice_bounds-put_text-end : goal.slice_bounds-put_text-end
 slice_bounds-put_text-end c = le_refl _
 
-pub shape_of-out-in_default-put_text : goal.shape_of-out-in_default-put_text
-shape_of-out-in_default-put_text c = length-puts (stop! (s₁ (goal.at.shape_of-out-in_default-put_text c).In-Bytes) c.put_text-2.ensures c.in_default-put_text.is)
-
-pub returns-in_default-put_text : goal.returns-in_default-put_text
-returns-in_default-put_text c = stop! (s₁ (goal.at.returns-in_default-put_text c).In-Bytes) c.put_text-2.ensures c.in_default-put_text.is
+pub returns-in_err-m : goal.returns-in_err-m
+returns-in_err-m c =
+    failed c.from_residual-in_err-m.ensures.0
+    (stop! (s₁ (goal.at.returns-in_err-m c).In_ok-n) c.put_text-2.ensures c.in_err-m.was)
 
 pub overflow_add-nm : goal.overflow_add-nm
 overflow_add-nm c = fit! (s₂ c) c.well_formed.0.0

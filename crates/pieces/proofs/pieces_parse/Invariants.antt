@@ -7,6 +7,3 @@ use Rattle.pieces.proofs.pieces_parse.Given as goal
 abbrev pub invariant-loop-k : goal.invariant-loop-k
 invariant-loop-k l =
     (table_length ≤ length l.table) × (l.good ≤ l.k) × (l.good + pass_from l.bytes l.starts l.marks l.k (l.n - l.k) ≡ pass_from l.bytes l.starts l.marks 0 l.n)
-
-abbrev pub decreases-loop-k : goal.decreases-loop-k
-decreases-loop-k l = l.n - l.k

@@ -1,12 +1,9 @@
-use Rattle.json_read.specs.declared.Verdict.TheVariants.{Sound, Large, NotJson}
+use Rattle.std.specs.Prelude.{Ok, Err}
 use Rattle.pieces.proofs.Reading.{read_as}
 use Rattle.pieces.proofs.pieces_read.Goals as goal
 
-pub returns-in-Sound : goal.returns-in-Sound
-returns-in-Sound c = read_as c.args.json.now c.read.result Sound c.read.ensures.value c.in-Sound.is
+pub returns-in-Ok : goal.returns-in-Ok
+returns-in-Ok c = read_as c.args.json.now c.read.result (Ok _) c.read.ensures.value c.in-Ok.is
 
-pub returns-in-Large : goal.returns-in-Large
-returns-in-Large c = read_as c.args.json.now c.read.result Large c.read.ensures.value c.in-Large.is
-
-pub returns-in-NotJson : goal.returns-in-NotJson
-returns-in-NotJson c = read_as c.args.json.now c.read.result (NotJson _) c.read.ensures.value c.in-NotJson.is
+pub returns-in-Err : goal.returns-in-Err
+returns-in-Err c = read_as c.args.json.now c.read.result (Err _) c.read.ensures.value c.in-Err.is

@@ -12,10 +12,10 @@ returns-in_default c = not-one _ _ _ _ _ c.if-starts-lt-STARTS.false c.if-out-ca
 
 pub returns-in_default-unfold : goal.returns-in_default-unfold
 returns-in_default-unfold c =
-    let f = body c.args.card.now c.frame_of.result c.in-Body.a c.in-Body.b c.in-Body.is c.frame_of.ensures in
-    too_many _ _ _ _ _ c.if-starts-lt-STARTS.false c.if-out-card.false _ f.2 c.unfold.result c.unfold.ensures c.in_default-unfold.is
+    let f = body c.args.card.now c.frame_of.result c.in-Some.body c.in-Some.is c.frame_of.ensures in
+    too_many _ _ _ _ _ c.if-starts-lt-STARTS.false c.if-out-card.false _ f.2 c.unfold.result c.unfold.ensures _ c.in_default-unfold.is
 
 pub returns : goal.returns
 returns c =
-    let f = body c.args.card.now c.frame_of.result c.in-Body.a c.in-Body.b c.in-Body.is c.frame_of.ensures in
-    lines-laid _ _ _ _ _ c.if-starts-lt-STARTS.false c.if-out-card.false _ f.2 c.unfold.result c.unfold.ensures _ c.in-Lines.is
+    let f = body c.args.card.now c.frame_of.result c.in-Some.body c.in-Some.is c.frame_of.ensures in
+    lines-laid _ _ _ _ _ c.if-starts-lt-STARTS.false c.if-out-card.false _ f.2 c.unfold.result c.unfold.ensures _ c.in-Ok.is

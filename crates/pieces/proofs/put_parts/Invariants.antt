@@ -7,6 +7,3 @@ use Rattle.pieces.proofs.put_parts.Given as goal
 abbrev pub invariant-loop-k : goal.invariant-loop-k
 invariant-loop-k l =
     Rest l.fn.out (written_parts l.bytes l.starts l.n l.writer) (left_from l.bytes l.starts l.writer l.k (l.n - l.k)) l.at l.out
-
-abbrev pub decreases-loop-k : goal.decreases-loop-k
-decreases-loop-k l = l.n - l.k

@@ -1,6 +1,5 @@
 use Rattle.stream_reader.proofs.Laws.{agrees-off, agrees-end, agrees-long, agrees-not, agrees_on}
 use native.Mathlib.Omega.{arith}
-use Prim.Native.Nat.{◌-◌}
 use mathlib.Core.Path.{sym, ◌∙◌}
 use Rattle.stream_reader.proofs.agrees.Goals as goal
 
@@ -32,12 +31,6 @@ returns-then-pat-c c =
     (agrees-not args.pat.now args.run.now loop.c loop.j loop-test.true if2.false
     (λ e. c.if-pat-c.true (e ∙ sym c.lower_of.ensures)))
     ∙ loop.invariant.1
-
-pub overflow_add-j : goal.overflow_add-j
-overflow_add-j c = omega arith
-
-pub loop-j-smaller : goal.loop-j-smaller
-loop-j-smaller c = omega arith
 
 pub loop-j-preserved : goal.loop-j-preserved
 loop-j-preserved c =

@@ -7,6 +7,3 @@ use Rattle.stream_reader.proofs.agrees.Given as goal
 
 abbrev pub invariant-loop-j : goal.invariant-loop-j
 invariant-loop-j l = (l.j ≤ length l.run) × (agrees_all l.pat true l.c (drop l.j l.run) ≡ agrees_all l.pat l.on l.col l.run)
-
-abbrev pub decreases-loop-j : goal.decreases-loop-j
-decreases-loop-j l = length l.run - l.j

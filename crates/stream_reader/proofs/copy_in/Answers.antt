@@ -4,7 +4,7 @@ use Rattle.stream_reader.proofs.Laws.{store-none, store-turn, store-end}
 use Rattle.stream_reader.specs.Machine.{store_all}
 use lib.ListN.{get_or, length-set}
 use native.Mathlib.Omega.{arith}
-use Prim.Native.Nat.{◌+◌, ◌-◌}
+use Prim.Native.Nat.{◌+◌}
 use mathlib.Core.Path.{◌≡◌, refl, sym, ◌∙◌}
 use Rattle.stream_reader.proofs.copy_in.Goals as goal
 
@@ -27,12 +27,6 @@ overflow_add-card c = omega (arith, c.least-room.ensures, c.least-n.ensures, c.i
 
 pub bounds-card-at : goal.bounds-card-at
 bounds-card-at c = omega (arith, c.least-room.ensures, c.least-n.ensures, c.if-at-room.false, c.loop-j.invariant.1)
-
-pub overflow_add-j : goal.overflow_add-j
-overflow_add-j c = omega (arith, c.least-room.ensures, c.least-n.ensures)
-
-pub loop-j-smaller : goal.loop-j-smaller
-loop-j-smaller c = omega arith
 
 pub loop-j-preserved : goal.loop-j-preserved
 loop-j-preserved c =

@@ -1,23 +1,26 @@
-use borrow.Author.Tests.{eq-eqb, ne_eqb}
 use Rattle.stream_reader.specs.Machine.{end_verdict_of}
 use Rattle.stream_reader.proofs.end_verdict.Goals as goal
 
-pub returns-then-k-eq2 : goal.returns-then-k-eq2
+pub returns-then-is_end : goal.returns-then-is_end
 unfolding end_verdict_of
-returns-then-k-eq2 c = simp (c.if-inside.true, eq-eqb _ _ c.if-k-eq2.true)
+returns-then-is_end c = rw (c.if-inside.true, ← c.is_end.ensures, c.if-is_end.true)
 
 pub returns-then-inside : goal.returns-then-inside
 unfolding end_verdict_of
-returns-then-inside c = simp (c.if-inside.true, ne_eqb _ _ c.if-k-eq2.false)
+returns-then-inside c = rw (c.if-inside.true, ← c.is_end.ensures, c.if-is_end.false)
 
-pub returns-then-k-eq0 : goal.returns-then-k-eq0
+pub returns-in-Empty : goal.returns-in-Empty
 unfolding end_verdict_of
-returns-then-k-eq0 c = simp (c.if-inside.false, eq-eqb _ _ c.if-k-eq0.true)
+returns-in-Empty c = rw (c.if-inside.false, c.in-Empty.is)
 
-pub returns-then-k-eq1 : goal.returns-then-k-eq1
+pub returns-in-Begin : goal.returns-in-Begin
 unfolding end_verdict_of
-returns-then-k-eq1 c = simp (c.if-inside.false, ne_eqb _ _ c.if-k-eq0.false, eq-eqb _ _ c.if-k-eq1.true)
+returns-in-Begin c = rw (c.if-inside.false, c.in-Begin.is)
 
-pub returns : goal.returns
+pub returns-in-End : goal.returns-in-End
 unfolding end_verdict_of
-returns c = simp (c.if-inside.false, ne_eqb _ _ c.if-k-eq0.false, ne_eqb _ _ c.if-k-eq1.false)
+returns-in-End c = rw (c.if-inside.false, c.in-End.is)
+
+pub returns-in-Other : goal.returns-in-Other
+unfolding end_verdict_of
+returns-in-Other c = rw (c.if-inside.false, c.in-Other.is)

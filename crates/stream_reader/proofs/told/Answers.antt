@@ -1,15 +1,18 @@
 use Rattle.stream_reader.specs.Machine.{event_of}
-use Rattle.stream_reader.proofs.Laws.{tests}
 use Rattle.stream_reader.proofs.told.Goals as goal
 
-pub returns-then-w-eq0 : goal.returns-then-w-eq0
+pub returns-in-More : goal.returns-in-More
 unfolding event_of
-returns-then-w-eq0 c = search tests
+returns-in-More c = rw c.in-More.is
 
-pub returns-then-w-eq3 : goal.returns-then-w-eq3
+pub returns-in-Outside : goal.returns-in-Outside
 unfolding event_of
-returns-then-w-eq3 c = search tests
+returns-in-Outside c = rw c.in-Outside.is
 
-pub returns : goal.returns
+pub returns-in-Endless : goal.returns-in-Endless
 unfolding event_of
-returns c = search tests
+returns-in-Endless c = rw c.in-Endless.is
+
+pub returns-in-Whole : goal.returns-in-Whole
+unfolding event_of
+returns-in-Whole c = rw c.in-Whole.is c.closed.ensures

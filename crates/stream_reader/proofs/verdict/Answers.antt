@@ -1,23 +1,34 @@
-use borrow.Author.Tests.{eq-eqb, ne_eqb, lt-ltb, le-ltb}
 use Rattle.stream_reader.specs.Machine.{verdict_of}
 use Rattle.stream_reader.proofs.verdict.Goals as goal
 
-pub returns-then-k-eq1 : goal.returns-then-k-eq1
+pub returns-in-Begin : goal.returns-in-Begin
 unfolding verdict_of
-returns-then-k-eq1 c = simp (c.if-inside.true, eq-eqb _ _ c.if-k-eq1.true)
+returns-in-Begin c = rw (c.if-inside.true, c.in-Begin.is)
 
-pub returns-then-k-eq2 : goal.returns-then-k-eq2
+pub returns-in-End : goal.returns-in-End
 unfolding verdict_of
-returns-then-k-eq2 c = simp (c.if-inside.true, ne_eqb _ _ c.if-k-eq1.false, eq-eqb _ _ c.if-k-eq2.true)
+returns-in-End c = rw (c.if-inside.true, c.in-End.is)
 
-pub returns-then-inside : goal.returns-then-inside
+pub returns-in-Empty : goal.returns-in-Empty
 unfolding verdict_of
-returns-then-inside c = simp (c.if-inside.true, ne_eqb _ _ c.if-k-eq1.false, ne_eqb _ _ c.if-k-eq2.false)
+returns-in-Empty c = rw (c.if-inside.true, c.in-Empty.is)
 
-pub returns-then-k-lt2 : goal.returns-then-k-lt2
+pub returns-in-Other : goal.returns-in-Other
 unfolding verdict_of
-returns-then-k-lt2 c = simp (c.if-inside.false, lt-ltb _ _ c.if-k-lt2.true)
+returns-in-Other c = rw (c.if-inside.true, c.in-Other.is)
 
-pub returns : goal.returns
+pub returns-in-Empty-line : goal.returns-in-Empty-line
 unfolding verdict_of
-returns c = simp (c.if-inside.false, le-ltb _ _ c.if-k-lt2.false)
+returns-in-Empty-line c = rw (c.if-inside.false, c.in-Empty-line.is)
+
+pub returns-in-Begin-line : goal.returns-in-Begin-line
+unfolding verdict_of
+returns-in-Begin-line c = rw (c.if-inside.false, c.in-Begin-line.is)
+
+pub returns-in-End-line : goal.returns-in-End-line
+unfolding verdict_of
+returns-in-End-line c = rw (c.if-inside.false, c.in-End-line.is)
+
+pub returns-in-Other-line : goal.returns-in-Other-line
+unfolding verdict_of
+returns-in-Other-line c = rw (c.if-inside.false, c.in-Other-line.is)

@@ -13,7 +13,7 @@ returns-then-not-only_of c =
     let args = c.args in
     let pre = c.requires in
     let has-group = c.has_group in
-    others args.s.now args.t.now args.types args.form (has-group.ensures ∙ ap not c.if-has_group.false) pre.row _
+    others args.s.now args.t.now args.types args.form (has-group.ensures ∙ ap not c.if-has_group.false) args.rows pre.row _
     c.only_of.ensures c.if-not-only_of.true
 
 pub returns-then-not-takes_kind : goal.returns-then-not-takes_kind
@@ -23,7 +23,7 @@ returns-then-not-takes_kind c =
     let has-group = c.has_group in
     let if1 = c.if-has_group in
     let only_of = c.only_of in
-    untaken args.s.now args.t.now args.types args.form (has-group.ensures ∙ ap not if1.false) pre.row _ only_of.ensures
+    untaken args.s.now args.t.now args.types args.form (has-group.ensures ∙ ap not if1.false) args.rows pre.row _ only_of.ensures
     c.if-not-only_of.false _ (c.value_kind-kind.ensures _ pre.row) _ c.takes_kind.ensures c.if-not-takes_kind.true
 
 pub returns-then-not-pref_fits : goal.returns-then-not-pref_fits
@@ -35,7 +35,7 @@ returns-then-not-pref_fits c =
     let only_of = c.only_of in
     let value-kind = c.value_kind-kind in
     let takes-kind = c.takes_kind in
-    unpreferred args.s.now args.t.now args.types args.form (has-group.ensures ∙ ap not if1.false) pre.row _ only_of.ensures
+    unpreferred args.s.now args.t.now args.types args.form (has-group.ensures ∙ ap not if1.false) args.rows pre.row _ only_of.ensures
     c.if-not-only_of.false _ (value-kind.ensures _ pre.row) _ takes-kind.ensures c.if-not-takes_kind.false _
     (c.pref_fits.ensures _ pre.row) c.if-not-pref_fits.true
 
@@ -49,7 +49,7 @@ returns-then-not-types_fit c =
     let value-kind = c.value_kind-kind in
     let takes-kind = c.takes_kind in
     let pref-fits = c.pref_fits in
-    untyped args.s.now args.t.now args.types args.form (has-group.ensures ∙ ap not if1.false) pre.row _ only_of.ensures
+    untyped args.s.now args.t.now args.types args.form (has-group.ensures ∙ ap not if1.false) args.rows pre.row _ only_of.ensures
     c.if-not-only_of.false _ (value-kind.ensures _ pre.row) _ takes-kind.ensures c.if-not-takes_kind.false _
     (pref-fits.ensures _ pre.row) c.if-not-pref_fits.false _ c.types_fit.ensures c.if-not-types_fit.true
 
@@ -64,7 +64,7 @@ returns-then-not-reads_as c =
     let takes-kind = c.takes_kind in
     let pref-fits = c.pref_fits in
     let types-fit = c.types_fit in
-    unread args.s.now args.t.now args.types args.form (has-group.ensures ∙ ap not if1.false) pre.row _ only_of.ensures
+    unread args.s.now args.t.now args.types args.form (has-group.ensures ∙ ap not if1.false) args.rows pre.row _ only_of.ensures
     c.if-not-only_of.false _ (value-kind.ensures _ pre.row) _ takes-kind.ensures c.if-not-takes_kind.false _
     (pref-fits.ensures _ pre.row) c.if-not-pref_fits.false _ types-fit.ensures c.if-not-types_fit.false _
     (reads args.s.now args.t.now args.types args.form _ _ (value-kind.ensures _ pre.row) c.reads_as.ensures)
@@ -81,7 +81,7 @@ returns c =
     let takes-kind = c.takes_kind in
     let pref-fits = c.pref_fits in
     let types-fit = c.types_fit in
-    by_key args.s.now args.t.now args.types args.form (has-group.ensures ∙ ap not if1.false) pre.row _ only_of.ensures
+    by_key args.s.now args.t.now args.types args.form (has-group.ensures ∙ ap not if1.false) args.rows pre.row _ only_of.ensures
     c.if-not-only_of.false _ (value-kind.ensures _ pre.row) _ takes-kind.ensures c.if-not-takes_kind.false _
     (pref-fits.ensures _ pre.row) c.if-not-pref_fits.false _ types-fit.ensures c.if-not-types_fit.false _
     (reads args.s.now args.t.now args.types args.form _ _ (value-kind.ensures _ pre.row)

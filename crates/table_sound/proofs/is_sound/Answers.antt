@@ -1,11 +1,7 @@
 use mathlib.Core.Path.{refl}
-use Prim.Native.Nat.{◌-◌}
 use native.Mathlib.Omega.{arith}
 use Rattle.table_sound.proofs.Spans.{span-is, span-not, spans-none, value_in, spans_on, spans-as}
 use Rattle.table_sound.proofs.is_sound.Goals as goal
-
-pub bounds-t-6 : goal.bounds-t-6
-bounds-t-6 c = omega (arith, c.requires)
 
 pub returns-then-n-gt-VALUES : goal.returns-then-n-gt-VALUES
 returns-then-n-gt-VALUES c = λ s. omega (arith, s.few, c.if-n-gt-VALUES.true)
@@ -31,16 +27,7 @@ returns-then-not-has_span-3 c = λ s. span-not c.has_span-3.result c.has_span-3.
 pub loop-k-init : goal.loop-k-init
 loop-k-init c =
     let args = c.args in
-    (omega arith, spans-none args.b.now args.t.now)
-
-pub overflow_mul-i : goal.overflow_mul-i
-overflow_mul-i c = omega (arith, c.if-n-gt-VALUES.false, c.loop-k-test.true)
-
-pub overflow_add-i : goal.overflow_add-i
-overflow_add-i c = omega (arith, c.if-n-gt-VALUES.false, c.loop-k-test.true)
-
-pub overflow_add-j : goal.overflow_add-j
-overflow_add-j c = omega (arith, c.if-n-gt-VALUES.false, c.loop-k-test.true)
+    spans-none args.b.now args.t.now
 
 pub has_span-requires-in-loop-k : goal.has_span-requires-in-loop-k
 has_span-requires-in-loop-k c =
@@ -68,24 +55,13 @@ returns-then-not-has_span-5 c =
     let has-span5 = c.has_span-in-loop-k-2 in
     λ s. span-not has-span5.result has-span5.ensures c.if-not-has_span-5.true refl (value_in s.rows loop.k loop-test.true)
 
-pub overflow_add-k : goal.overflow_add-k
-overflow_add-k c =
-    let if1 = c.if-n-gt-VALUES in
-    let loop-test = c.loop-k-test in
-    omega (arith, if1.false, loop-test.true)
-
-pub loop-k-smaller : goal.loop-k-smaller
-loop-k-smaller c = omega (arith, c.loop-k-test.true)
-
 pub loop-k-preserved : goal.loop-k-preserved
 loop-k-preserved c =
     let loop = c.loop-k in
-    let loop-test = c.loop-k-test in
     let has-span4 = c.has_span-in-loop-k in
-    let has-span5 = c.has_span-in-loop-k-2 in (
-      omega (arith, loop-test.true),
-      spans_on loop.invariant.1 (span-is has-span4.result has-span4.ensures c.if-not-has_span-4.false refl) (span-is has-span5.result has-span5.ensures c.if-not-has_span-5.false refl),
-    )
+    let has-span5 = c.has_span-in-loop-k-2 in
+    spans_on loop.invariant (span-is has-span4.result has-span4.ensures c.if-not-has_span-4.false refl)
+    (span-is has-span5.result has-span5.ensures c.if-not-has_span-5.false refl)
 
 pub returns : goal.returns
 returns c =
@@ -103,5 +79,5 @@ returns c =
           span-is has-span2.result has-span2.ensures c.if-not-has_span-2.false refl;
       value = span-is has-span3.result has-span3.ensures
           c.if-not-has_span-3.false refl;
-      rows = spans-as loop.invariant.1 (omega (arith, loop.invariant.0, c.loop-k-test.false));
+      rows = spans-as loop.invariant (omega (arith, c.loop-k.auto.k-end, c.loop-k-test.false));
     }

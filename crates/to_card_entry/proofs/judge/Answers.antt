@@ -1,4 +1,5 @@
 use mathlib.Core.Path.{ap}
+use Rattle.to_card_pen.proofs.Refusal.{refused}
 use mathlib.Core.Bool.{not}
 use Rattle.to_card_entry.proofs.Judging.{two, seven, judged-strange, judged-kind, judged-contexts, judged-features, judged-pref, judged-fit}
 use mathlib.Core.Path.{◌∙◌}
@@ -13,14 +14,15 @@ returns-then-other-ne0 c =
       judges_slots = judged-strange args.s.now args.kind args.contexts args.pref args.features args.other args.kinds.now args.count _ _ c.if-other-ne0.true;
     }
 
-pub returns-in_default : goal.returns-in_default
-returns-in_default c =
+pub returns-in_err-which : goal.returns-in_err-which
+returns-in_err-which c =
+    let e = refused c.from_residual.result c.from_residual.ensures.0 in
     let pre = c.requires in
     let args = c.args in
     let if1 = c.if-other-ne0 in
     let kind-in = c.kind_in in record {
       row_len = pre;
-      judges_slots = judged-kind args.s.now args.kind args.contexts args.pref args.features args.other args.kinds.now args.count _ if1.false kind-in.result kind-in.ensures _ c.in_default.is;
+      judges_slots = rw e (judged-kind args.s.now args.kind args.contexts args.pref args.features args.other args.kinds.now args.count _ if1.false kind-in.result kind-in.ensures _ c.in_err-which.was);
     }
 
 pub flags_in-requires : goal.flags_in-requires
@@ -34,7 +36,7 @@ returns-then-not-flags_in c =
     let kind-in = c.kind_in in
     record {
       row_len = c.flags_in.ensures.row_len_unchanged ∙ pre;
-      judges_slots = judged-contexts args.s.now args.kind args.contexts args.pref args.features args.other args.kinds.now args.count _ if1.false kind-in.result kind-in.ensures _ c.in-At.is c.flags_in.result _ c.flags_in.ensures.tells_flags _ (ap not c.if-not-flags_in.true);
+      judges_slots = judged-contexts args.s.now args.kind args.contexts args.pref args.features args.other args.kinds.now args.count _ if1.false kind-in.result kind-in.ensures _ c.in_ok-which.was c.flags_in.result _ c.flags_in.ensures.tells_flags _ (ap not c.if-not-flags_in.true);
     }
 
 pub flags_in-requires-2 : goal.flags_in-requires-2
@@ -48,18 +50,19 @@ returns-then-not-flags_in-2 c =
     let kind-in = c.kind_in in
     record {
       row_len = c.flags_in-2.ensures.row_len_unchanged ∙ c.flags_in.ensures.row_len_unchanged ∙ pre;
-      judges_slots = judged-features args.s.now args.kind args.contexts args.pref args.features args.other args.kinds.now args.count _ if1.false kind-in.result kind-in.ensures _ c.in-At.is c.flags_in.result _ c.flags_in.ensures.tells_flags (ap not c.if-not-flags_in.false) c.flags_in-2.result _ c.flags_in-2.ensures.tells_flags _ (ap not c.if-not-flags_in-2.true);
+      judges_slots = judged-features args.s.now args.kind args.contexts args.pref args.features args.other args.kinds.now args.count _ if1.false kind-in.result kind-in.ensures _ c.in_ok-which.was c.flags_in.result _ c.flags_in.ensures.tells_flags (ap not c.if-not-flags_in.false) c.flags_in-2.result _ c.flags_in-2.ensures.tells_flags _ (ap not c.if-not-flags_in-2.true);
     }
 
-pub returns-in_default-pref_in : goal.returns-in_default-pref_in
-returns-in_default-pref_in c =
+pub returns-in_err-part : goal.returns-in_err-part
+returns-in_err-part c =
+    let e = refused c.from_residual-in_err-part.result c.from_residual-in_err-part.ensures.0 in
     let pre = c.requires in
     let args = c.args in
     let if1 = c.if-other-ne0 in
     let kind-in = c.kind_in in
     let pref-in = c.pref_in in record {
       row_len = c.flags_in-2.ensures.row_len_unchanged ∙ c.flags_in.ensures.row_len_unchanged ∙ pre;
-      judges_slots = judged-pref args.s.now args.kind args.contexts args.pref args.features args.other args.kinds.now args.count _ if1.false kind-in.result kind-in.ensures _ c.in-At.is c.flags_in.result _ c.flags_in.ensures.tells_flags (ap not c.if-not-flags_in.false) c.flags_in-2.result _ c.flags_in-2.ensures.tells_flags (ap not c.if-not-flags_in-2.false) pref-in.result pref-in.ensures _ c.in_default-pref_in.is;
+      judges_slots = rw e (judged-pref args.s.now args.kind args.contexts args.pref args.features args.other args.kinds.now args.count _ if1.false kind-in.result kind-in.ensures _ c.in_ok-which.was c.flags_in.result _ c.flags_in.ensures.tells_flags (ap not c.if-not-flags_in.false) c.flags_in-2.result _ c.flags_in-2.ensures.tells_flags (ap not c.if-not-flags_in-2.false) pref-in.result pref-in.ensures _ c.in_err-part.was);
     }
 
 pub returns : goal.returns
@@ -70,5 +73,5 @@ returns c =
     let kind-in = c.kind_in in
     let pref-in = c.pref_in in record {
       row_len = c.flags_in-2.ensures.row_len_unchanged ∙ c.flags_in.ensures.row_len_unchanged ∙ pre;
-      judges_slots = judged-fit args.s.now args.kind args.contexts args.pref args.features args.other args.kinds.now args.count _ if1.false kind-in.result kind-in.ensures _ c.in-At.is c.flags_in.result _ c.flags_in.ensures.tells_flags (ap not c.if-not-flags_in.false) c.flags_in-2.result _ c.flags_in-2.ensures.tells_flags (ap not c.if-not-flags_in-2.false) pref-in.result pref-in.ensures _ _ c.in-At-pref_in.is;
+      judges_slots = judged-fit args.s.now args.kind args.contexts args.pref args.features args.other args.kinds.now args.count _ if1.false kind-in.result kind-in.ensures _ c.in_ok-which.was c.flags_in.result _ c.flags_in.ensures.tells_flags (ap not c.if-not-flags_in.false) c.flags_in-2.result _ c.flags_in-2.ensures.tells_flags (ap not c.if-not-flags_in-2.false) pref-in.result pref-in.ensures _ _ c.in_ok-part.was;
     }

@@ -1,13 +1,14 @@
 use borrow.Author.Rules.{rules}
 use native.Mathlib.Omega.{arith}
-use mathlib.Core.Path.{◌≡◌, sym, ap, ◌∙◌}
+use native.Mathlib.Nat.{le_refl}
+use mathlib.Core.Path.{◌≡◌, sym, ap, subst, ◌∙◌}
 use mathlib.Core.Bool.{true, false}
 use Prim.Native.Nat.{ℕ, ◌+◌, ◌-◌}
-use lib.ListN.{get_or}
+use lib.ListN.{get_or, length}
 use Rattle.line.specs.Class.{is_key}
 use Rattle.json_index.proofs.Together.{byte-same}
 use Rattle.json_strings.specs.Decoded.{decoded_at}
-use Rattle.to_card_entry.specs.Rows.{key_from}
+use Rattle.to_card_entry.specs.Rows.{key_of, key_from}
 use Rattle.to_card_entry.proofs.Keys.{key_here, key-byte, no-key-end}
 use Rattle.to_card_entry.proofs.key_end.Goals as goal
 
@@ -37,5 +38,10 @@ loop-i-preserved c =
 
 pub returns : goal.returns
 returns c =
+    let s = c.args.s.now in
     let loop = c.loop-i in
-    record { lower_bound = (loop.invariant.0, loop.invariant.1); at_value = loop.invariant.2; result_value = no-key-end c.args.s.now loop.i (omega (arith, c.loop-i-test.false)) }
+    let all : loop.i ≡ length s = omega (arith, loop.invariant.1, c.loop-i-test.false) in record {
+      lower_bound = (omega (arith, all, loop.invariant.0), le_refl _);
+      at_value = subst (λ (i : ℕ). key_of (decoded_at s c.args.at) ≡ key_from (i - c.args.at) (decoded_at s i)) all loop.invariant.2;
+      result_value = no-key-end s (length s) (le_refl _);
+    }

@@ -7,6 +7,3 @@ use Rattle.to_card_entry.proofs.key_end.Given as goal
 
 abbrev pub invariant-loop-i : goal.invariant-loop-i
 invariant-loop-i l = (l.at ≤ l.i) × (l.i ≤ length l.s) × (key_of (decoded_at l.s l.at) ≡ key_from (l.i - l.at) (decoded_at l.s l.i))
-
-abbrev pub decreases-loop-i : goal.decreases-loop-i
-decreases-loop-i l = length l.s - l.i

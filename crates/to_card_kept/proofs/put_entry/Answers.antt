@@ -10,15 +10,11 @@ pub fill_kept-requires : goal.fill_kept-requires
 fill_kept-requires c =
     record { table_length_in_bounds = c.requires.lent.all.table; at_in_bounds = c.requires.at_in_bounds }
 
-pub returns-in_default : goal.returns-in_default
-returns-in_default c =
+pub returns-in_err-end-clause-puts_entry : goal.returns-in_err-end-clause-puts_entry
+returns-in_err-end-clause-puts_entry c =
     let args = c.args in
-    record {
-      entered_in = tt;
-      out_len_unchanged = refl;
-      puts_entry = entry-unfilled args.s.now args.slots.now args.at args.full args.parts args.out.now args.b.now c.requires.lent.all.buffer _ _ _ c.fill_kept.ensures.fills_kept (ap is_entry c.in_default.is) _;
-      asked_once = tt;
-    }
+    rw c.from_residual.ensures
+    (entry-unfilled args.s.now args.slots.now args.at args.full args.parts args.out.now args.b.now c.requires.lent.all.buffer _ _ _ c.fill_kept.ensures.fills_kept (ap is_entry c.in_err-end.was) _)
 
 pub is_sound-requires : goal.is_sound-requires
 is_sound-requires c =
@@ -61,10 +57,10 @@ pub returns : goal.returns
 returns c =
     let args = c.args in
     record {
-      entered_in = (c.put_kept_line-p.ensures.bytes_in_bounds, held_in args.s.now args.at c.fill_kept.ensures.held_in c.in-Entry.is);
+      entered_in = (c.put_kept_line-p.ensures.bytes_in_bounds, held_in args.s.now args.at c.fill_kept.ensures.held_in c.in_ok-end.was);
       out_len_unchanged = c.put_kept_line-p.ensures.out_len_unchanged;
       puts_entry = entry-put args.s.now args.slots.now args.at args.full args.parts args.out.now args.b.now c.requires.lent.all.buffer _ _ _
-          c.fill_kept.ensures.fills_kept c.is_kept_line-judged.result.kept c.is_kept_line-judged.ensures.tells_kept (ap is_entry c.in-Entry.is) (not-false _ c.if-not-judged.false)
+          c.fill_kept.ensures.fills_kept c.is_kept_line-judged.result.kept c.is_kept_line-judged.ensures.tells_kept (ap is_entry c.in_ok-end.was) (not-false _ c.if-not-judged.false)
           c.put_kept_line-p.result _ c.put_kept_line-p.ensures.puts_kept;
       asked_once = c.is_kept_line-judged.ensures.asked_bound;
     }

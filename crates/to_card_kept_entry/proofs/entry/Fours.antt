@@ -5,8 +5,8 @@ use mathlib.Core.Option.{none, some}
 use Prim.Native.Nat.{ℕ, zero, suc, ◌+◌, ◌≤◌}
 use native.Mathlib.Omega.{arith}
 use lib.ListN.{length, drop}
-use Rattle.text.specs.declared.Read.{Read}
-use Rattle.text.specs.declared.Turn.TheVariants.{Go, Stop}
+use Rattle.text.specs.Places.{Read}
+use Rattle.std.proofs.Common.{Continue, Break}
 use Rattle.text.specs.Bytes.{Bytes}
 use Rattle.text.specs.Reader.{got, loop}
 use Rattle.text.specs.Places.{GivesT, byte_at, Passes}
@@ -20,9 +20,9 @@ use Rattle.json_access.specs.Access.{place_of, Inside, EndsAt, TellsElement, kin
 use Rattle.json_index.specs.Index.{json_at}
 use Rattle.json_index.proofs.Laws.{place-within}
 use Rattle.to_card_kept_entry.proofs.strings.Elements.{item-here, elems-on, elems-none, elems-end, next_elem, elem-stands, elems-nil, elems-cons, enil-decoded, not-array, empty-array, array-elems, array-end}
-use Rattle.to_card_kept_entry.specs.declared.entry.Four.{Four}
-use Rattle.to_card_kept_entry.specs.declared.entry.Four.TheVariants.{At, Bad}
 use Rattle.to_card_kept_entry.specs.entry.Entry.{FourList, FourIs, FourIn, TellsFour}
+use Rattle.std.specs.Prelude.{None}
+use Rattle.to_card_kept_entry.specs.entry.Entry.{FourAt, elements}
 
 -- elements stand from a place on
 pub record Here (s : Bytes) (i : ℕ) (es : Elems) : Type 0 where
@@ -42,10 +42,10 @@ abbrev Told : Bytes → ℕ → Part → Type 0
 Told s i e = Inside i (length s) e.start e.end × TellsElement 13 s i e
 
 abbrev Gives : Bytes → Part → ℕ → Type 0
-Gives s e j = GivesT s e.end (sep 93 zero suc (drop e.end s)) (Go j)
+Gives s e j = GivesT s e.end (sep 93 zero suc (drop e.end s)) (Continue j)
 
 abbrev Stops : Bytes → Part → Read → Type 0
-Stops s e r = GivesT s e.end (sep 93 zero suc (drop e.end s)) (Stop r)
+Stops s e r = GivesT s e.end (sep 93 zero suc (drop e.end s)) (Break r)
 
 -- elements are read from a place on, with t left
 abbrev Reads : Bytes → ℕ → Bytes → Type 0
@@ -119,12 +119,12 @@ pub record Opens (s : Bytes) (at j : ℕ) : Type 0 where
   pub ends : (r : ℕ) → ((us : Elems) (t : Bytes) → loop (item (value 13)) (drop j s) ≡ got us t → t ≡ drop r s) → EndsAt 14 s at r
 
 module _ (s : Bytes) (at i c : ℕ) (h : Passes is_space s at i) (l : c ≡ byte_at s i) where
-  pub four-other : (c ≡ 91 → ⊥) → TellsFour s at Bad
-  four-other q v w = subst (FourIs s Bad) (sym (other_none v (not-array 13 s at i c h l q v w))) refl
+  pub four-other : (c ≡ 91 → ⊥) → TellsFour s at None
+  four-other q v w = subst (FourIs s None) (sym (other_none v (not-array 13 s at i c h l q v w))) refl
 
   module _ (q : c ≡ 91) (j d : ℕ) (k : Passes is_space s (i + 1) j) (g : d ≡ byte_at s j) where
-    pub four-empty : d ≡ 93 → TellsFour s at Bad
-    four-empty p v w = subst (FourIs s Bad) (sym (ap as_array (empty-array 13 s at i c h l q j d k g p v w) ∙ ap some elems-nil)) refl
+    pub four-empty : d ≡ 93 → TellsFour s at None
+    four-empty p v w = subst (FourIs s None) (sym (ap as_array (empty-array 13 s at i c h l q j d k g p v w) ∙ ap some elems-nil)) refl
 
     pub opens : (d ≡ 93 → ⊥) → Opens s at j
     opens p = record {
@@ -137,46 +137,46 @@ module _ (s : Bytes) (at i c : ℕ) (h : Passes is_space s at i) (l : c ≡ byte
     }
 
 -- by the list of elements
-pub by-elems : {s : Bytes} {at j : ℕ} → Opens s at j → (r : Four) → ((es : Elems) → Here s j es → FourList s r (elems_of es)) → TellsFour s at r
+pub by-elems : {s : Bytes} {at j : ℕ} → Opens s at j → (r : FourAt) → ((es : Elems) → Here s j es → FourList s r (elems_of es)) → TellsFour s at r
 by-elems {s} o r f v w = let x = o.elems v w in subst (λ (y : Json). FourIs s r (as_array y)) (sym x.2) (f x.0 x.1)
 
 module _ (s : Bytes) (j : ℕ) (e : Part) (told : Told s j e) where
-  pub four-1 : (r : Read) → Stops s e r → (es : Elems) → Here s j es → FourList s Bad (elems_of es)
-  four-1 r w es h = let o = then-last s j e told r w es h in subst (FourList s Bad) (sym o.1) refl
+  pub four-1 : (r : Read) → Stops s e r → (es : Elems) → Here s j es → FourList s None (elems_of es)
+  four-1 r w es h = let o = then-last s j e told r w es h in subst (FourList s None) (sym o.1) refl
 
   module _ (j2 : ℕ) (w : Gives s e j2) (e2 : Part) (told2 : Told s j2 e2) where
-    pub four-2 : (r : Read) → Stops s e2 r → (es : Elems) → Here s j es → FourList s Bad (elems_of es)
+    pub four-2 : (r : Read) → Stops s e2 r → (es : Elems) → Here s j es → FourList s None (elems_of es)
     four-2 r w2 es h =
         let a = then-on s j e told j2 w es h in
         let o = then-last s j2 e2 told2 r w2 a.0.others a.1 in
-        subst (FourList s Bad) (sym (longer a.0 o.1)) refl
+        subst (FourList s None) (sym (longer a.0 o.1)) refl
 
     module _ (j3 : ℕ) (w2 : Gives s e2 j3) (e3 : Part) (told3 : Told s j3 e3) where
-      pub four-3 : (r : Read) → Stops s e3 r → (es : Elems) → Here s j es → FourList s Bad (elems_of es)
+      pub four-3 : (r : Read) → Stops s e3 r → (es : Elems) → Here s j es → FourList s None (elems_of es)
       four-3 r w3 es h =
           let a = then-on s j e told j2 w es h in
           let b = then-on s j2 e2 told2 j3 w2 a.0.others a.1 in
           let o = then-last s j3 e3 told3 r w3 b.0.others b.1 in
-          subst (FourList s Bad) (sym (longer a.0 (longer b.0 o.1))) refl
+          subst (FourList s None) (sym (longer a.0 (longer b.0 o.1))) refl
 
       module _ (j4 : ℕ) (w3 : Gives s e3 j4) (e4 : Part) (told4 : Told s j4 e4) where
-        pub four-more : (j5 : ℕ) → Gives s e4 j5 → (es : Elems) → Here s j es → FourList s Bad (elems_of es)
+        pub four-more : (j5 : ℕ) → Gives s e4 j5 → (es : Elems) → Here s j es → FourList s None (elems_of es)
         four-more j5 w4 es h =
             let a = then-on s j e told j2 w es h in
             let b = then-on s j2 e2 told2 j3 w2 a.0.others a.1 in
             let c = then-on s j3 e3 told3 j4 w3 b.0.others b.1 in
             let d = then-on s j4 e4 told4 j5 w4 c.0.others c.1 in
             let f = one-there s j5 d.0.others d.1 in
-            subst (FourList s Bad) (sym (longer a.0 (longer b.0 (longer c.0 (longer d.0 f.2))))) refl
+            subst (FourList s None) (sym (longer a.0 (longer b.0 (longer c.0 (longer d.0 f.2))))) refl
 
         module _ (r : Read) (w4 : Stops s e4 r) (end : ℕ) (is-end : end ≡ place_of r) where
-          pub four-here : (es : Elems) → Here s j es → FourList s (At e.start e2.start e3.start e4.start end) (elems_of es)
+          pub four-here : (es : Elems) → Here s j es → FourList s (elements e.start e2.start e3.start e4.start end) (elems_of es)
           four-here es h =
               let a = then-on s j e told j2 w es h in
               let b = then-on s j2 e2 told2 j3 w2 a.0.others a.1 in
               let c = then-on s j3 e3 told3 j4 w3 b.0.others b.1 in
               let o = then-last s j4 e4 told4 r w4 c.0.others c.1 in
-              subst (FourList s (At e.start e2.start e3.start e4.start end)) (sym (longer a.0 (longer b.0 (longer c.0 o.1)))) (record {
+              subst (FourList s (elements e.start e2.start e3.start e4.start end)) (sym (longer a.0 (longer b.0 (longer c.0 o.1)))) (record {
                 name = e.start;
                 params = e2.start;
                 kind = e3.start;
@@ -195,7 +195,7 @@ module _ (s : Bytes) (j : ℕ) (e : Part) (told : Told s j e) where
               reads_end s j4 e4 told4 r w4 t (reads_on s j3 e3 told3 j4 w3 t (reads_on s j2 e2 told2 j3 w2 t (reads_on s j e told j2 w t (us, h))))
               ∙ ap (λ (x : ℕ). drop x s) (sym is-end)
 
-          pub four-inside : {at : ℕ} → Opens s at j → FourIn s at (At e.start e2.start e3.start e4.start end)
+          pub four-inside : {at : ℕ} → Opens s at j → FourIn s at (elements e.start e2.start e3.start e4.start end)
           four-inside o =
               let a = further s j e told o.within j2 w in
               let b = further s j2 e2 told2 a.1 j3 w2 in

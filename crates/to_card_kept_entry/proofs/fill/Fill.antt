@@ -12,39 +12,41 @@ use Rattle.text.proofs.Choices.{none-some, some_same, chain-inv, provided-inv}
 use Rattle.json_text.specs.Tree.{Json, jnull, jtrue, jfalse, jnum, jstr, jarr, jobj, Elems, enil, econs, elems_of, as_string, as_array, as_object}
 use Rattle.json_index.specs.Index.{json_at, ValueEnds}
 use Rattle.convert.specs.FromJson.{is_lower_word, never_kept}
-use Rattle.to_card_kept_entry.specs.declared.strings.To.{To}
-use Rattle.to_card_kept_entry.specs.declared.strings.To.TheVariants.{End, Bad as ToBad}
 use Rattle.to_card_kept_entry.specs.strings.Strings.{size, size_elems, Grew, PutAs}
 use Rattle.to_card_kept_entry.proofs.strings.Putting.{string-size}
 use Rattle.to_card_kept_entry.proofs.strings.Values.{not_end, end_is}
 use Rattle.to_card_kept_entry.proofs.strings.Whole.{array_size}
 use Rattle.to_card_kept_entry.specs.declared.table.Filled.{Filled}
-use Rattle.to_card_kept_entry.specs.declared.table.Step.{Step}
-use Rattle.to_card_kept_entry.specs.declared.table.Step.TheVariants.{On, Bad as StepBad}
 use Rattle.to_card_kept_entry.specs.table.Kept.{Sofar, none_yet, steps_of, Has, StepAs, PutsObject}
-use Rattle.to_card_kept_entry.specs.declared.entry.Four.{Four}
-use Rattle.to_card_kept_entry.specs.declared.entry.Four.TheVariants.{At, Bad}
 use Rattle.to_card_kept_entry.specs.entry.Entry.{line_name, PutsName, FourIn, FourList, FourIs, TellsFour, HoldsAs, composed_rest, composed_four, composed, FillsRest, FillsKept}
-use Rattle.to_card_kept_entry.specs.declared.fill.Held.{Held}
-use Rattle.to_card_kept_entry.specs.declared.fill.Held.TheVariants.{Entry}
 use Rattle.to_card_kept_entry.specs.fill.Held.{HeldIn}
+use Rattle.std.specs.Prelude.{Some, None}
+use Rattle.to_card_kept_entry.specs.strings.Strings.{To}
+use Rattle.to_card_kept_entry.specs.table.Kept.{Step}
+use Rattle.to_card_kept_entry.specs.declared.entry.Four.{Four}
+use Rattle.to_card_kept_entry.specs.entry.Entry.{FourAt, elements}
+use Rattle.to_card_kept_entry.specs.fill.Held.{Held}
 
-not_at : {a b c d e : ℕ} → Bad ≡ At a b c d e → ⊥
+not_at : {a b c d e : ℕ} → None ≡ elements a b c d e → ⊥
 not_at e = let z : ◌≡◌ {A = ℕ} 0 1 = cc in omega arith
 
-at_name : {a b c d e a' b' c' d' e' : ℕ} → At a b c d e ≡ At a' b' c' d' e' → (a ≡ a') × (b ≡ b') × (c ≡ c') × (d ≡ d')
-at_name q = (cc, cc, cc, cc)
+abbrev place-in : FourAt → (Four → ℕ) → ℕ
+place-in (Some f) get = get f
+place-in None get = 0
 
-not_on : {f : Filled} → StepBad ≡ On f → ⊥
+at_name : {a b c d e a' b' c' d' e' : ℕ} → elements a b c d e ≡ elements a' b' c' d' e' → (a ≡ a') × (b ≡ b') × (c ≡ c') × (d ≡ d')
+at_name q = (ap (λ r. place-in r (λ f. f.name)) q, ap (λ r. place-in r (λ f. f.params)) q, ap (λ r. place-in r (λ f. f.kind)) q, ap (λ r. place-in r (λ f. f.value)) q)
+
+not_on : {f : Filled} → None ≡ Some f → ⊥
 not_on e = let z : ◌≡◌ {A = ℕ} 0 1 = cc in omega arith
 
-on-is : {f g : Filled} → On f ≡ On g → f ≡ g
+on-is : {f g : Filled} → Some f ≡ Some g → f ≡ g
 on-is e = cc
 
-pub four-in : (s : Bytes) (at : ℕ) {a b c d e : ℕ} {r : Four} → FourIn s at r → r ≡ At a b c d e → FourIn s at (At a b c d e)
+pub four-in : (s : Bytes) (at : ℕ) {a b c d e : ℕ} {r : FourAt} → FourIn s at r → r ≡ elements a b c d e → FourIn s at (elements a b c d e)
 four-in s at h q = subst (FourIn s at) q h
 
-pub held_in : (s : Bytes) (at : ℕ) {e : ℕ} {r : Held} → HeldIn s at r → r ≡ Entry e → ValueEnds 13 s at e
+pub held_in : (s : Bytes) (at : ℕ) {e : ℕ} {r : Held} → HeldIn s at r → r ≡ Some e → ValueEnds 13 s at e
 held_in s at h q = subst (HeldIn s at) q h
 
 pub fills-as : (b s : Bytes) (at : ℕ) (after : Bytes) (u : List ℕ) {r q : Bool} → FillsKept b s at r after u → r ≡ q → FillsKept b s at q after u
@@ -79,7 +81,7 @@ name-size j n e =
 
 -- ---- no four elements
 
-pub fill-other : (b : Bytes) (s : Bytes) (at : ℕ) (r : Four) → TellsFour s at r → r ≡ Bad → (t : List ℕ) → FillsKept b s at false b t
+pub fill-other : (b : Bytes) (s : Bytes) (at : ℕ) (r : FourAt) → TellsFour s at r → r ≡ None → (t : List ℕ) → FillsKept b s at false b t
 unfolding composed
 fill-other b s at r told q t j w l = by (as_array j) (told j w)
   where
@@ -109,7 +111,7 @@ record Elements (s : Bytes) (name params kind value : ℕ) (j : Json) : Type 0 w
   is-value : json_at 13 s value ≡ some v
   sized : size j ≡ size n + (size p + (size t + size v))
 
-module _ (s : Bytes) (at : ℕ) (r : Four) (told : TellsFour s at r) (name params kind value end : ℕ) (q : r ≡ At name params kind value end) where
+module _ (s : Bytes) (at : ℕ) (r : FourAt) (told : TellsFour s at r) (name params kind value end : ℕ) (q : r ≡ elements name params kind value end) where
   entry_at : (j : Json) → json_at 14 s at ≡ some j → Elements s name params kind value j
   entry_at j w = by (as_array j) refl (told j w)
     where
@@ -150,7 +152,7 @@ module _ (s : Bytes) (at : ℕ) (r : Four) (told : TellsFour s at r) (name param
         subst (λ (o : Option (List Json)). HoldsAs after u res (chain o composed_four)) (sym x.is) (f j x l)
 
     module _ (rn : To) (c : Bytes) (named : PutsName b 0 s name rn c) where
-      pub fill-nameless : rn ≡ ToBad → (u : List ℕ) → FillsKept b s at false c u
+      pub fill-nameless : rn ≡ None → (u : List ℕ) → FillsKept b s at false c u
       fill-nameless y u = by_parts false c u λ j x l.
           by x.p x.t x.v (chain (as_string x.n) line_name) (named 13 x.n x.is_name (omega (arith, x.sized)))
         where
@@ -158,7 +160,7 @@ module _ (s : Bytes) (at : ℕ) (r : Four) (told : TellsFour s at r) (name param
           by p t v none h = refl
           by p t v (some n) h = absurd (not_end (sym y ∙ h.1))
 
-      module _ (e : ℕ) (y : rn ≡ End e) where
+      module _ (e : ℕ) (y : rn ≡ Some e) where
         -- the name, where it is put
         record Name (j : Json) (x : Elements s name params kind value j) (n : Bytes) : Type 0 where
           is : chain (as_string x.n) line_name ≡ some n
@@ -181,14 +183,14 @@ module _ (s : Bytes) (at : ℕ) (r : Four) (told : TellsFour s at r) (name param
           objects : (j : Json) (x : Elements s name params kind value j) → size j + 5 ≤ length b → (n : Bytes) → Name j x n → StepAs c e (e + size x.p) st d t (chain (as_object x.p) (steps_of none_yet))
           objects j x l n h = puts x.p x.is-params (omega (arith, x.sized, h.to, h.long))
 
-          pub fill-unparamed : st ≡ StepBad → FillsKept b s at false d t
+          pub fill-unparamed : st ≡ None → FillsKept b s at false d t
           fill-unparamed i = by_parts false d t λ j x l. by_name false d t j x l λ n h. by x.t x.v n _ (chain (as_object x.p) (steps_of none_yet)) (objects j x l n h)
             where
               by : (jt jv : Json) (n : Bytes) (most : ℕ) (o : Option Sofar) → StepAs c e most st d t o → HoldsAs d t false (chain o λ z. composed_rest n z jt jv)
               by jt jv n most none h = refl
               by jt jv n most (some z) h = absurd (not_on (sym i ∙ h.said))
 
-          pub fill-rest : (f : Filled) → st ≡ On f → (res : Bool) (after : Bytes) (u : List ℕ) → FillsRest d t f e s kind value res after u → FillsKept b s at res after u
+          pub fill-rest : (f : Filled) → st ≡ Some f → (res : Bool) (after : Bytes) (u : List ℕ) → FillsRest d t f e s kind value res after u → FillsKept b s at res after u
           fill-rest f i res after u rest = by_parts res after u λ j x l. by_name res after u j x l λ n h. by j x l n h (chain (as_object x.p) (steps_of none_yet)) (objects j x l n h)
             where
               by : (j : Json) (x : Elements s name params kind value j) → size j + 5 ≤ length b → (n : Bytes) → Name j x n

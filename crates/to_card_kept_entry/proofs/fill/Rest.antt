@@ -17,10 +17,6 @@ use Rattle.line_table.specs.Spread.{spread_line, valued}
 use Rattle.line_table.specs.Table.{part, line_in, Span, Sound}
 use Rattle.line_table.proofs.Rows.{Agree, rows_same, spans-same}
 use Rattle.convert.specs.FromJson.{kept_as_line}
-use Rattle.to_card_kept_entry.specs.declared.strings.To.{To}
-use Rattle.to_card_kept_entry.specs.declared.strings.To.TheVariants.{End, Bad}
-use Rattle.to_card_kept_entry.specs.declared.strings.Rows.{Rows}
-use Rattle.to_card_kept_entry.specs.declared.strings.Rows.TheVariants.{More, Wrong}
 use Rattle.to_card_kept_entry.specs.strings.Strings.{size, Grew, PutAs, PutsAt, Table, runs_in}
 use Rattle.to_card_kept_entry.proofs.strings.Tables.{table-longer, runs_same}
 use Rattle.to_card_kept_entry.proofs.strings.Values.{not_end, end_is, not_more, more-end, more-count}
@@ -30,6 +26,8 @@ use Rattle.to_card_kept_entry.proofs.table.Params.{part-is}
 use Rattle.to_card_kept_entry.proofs.table.Members.{grew-stays, stays_then, group-longer}
 use Rattle.to_card_kept_entry.specs.entry.Entry.{type_param, type_fits, AddedType, TypeAs, PutsType, headed_at, HoldsKept, HoldsAs, group_text, kept_of, composed_rest, FillsRest}
 use Rattle.to_card_kept_entry.proofs.entry.Final.{headed-agree, headed-length, HeadAt, headed-is, runs-valued}
+use Rattle.std.specs.Prelude.{Some, None}
+use Rattle.to_card_kept_entry.specs.strings.Strings.{To, RowsTo, more}
 
 -- ---- the group's place
 
@@ -49,7 +47,7 @@ line-params n z x v = ap (λ (y : Bool). params_in z ++ pick y [] (param (ascii 
 -- ---- the table, when all is put
 
 module _ (b : Bytes) (t : List ℕ) (f : Filled) (e : ℕ) (z : Sofar) (has : Has b t f z) (n : f.end ≤ length b) (l : e ≤ f.end)
-    (x : Bytes) (most : ℕ) (r : Rows) (c : Bytes) (u : List ℕ) (a : AddedType b f.end t f.rows most r c u x) (wide : 264 ≤ length u)
+    (x : Bytes) (most : ℕ) (r : RowsTo) (c : Bytes) (u : List ℕ) (a : AddedType b f.end t f.rows most r c u x) (wide : 264 ≤ length u)
     (few : f.rows + length (type_param x) ≤ 64) (i : ℕ) (d v : Bytes) (g : Grew c a.end d i v) where
   abbrev rows : ℕ
   rows = f.rows + length (type_param x)
@@ -118,13 +116,13 @@ module _ (b : Bytes) (t : List ℕ) (f : Filled) (e : ℕ) (z : Sofar) (has : Ha
 abbrev fitting : Sofar → Json → Option Bytes
 fitting z j = chain (as_string j) λ x. provided (type_fits (value_count (params_in z)) (length (params_in z)) x) (some x)
 
-module _ (b : Bytes) (t : List ℕ) (f : Filled) (e : ℕ) (s : Bytes) (kind value : ℕ) (r : Rows) (c : Bytes) (u : List ℕ) (puts : PutsType b f.end t f.rows f.count s kind r c u) where
+module _ (b : Bytes) (t : List ℕ) (f : Filled) (e : ℕ) (s : Bytes) (kind value : ℕ) (r : RowsTo) (c : Bytes) (u : List ℕ) (puts : PutsType b f.end t f.rows f.count s kind r c u) where
   typed : (z : Sofar) → Has b t f z → (j : Json) → json_at 13 s kind ≡ some j → f.end + (5 + size j) ≤ length b → TypeAs b f.end t f.rows (f.end + (5 + size j)) r c u (fitting z j)
   typed z h j w l =
       subst (λ (m : ℕ). TypeAs b f.end t f.rows (f.end + (5 + size j)) r c u (chain (as_string j) λ x. provided (type_fits m (length (params_in z)) x) (some x))) h.few
       (subst (λ (m : ℕ). TypeAs b f.end t f.rows (f.end + (5 + size j)) r c u (chain (as_string j) λ x. provided (type_fits f.rows m x) (some x))) h.many (puts 13 j w l))
 
-  pub rest-untyped : r ≡ Wrong → FillsRest b t f e s kind value false c u
+  pub rest-untyped : r ≡ None → FillsRest b t f e s kind value false c u
   unfolding composed_rest
   rest-untyped q z h jt jv w y l = by (fitting z jt) (typed z h jt w (omega arith))
     where
@@ -132,12 +130,12 @@ module _ (b : Bytes) (t : List ℕ) (f : Filled) (e : ℕ) (s : Bytes) (kind val
       by none p = refl
       by (some x) p = absurd (not_more (sym q ∙ p.said))
 
-  module _ (k m : ℕ) (q : r ≡ More k m) (o : To) (d : Bytes) (put : PutsAt c k s value o d) where
+  module _ (k m : ℕ) (q : r ≡ more k m) (o : To) (d : Bytes) (put : PutsAt c k s value o d) where
     valued-at : (z : Sofar) (jt jv : Json) (x : Bytes) → AddedType b f.end t f.rows (f.end + (5 + size jt)) r c u x → json_at 13 s value ≡ some jv → f.end + (5 + size jt) + size jv ≤ length b
         → PutAs c k o d (as_string jv)
     valued-at z jt jv x p w l = put 13 jv w (omega (arith, more-end (sym p.said ∙ q), p.short, p.stays.long, l))
 
-    pub rest-valueless : o ≡ Bad → FillsRest b t f e s kind value false d u
+    pub rest-valueless : o ≡ None → FillsRest b t f e s kind value false d u
     unfolding composed_rest
     rest-valueless y z h jt jv w w' l = by (fitting z jt) (typed z h jt w (omega arith))
       where
@@ -149,7 +147,7 @@ module _ (b : Bytes) (t : List ℕ) (f : Filled) (e : ℕ) (s : Bytes) (kind val
         by none p = refl
         by (some x) p = val x (as_string jv) (valued-at z jt jv x p w' l)
 
-    pub rest-whole : f.end ≤ length b → e ≤ f.end → 264 ≤ length u → m ≤ 64 → (i : ℕ) → o ≡ End i → {last : List ℕ} → last ≡ headed_at u f.from f.to e k i m → FillsRest b t f e s kind value true d last
+    pub rest-whole : f.end ≤ length b → e ≤ f.end → 264 ≤ length u → m ≤ 64 → (i : ℕ) → o ≡ Some i → {last : List ℕ} → last ≡ headed_at u f.from f.to e k i m → FillsRest b t f e s kind value true d last
     unfolding composed_rest
     rest-whole n l wide few i y {last} is z h jt jv w w' room = by (fitting z jt) (typed z h jt w (omega arith))
       where

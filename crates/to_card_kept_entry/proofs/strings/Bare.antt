@@ -7,7 +7,7 @@ use Prim.Native.Nat.{ℕ, ◌+◌, ◌-◌, ◌≤◌, ◌<◌}
 use native.Mathlib.Omega.{arith}
 use lib.ListN.{length, take, drop, get_or}
 use Rattle.text.specs.Bytes.{Bytes}
-use Rattle.output.specs.declared.Wrote.{Wrote}
+use Rattle.output.specs.Put.{Wrote}
 use Rattle.output.specs.Put.{Puts}
 use Rattle.json_text.specs.Strings.{before}
 use Rattle.json_strings.specs.Decoded.{decoded_at, text_at}

@@ -8,8 +8,8 @@ use native.Mathlib.Omega.{arith}
 use lib.Dec.{eqb}
 use lib.ListN.{drop}
 use borrow.Author.Tests.{eq-eqb, ne_eqb, eqb-true, eqb-false}
-use Rattle.text.specs.declared.Read.{Read}
-use Rattle.text.specs.declared.Turn.TheVariants.{Go, Stop}
+use Rattle.text.specs.Places.{Read}
+use Rattle.std.proofs.Common.{Continue, Break}
 use Rattle.text.specs.Bytes.{Bytes, is}
 use Rattle.text.specs.Reader.{Got, got, under, on, Step, more, last, after, loop}
 use Rattle.text.specs.Places.{GivesT, byte_at, Passes}
@@ -64,19 +64,19 @@ item-here d s i rest t e =
     record { val = b.0; rest-val = b.1; others = r.0; is-value = b.2; turn = turn-of d (drop i s) b.0 b.1 b.2; is = r.1 }
 
 module _ (d : ℕ) (s : Bytes) (i : ℕ) (rest : Elems) (t : Bytes) (e : loop (item (value d)) (drop i s) ≡ got rest t) (z : HereE d s i rest) (x : ℕ) (ends : z.rest-val ≡ drop x s) where
-  pub elems-on : (j : ℕ) → GivesT s x (sep 93 zero suc (drop x s)) (Go j) → (us : Elems) × (loop (item (value d)) (drop j s) ≡ got us t) × (econs z.val us ≡ rest)
+  pub elems-on : (j : ℕ) → GivesT s x (sep 93 zero suc (drop x s)) (Continue j) → (us : Elems) × (loop (item (value d)) (drop j s) ≡ got us t) × (econs z.val us ≡ rest)
   elems-on j w =
       let f : item (value d) (drop i s) ≡ got (more (econs z.val)) (drop j s) = z.turn ∙ ap (sep 93 _ _) ends ∙ sep-go (econs z.val enil) (econs z.val) 93 w in
       under-inv (econs z.val) (loop (item (value d)) (drop j s)) (sym (loop-more (item (value d)) (item-takes d) (drop i s) (drop j s) (econs z.val) f) ∙ e)
 
-  pub elems-none : (r : Read) → GivesT s x (sep 93 zero suc (drop x s)) (Stop r) → econs z.val enil ≡ rest
+  pub elems-none : (r : Read) → GivesT s x (sep 93 zero suc (drop x s)) (Break r) → econs z.val enil ≡ rest
   elems-none r w =
       let l = loop-split (item (value d)) (item-takes d) (drop i s) rest t e in
       let n = sep-stop (econs z.val enil) (econs z.val) 93 w l.0 l.1 (sym (ap (sep 93 _ _) ends) ∙ sym z.turn ∙ l.2) in
       got-what (rw n at l.3)
 
   -- what is left after the last
-  pub elems-end : (r : Read) → GivesT s x (sep 93 zero suc (drop x s)) (Stop r) → t ≡ drop (place_of r) s
+  pub elems-end : (r : Read) → GivesT s x (sep 93 zero suc (drop x s)) (Break r) → t ≡ drop (place_of r) s
   elems-end r w = last_end (item (value d)) (item-takes d) s i x rest t e 93 (econs z.val enil) (econs z.val) (z.turn ∙ ap (sep 93 _ _) ends) r w
 
 -- ---- decoded

@@ -9,8 +9,8 @@ use borrow.Rule.Slice.PartMut.{mid_of, put_mid, same_len_mid, mid_len}
 use lib.ListN.{length, take, drop, length-take}
 use lib.Seq.{take-append-add, take-append_seam}
 use Rattle.text.specs.Bytes.{Bytes, all}
-use Rattle.output.specs.declared.Wrote.{Wrote}
-use Rattle.output.specs.declared.Wrote.TheVariants.{Bytes as Wrote-Bytes, Full}
+use Rattle.output.specs.Put.{Wrote, full}
+use Rattle.std.specs.Prelude.{Ok, Err}
 use Rattle.output.specs.Put.{Puts}
 use Rattle.output.proofs.Laws.{said-bytes, said-full, put-fits, length-put}
 use Rattle.json_text.specs.Tree.{Json, jnull, jtrue, jfalse, jnum, jstr, jarr, jobj, as_string}
@@ -20,9 +20,9 @@ use Rattle.text.proofs.Choices.{none-some, some_same}
 use Rattle.json_strings.specs.Decoded.{decoded_at, text_at}
 use Rattle.json_strings.proofs.NextByte.{text-some}
 use Rattle.to_card_value.specs.Values.{StringIs, TellsString}
-use Rattle.to_card_kept_entry.specs.declared.strings.To.{To}
-use Rattle.to_card_kept_entry.specs.declared.strings.To.TheVariants.{End, Bad}
 use Rattle.to_card_kept_entry.specs.strings.Strings.{size, Grew, Puts as PutsTo, Within, PutAs, PutsAt}
+use Rattle.std.specs.Prelude.{Some, None}
+use Rattle.to_card_kept_entry.specs.strings.Strings.{To}
 
 pub room-length : (b : Bytes) (n : ℕ) → n ≤ length b → length (mid_of n (length b - n) b) ≡ length b - n
 room-length b n h = mid_len n (length b) b (omega arith)
@@ -31,7 +31,7 @@ module _ (b : Bytes) (n : ℕ) (h : n ≤ length b) (x last : Bytes) (r : Wrote)
   pub part_same : length (put_mid n (length b - n) b last) ≡ length b
   part_same = same_len_mid n (length b - n) b last (ap length p.left ∙ length-put (mid_of n (length b - n) b) x)
 
-  pub grew : {k : ℕ} → r ≡ Wrote-Bytes k → Grew b n (put_mid n (length b - n) b last) (n + k) x
+  pub grew : {k : ℕ} → r ≡ Ok k → Grew b n (put_mid n (length b - n) b last) (n + k) x
   grew {k} e =
       let q = said-bytes (mid_of n (length b - n) b) x k (sym p.said ∙ e) in
       let f : length x ≤ length (mid_of n (length b - n) b) = omega (arith, q.0, q.1) in
@@ -50,22 +50,22 @@ module _ (b : Bytes) (n : ℕ) (h : n ≤ length b) (x last : Bytes) (r : Wrote)
         within = omega (arith, q.1, room-length b n h);
       }
 
-  pub no_room : r ≡ Full → (length (put_mid n (length b - n) b last) ≡ length b) × (length b < n + length x)
+  pub no_room : r ≡ (Err full) → (length (put_mid n (length b - n) b last) ≡ length b) × (length b < n + length x)
   no_room e = (part_same, omega (arith, said-full (mid_of n (length b - n) b) x (sym p.said ∙ e), room-length b n h))
 
 -- ---- a value that is a string
 
 pub puts-long : (b : Bytes) (n : ℕ) (x : Bytes) (r : To) (after : Bytes) → PutsTo b n x r after → length after ≡ length b
-puts-long b n x (End k) after p = p.long
-puts-long b n x Bad after p = p.0
+puts-long b n x (Some k) after p = p.long
+puts-long b n x None after p = p.0
 
 pub puts-within : (b : Bytes) (n : ℕ) (x : Bytes) (r : To) (after : Bytes) → PutsTo b n x r after → Within n (length b) r
-puts-within b n x (End k) after p = (omega (arith, p.to), p.within)
-puts-within b n x Bad after p = tt
+puts-within b n x (Some k) after p = (omega (arith, p.to), p.within)
+puts-within b n x None after p = tt
 
 pub put_as : (b : Bytes) (n : ℕ) (x : Bytes) (r : To) (after : Bytes) → n + length x ≤ length b → PutsTo b n x r after → PutAs b n r after (some x)
-put_as b n x (End k) after h p = (k, refl, p)
-put_as b n x Bad after h p = absurd (omega (arith, p.1, h))
+put_as b n x (Some k) after h p = (k, refl, p)
+put_as b n x None after h p = absurd (omega (arith, p.1, h))
 
 pub string-size : (v : Json) (x : Bytes) → as_string v ≡ some x → length x ≤ size v
 unfolding size
@@ -82,10 +82,10 @@ module _ (b : Bytes) (n : ℕ) (s : Bytes) (at q : ℕ) (told : TellsString s at
   string-of none h n = absurd (n h)
   string-of (some x) h n = (x, refl, h.1)
 
-  pub no-string : q ≡ 0 → (after : Bytes) → PutsAt b n s at Bad after
+  pub no-string : q ≡ 0 → (after : Bytes) → PutsAt b n s at None after
   no-string e after d v w l = by (as_string v) (told d v w)
     where
-      by : (o : Option Bytes) → StringIs s q o → PutAs b n Bad after o
+      by : (o : Option Bytes) → StringIs s q o → PutAs b n None after o
       by none h = refl
       by (some x) h = absurd (omega (arith, h.0, e))
 

@@ -7,8 +7,8 @@ use Prim.Native.Nat.{ℕ, zero, suc, ◌+◌, ◌≤◌, ◌<◌}
 use native.Mathlib.Omega.{arith}
 use borrow.Author.Tests.{le-leb, lt-leb}
 use lib.ListN.{length, take, drop, length-append, length-set}
-use Rattle.text.specs.declared.Read.{Read}
-use Rattle.text.specs.declared.Turn.TheVariants.{Go, Stop}
+use Rattle.text.specs.Places.{Read}
+use Rattle.std.proofs.Common.{Continue, Break}
 use Rattle.text.specs.Choice.{provided, both}
 use Rattle.text.specs.Bytes.{Bytes, each, flat}
 use Rattle.text.specs.Reader.{got, loop}
@@ -20,29 +20,35 @@ use Rattle.json_text.specs.Strings.{decoded_elems}
 use Rattle.json_access.specs.declared.Part.{Part}
 use Rattle.json_access.specs.Access.{TellsElement}
 use Rattle.line_table.specs.Table.{stored}
-use Rattle.to_card_kept_entry.specs.declared.strings.To.{To}
-use Rattle.to_card_kept_entry.specs.declared.strings.To.TheVariants.{End, Bad}
-use Rattle.to_card_kept_entry.specs.declared.strings.Rows.{Rows}
-use Rattle.to_card_kept_entry.specs.declared.strings.Rows.TheVariants.{More, Wrong}
 use Rattle.to_card_kept_entry.specs.strings.Strings.{size, size_elems, Grew, Within, PutAs, PutsAt, Adding, capped, Added, AddAs, RowsIn, AddsValue, AddsFrom}
 use Rattle.to_card_kept_entry.proofs.strings.Elements.{HereE, item-here, elems-on, elems-none, next_elem, elem-stands, elems-nil, elems-cons, enil-decoded}
 use Rattle.to_card_kept_entry.proofs.strings.Putting.{string-size}
 use Rattle.to_card_kept_entry.proofs.strings.Tables.{adding-on}
+use Rattle.std.specs.Prelude.{Some, None}
+use Rattle.to_card_kept_entry.specs.strings.Strings.{To, RowsTo, more}
 
-pub not_end : {k : ℕ} → Bad ≡ End k → ⊥
+pub not_end : {k : ℕ} → None ≡ Some k → ⊥
 not_end e = let z : ◌≡◌ {A = ℕ} 0 1 = cc in omega arith
 
-pub end_is : {k j : ℕ} → End k ≡ End j → k ≡ j
+pub end_is : {k j : ℕ} → Some k ≡ Some j → k ≡ j
 end_is e = cc
 
-pub not_more : {k m : ℕ} → Wrong ≡ More k m → ⊥
+pub not_more : {k m : ℕ} → None ≡ more k m → ⊥
 not_more e = let z : ◌≡◌ {A = ℕ} 0 1 = cc in omega arith
 
-pub more-end : {k m j l : ℕ} → More k m ≡ More j l → k ≡ j
-more-end e = cc
+abbrev end-in : RowsTo → ℕ
+end-in (Some r) = r.end
+end-in None = 0
 
-pub more-count : {k m j l : ℕ} → More k m ≡ More j l → m ≡ l
-more-count e = cc
+abbrev count-in : RowsTo → ℕ
+count-in (Some r) = r.count
+count-in None = 0
+
+pub more-end : {k m j l : ℕ} → more k m ≡ more j l → k ≡ j
+more-end e = ap end-in e
+
+pub more-count : {k m j l : ℕ} → more k m ≡ more j l → m ≡ l
+more-count e = ap count-in e
 
 -- ---- one value
 
@@ -64,48 +70,48 @@ grew-as : {b : Bytes} {n : ℕ} {after : Bytes} {k : ℕ} {x y : Bytes} → x �
 grew-as {b} {n} {after} {k} {x} {y} e g = subst (Grew b n after k) e g
 
 module _ (b : Bytes) (n : ℕ) (t : List ℕ) (m a e : ℕ) (s : Bytes) (at : ℕ) where
-  pub value-over : 64 ≤ m → AddsValue b n t m a e s at Wrong b t
-  value-over h d v w l = subst (AddAs b n t m a e Wrong b t) (sym (capped-over m _ (λ vs q. by (as_string v) vs q))) refl
+  pub value-over : 64 ≤ m → AddsValue b n t m a e s at None b t
+  value-over h d v w l = subst (AddAs b n t m a e None b t) (sym (capped-over m _ (λ vs q. by (as_string v) vs q))) refl
     where
       by : (o : Option Bytes) (vs : List Bytes) → map one o ≡ some vs → 64 < m + length vs
       by none vs q = let z : ◌≡◌ {A = ℕ} 0 1 = cc in omega arith
       by (some x) vs q = let z : length (one x) ≡ length vs = ap length (Rattle.text.proofs.Choices.some_same q) in omega arith
 
   module _ (few : m < 64) (r : To) (after : Bytes) (puts : PutsAt b n s at r after) where
-    pub value_none : r ≡ Bad → AddsValue b n t m a e s at Wrong after t
+    pub value_none : r ≡ None → AddsValue b n t m a e s at None after t
     value_none q d v w l = by (as_string v) (puts d v w l)
       where
-        by : (o : Option Bytes) → PutAs b n r after o → AddAs b n t m a e Wrong after t (capped m (map one o))
+        by : (o : Option Bytes) → PutAs b n r after o → AddAs b n t m a e None after t (capped m (map one o))
         by none p = refl
         by (some x) p = absurd (not_end (sym q ∙ p.1))
 
-    pub value-one : (wide : 264 ≤ length t) (k : ℕ) → r ≡ End k → n ≤ length b → {c : ℕ} {u : List ℕ} → c ≡ m + 1 → u ≡ stored t m a e n k → AddsValue b n t m a e s at (More k c) after u
+    pub value-one : (wide : 264 ≤ length t) (k : ℕ) → r ≡ Some k → n ≤ length b → {c : ℕ} {u : List ℕ} → c ≡ m + 1 → u ≡ stored t m a e n k → AddsValue b n t m a e s at (more k c) after u
     value-one wide k q h {c} {u} cs us d v w l = by (as_string v) (puts d v w l)
       where
-        added : (x : Bytes) → Grew b n after k x → Added b n t m a e (More k c) after u (one x)
+        added : (x : Bytes) → Grew b n after k x → Added b n t m a e (more k c) after u (one x)
         added x g =
             let p : length (take n b) ≡ n = lib.Seq.length-take-le n b h in
             let z : stored t m a e (length (take n b)) (length (take n b) + length x) ≡ u =
             ap (λ (y : ℕ). stored t m a e y (y + length x)) p ∙ ap (λ (y : ℕ). stored t m a e n y) (sym g.to) ∙ sym us in
             record {
               end = k;
-              said = ap (More k) cs;
+              said = ap (more k) cs;
               grew = grew-as (sym (flat-one x)) g;
               adds = λ qs vs y.
                   let j = adding-on (take n b) x t m a e qs vs few wide y in
                   subst (λ (f : Bytes). Adding (take n b ++ f) u (m + 1) a e qs (vs ++ one x)) (sym (flat-one x)) (subst (λ (f : List ℕ). Adding (take n b ++ x) f (m + 1) a e qs (vs ++ one x)) z j);
             }
 
-        by : (o : Option Bytes) → PutAs b n r after o → AddAs b n t m a e (More k c) after u (capped m (map one o))
+        by : (o : Option Bytes) → PutAs b n r after o → AddAs b n t m a e (more k c) after u (capped m (map one o))
         by none p = absurd (not_end (sym p ∙ q))
         by (some x) p =
             let g : Grew b n after k x = subst (λ (y : ℕ). Grew b n after y x) (end_is (sym p.1 ∙ q)) p.2 in
-            subst (AddAs b n t m a e (More k c) after u) (sym (capped_fits m (one x) (omega arith))) (added x g)
+            subst (AddAs b n t m a e (more k c) after u) (sym (capped_fits m (one x) (omega arith))) (added x g)
 
-pub value-rows : (n room k m : ℕ) (r : To) → Within n room r → r ≡ End k → m < 64 → (c : ℕ) → c ≡ m + 1 → RowsIn n room (More k c)
-value-rows n room k m r h q l c e = let g : Within n room (End k) = subst (Within n room) q h in (g.0, g.1, omega arith)
+pub value-rows : (n room k m : ℕ) (r : To) → Within n room r → r ≡ Some k → m < 64 → (c : ℕ) → c ≡ m + 1 → RowsIn n room (more k c)
+value-rows n room k m r h q l c e = let g : Within n room (Some k) = subst (Within n room) q h in (g.0, g.1, omega arith)
 
-pub rows_in : {n room k m : ℕ} {r : Rows} → RowsIn n room r → r ≡ More k m → RowsIn n room (More k m)
+pub rows_in : {n room k m : ℕ} {r : RowsTo} → RowsIn n room r → r ≡ more k m → RowsIn n room (more k m)
 rows_in {n} {room} {k} {m} {r} h e = subst (RowsIn n room) e h
 
 pub stored-long : (t : List ℕ) (m a e c d : ℕ) → length (stored t m a e c d) ≡ length t
@@ -126,7 +132,7 @@ flat-both : (vs ws : List Bytes) → flat (vs ++ ws) ≡ flat vs ++ flat ws
 flat-both vs ws = flat_append vs ws
 
 added_then : {b : Bytes} {n : ℕ} {t : List ℕ} {m a e k r : ℕ} {c : Bytes} {u : List ℕ} {vs : List Bytes} {k' r' : ℕ} {d : Bytes} {w : List ℕ} {ws : List Bytes}
-    → Added b n t m a e (More k r) c u vs → Added c k u r a e (More k' r') d w ws → Added b n t m a e (More k' r') d w (vs ++ ws)
+    → Added b n t m a e (more k r) c u vs → Added c k u r a e (more k' r') d w ws → Added b n t m a e (more k' r') d w (vs ++ ws)
 added_then {b} {n} {t} {m} {a} {e} {k} {r} {c} {u} {vs} {k'} {r'} {d} {w} {ws} f g =
     let ke : k ≡ f.end = more-end f.said in
     let re : r ≡ m + length vs = more-count f.said in
@@ -134,7 +140,7 @@ added_then {b} {n} {t} {m} {a} {e} {k} {r} {c} {u} {vs} {k'} {r'} {d} {w} {ws} f
     let fg : Grew b n c k (flat vs) = subst (λ (y : ℕ). Grew b n c y (flat vs)) (sym ke) f.grew in
     record {
       end = g.end;
-      said = g.said ∙ ap (More g.end) l;
+      said = g.said ∙ ap (more g.end) l;
       grew = grew-as (sym (flat-both vs ws)) (grew_then fg g.grew);
       adds = λ qs xs y.
           let p : Adding (take n b ++ flat vs) u (m + length vs) a e qs (xs ++ vs) = f.adds qs xs y in
@@ -168,11 +174,11 @@ pub size-cons : (v : Json) (es : Elems) → size_elems (econs v es) ≡ size v +
 unfolding size_elems
 size-cons v es = refl
 
-added_none : (b : Bytes) (n : ℕ) (t : List ℕ) (m a e : ℕ) → n ≤ length b → Added b n t m a e (More n m) b t []
+added_none : (b : Bytes) (n : ℕ) (t : List ℕ) (m a e : ℕ) → n ≤ length b → Added b n t m a e (more n m) b t []
 unfolding flat
 added_none b n t m a e h = record {
   end = n;
-  said = let z : m ≡ m + 0 = omega arith in ap (More n) z;
+  said = let z : m ≡ m + 0 = omega arith in ap (more n) z;
   grew = record { long = refl; is = sym (append-nil (take n b)); to = omega arith; within = h };
   adds = λ qs vs y.
       let z : m ≡ m + 0 = omega arith in
@@ -187,7 +193,7 @@ pub record Far (b₀ : Bytes) (n : ℕ) (t₀ : List ℕ) (m a e : ℕ) (s : Byt
   pub is-units : loop (item (value 11)) (drop i s) ≡ got units w
   pub is-rest : decoded_elems units ≡ some rest
   pub is-each : each as_string (elems_of es) ≡ both ◌++◌ (some done) (each as_string (elems_of rest))
-  pub added : Added b₀ n t₀ m a e (More k r) b t done
+  pub added : Added b₀ n t₀ m a e (more k r) b t done
   pub room : k + size_elems rest ≤ length b₀
 
 abbrev pub Going : Bytes → ℕ → List ℕ → ℕ → ℕ → ℕ → Bytes → ℕ → ℕ → ℕ → ℕ → Bytes → List ℕ → Type 0
@@ -207,7 +213,7 @@ going-first b n t m a e s at h us es w x y l = record {
 }
 
 module _ (b₀ : Bytes) (n : ℕ) (t₀ : List ℕ) (m a e : ℕ) (s : Bytes) (at i k r : ℕ) (b : Bytes) (t : List ℕ) (going : Going b₀ n t₀ m a e s at i k r b t)
-    (q : Part) (told : TellsElement 11 s i q) (p : Rows) (b' : Bytes) (t' : List ℕ) (adds : AddsValue b k t r a e s q.start p b' t') where
+    (q : Part) (told : TellsElement 11 s i q) (p : RowsTo) (b' : Bytes) (t' : List ℕ) (adds : AddsValue b k t r a e s q.start p b' t') where
   -- the element at i
   record Step (es : Elems) (w : Bytes) (f : Far b₀ n t₀ m a e s es w i k r b t) (z : HereE 11 s i f.units) (us : Elems) : Type 0 where
     val : Json
@@ -239,28 +245,28 @@ module _ (b₀ : Bytes) (n : ℕ) (t₀ : List ℕ) (m a e : ℕ) (s : Bytes) (a
   over-all es w f x none h = refl
   over-all es w f x (some xs) h = capped-over m (some (f.done ++ (x ∷ xs))) (λ vs y. let z : length (f.done ++ (x ∷ xs)) ≡ length vs = ap length (Rattle.text.proofs.Choices.some_same y) in omega (arith, z, rows_are es w f, length-append f.done (x ∷ xs)))
 
-  pub from_wrong : p ≡ Wrong → (after : Bytes) (u : List ℕ) → AddsFrom b₀ n t₀ m a e s at Wrong after u
+  pub from_wrong : p ≡ None → (after : Bytes) (u : List ℕ) → AddsFrom b₀ n t₀ m a e s at None after u
   from_wrong y after u us es w x d l =
       let f = going us es w x d l in
       let z = item-here 11 s i f.units w f.is-units in
       let g = step es w f z z.others (sym z.is) in
-      subst (λ (o : Option (List Bytes)). AddAs b₀ n t₀ m a e Wrong after u (capped m o)) (sym g.is-each) (by es w f (as_string g.val) (each as_string (elems_of g.others)) g.told-as)
+      subst (λ (o : Option (List Bytes)). AddAs b₀ n t₀ m a e None after u (capped m o)) (sym g.is-each) (by es w f (as_string g.val) (each as_string (elems_of g.others)) g.told-as)
     where
       by : (es : Elems) (w : Bytes) (f : Far b₀ n t₀ m a e s es w i k r b t) (o : Option Bytes) (os : Option (List Bytes)) → AddAs b k t r a e p b' t' (capped r (map one o))
-          → AddAs b₀ n t₀ m a e Wrong after u (capped m (both ◌++◌ (some f.done) (both ◌∷◌ o os)))
+          → AddAs b₀ n t₀ m a e None after u (capped m (both ◌++◌ (some f.done) (both ◌∷◌ o os)))
       by es w f none os h = refl
       by es w f (some v) os h =
           Rattle.text.proofs.Cases.split (r + 1) 64
           (λ j. let c : Added b k t r a e p b' t' (one v) = subst (AddAs b k t r a e p b' t') (capped_fits r (one v) j) h in absurd (not_more (sym y ∙ c.said)))
-          (λ j. subst (AddAs b₀ n t₀ m a e Wrong after u) (sym (over-all es w f v os j)) refl)
+          (λ j. subst (AddAs b₀ n t₀ m a e None after u) (sym (over-all es w f v os j)) refl)
 
-  module _ (k' r' : ℕ) (y : p ≡ More k' r') where
+  module _ (k' r' : ℕ) (y : p ≡ more k' r') where
     record Gain (es : Elems) (w : Bytes) (f : Far b₀ n t₀ m a e s es w i k r b t) (us : Elems) : Type 0 where
       text : Bytes
       others : Elems
       is-others : decoded_elems us ≡ some others
       is-each : each as_string (elems_of es) ≡ both ◌++◌ (some (f.done ++ one text)) (each as_string (elems_of others))
-      added : Added b₀ n t₀ m a e (More k' r') b' t' (f.done ++ one text)
+      added : Added b₀ n t₀ m a e (more k' r') b' t' (f.done ++ one text)
       room : k' + size_elems others ≤ length b₀
       cap : m + length (f.done ++ one text) ≤ 64
 
@@ -272,7 +278,7 @@ module _ (b₀ : Bytes) (n : ℕ) (t₀ : List ℕ) (m a e : ℕ) (s : Bytes) (a
         by g (some v) q h =
             Rattle.text.proofs.Cases.split (r + 1) 64
             (λ j.
-            let c : Added b k t r a e (More k' r') b' t' (one v) = subst (λ (z : Rows). Added b k t r a e z b' t' (one v)) y (subst (AddAs b k t r a e p b' t') (capped_fits r (one v) j) h) in
+            let c : Added b k t r a e (more k' r') b' t' (one v) = subst (λ (z : RowsTo). Added b k t r a e z b' t' (one v)) y (subst (AddAs b k t r a e p b' t') (capped_fits r (one v) j) h) in
             let ke : k' ≡ c.end = more-end c.said in
             let fl : length (flat (one v)) ≡ length v = ap length (flat-one v) in
             record {
@@ -286,7 +292,7 @@ module _ (b₀ : Bytes) (n : ℕ) (t₀ : List ℕ) (m a e : ℕ) (s : Bytes) (a
             })
             (λ j. absurd (not_more (sym (subst (AddAs b k t r a e p b' t') (capped-over r (some (one v)) (λ vs u. let z : length (one v) ≡ length vs = ap length (Rattle.text.proofs.Choices.some_same u) in omega arith)) h) ∙ y)))
 
-    pub from_on : (j : ℕ) → GivesT s q.end (sep 93 zero suc (drop q.end s)) (Go j) → Going b₀ n t₀ m a e s at j k' r' b' t'
+    pub from_on : (j : ℕ) → GivesT s q.end (sep 93 zero suc (drop q.end s)) (Continue j) → Going b₀ n t₀ m a e s at j k' r' b' t'
     from_on j v us es w x d l =
         let f = going us es w x d l in
         let z = item-here 11 s i f.units w f.is-units in
@@ -294,7 +300,7 @@ module _ (b₀ : Bytes) (n : ℕ) (t₀ : List ℕ) (m a e : ℕ) (s : Bytes) (a
         let g = gain es w f z o.0 o.2 in
         record { units = o.0; rest = g.others; done = f.done ++ one g.text; is-units = o.1; is-rest = g.is-others; is-each = g.is-each; added = g.added; room = g.room }
 
-    pub from_all : (v : Read) → GivesT s q.end (sep 93 zero suc (drop q.end s)) (Stop v) → AddsFrom b₀ n t₀ m a e s at (More k' r') b' t'
+    pub from_all : (v : Read) → GivesT s q.end (sep 93 zero suc (drop q.end s)) (Break v) → AddsFrom b₀ n t₀ m a e s at (more k' r') b' t'
     from_all v h us es w x d l =
         let f = going us es w x d l in
         let z = item-here 11 s i f.units w f.is-units in
@@ -303,4 +309,4 @@ module _ (b₀ : Bytes) (n : ℕ) (t₀ : List ℕ) (m a e : ℕ) (s : Bytes) (a
         let c : each as_string (elems_of g.others) ≡ some [] = ap (λ (u : Elems). each as_string (elems_of u)) (sym (enil-decoded g.others g.is-others)) ∙ ap (each as_string) elems-nil ∙ each_nil in
         let ws = f.done ++ one g.text in
         let ee : each as_string (elems_of es) ≡ some ws = g.is-each ∙ ap (both ◌++◌ (some ws)) c ∙ ap some (append-nil ws) in
-        subst (λ (o : Option (List Bytes)). AddAs b₀ n t₀ m a e (More k' r') b' t' (capped m o)) (sym ee) (subst (AddAs b₀ n t₀ m a e (More k' r') b' t') (sym (capped_fits m ws g.cap)) g.added)
+        subst (λ (o : Option (List Bytes)). AddAs b₀ n t₀ m a e (more k' r') b' t' (capped m o)) (sym ee) (subst (AddAs b₀ n t₀ m a e (more k' r') b' t') (sym (capped_fits m ws g.cap)) g.added)

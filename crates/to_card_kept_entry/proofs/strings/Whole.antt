@@ -6,8 +6,8 @@ use mathlib.Core.Option.{Option, none, some, map}
 use Prim.Native.Nat.{ℕ, zero, suc, ◌+◌, ◌-◌, ◌≤◌}
 use native.Mathlib.Omega.{arith}
 use lib.ListN.{length, take, drop, length-append}
-use Rattle.text.specs.declared.Read.{Read}
-use Rattle.text.specs.declared.Turn.TheVariants.{Go, Stop}
+use Rattle.text.specs.Places.{Read}
+use Rattle.std.proofs.Common.{Continue, Break}
 use Rattle.text.specs.Choice.{chain, provided, both}
 use Rattle.text.specs.Bytes.{Bytes, each, flat, empty}
 use Rattle.text.specs.Places.{GivesT, byte_at, Passes}
@@ -24,14 +24,12 @@ use Rattle.json_access.specs.Access.{TellsElement, kind_of}
 use Rattle.json_index.specs.Index.{json_at}
 use Rattle.to_card_value.specs.Values.{StringIs, TellsString}
 use Rattle.convert.specs.FromJson.{strings, is_lower_word}
-use Rattle.to_card_kept_entry.specs.declared.strings.To.{To}
-use Rattle.to_card_kept_entry.specs.declared.strings.To.TheVariants.{End, Bad}
-use Rattle.to_card_kept_entry.specs.declared.strings.Rows.{Rows}
-use Rattle.to_card_kept_entry.specs.declared.strings.Rows.TheVariants.{Wrong}
 use Rattle.to_card_kept_entry.specs.strings.Strings.{size, size_elems, Grew, Puts, PutAs, capped, AddAs, AddsValue, AddsFrom, AddsValues, sole, sole_in, SoleIs, TellsSole, group_of, PutsGroup}
 use Rattle.to_card_kept_entry.proofs.strings.Elements.{item-here, elems-on, elems-none, next_elem, elem-stands, elems-nil, elems-cons, enil-decoded, not-array, empty-array, array-elems}
 use Rattle.to_card_kept_entry.proofs.strings.Putting.{put_as, string-size}
 use Rattle.to_card_kept_entry.proofs.strings.Values.{each-cons, each_nil, size-cons, not_end, end_is}
+use Rattle.std.specs.Prelude.{Some, None}
+use Rattle.to_card_kept_entry.specs.strings.Strings.{To, RowsTo}
 
 -- ---- the strings of a value
 
@@ -68,16 +66,16 @@ array_size es = refl
 -- ---- all values of a parameter
 
 module _ (b : Bytes) (n : ℕ) (t : List ℕ) (m a e : ℕ) (s : Bytes) (at i c : ℕ) (h : Passes is_space s at i) (l : c ≡ byte_at s i) where
-  pub values_one : (c ≡ 91 → ⊥) → (r : Rows) (after : Bytes) (u : List ℕ) → AddsValue b n t m a e s at r after u → AddsValues b n t m a e s at r after u
+  pub values_one : (c ≡ 91 → ⊥) → (r : RowsTo) (after : Bytes) (u : List ℕ) → AddsValue b n t m a e s at r after u → AddsValues b n t m a e s at r after u
   values_one q r after u f v w z =
       subst (λ (o : Option (List Bytes)). AddAs b n t m a e r after u (capped m o)) (sym (strings-other v (not-array 11 s at i c h l q v w))) (f 12 v w z)
 
   module _ (q : c ≡ 91) (j d : ℕ) (k : Passes is_space s (i + 1) j) (g : d ≡ byte_at s j) where
-    pub values-none : d ≡ 93 → AddsValues b n t m a e s at Wrong b t
+    pub values-none : d ≡ 93 → AddsValues b n t m a e s at None b t
     values-none p v w z =
-        subst (λ (o : Option (List Bytes)). AddAs b n t m a e Wrong b t (capped m o)) (sym (ap strings (empty-array 11 s at i c h l q j d k g p v w) ∙ strings-none)) refl
+        subst (λ (o : Option (List Bytes)). AddAs b n t m a e None b t (capped m o)) (sym (ap strings (empty-array 11 s at i c h l q j d k g p v w) ∙ strings-none)) refl
 
-    pub values-many : (d ≡ 93 → ⊥) → (r : Rows) (after : Bytes) (u : List ℕ) → AddsFrom b n t m a e s j r after u → AddsValues b n t m a e s at r after u
+    pub values-many : (d ≡ 93 → ⊥) → (r : RowsTo) (after : Bytes) (u : List ℕ) → AddsFrom b n t m a e s j r after u → AddsValues b n t m a e s at r after u
     values-many p r after u f v w z =
         let o = array-elems 11 s at i c h l q j d k g p v w in
         let x = item-here 11 s j o.0 o.2 o.3 in
@@ -114,7 +112,7 @@ module _ (s : Bytes) (at i c : ℕ) (h : Passes is_space s at i) (l : c ≡ byte
       two (some x) (some y) none = refl
       two (some x) (some y) (some ys) = refl
 
-      pub sole-many : (x : ℕ) → GivesT s e.end (sep 93 zero suc (drop e.end s)) (Go x) → TellsSole s at 0
+      pub sole-many : (x : ℕ) → GivesT s e.end (sep 93 zero suc (drop e.end s)) (Continue x) → TellsSole s at 0
       unfolding sole_in
       sole-many x y v w =
           let o = array-elems 11 s at i c h l q j d k g p v w in
@@ -134,7 +132,7 @@ module _ (s : Bytes) (at i c : ℕ) (h : Passes is_space s at i) (l : c ≡ byte
       single none = refl
       single (some x) = refl
 
-      pub sole-elem : (x : Read) → GivesT s e.end (sep 93 zero suc (drop e.end s)) (Stop x) → (r : ℕ) → TellsString s e.start r → TellsSole s at r
+      pub sole-elem : (x : Read) → GivesT s e.end (sep 93 zero suc (drop e.end s)) (Break x) → (r : ℕ) → TellsString s e.start r → TellsSole s at r
       unfolding sole_in
       sole-elem x y r f v w =
           let o = array-elems 11 s at i c h l q j d k g p v w in
@@ -191,7 +189,7 @@ sole-size v x q = let i = chain-inv (strings v) sole q in omega (arith, strings-
 -- ---- the group
 
 module _ (b : Bytes) (n : ℕ) (s : Bytes) (at q : ℕ) (told : TellsSole s at q) where
-  group-none : (after : Bytes) (o : Option Bytes) → o ≡ none → PutAs b n Bad after (chain o λ g. provided (is_lower_word g) (some g))
+  group-none : (after : Bytes) (o : Option Bytes) → o ≡ none → PutAs b n None after (chain o λ g. provided (is_lower_word g) (some g))
   group-none after none e = refl
   group-none after (some x) e = none-some (sym e)
 
@@ -199,11 +197,11 @@ module _ (b : Bytes) (n : ℕ) (s : Bytes) (at q : ℕ) (told : TellsSole s at q
   of-sole v none z h y = absurd (y h)
   of-sole v (some x) z h y = (x, z, h.1)
 
-  pub no-group : q ≡ 0 → (after : Bytes) → PutsGroup b n s at Bad after
+  pub no-group : q ≡ 0 → (after : Bytes) → PutsGroup b n s at None after
   unfolding group_of
   no-group e after v w l = by (sole_in v) (told v w)
     where
-      by : (o : Option Bytes) → SoleIs s q o → PutAs b n Bad after (chain o λ g. provided (is_lower_word g) (some g))
+      by : (o : Option Bytes) → SoleIs s q o → PutAs b n None after (chain o λ g. provided (is_lower_word g) (some g))
       by none h = refl
       by (some x) h = absurd (omega (arith, h.0, e))
 
@@ -213,10 +211,10 @@ module _ (b : Bytes) (n : ℕ) (s : Bytes) (at q : ℕ) (told : TellsSole s at q
         let o = of-sole v (sole_in v) refl (told v w) y in
         (o.0, o.1, put_as b n o.0 r after (omega (arith, sole-size v o.0 o.1, l)) (subst (λ (z : Bytes). Puts b n z r after) (text-some s q o.0 o.2) p))
 
-    pub group-full : r ≡ Bad → PutsGroup b n s at Bad after
+    pub group-full : r ≡ None → PutsGroup b n s at None after
     group-full e v w l = let o = grown v w l in absurd (not_end (sym e ∙ o.2.1))
 
-    module _ (k : ℕ) (e : r ≡ End k) where
+    module _ (k : ℕ) (e : r ≡ Some k) where
       pub group-in : Grew b n after k (text_at s q)
       group-in = subst (λ (z : To). Puts b n (text_at s q) z after) e p
 
@@ -234,16 +232,16 @@ module _ (b : Bytes) (n : ℕ) (s : Bytes) (at q : ℕ) (told : TellsSole s at q
           ∙ ap (λ (y : ℕ). take y (x ++ drop k after)) z
           ∙ lib.Seq.take-append_seam x (drop k after)
 
-      pub group-other : n ≤ length b → is_lower_word (take (k - n) (drop n after)) ≡ false → PutsGroup b n s at Bad after
+      pub group-other : n ≤ length b → is_lower_word (take (k - n) (drop n after)) ≡ false → PutsGroup b n s at None after
       unfolding group_of
       group-other h z v w l =
           let o = word v w l in
           let f : is_lower_word o.0 ≡ false = ap is_lower_word (sym (part-is o.0 h o.2)) ∙ z in
-          subst (PutAs b n Bad after) (sym (ap (λ (y : Option Bytes). chain y λ g. provided (is_lower_word g) (some g)) o.1 ∙ ap (λ (y : Bool). provided y (some o.0)) f)) refl
+          subst (PutAs b n None after) (sym (ap (λ (y : Option Bytes). chain y λ g. provided (is_lower_word g) (some g)) o.1 ∙ ap (λ (y : Bool). provided y (some o.0)) f)) refl
 
-      pub group-is : n ≤ length b → is_lower_word (take (k - n) (drop n after)) ≡ true → PutsGroup b n s at (End k) after
+      pub group-is : n ≤ length b → is_lower_word (take (k - n) (drop n after)) ≡ true → PutsGroup b n s at (Some k) after
       unfolding group_of
       group-is h z v w l =
           let o = word v w l in
           let f : is_lower_word o.0 ≡ true = ap is_lower_word (sym (part-is o.0 h o.2)) ∙ z in
-          subst (PutAs b n (End k) after) (sym (ap (λ (y : Option Bytes). chain y λ g. provided (is_lower_word g) (some g)) o.1 ∙ ap (λ (y : Bool). provided y (some o.0)) f)) (k, refl, o.2)
+          subst (PutAs b n (Some k) after) (sym (ap (λ (y : Option Bytes). chain y λ g. provided (is_lower_word g) (some g)) o.1 ∙ ap (λ (y : Bool). provided y (some o.0)) f)) (k, refl, o.2)

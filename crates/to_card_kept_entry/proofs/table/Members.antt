@@ -7,8 +7,8 @@ use Prim.Native.Nat.{ℕ, zero, suc, ◌+◌, ◌≤◌, ◌<◌}
 use native.Mathlib.Omega.{arith}
 use lib.ListN.{length, take, drop, length-append}
 use lib.Seq.{length-take-le, take-take, take_at}
-use Rattle.text.specs.declared.Read.{Read}
-use Rattle.text.specs.declared.Turn.TheVariants.{Go, Stop}
+use Rattle.text.specs.Places.{Read}
+use Rattle.std.proofs.Common.{Continue, Break}
 use Rattle.text.specs.Choice.{pick, chain, provided}
 use Rattle.text.specs.Bytes.{Bytes, ascii, flat}
 use Rattle.text.specs.Reader.{got, loop}
@@ -26,10 +26,6 @@ use Rattle.json_index.proofs.Objects.{not-object, empty-object, object-members}
 use Rattle.line.specs.Grammar.{param, value_count}
 use Rattle.line.proofs.Lines.{count-append}
 use Rattle.line_table.specs.Table.{part, Span}
-use Rattle.to_card_kept_entry.specs.declared.strings.To.{To}
-use Rattle.to_card_kept_entry.specs.declared.strings.To.TheVariants.{End, Bad as ToBad}
-use Rattle.to_card_kept_entry.specs.declared.strings.Rows.{Rows}
-use Rattle.to_card_kept_entry.specs.declared.strings.Rows.TheVariants.{More, Wrong}
 use Rattle.to_card_kept_entry.specs.strings.Strings.{size, size_members, Grew, PutAs, Table, group_of, sole_in, PutsGroup}
 use Rattle.to_card_kept_entry.proofs.strings.Tables.{part-longer, part-new, longer-span, table-longer, table_none}
 use Rattle.to_card_kept_entry.proofs.strings.Values.{not_end, end_is, not_more, more-end, more-count}
@@ -37,15 +33,16 @@ use Rattle.to_card_kept_entry.proofs.strings.Whole.{sole-size}
 use Rattle.convert.specs.FromJson.{is_lower_word}
 use Rattle.text.proofs.Choices.{chain-inv, provided-inv, some_same, none-some}
 use Rattle.to_card_kept_entry.specs.declared.table.Filled.{Filled}
-use Rattle.to_card_kept_entry.specs.declared.table.Step.{Step}
-use Rattle.to_card_kept_entry.specs.declared.table.Step.TheVariants.{On, Bad}
 use Rattle.to_card_kept_entry.specs.table.Kept.{Sofar, sofar, group_in, params_in, group_step, fit_param, param_step, step_of, steps_of, GroupAt, Has, Stays, ParamAs, PutsParam, StepIn, StepAs, PutsMember, none_yet, PutsFrom, PutsObject}
 use Rattle.to_card_kept_entry.proofs.table.Params.{word-filled, strings-bound}
+use Rattle.std.specs.Prelude.{Some, None}
+use Rattle.to_card_kept_entry.specs.strings.Strings.{To, RowsTo, more}
+use Rattle.to_card_kept_entry.specs.table.Kept.{Step}
 
-not_on : {f : Filled} → Bad ≡ On f → ⊥
+not_on : {f : Filled} → None ≡ Some f → ⊥
 not_on e = let z : ◌≡◌ {A = ℕ} 0 1 = cc in omega arith
 
-on-is : {f g : Filled} → On f ≡ On g → f ≡ g
+on-is : {f g : Filled} → Some f ≡ Some g → f ≡ g
 on-is e = cc
 
 -- ---- what stays
@@ -89,7 +86,7 @@ count-one : (k : Bytes) (ws : List Bytes) → value_count (param k ws ∷ []) �
 unfolding value_count
 count-one k ws = omega arith
 
-pub step_in : {n room count : ℕ} {f : Filled} {r : Step} → StepIn n room count r → r ≡ On f → StepIn n room count (On f)
+pub step_in : {n room count : ℕ} {f : Filled} {r : Step} → StepIn n room count r → r ≡ Some f → StepIn n room count (Some f)
 step_in {n} {room} {count} {f} {r} h e = subst (StepIn n room count) e h
 
 -- ---- one member
@@ -109,11 +106,11 @@ module _ (b : Bytes) (t : List ℕ) (f : Filled) (s : Bytes) (q at : ℕ) where
       (sym (ap (λ (o : Option Bytes). spells o (ascii "group")) e) ∙ y)
 
   module _ (y : spells (decoded_at s q) (ascii "group") ≡ true) where
-    pub member-again : (f.to ≡ 0 → ⊥) → PutsMember b t f s q at Bad b t
+    pub member-again : (f.to ≡ 0 → ⊥) → PutsMember b t f s q at None b t
     member-again n k v e w z h l =
-        subst (StepAs b f.end (f.end + (length k + size v)) Bad b t) (sym (is-group z k v e y)) (by (group_in z) h.group)
+        subst (StepAs b f.end (f.end + (length k + size v)) None b t) (sym (is-group z k v e y)) (by (group_in z) h.group)
       where
-        by : (g : Option Bytes) → GroupAt (take f.end b) f.from f.to g → StepAs b f.end (f.end + (length k + size v)) Bad b t (group_step g (params_in z) (group_of v))
+        by : (g : Option Bytes) → GroupAt (take f.end b) f.from f.to g → StepAs b f.end (f.end + (length k + size v)) None b t (group_step g (params_in z) (group_of v))
         by none x = absurd (n x.1)
         by (some g) x = refl
 
@@ -125,24 +122,24 @@ module _ (b : Bytes) (t : List ℕ) (f : Filled) (s : Bytes) (q at : ℕ) where
           by none x = refl
           by (some g) x = absurd (omega (arith, x.2, o))
 
-      pub member-nogroup : r ≡ ToBad → PutsMember b t f s q at Bad c t
+      pub member-nogroup : r ≡ None → PutsMember b t f s q at None c t
       member-nogroup x k v e w z h l =
-          subst (StepAs b f.end (f.end + (length k + size v)) Bad c t)
+          subst (StepAs b f.end (f.end + (length k + size v)) None c t)
           (sym (is-group z k v e y ∙ ap (λ (g : Option Bytes). group_step g (params_in z) (group_of v)) (not_yet z h)))
           (by (group_of v) (puts v w (omega arith)))
         where
-          by : (g : Option Bytes) → PutAs b f.end r c g → StepAs b f.end (f.end + (length k + size v)) Bad c t (map (λ w. sofar (some w) (params_in z)) g)
+          by : (g : Option Bytes) → PutAs b f.end r c g → StepAs b f.end (f.end + (length k + size v)) None c t (map (λ w. sofar (some w) (params_in z)) g)
           by none p = refl
           by (some g) p = absurd (not_end (sym x ∙ p.1))
 
-      pub member-group : f.end ≤ length b → (i : ℕ) → r ≡ End i → PutsMember b t f s q at (On (record { end = i; rows = f.rows; count = f.count; from = f.end; to = i })) c t
+      pub member-group : f.end ≤ length b → (i : ℕ) → r ≡ Some i → PutsMember b t f s q at (Some (record { end = i; rows = f.rows; count = f.count; from = f.end; to = i })) c t
       member-group n i x k v e w z h l =
           subst (StepAs b f.end (f.end + (length k + size v)) _ c t)
           (sym (is-group z k v e y ∙ ap (λ (g : Option Bytes). group_step g (params_in z) (group_of v)) (not_yet z h)))
           (by (group_of v) refl (puts v w (omega arith)))
         where
           by : (g : Option Bytes) → group_of v ≡ g → PutAs b f.end r c g
-              → StepAs b f.end (f.end + (length k + size v)) (On (record { end = i; rows = f.rows; count = f.count; from = f.end; to = i })) c t (map (λ w. sofar (some w) (params_in z)) g)
+              → StepAs b f.end (f.end + (length k + size v)) (Some (record { end = i; rows = f.rows; count = f.count; from = f.end; to = i })) c t (map (λ w. sofar (some w) (params_in z)) g)
           by none d p = absurd (not_end (sym p ∙ x))
           by (some g) d p =
               let gr : Grew b f.end c i g = subst (λ (j : ℕ). Grew b f.end c j g) (end_is (sym p.1 ∙ x)) p.2 in
@@ -164,25 +161,25 @@ module _ (b : Bytes) (t : List ℕ) (f : Filled) (s : Bytes) (q at : ℕ) where
                 short = omega (arith, gr.to, sole-size v g gw.0);
               }
 
-  module _ (y : spells (decoded_at s q) (ascii "group") ≡ false) (r : Rows) (c : Bytes) (u : List ℕ) (puts : PutsParam b f.end t f.rows s q at r c u) where
+  module _ (y : spells (decoded_at s q) (ascii "group") ≡ false) (r : RowsTo) (c : Bytes) (u : List ℕ) (puts : PutsParam b f.end t f.rows s q at r c u) where
     as_param : (z : Sofar) → Has b t f z → (k : Bytes) (v : Json) → decoded_at s q ≡ some k → step_of z k v ≡ param_step (group_in z) (params_in z) k (fit_param f.rows k v)
     as_param z h k v e = is-param z k v e y ∙ ap (λ (m : ℕ). param_step (group_in z) (params_in z) k (fit_param m k v)) (sym h.few)
 
-    pub member-wrong : r ≡ Wrong → PutsMember b t f s q at Bad c u
+    pub member-wrong : r ≡ None → PutsMember b t f s q at None c u
     member-wrong x k v e w z h l =
-        subst (StepAs b f.end (f.end + (length k + size v)) Bad c u) (sym (as_param z h k v e)) (by (fit_param f.rows k v) (puts k v e w l))
+        subst (StepAs b f.end (f.end + (length k + size v)) None c u) (sym (as_param z h k v e)) (by (fit_param f.rows k v) (puts k v e w l))
       where
-        by : (o : Option (List Bytes)) → ParamAs b f.end t f.rows r c u k o → StepAs b f.end (f.end + (length k + size v)) Bad c u (param_step (group_in z) (params_in z) k o)
+        by : (o : Option (List Bytes)) → ParamAs b f.end t f.rows r c u k o → StepAs b f.end (f.end + (length k + size v)) None c u (param_step (group_in z) (params_in z) k o)
         by none p = refl
         by (some ws) p = absurd (not_more (sym x ∙ p.said))
 
-    module _ (n : f.end ≤ length b) (i m : ℕ) (x : r ≡ More i m) where
-      pub member-param : PutsMember b t f s q at (On (record { end = i; rows = m; count = f.count + 1; from = f.from; to = f.to })) c u
+    module _ (n : f.end ≤ length b) (i m : ℕ) (x : r ≡ more i m) where
+      pub member-param : PutsMember b t f s q at (Some (record { end = i; rows = m; count = f.count + 1; from = f.from; to = f.to })) c u
       member-param k v e w z h l =
           subst (StepAs b f.end (f.end + (length k + size v)) _ c u) (sym (as_param z h k v e)) (by (fit_param f.rows k v) refl (puts k v e w l))
         where
           by : (o : Option (List Bytes)) → fit_param f.rows k v ≡ o → ParamAs b f.end t f.rows r c u k o
-              → StepAs b f.end (f.end + (length k + size v)) (On (record { end = i; rows = m; count = f.count + 1; from = f.from; to = f.to })) c u (param_step (group_in z) (params_in z) k o)
+              → StepAs b f.end (f.end + (length k + size v)) (Some (record { end = i; rows = m; count = f.count + 1; from = f.from; to = f.to })) c u (param_step (group_in z) (params_in z) k o)
           by none d p = absurd (not_more (sym p ∙ x))
           by (some ws) d p =
               let ie : p.end ≡ i = more-end (sym p.said ∙ x) in
@@ -283,18 +280,18 @@ module _ (b₀ : Bytes) (n : ℕ) (s : Bytes) (at i : ℕ) (f : Filled) (b : Byt
         told-as = puts x.key x.val (l.0 ∙ x.is-key) a g.state g.has (omega (arith, g.room, sz, g.stays.long, room));
       }
 
-  pub from-bad : p ≡ Bad → (after : Bytes) (v : List ℕ) → PutsFrom b₀ n s at Bad after v
+  pub from-bad : p ≡ None → (after : Bytes) (v : List ℕ) → PutsFrom b₀ n s at None after v
   from-bad e after v us ms w x y l =
       let g = going us ms w x y l in
       let z = pair-here 12 s i g.units w g.is-units in
       let o = turned ms w g l z z.others (sym z.is) in
-      subst (StepAs b₀ n (n + size_members ms) Bad after v) (sym o.is-steps) (by _ (step_of g.state o.key o.val) (λ y. steps_of y (members_of o.others)) o.told-as)
+      subst (StepAs b₀ n (n + size_members ms) None after v) (sym o.is-steps) (by _ (step_of g.state o.key o.val) (λ y. steps_of y (members_of o.others)) o.told-as)
     where
-      by : (most : ℕ) (q : Option Sofar) (k : Sofar → Option Sofar) → StepAs b f.end most p c u q → StepAs b₀ n (n + size_members ms) Bad after v (chain q k)
+      by : (most : ℕ) (q : Option Sofar) (k : Sofar → Option Sofar) → StepAs b f.end most p c u q → StepAs b₀ n (n + size_members ms) None after v (chain q k)
       by most none k h = refl
       by most (some y) k h = absurd (not_on (sym e ∙ h.said))
 
-  module _ (f' : Filled) (e : p ≡ On f') where
+  module _ (f' : Filled) (e : p ≡ Some f') where
     record Gain (ms : Members) (us : Members) : Type 0 where
       others : Members
       state : Sofar
@@ -321,7 +318,7 @@ module _ (b₀ : Bytes) (n : ℕ) (s : Bytes) (at i : ℕ) (f : Filled) (b : Byt
               room = omega (arith, ap (λ (x : Filled). x.end) fe, h.short, g.room, o.sized);
             }
 
-    pub from_on : (j : ℕ) → GivesT s r.end (sep 125 zero suc (drop r.end s)) (Go j) → Going b₀ n s at j f' c u
+    pub from_on : (j : ℕ) → GivesT s r.end (sep 125 zero suc (drop r.end s)) (Continue j) → Going b₀ n s at j f' c u
     from_on j v us ms w x y l =
         let g = going us ms w x y l in
         let z = pair-here 12 s i g.units w g.is-units in
@@ -329,14 +326,14 @@ module _ (b₀ : Bytes) (n : ℕ) (s : Bytes) (at i : ℕ) (f : Filled) (b : Byt
         let h = gain ms w g l z o.0 o.2 in
         record { units = o.0; rest = h.others; state = h.state; is-units = o.1; is-rest = h.is-others; is-steps = h.is-steps; has = h.has; stays = h.stays; room = h.room }
 
-    pub from_all : (v : Read) → GivesT s r.end (sep 125 zero suc (drop r.end s)) (Stop v) → PutsFrom b₀ n s at (On f') c u
+    pub from_all : (v : Read) → GivesT s r.end (sep 125 zero suc (drop r.end s)) (Break v) → PutsFrom b₀ n s at (Some f') c u
     from_all v q us ms w x y l =
         let g = going us ms w x y l in
         let z = pair-here 12 s i g.units w g.is-units in
         let o = others-none 12 s i g.units w g.is-units z r.end (ends_of g.units z) v q in
         let h = gain ms w g l z mnil o in
         let m : steps_of h.state (members_of h.others) ≡ some h.state = ap (λ (j : Members). steps_of h.state (members_of j)) (sym (nil-decoded h.others h.is-others)) ∙ ap (steps_of h.state) members-nil ∙ steps-nil h.state in
-        subst (StepAs b₀ n (n + size_members ms) (On f') c u) (sym (h.is-steps ∙ m)) (record { filled = f'; said = refl; has = h.has; stays = h.stays; short = omega (arith, h.room) })
+        subst (StepAs b₀ n (n + size_members ms) (Some f') c u) (sym (h.is-steps ∙ m)) (record { filled = f'; said = refl; has = h.has; stays = h.stays; short = omega (arith, h.room) })
 
 -- ---- the object
 
@@ -354,14 +351,14 @@ object-size (jarr x) ms e = none-some e
 object-size (jobj ns) ms e = ap size_members (members-same ns ms (some_same e))
 
 module _ (b : Bytes) (n : ℕ) (t : List ℕ) (s : Bytes) (at i c : ℕ) (h : Passes is_space s at i) (l : c ≡ byte_at s i) where
-  pub object-none : (c ≡ 123 → ⊥) → PutsObject b n s at Bad b t
-  object-none q v w room = subst (λ (o : Option (List Member)). StepAs b n (n + size v) Bad b t (chain o (steps_of none_yet))) (sym (not-object 12 s at [] [] i c h l q v w)) refl
+  pub object-none : (c ≡ 123 → ⊥) → PutsObject b n s at None b t
+  object-none q v w room = subst (λ (o : Option (List Member)). StepAs b n (n + size v) None b t (chain o (steps_of none_yet))) (sym (not-object 12 s at [] [] i c h l q v w)) refl
 
   module _ (q : c ≡ 123) (j d : ℕ) (k : Passes is_space s (i + 1) j) (g : d ≡ byte_at s j) where
-    pub object-empty : n ≤ length b → d ≡ 125 → PutsObject b n s at (On (empty-at n)) b t
+    pub object-empty : n ≤ length b → d ≡ 125 → PutsObject b n s at (Some (empty-at n)) b t
     object-empty m p v w room =
-        subst (λ (o : Option (List Member)). StepAs b n (n + size v) (On (empty-at n)) b t (chain o (steps_of none_yet))) (sym (empty-object 12 s at [] [] i c h l q j d k g p v w))
-        (subst (StepAs b n (n + size v) (On (empty-at n)) b t) (sym (steps-nil none_yet)) (record { filled = empty-at n; said = refl; has = none_has b n t; stays = stays-none b n m; short = omega arith }))
+        subst (λ (o : Option (List Member)). StepAs b n (n + size v) (Some (empty-at n)) b t (chain o (steps_of none_yet))) (sym (empty-object 12 s at [] [] i c h l q j d k g p v w))
+        (subst (StepAs b n (n + size v) (Some (empty-at n)) b t) (sym (steps-nil none_yet)) (record { filled = empty-at n; said = refl; has = none_has b n t; stays = stays-none b n m; short = omega arith }))
 
     pub object-all : (d ≡ 125 → ⊥) → (r : Step) (after : Bytes) (u : List ℕ) → PutsFrom b n s j r after u → PutsObject b n s at r after u
     object-all p r after u f v w room =

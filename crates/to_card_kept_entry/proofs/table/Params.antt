@@ -19,16 +19,14 @@ use Rattle.json_strings.proofs.NextByte.{text-some}
 use Rattle.line.specs.Grammar.{Param, param}
 use Rattle.line_table.specs.Table.{part}
 use Rattle.convert.specs.FromJson.{strings, is_lower_word}
-use Rattle.to_card_kept_entry.specs.declared.strings.To.{To}
-use Rattle.to_card_kept_entry.specs.declared.strings.To.TheVariants.{End, Bad}
-use Rattle.to_card_kept_entry.specs.declared.strings.Rows.{Rows}
-use Rattle.to_card_kept_entry.specs.declared.strings.Rows.TheVariants.{More, Wrong}
 use Rattle.to_card_kept_entry.specs.strings.Strings.{size, Grew, Puts, Within, PutAs, Table, opened, Adding, capped, Added, AddAs, RowsIn, AddsValues}
 use Rattle.to_card_kept_entry.proofs.strings.Putting.{put_as}
 use Rattle.to_card_kept_entry.proofs.strings.Tables.{part-longer, part-new, adding-first}
 use Rattle.to_card_kept_entry.proofs.strings.Values.{not_end, end_is, grew_then}
 use Rattle.to_card_kept_entry.proofs.strings.Whole.{strings-size}
 use Rattle.to_card_kept_entry.specs.table.Kept.{good_name, fit_param, ParamAs, PutsParam}
+use Rattle.std.specs.Prelude.{Some, None}
+use Rattle.to_card_kept_entry.specs.strings.Strings.{To, RowsTo, more}
 
 -- the bytes that were put last
 pub part-is : (b : Bytes) (n : ℕ) (after : Bytes) (k : ℕ) (x : Bytes) → n ≤ length b → Grew b n after k x → take (k - n) (drop n after) ≡ x
@@ -87,7 +85,7 @@ opened_some n [] e = let z : ◌≡◌ {A = ℕ} 0 1 = cc in absurd (omega arith
 opened_some n (w ∷ ws) e = refl
 
 -- the table with the values of a parameter whose name was put before them
-pub param-table : (b : Bytes) (n : ℕ) (t : List ℕ) (m : ℕ) → n ≤ length b → (c : Bytes) (i : ℕ) (k : Bytes) → Grew b n c i k → 0 < length k → (r' : Rows) (d : Bytes) (u : List ℕ) (ws : List Bytes)
+pub param-table : (b : Bytes) (n : ℕ) (t : List ℕ) (m : ℕ) → n ≤ length b → (c : Bytes) (i : ℕ) (k : Bytes) → Grew b n c i k → 0 < length k → (r' : RowsTo) (d : Bytes) (u : List ℕ) (ws : List Bytes)
     → not (empty ws) ≡ true → Added c i t m n i r' d u ws → (qs : List Param) → Table (take n b) t m qs → Table (take n b ++ (k ++ flat ws)) u (m + length ws) (qs ++ (param k ws ∷ []))
 param-table b n t m h c i k g f r' d u ws ne a qs tb =
     let len : length (take n b) ≡ n = length-take-le n b h in
@@ -108,10 +106,10 @@ module _ (b : Bytes) (n : ℕ) (t : List ℕ) (m : ℕ) (s : Bytes) (q at : ℕ)
   name-put : (k : Bytes) (v : Json) → decoded_at s q ≡ some k → n + (length k + size v) ≤ length b → PutAs b n r c (some k)
   name-put k v e l = put_as b n k r c (omega arith) (subst (λ (z : Bytes). Puts b n z r c) (text-some s q k e) p)
 
-  pub param-full : r ≡ Bad → PutsParam b n t m s q at Wrong c t
+  pub param-full : r ≡ None → PutsParam b n t m s q at None c t
   param-full z k v e w l = absurd (not_end (sym z ∙ (name-put k v e l).1))
 
-  module _ (i : ℕ) (z : r ≡ End i) where
+  module _ (i : ℕ) (z : r ≡ Some i) where
     pub name_in : Grew b n c i (text_at s q)
     name_in = subst (λ (y : To). Puts b n (text_at s q) y c) z p
 
@@ -121,22 +119,22 @@ module _ (b : Bytes) (n : ℕ) (t : List ℕ) (m : ℕ) (s : Bytes) (q at : ℕ)
     word-is : (k : Bytes) (v : Json) → decoded_at s q ≡ some k → n + (length k + size v) ≤ length b → is_lower_word k ≡ is_lower_word (take (i - n) (drop n c))
     word-is k v e l = ap is_lower_word (sym (part-is b n c i k h (name-grew k v e l)))
 
-    pub param-other : is_lower_word (take (i - n) (drop n c)) ≡ false → PutsParam b n t m s q at Wrong c t
+    pub param-other : is_lower_word (take (i - n) (drop n c)) ≡ false → PutsParam b n t m s q at None c t
     param-other y k v e w l =
         let g : good_name k ≡ false = ap (λ (x : Bool). x && not (same k (ascii "value"))) (word-is k v e l ∙ y) in
-        subst (ParamAs b n t m Wrong c t k) (sym (fit_none m k v g)) refl
+        subst (ParamAs b n t m None c t k) (sym (fit_none m k v g)) refl
 
-    pub param-value : spells (decoded_at s q) (ascii "value") ≡ true → PutsParam b n t m s q at Wrong c t
+    pub param-value : spells (decoded_at s q) (ascii "value") ≡ true → PutsParam b n t m s q at None c t
     param-value y k v e w l =
         let x : same k (ascii "value") ≡ true = same-swap k (ascii "value") ∙ sym (ap (λ (o : Option Bytes). spells o (ascii "value")) e) ∙ y in
         let g : good_name k ≡ false = ap (λ (y : Bool). is_lower_word k && not y) x ∙ and-false (is_lower_word k) in
-        subst (ParamAs b n t m Wrong c t k) (sym (fit_none m k v g)) refl
+        subst (ParamAs b n t m None c t k) (sym (fit_none m k v g)) refl
       where
         and-false : (y : Bool) → (y && false) ≡ false
         and-false true = refl
         and-false false = refl
 
-    module _ (y : is_lower_word (take (i - n) (drop n c)) ≡ true) (x : spells (decoded_at s q) (ascii "value") ≡ false) (r' : Rows) (d : Bytes) (u : List ℕ) (adds : AddsValues c i t m n i s at r' d u) where
+    module _ (y : is_lower_word (take (i - n) (drop n c)) ≡ true) (x : spells (decoded_at s q) (ascii "value") ≡ false) (r' : RowsTo) (d : Bytes) (u : List ℕ) (adds : AddsValues c i t m n i s at r' d u) where
       good : (k : Bytes) (v : Json) → decoded_at s q ≡ some k → n + (length k + size v) ≤ length b → good_name k ≡ true
       good k v e l =
           let f : same k (ascii "value") ≡ false = same-swap k (ascii "value") ∙ sym (ap (λ (o : Option Bytes). spells o (ascii "value")) e) ∙ x in
@@ -159,9 +157,9 @@ module _ (b : Bytes) (n : ℕ) (t : List ℕ) (m : ℕ) (s : Bytes) (q at : ℕ)
 
 -- ---- bounds
 
-pub rows-lower : (n i room room' : ℕ) (r : Rows) → n ≤ i → room ≡ room' → RowsIn i room r → RowsIn n room' r
-rows-lower n i room room' (More k m) h e g = (omega (arith, g.0, h), omega (arith, g.1, e), g.2)
-rows-lower n i room room' Wrong h e g = tt
+pub rows-lower : (n i room room' : ℕ) (r : RowsTo) → n ≤ i → room ≡ room' → RowsIn i room r → RowsIn n room' r
+rows-lower n i room room' (Some r) h e g = (omega (arith, g.0, h), omega (arith, g.1, e), g.2)
+rows-lower n i room room' None h e g = tt
 
-pub to_in : {n room k : ℕ} {r : To} → Within n room r → r ≡ End k → (n ≤ k) × (k ≤ room)
+pub to_in : {n room k : ℕ} {r : To} → Within n room r → r ≡ Some k → (n ≤ k) × (k ≤ room)
 to_in {n} {room} {k} {r} h e = subst (Within n room) e h

@@ -11,14 +11,11 @@ use Rattle.line_table.specs.Spread.{spread_line, valued}
 use Rattle.line_table.specs.Table.{line_in, Sound}
 use Rattle.convert.specs.Model.{Kept}
 use Rattle.convert.specs.FromJson.{is_lower_word, kept_as_line, never_kept}
-use Rattle.to_card_kept_entry.specs.declared.strings.To.{To}
-use Rattle.to_card_kept_entry.specs.declared.strings.Rows.{Rows}
-use Rattle.to_card_kept_entry.specs.declared.strings.Rows.TheVariants.{More, Wrong}
-use Rattle.to_card_kept_entry.specs.strings.Strings.{size, PutAs, Table, runs_in}
+use Rattle.to_card_kept_entry.specs.strings.Strings.{To, RowsTo, more, size, PutAs, Table, runs_in}
 use Rattle.to_card_kept_entry.specs.declared.table.Filled.{Filled}
 use Rattle.to_card_kept_entry.specs.table.Kept.{Sofar, group_in, params_in, none_yet, steps_of, Has, Stays, ParamAs}
 use Rattle.to_card_kept_entry.specs.declared.entry.Four.{Four}
-use Rattle.to_card_kept_entry.specs.declared.entry.Four.TheVariants.{At, Bad}
+use Rattle.std.specs.Prelude.{Option as Maybe, Some, None}
 
 -- ---- words
 
@@ -34,36 +31,43 @@ PutsName b n s at r after = (d : ℕ) (v : Json) → json_at d s at ≡ some v �
 
 -- ---- four elements
 
--- they are in the text, and the array at a place ends at the last of the places
-abbrev pub FourIn : Bytes → ℕ → Four → Type 0
-FourIn s at (At name params kind value end) = (name ≤ length s) × (params ≤ length s) × (kind ≤ length s) × (value ≤ length s) × ValueEnds 13 s at end
-FourIn s at Bad = Unit {0}
+-- where they stand
+abbrev pub FourAt : Type 0
+FourAt = Maybe Four
 
-pub record FourHere (s : Bytes) (r : Four) (a b c d : Json) : Type 0 where
+abbrev pub elements : ℕ → ℕ → ℕ → ℕ → ℕ → FourAt
+elements name params kind value end = Some (record { name = name; params = params; kind = kind; value = value; end = end })
+
+-- they are in the text, and the array at a place ends at the last of the places
+abbrev pub FourIn : Bytes → ℕ → FourAt → Type 0
+FourIn s at (Some f) = (f.name ≤ length s) × (f.params ≤ length s) × (f.kind ≤ length s) × (f.value ≤ length s) × ValueEnds 13 s at f.end
+FourIn s at None = Unit {0}
+
+pub record FourHere (s : Bytes) (r : FourAt) (a b c d : Json) : Type 0 where
   pub name : ℕ
   pub params : ℕ
   pub kind : ℕ
   pub value : ℕ
   pub end : ℕ
-  pub said : r ≡ At name params kind value end
+  pub said : r ≡ elements name params kind value end
   pub is_name : json_at 13 s name ≡ some a
   pub is-params : json_at 13 s params ≡ some b
   pub is-kind : json_at 13 s kind ≡ some c
   pub is-value : json_at 13 s value ≡ some d
 
-abbrev pub FourList : Bytes → Four → List Json → Type 0
-FourList s r [] = r ≡ Bad
-FourList s r (a ∷ []) = r ≡ Bad
-FourList s r (a ∷ (b ∷ [])) = r ≡ Bad
-FourList s r (a ∷ (b ∷ (c ∷ []))) = r ≡ Bad
+abbrev pub FourList : Bytes → FourAt → List Json → Type 0
+FourList s r [] = r ≡ None
+FourList s r (a ∷ []) = r ≡ None
+FourList s r (a ∷ (b ∷ [])) = r ≡ None
+FourList s r (a ∷ (b ∷ (c ∷ []))) = r ≡ None
 FourList s r (a ∷ (b ∷ (c ∷ (d ∷ [])))) = FourHere s r a b c d
-FourList s r (a ∷ (b ∷ (c ∷ (d ∷ (e ∷ es))))) = r ≡ Bad
+FourList s r (a ∷ (b ∷ (c ∷ (d ∷ (e ∷ es))))) = r ≡ None
 
-abbrev pub FourIs : Bytes → Four → Option (List Json) → Type 0
-FourIs s r none = r ≡ Bad
+abbrev pub FourIs : Bytes → FourAt → Option (List Json) → Type 0
+FourIs s r none = r ≡ None
 FourIs s r (some js) = FourList s r js
 
-abbrev pub TellsFour : Bytes → ℕ → Four → Type 0
+abbrev pub TellsFour : Bytes → ℕ → FourAt → Type 0
 TellsFour s at r = (v : Json) → json_at 14 s at ≡ some v → FourIs s r (as_array v)
 
 -- ---- the type, as VALUE
@@ -71,7 +75,7 @@ TellsFour s at r = (v : Json) → json_at 14 s at ≡ some v → FourIs s r (as_
 abbrev pub typed_as : ℕ → Bytes → Option (List Bytes)
 typed_as m x = provided (leb (m + 1) 64) (provided (is_lower_word x) (some (x ∷ [])))
 
-abbrev pub PutsTyped : Bytes → ℕ → List ℕ → ℕ → Bytes → ℕ → Rows → Bytes → List ℕ → Type 0
+abbrev pub PutsTyped : Bytes → ℕ → List ℕ → ℕ → Bytes → ℕ → RowsTo → Bytes → List ℕ → Type 0
 PutsTyped b n t m s at r after u = (d : ℕ) (v : Json) → json_at d s at ≡ some v → n + (5 + size v) ≤ length b
     → ParamAs b n t m r after u (ascii "value") (chain (as_string v) (typed_as m))
 
@@ -86,18 +90,18 @@ type_param x = pick (is_unknown x) [] (param (ascii "value") (x ∷ []) ∷ [])
 abbrev pub type_fits : ℕ → ℕ → Bytes → Bool
 type_fits m c x = pick (is_unknown x) (leb c 32) (leb (c + 1) 32 && (leb (m + 1) 64 && is_lower_word x))
 
-pub record AddedType (b : Bytes) (n : ℕ) (t : List ℕ) (m most : ℕ) (r : Rows) (after : Bytes) (u : List ℕ) (x : Bytes) : Type 0 where
+pub record AddedType (b : Bytes) (n : ℕ) (t : List ℕ) (m most : ℕ) (r : RowsTo) (after : Bytes) (u : List ℕ) (x : Bytes) : Type 0 where
   pub end : ℕ
-  pub said : r ≡ More end (m + length (type_param x))
+  pub said : r ≡ more end (m + length (type_param x))
   pub stays : Stays b n after end
   pub short : end ≤ most
   pub table : (qs : List Param) → Table (take n b) t m qs → Table (take end after) u (m + length (type_param x)) (qs ++ type_param x)
 
-abbrev pub TypeAs : Bytes → ℕ → List ℕ → ℕ → ℕ → Rows → Bytes → List ℕ → Option Bytes → Type 0
-TypeAs b n t m most r after u none = r ≡ Wrong
+abbrev pub TypeAs : Bytes → ℕ → List ℕ → ℕ → ℕ → RowsTo → Bytes → List ℕ → Option Bytes → Type 0
+TypeAs b n t m most r after u none = r ≡ None
 TypeAs b n t m most r after u (some x) = AddedType b n t m most r after u x
 
-abbrev pub PutsType : Bytes → ℕ → List ℕ → ℕ → ℕ → Bytes → ℕ → Rows → Bytes → List ℕ → Type 0
+abbrev pub PutsType : Bytes → ℕ → List ℕ → ℕ → ℕ → Bytes → ℕ → RowsTo → Bytes → List ℕ → Type 0
 PutsType b n t m c s at r after u = (d : ℕ) (v : Json) → json_at d s at ≡ some v → n + (5 + size v) ≤ length b
     → TypeAs b n t m (n + (5 + size v)) r after u (chain (as_string v) λ x. provided (type_fits m c x) (some x))
 

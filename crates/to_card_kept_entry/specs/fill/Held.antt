@@ -2,14 +2,17 @@
 use Rattle.std.specs.Prelude.{Bool, true, false, ℕ}
 use Rattle.text.specs.Bytes.{Bytes}
 use Rattle.json_index.specs.Index.{ValueEnds}
-use Rattle.to_card_kept_entry.specs.declared.fill.Held.{Held}
-use Rattle.to_card_kept_entry.specs.declared.fill.Held.TheVariants.{Entry, Bad}
+use Rattle.std.specs.Prelude.{Option as Maybe, Some, None}
+
+-- the place after an entry
+abbrev pub Held : Type 0
+Held = Maybe ℕ
 
 abbrev pub is_entry : Held → Bool
-is_entry (Entry e) = true
-is_entry Bad = false
+is_entry (Some e) = true
+is_entry None = false
 
 -- the entry at a place ends there
 abbrev pub HeldIn : Bytes → ℕ → Held → Type 0
-HeldIn s at (Entry e) = ValueEnds 13 s at e
-HeldIn s at Bad = Unit {0}
+HeldIn s at (Some e) = ValueEnds 13 s at e
+HeldIn s at None = Unit {0}

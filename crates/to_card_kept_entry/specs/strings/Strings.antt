@@ -13,10 +13,8 @@ use Rattle.line.specs.Grammar.{Param, param, param_name, param_values}
 use Rattle.line_table.specs.Spread.{spread}
 use Rattle.line_table.specs.Table.{part, base, name_at, value_at, rows_in, Span, Spans}
 use Rattle.convert.specs.FromJson.{strings, is_lower_word}
-use Rattle.to_card_kept_entry.specs.declared.strings.To.{To}
-use Rattle.to_card_kept_entry.specs.declared.strings.To.TheVariants.{End, Bad}
+use Rattle.std.specs.Prelude.{Option as Maybe, Some, None}
 use Rattle.to_card_kept_entry.specs.declared.strings.Rows.{Rows}
-use Rattle.to_card_kept_entry.specs.declared.strings.Rows.TheVariants.{More, Wrong}
 
 -- ---- how many bytes the strings and names of a value have in all
 
@@ -55,20 +53,31 @@ pub record Grew (b : Bytes) (n : ℕ) (after : Bytes) (k : ℕ) (x : Bytes) : Ty
   pub to : k ≡ n + length x
   pub within : k ≤ length b
 
+-- where what is in the buffer then ends
+abbrev pub To : Type 0
+To = Maybe ℕ
+
+-- the same, and how many rows the table then has
+abbrev pub RowsTo : Type 0
+RowsTo = Maybe Rows
+
+abbrev pub more : ℕ → ℕ → RowsTo
+more end count = Some (record { end = end; count = count })
+
 -- the answer of a writer of one string
 abbrev pub Puts : Bytes → ℕ → Bytes → To → Bytes → Type 0
-Puts b n x (End k) after = Grew b n after k x
-Puts b n x Bad after = (length after ≡ length b) × (length b < n + length x)
+Puts b n x (Some k) after = Grew b n after k x
+Puts b n x None after = (length after ≡ length b) × (length b < n + length x)
 
 -- what is taken stays in the buffer
 abbrev pub Within : ℕ → ℕ → To → Type 0
-Within n room (End k) = (n ≤ k) × (k ≤ room)
-Within n room Bad = Unit {0}
+Within n room (Some k) = (n ≤ k) × (k ≤ room)
+Within n room None = Unit {0}
 
 -- where there is a string it is there
 abbrev pub PutAs : Bytes → ℕ → To → Bytes → Option Bytes → Type 0
-PutAs b n r after none = r ≡ Bad
-PutAs b n r after (some x) = (k : ℕ) × (r ≡ End k) × Grew b n after k x
+PutAs b n r after none = r ≡ None
+PutAs b n r after (some x) = (k : ℕ) × (r ≡ Some k) × Grew b n after k x
 
 -- of whatever value stands at a place, where there is room for its strings
 abbrev pub PutsAt : Bytes → ℕ → Bytes → ℕ → To → Bytes → Type 0
@@ -118,14 +127,14 @@ pub record Adding (p : Bytes) (t : List ℕ) (m a e : ℕ) (qs : List Param) (vs
 abbrev pub capped : ℕ → Option (List Bytes) → Option (List Bytes)
 capped m o = chain o λ vs. provided (leb (m + length vs) 64) (some vs)
 
-pub record Added (b : Bytes) (n : ℕ) (t : List ℕ) (m a e : ℕ) (r : Rows) (after : Bytes) (u : List ℕ) (ws : List Bytes) : Type 0 where
+pub record Added (b : Bytes) (n : ℕ) (t : List ℕ) (m a e : ℕ) (r : RowsTo) (after : Bytes) (u : List ℕ) (ws : List Bytes) : Type 0 where
   pub end : ℕ
-  pub said : r ≡ More end (m + length ws)
+  pub said : r ≡ more end (m + length ws)
   pub grew : Grew b n after end (flat ws)
   pub adds : (qs : List Param) (vs : List Bytes) → Adding (take n b) t m a e qs vs → Adding (take n b ++ flat ws) u (m + length ws) a e qs (vs ++ ws)
 
-abbrev pub AddAs : Bytes → ℕ → List ℕ → ℕ → ℕ → ℕ → Rows → Bytes → List ℕ → Option (List Bytes) → Type 0
-AddAs b n t m a e r after u none = r ≡ Wrong
+abbrev pub AddAs : Bytes → ℕ → List ℕ → ℕ → ℕ → ℕ → RowsTo → Bytes → List ℕ → Option (List Bytes) → Type 0
+AddAs b n t m a e r after u none = r ≡ None
 AddAs b n t m a e r after u (some ws) = Added b n t m a e r after u ws
 
 -- what is taken stays in the buffer and the table
@@ -133,19 +142,19 @@ pub record Bounds (b after : Bytes) (t u : List ℕ) : Type 0 where
   pub long : length after ≡ length b
   pub wide : length u ≡ length t
 
-abbrev pub RowsIn : ℕ → ℕ → Rows → Type 0
-RowsIn n room (More k m) = (n ≤ k) × (k ≤ room) × (m ≤ 64)
-RowsIn n room Wrong = Unit {0}
+abbrev pub RowsIn : ℕ → ℕ → RowsTo → Type 0
+RowsIn n room (Some r) = (n ≤ r.end) × (r.end ≤ room) × (r.count ≤ 64)
+RowsIn n room None = Unit {0}
 
-abbrev pub AddsValue : Bytes → ℕ → List ℕ → ℕ → ℕ → ℕ → Bytes → ℕ → Rows → Bytes → List ℕ → Type 0
+abbrev pub AddsValue : Bytes → ℕ → List ℕ → ℕ → ℕ → ℕ → Bytes → ℕ → RowsTo → Bytes → List ℕ → Type 0
 AddsValue b n t m a e s at r after u = (d : ℕ) (v : Json) → json_at d s at ≡ some v → n + size v ≤ length b
     → AddAs b n t m a e r after u (capped m (map (λ x. x ∷ []) (as_string v)))
 
-abbrev pub AddsFrom : Bytes → ℕ → List ℕ → ℕ → ℕ → ℕ → Bytes → ℕ → Rows → Bytes → List ℕ → Type 0
+abbrev pub AddsFrom : Bytes → ℕ → List ℕ → ℕ → ℕ → ℕ → Bytes → ℕ → RowsTo → Bytes → List ℕ → Type 0
 AddsFrom b n t m a e s at r after u = (us es : Elems) (w : Bytes) → loop (item (value 11)) (drop at s) ≡ got us w → decoded_elems us ≡ some es
     → n + size_elems es ≤ length b → AddAs b n t m a e r after u (capped m (each as_string (elems_of es)))
 
-abbrev pub AddsValues : Bytes → ℕ → List ℕ → ℕ → ℕ → ℕ → Bytes → ℕ → Rows → Bytes → List ℕ → Type 0
+abbrev pub AddsValues : Bytes → ℕ → List ℕ → ℕ → ℕ → ℕ → Bytes → ℕ → RowsTo → Bytes → List ℕ → Type 0
 AddsValues b n t m a e s at r after u = (v : Json) → json_at 12 s at ≡ some v → n + size v ≤ length b → AddAs b n t m a e r after u (capped m (strings v))
 
 -- ---- the group

@@ -14,13 +14,9 @@ use Rattle.line_table.specs.Spread.{spread, spread_line, valued}
 use Rattle.line_table.specs.Table.{part, line_in, Span, Sound}
 use Rattle.convert.specs.Model.{Kept}
 use Rattle.convert.specs.FromJson.{strings, is_lower_word, kept_from, kept_as_line, never_kept}
-use Rattle.to_card_kept_entry.specs.declared.strings.To.{To}
-use Rattle.to_card_kept_entry.specs.declared.strings.Rows.{Rows}
-use Rattle.to_card_kept_entry.specs.declared.strings.Rows.TheVariants.{More, Wrong}
-use Rattle.to_card_kept_entry.specs.strings.Strings.{size, size_members, Grew, PutAs, Table, capped, group_of, runs_in}
+use Rattle.to_card_kept_entry.specs.strings.Strings.{RowsTo, more, size, size_members, Grew, PutAs, Table, capped, group_of, runs_in}
 use Rattle.to_card_kept_entry.specs.declared.table.Filled.{Filled}
-use Rattle.to_card_kept_entry.specs.declared.table.Step.{Step}
-use Rattle.to_card_kept_entry.specs.declared.table.Step.TheVariants.{On, Bad}
+use Rattle.std.specs.Prelude.{Option as Maybe, Some, None}
 
 -- ---- the form of a kept line (`kept_stands` without the class)
 
@@ -88,36 +84,39 @@ pub record Stays (b : Bytes) (n : ℕ) (after : Bytes) (k : ℕ) : Type 0 where
 
 -- ---- one parameter
 
-pub record AddedParam (b : Bytes) (n : ℕ) (t : List ℕ) (m : ℕ) (r : Rows) (after : Bytes) (u : List ℕ) (k : Bytes) (ws : List Bytes) : Type 0 where
+pub record AddedParam (b : Bytes) (n : ℕ) (t : List ℕ) (m : ℕ) (r : RowsTo) (after : Bytes) (u : List ℕ) (k : Bytes) (ws : List Bytes) : Type 0 where
   pub end : ℕ
-  pub said : r ≡ More end (m + length ws)
+  pub said : r ≡ more end (m + length ws)
   pub grew : Grew b n after end (k ++ flat ws)
   pub adds : (qs : List Param) → Table (take n b) t m qs → Table (take n b ++ (k ++ flat ws)) u (m + length ws) (qs ++ (param k ws ∷ []))
 
-abbrev pub ParamAs : Bytes → ℕ → List ℕ → ℕ → Rows → Bytes → List ℕ → Bytes → Option (List Bytes) → Type 0
-ParamAs b n t m r after u k none = r ≡ Wrong
+abbrev pub ParamAs : Bytes → ℕ → List ℕ → ℕ → RowsTo → Bytes → List ℕ → Bytes → Option (List Bytes) → Type 0
+ParamAs b n t m r after u k none = r ≡ None
 ParamAs b n t m r after u k (some ws) = AddedParam b n t m r after u k ws
 
-abbrev pub PutsParam : Bytes → ℕ → List ℕ → ℕ → Bytes → ℕ → ℕ → Rows → Bytes → List ℕ → Type 0
+abbrev pub PutsParam : Bytes → ℕ → List ℕ → ℕ → Bytes → ℕ → ℕ → RowsTo → Bytes → List ℕ → Type 0
 PutsParam b n t m s q at r after u = (k : Bytes) (v : Json) → decoded_at s q ≡ some k → json_at 12 s at ≡ some v → n + (length k + size v) ≤ length b
     → ParamAs b n t m r after u k (fit_param m k v)
 
 -- ---- all of them
 
+abbrev pub Step : Type 0
+Step = Maybe Filled
+
 -- bounds, whatever the text is
 abbrev pub StepIn : ℕ → ℕ → ℕ → Step → Type 0
-StepIn n room count (On f) = (n ≤ f.end) × (f.end ≤ room) × (f.rows ≤ 64) × (f.count ≤ count)
-StepIn n room count Bad = Unit {0}
+StepIn n room count (Some f) = (n ≤ f.end) × (f.end ≤ room) × (f.rows ≤ 64) × (f.count ≤ count)
+StepIn n room count None = Unit {0}
 
 pub record Stepped (b : Bytes) (n : ℕ) (most : ℕ) (r : Step) (after : Bytes) (u : List ℕ) (z : Sofar) : Type 0 where
   pub filled : Filled
-  pub said : r ≡ On filled
+  pub said : r ≡ Some filled
   pub has : Has after u filled z
   pub stays : Stays b n after filled.end
   pub short : filled.end ≤ most
 
 abbrev pub StepAs : Bytes → ℕ → ℕ → Step → Bytes → List ℕ → Option Sofar → Type 0
-StepAs b n most r after u none = r ≡ Bad
+StepAs b n most r after u none = r ≡ None
 StepAs b n most r after u (some z) = Stepped b n most r after u z
 
 abbrev pub PutsMember : Bytes → List ℕ → Filled → Bytes → ℕ → ℕ → Step → Bytes → List ℕ → Type 0

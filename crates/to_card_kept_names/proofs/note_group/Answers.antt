@@ -1,5 +1,5 @@
 use native.Mathlib.Omega.{arith}
-use Rattle.to_card_kept_names.specs.declared.Noted.TheVariants.{Rows}
+use Rattle.std.specs.Prelude.{Some}
 use Rattle.to_card_kept_names.proofs.Groups.{notes-last, notes-empty, notes-slot}
 use Rattle.to_card_kept_names.proofs.note_group.Goals as goal
 
@@ -13,7 +13,7 @@ pub returns-then-at-eq0 : goal.returns-then-at-eq0
 returns-then-at-eq0 c =
     let args = c.args in
     let if1 = c.if-i-eq-POINTERS in
-    record { noted_in = omega arith; notes_group = notes-empty args.s.now args.slots.now args.i (Rows 0) args.places.now args.prints.now if1.false c.if-at-eq0.true }
+    record { noted_in = omega arith; notes_group = notes-empty args.s.now args.slots.now args.i (Some 0) args.places.now args.prints.now if1.false c.if-at-eq0.true }
 
 pub returns : goal.returns
 returns c =

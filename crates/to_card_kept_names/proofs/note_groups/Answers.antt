@@ -66,7 +66,7 @@ returns-in_default c = (omega arith, λ l. absurd (omega (arith, l)))
 pub overflow_add-n : goal.overflow_add-n
 overflow_add-n c =
     let loop = c.loop-i in
-    omega (arith, rows_in c.note_group.ensures.noted_in c.in-Rows.is, mid-long loop.n loop.places loop.invariant.1)
+    omega (arith, rows_in c.note_group.ensures.noted_in c.in-Some.is, mid-long loop.n loop.places loop.invariant.1)
 
 pub overflow_add-i : goal.overflow_add-i
 overflow_add-i c = omega (arith, c.loop-i-test.true)
@@ -88,7 +88,7 @@ loop-i-preserved c =
     let args = c.args in
     let loop = c.loop-i in
     let loop-test = c.loop-i-test in
-    let k = rows_in c.note_group.ensures.noted_in c.in-Rows.is in
+    let k = rows_in c.note_group.ensures.noted_in c.in-Some.is in
     let l = same_len_mid loop.n (length loop.places - loop.n) loop.places c.note_group.new.places c.note_group.auto.places in
     let m = same_len_mid loop.n (length loop.prints - loop.n) loop.prints c.note_group.new.prints c.note_group.auto.prints in (
       l ∙ loop.invariant.0 ∙ sym m,
@@ -99,7 +99,7 @@ loop-i-preserved c =
       m ∙ loop.invariant.5,
       filled_on args.s.now args.slots.now loop.places loop.prints loop.ends loop.i loop.n loop.invariant.6 loop.invariant.0 loop.invariant.1 loop.invariant.2 loop-test.true
           _ c.note_group.new.places c.note_group.new.prints c.note_group.auto.places c.note_group.auto.prints
-          (rows-noted args.s.now args.slots.now loop.i _ _ _ c.note_group.result c.note_group.ensures.notes_group c.in-Rows.is) k,
+          (rows-noted args.s.now args.slots.now loop.i _ _ _ c.note_group.result c.note_group.ensures.notes_group c.in-Some.is) k,
     )
 
 pub shape_of-places : goal.shape_of-places

@@ -1,6 +1,6 @@
 -- Each time round: the names noted in the first k rows, and then those of the members that m tells of, are all names of the value at `at`
 -- (`Noting`). A turn notes the name of m's member in row k and passes over its value (`noting-on`); what is ahead of m in the text falls
--- (`less-ahead`). Where no member is left, or the value is no object, the k rows are all its names (`noting-last`). Unfit promises nothing.
+-- (`less-ahead`). Where no member is left, or the value is no object, the k rows are all its names (`noting-last`). None promises nothing.
 use mathlib.Core.Path.{◌≡◌}
 use Prim.Native.Nat.{◌≤◌}
 use lib.ListN.{length}

@@ -8,8 +8,8 @@ use lib.ListN.{length}
 use Rattle.to_card_map.proofs.Laws.{Going}
 use Rattle.to_card_map.proofs.put_from.Given as goal
 
-abbrev pub invariant-loop-k : goal.invariant-loop-k
-invariant-loop-k l = (l.i ≤ length l.s) × (l.n ≤ length l.out) × (length l.out ≡ length l.initial.out) × (l.lines ≤ l.i) × Going l.s l.at l.names l.kinds l.count l.heads l.form l.initial.out l.i l.n l.lines l.ok l.out
+abbrev pub invariant-loop-entry : goal.invariant-loop-entry
+invariant-loop-entry l = (l.i ≤ length l.s) × (l.n ≤ length l.out) × (length l.out ≡ length l.initial.out) × (l.lines ≤ l.i) × Going l.s l.at l.names l.kinds l.count l.heads l.form l.initial.out l.i l.n l.lines l.ok l.out
 
-abbrev pub decreases-loop-k : goal.decreases-loop-k
-decreases-loop-k l = length l.s - l.i
+abbrev pub decreases-loop-entry : goal.decreases-loop-entry
+decreases-loop-entry l = length l.s - l.i

@@ -9,6 +9,3 @@ use Rattle.to_card_maps.proofs.put_maps.Given as goal
 
 abbrev pub invariant-loop-k : goal.invariant-loop-k
 invariant-loop-k l = (l.k ≤ 7) × (l.n ≤ length l.out) × (length l.out ≡ length l.initial.out) × (l.lines ≤ 65537 * l.k) × Going l.s l.slots l.initial.out l.k l.n l.lines l.ok l.out
-
-abbrev pub decreases-loop-k : goal.decreases-loop-k
-decreases-loop-k l = 7 - l.k

@@ -8,8 +8,8 @@ use lib.ListN.{length}
 use Rattle.to_card_members.proofs.Loop.{Going}
 use Rattle.to_card_members.proofs.put_from.Given as goal
 
-abbrev pub invariant-loop-k : goal.invariant-loop-k
-invariant-loop-k l = (l.i ≤ length l.s) × (l.n ≤ length l.out) × (length l.out ≡ length l.initial.out) × (l.lines ≤ l.i) × (length l.buffer ≡ length l.initial.buffer) × Going l.s l.at l.initial.out l.i l.n l.lines l.ok l.out
+abbrev pub invariant-loop-other : goal.invariant-loop-other
+invariant-loop-other l = (l.i ≤ length l.s) × (l.n ≤ length l.out) × (length l.out ≡ length l.initial.out) × (l.lines ≤ l.i) × (length l.buffer ≡ length l.initial.buffer) × Going l.s l.at l.initial.out l.i l.n l.lines l.ok l.out
 
-abbrev pub decreases-loop-k : goal.decreases-loop-k
-decreases-loop-k l = length l.s - l.i
+abbrev pub decreases-loop-other : goal.decreases-loop-other
+decreases-loop-other l = length l.s - l.i

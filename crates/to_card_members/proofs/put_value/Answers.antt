@@ -1,8 +1,8 @@
 use Rattle.to_card_members.proofs.Values.{fills-bytes, fills-full}
 use Rattle.to_card_members.proofs.put_value.Goals as goal
 
-pub returns-in-Bytes : goal.returns-in-Bytes
-returns-in-Bytes c = fills-bytes c.put_compact.ensures.puts c.in-Bytes.is
+pub returns-in-Ok : goal.returns-in-Ok
+returns-in-Ok c = fills-bytes c.put_compact.ensures.puts c.in-Ok.is
 
-pub returns-in-Full : goal.returns-in-Full
-returns-in-Full c = fills-full c.put_compact.ensures.puts c.in-Full.is
+pub returns-in-Err : goal.returns-in-Err
+returns-in-Err c = fills-full c.put_compact.ensures.puts c.in-Err.is

@@ -1,29 +1,23 @@
 use native.Mathlib.Omega.{arith}
+use Rattle.std.specs.Prelude.{Ok}
+use Rattle.to_card_pen.proofs.Refusal.{refused}
+use Rattle.to_card_lines.specs.Lines.{Laid}
 use mathlib.Core.Path.{refl, ap, subst}
 use lib.ListN.{length}
-use Rattle.to_card_lines.specs.declared.Lines.{Lines}
 use Rattle.to_card_lines.proofs.Laws.{lines-in}
 use Rattle.to_card_name.specs.Name.{PutsName}
 use Rattle.to_card_name.proofs.Whole.{clear-four, names-are, name-absent, name-past, name-object, name-slots}
 use Rattle.to_card_name.proofs.Fulls.{full-absent, full-told}
 use Rattle.to_card_name.proofs.put_name.Goals as goal
 
-pub returns-in_default : goal.returns-in_default
-returns-in_default c =
-    let args = c.args in
-    let puts = name-absent args.s.now args.slot args.out.now c.if-slot-eq0.true c.put_alone.result c.put_alone.new.out c.put_alone.ensures.puts_alone in
-    let said = subst (λ (x : Lines). PutsName args.s.now args.slot args.out.now x c.put_alone.new.out) c.in_default.is puts in
-    record { lines_in = tt; out_len_unchanged = c.put_alone.ensures.out_len_unchanged; puts_name = said; says_full = tt }
-
 pub returns-then-slot-eq0 : goal.returns-then-slot-eq0
 returns-then-slot-eq0 c =
     let args = c.args in
-    let puts = name-absent args.s.now args.slot args.out.now c.if-slot-eq0.true c.put_alone.result c.put_alone.new.out c.put_alone.ensures.puts_alone in
-    let said = subst (λ (x : Lines). PutsName args.s.now args.slot args.out.now x c.put_alone.new.out) c.in-All.is puts in
+    let put-alone = c.put_alone-lines in
     record {
-      lines_in = lines-in c.put_alone.ensures.lines_in c.in-All.is;
-      out_len_unchanged = c.put_alone.ensures.out_len_unchanged;
-      puts_name = said;
+      lines_in = put-alone.ensures.lines_in;
+      out_len_unchanged = put-alone.ensures.out_len_unchanged;
+      puts_name = name-absent args.s.now args.slot args.out.now c.if-slot-eq0.true (Ok put-alone.result) put-alone.new.out put-alone.ensures.puts_alone;
       says_full = full-absent args.s.now args.slot c.if-slot-eq0.true;
     }
 
@@ -46,19 +40,20 @@ returns-then-not-index_object c =
       says_full = tt;
     }
 
-pub returns-in_default-put_slots : goal.returns-in_default-put_slots
-returns-in_default-put_slots c =
+pub returns-in_err-lines : goal.returns-in_err-lines
+returns-in_err-lines c =
     let args = c.args in
+    let e = refused c.from_residual.result c.from_residual.ensures.0 in
     let if1 = c.if-slot-eq0 in
     let puts = name-slots args.s.now args.slot args.out.now if1.false c.index_object.new.slots c.index_object.result c.index_object.ensures c.if-not-index_object.false c.put_slots.result c.put_slots.new.out c.put_slots.ensures.puts_slots in
-    let said = subst (λ (x : Lines). PutsName args.s.now args.slot args.out.now x c.put_slots.new.out) c.in_default-put_slots.is puts in
-    record { lines_in = tt; out_len_unchanged = c.put_slots.ensures.out_len_unchanged; puts_name = said; says_full = tt }
+    let said = subst (λ (x : Laid). PutsName args.s.now args.slot args.out.now x c.put_slots.new.out) c.in_err-lines.was puts in
+    record { lines_in = rw e tt; out_len_unchanged = c.put_slots.ensures.out_len_unchanged; puts_name = rw e said; says_full = rw e tt }
 
 pub returns : goal.returns
 returns c =
     let args = c.args in
     let if1 = c.if-slot-eq0 in
     let puts = name-slots args.s.now args.slot args.out.now if1.false c.index_object.new.slots c.index_object.result c.index_object.ensures c.if-not-index_object.false c.put_slots.result c.put_slots.new.out c.put_slots.ensures.puts_slots in
-    let said = subst (λ (x : Lines). PutsName args.s.now args.slot args.out.now x c.put_slots.new.out) c.in-All-put_slots.is puts in
+    let said = subst (λ (x : Laid). PutsName args.s.now args.slot args.out.now x c.put_slots.new.out) c.in_ok-lines.was puts in
     let full = full-told args.s.now args.slot if1.false c.index_object.new.slots c.index_object.result c.index_object.ensures in
-    record { lines_in = lines-in c.put_slots.ensures.lines_in c.in-All-put_slots.is; out_len_unchanged = c.put_slots.ensures.out_len_unchanged; puts_name = said; says_full = full }
+    record { lines_in = lines-in c.put_slots.ensures.lines_in c.in_ok-lines.was; out_len_unchanged = c.put_slots.ensures.out_len_unchanged; puts_name = said; says_full = full }

@@ -4,6 +4,3 @@ use Rattle.to_card_order.proofs.are_apart.Given as goal
 
 abbrev pub invariant-loop-i : goal.invariant-loop-i
 invariant-loop-i l = PartingTo l.s l.at l.one l.other l.i l.ok
-
-abbrev pub decreases-loop-i : goal.decreases-loop-i
-decreases-loop-i l = l.rows - l.i

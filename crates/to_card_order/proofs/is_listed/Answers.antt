@@ -20,12 +20,6 @@ pub bounds-values-i : goal.bounds-values-i
 bounds-values-i c =
     omega (arith, c.loop-i-test.true, c.requires.in_bounds_2, c.requires.rows_bound)
 
-pub overflow_add-i : goal.overflow_add-i
-overflow_add-i c = omega (arith, c.loop-i-test.true, c.requires.rows_bound)
-
-pub loop-i-smaller : goal.loop-i-smaller
-loop-i-smaller c = omega (arith, c.loop-i-test.true)
-
 pub loop-i-preserved : goal.loop-i-preserved
 loop-i-preserved c =
     let args = c.args in

@@ -8,8 +8,8 @@ use lib.ListN.{length}
 use Rattle.to_card_order.proofs.Noted.{Noting}
 use Rattle.to_card_order.proofs.note_apart.Given as goal
 
-abbrev pub invariant-loop-k : goal.invariant-loop-k
-invariant-loop-k l = (l.i ≤ length l.s) × (l.n ≤ 2304) × (length l.places ≡ length l.initial.places) × (length l.prints ≡ length l.initial.prints) × Noting l.s l.at l.one l.other l.i l.places l.prints l.n l.ok
+abbrev pub invariant-loop-part : goal.invariant-loop-part
+invariant-loop-part l = (l.i ≤ length l.s) × (l.n ≤ 2304) × (length l.places ≡ length l.initial.places) × (length l.prints ≡ length l.initial.prints) × Noting l.s l.at l.one l.other l.i l.places l.prints l.n l.ok
 
-abbrev pub decreases-loop-k : goal.decreases-loop-k
-decreases-loop-k l = length l.s - l.i
+abbrev pub decreases-loop-part : goal.decreases-loop-part
+decreases-loop-part l = length l.s - l.i

@@ -1,7 +1,6 @@
 use Rattle.to_card_params.proofs.Types.{far-first, far-on, far-end}
 use Rattle.line_pen.proofs.Laws.{pens-in, pens-length, pens-then}
 use Rattle.text.specs.Bytes.{parts}
-use Prim.Native.Nat.{◌-◌}
 use native.Mathlib.Nat.{le_refl}
 use native.Mathlib.Omega.{arith}
 use Rattle.to_card_params.proofs.pen_types.Goals as goal
@@ -23,12 +22,6 @@ slice_bounds-pen_type-end c = le_refl _
 
 pub overflow_add-at : goal.overflow_add-at
 overflow_add-at c = record { fits = omega (arith, pens-in (pens-then c.loop-c.invariant.1.pens c.pen_type-p.ensures), c.well_formed.0.0) }
-
-pub overflow_add-c : goal.overflow_add-c
-overflow_add-c c = omega (arith, c.loop-c-test.true)
-
-pub loop-c-smaller : goal.loop-c-smaller
-loop-c-smaller c = omega (arith, c.loop-c-test.true)
 
 pub loop-c-preserved : goal.loop-c-preserved
 loop-c-preserved c = (omega (arith, c.loop-c-test.true), far-on c.loop-c.invariant.1 c.loop-c-test.true c.pen_type-p.ensures)

@@ -1,4 +1,5 @@
 use native.Mathlib.Omega.{arith}
+use Rattle.to_card_pen.proofs.Refusal.{refused}
 use mathlib.Core.Path.{ap, subst}
 use mathlib.Core.Bool.{not}
 use lib.ListN.{length}
@@ -24,16 +25,17 @@ returns-then-other-ne0 c =
       end_in = tt;
     }
 
-pub returns-in_default : goal.returns-in_default
-returns-in_default c =
+pub returns-in_err-found : goal.returns-in_err-found
+returns-in_err-found c =
+    let e = refused c.from_residual.result c.from_residual.ensures.0 in
     let args = c.args in
     let if1 = c.if-end-eq0 in
     let if2 = c.if-other-ne0 in
     record {
-      kind_in = tt;
-      tells_component = subst (TellsComponent args.s.now args.at) c.in_default.is
-          (object_of args.s.now args.at _ _ c.index_to_end-end.ensures.indexes (ap not (ne_eqb _ 0 if1.false)) if2.false c.component_of.result c.component_of.ensures.tells_slots);
-      end_in = tt;
+      kind_in = rw e tt;
+      tells_component = rw e (subst (TellsComponent args.s.now args.at) c.in_err-found.was
+          (object_of args.s.now args.at _ _ c.index_to_end-end.ensures.indexes (ap not (ne_eqb _ 0 if1.false)) if2.false c.component_of.result c.component_of.ensures.tells_slots));
+      end_in = rw e tt;
     }
 
 pub returns : goal.returns
@@ -43,7 +45,7 @@ returns c =
     let if2 = c.if-other-ne0 in
     let told = object_of args.s.now args.at _ _ c.index_to_end-end.ensures.indexes (ap not (ne_eqb _ 0 if1.false)) if2.false c.component_of.result c.component_of.ensures.tells_slots in
     record {
-      kind_in = subst KindIn c.in-Of.is c.component_of.ensures.kind_in;
-      tells_component = subst (TellsComponent args.s.now args.at) c.in-Of.is told;
+      kind_in = subst KindIn c.in_ok-found.was c.component_of.ensures.kind_in;
+      tells_component = subst (TellsComponent args.s.now args.at) c.in_ok-found.was told;
       end_in = c.index_to_end-end.ensures.value_ends if1.false;
     }

@@ -9,9 +9,9 @@ use Rattle.to_card_parts.proofs.Passes.{Checking}
 use Rattle.to_card_parts.proofs.Rows.{Listing}
 use Rattle.to_card_parts.proofs.list_rows.Given as goal
 
-abbrev pub invariant-loop-k : goal.invariant-loop-k
-invariant-loop-k l =
+abbrev pub invariant-loop-part : goal.invariant-loop-part
+invariant-loop-part l =
     (l.i ≤ length l.s) × (length l.marks ≡ length l.initial.marks) × (length l.kinds ≡ length l.initial.kinds) × (length l.values ≡ length l.initial.values) × Checking l.s l.at l.i l.marks × Listing l.s l.at l.i l.kinds l.values l.n
 
-abbrev pub decreases-loop-k : goal.decreases-loop-k
-decreases-loop-k l = length l.s - l.i
+abbrev pub decreases-loop-part : goal.decreases-loop-part
+decreases-loop-part l = length l.s - l.i

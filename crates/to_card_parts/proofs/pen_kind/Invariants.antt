@@ -7,8 +7,8 @@ use lib.ListN.{length}
 use Rattle.to_card_parts.proofs.Passes.{Inking}
 use Rattle.to_card_parts.proofs.pen_kind.Given as goal
 
-abbrev pub invariant-loop-k : goal.invariant-loop-k
-invariant-loop-k l = (l.i ≤ length l.s) × Inking l.s l.at l.style l.mark l.kind l.begun l.initial.out l.column l.i l.n l.c l.b l.ok l.out
+abbrev pub invariant-loop-part : goal.invariant-loop-part
+invariant-loop-part l = (l.i ≤ length l.s) × Inking l.s l.at l.style l.mark l.kind l.begun l.initial.out l.column l.i l.n l.c l.b l.ok l.out
 
-abbrev pub decreases-loop-k : goal.decreases-loop-k
-decreases-loop-k l = length l.s - l.i
+abbrev pub decreases-loop-part : goal.decreases-loop-part
+decreases-loop-part l = length l.s - l.i

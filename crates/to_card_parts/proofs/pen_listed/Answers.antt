@@ -52,12 +52,6 @@ overflow_add-n c =
     let pen-value = c.pen_value-t in
     record { fits = omega (arith, pens-in (pens-then loop.invariant.pens pen-value.ensures.pens), good.0.0) }
 
-pub overflow_add-i : goal.overflow_add-i
-overflow_add-i c = omega (arith, c.loop-i-test.true, c.if-rows-gt-ROWS.false)
-
-pub loop-i-smaller : goal.loop-i-smaller
-loop-i-smaller c = omega (arith, c.loop-i-test.true)
-
 pub loop-i-preserved : goal.loop-i-preserved
 loop-i-preserved c =
     let args = c.args in

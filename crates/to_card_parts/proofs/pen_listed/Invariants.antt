@@ -7,6 +7,3 @@ use Rattle.to_card_parts.proofs.pen_listed.Given as goal
 
 abbrev pub invariant-loop-i : goal.invariant-loop-i
 invariant-loop-i l = ByRows l.s l.at l.style l.mark l.kind l.begun l.initial.out l.column l.i l.n l.c l.b l.ok l.out
-
-abbrev pub decreases-loop-i : goal.decreases-loop-i
-decreases-loop-i l = l.rows - l.i

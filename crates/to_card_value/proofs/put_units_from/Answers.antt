@@ -48,7 +48,7 @@ pub loop-column-smaller : goal.loop-column-smaller
 loop-column-smaller c =
     let loop = c.loop-column in
     let separator = c.separator in
-    let h = turn-as separator.ensures c.in-Go.is in omega
+    let h = turn-as separator.ensures c.in-Continue.is in omega
     (arith, h.within.0, h.within.1, c.element_at-p.ensures.inside.from loop.invariant.0, c.element_at-p.ensures.inside.ordered)
 
 pub loop-column-preserved : goal.loop-column-preserved
@@ -59,16 +59,16 @@ loop-column-preserved c =
     let if1 = c.if-q-eq0 in
     let pen-unit = c.pen_unit-t in
     let separator = c.separator in
-    let h = turn-as separator.ensures c.in-Go.is in (
+    let h = turn-as separator.ensures c.in-Continue.is in (
       h.within.1,
       units-on args.s.now args.at args.out.now args.column loop.i loop.n loop.k loop.ok loop.filled loop.out loop.invariant.1 c.element_at-p.result c.element_at-p.ensures.tells_element unit-in.result unit-in.ensures if1.false pen-unit.result _ pen-unit.ensures _ h,
     )
 
-pub shape_of-out-in-Stop : goal.shape_of-out-in-Stop
-shape_of-out-in-Stop c = pens-length (pens-then c.loop-column.invariant.1.pens c.pen_unit-t.ensures.pens)
+pub shape_of-out-in-Break : goal.shape_of-out-in-Break
+shape_of-out-in-Break c = pens-length (pens-then c.loop-column.invariant.1.pens c.pen_unit-t.ensures.pens)
 
-pub returns-in-Stop : goal.returns-in-Stop
-returns-in-Stop c =
+pub returns-in-Break : goal.returns-in-Break
+returns-in-Break c =
     let args = c.args in
     let loop = c.loop-column in
     let unit-in = c.unit_in-q in
@@ -79,5 +79,5 @@ returns-in-Stop c =
       out_len_unchanged = pens-length (pens-then loop.invariant.1.pens pen-unit.ensures.pens);
       units_from = units-all args.s.now args.at args.out.now args.column loop.i loop.n loop.k loop.ok loop.filled loop.out
           loop.invariant.1 c.element_at-p.result c.element_at-p.ensures.tells_element unit-in.result unit-in.ensures if1.false pen-unit.result _
-          pen-unit.ensures _ (turn-as separator.ensures c.in-Stop.is);
+          pen-unit.ensures _ (turn-as separator.ensures c.in-Break.is);
     }

@@ -1,3 +1,4 @@
+use Rattle.output.proofs.Laws.{failed}
 use borrow.Author.Rules.{rules}
 use mathlib.Core.Path.{sym, ap, ◌∙◌}
 use native.Mathlib.Nat.{le_refl, lt_of_le_of_lt}
@@ -19,14 +20,16 @@ returns-then-not-fill c = λ m x. none-some (sym (filled_none _ _ c.fill.result 
 pub scan_rows-requires : goal.scan_rows-requires
 scan_rows-requires c = (clear-eight, (filled-holds c.fill.result c.fill.ensures c.if-not-fill.false).sound)
 
-pub returns-in_default : goal.returns-in_default
-returns-in_default c = λ m x. more (member_bytes m) (first-full c.put_byte.ensures c.in_default.is)
+pub returns-in_err-a : goal.returns-in_err-a
+returns-in_err-a c =
+    λ m x. failed c.from_residual.ensures.0
+    (more (member_bytes m) (first-full c.put_byte.ensures c.in_err-a.was))
 
 pub slice_bounds-put_member_line-count : goal.slice_bounds-put_member_line-count
-slice_bounds-put_member_line-count c = within (first c.put_byte.ensures c.in-Bytes.is)
+slice_bounds-put_member_line-count c = within (first c.put_byte.ensures c.in_ok-a.was)
 
 pub slice_bounds-put_member_line-start : goal.slice_bounds-put_member_line-start
-slice_bounds-put_member_line-start c = within (first c.put_byte.ensures c.in-Bytes.is)
+slice_bounds-put_member_line-start c = within (first c.put_byte.ensures c.in_ok-a.was)
 
 pub slice_bounds-put_member_line-end : goal.slice_bounds-put_member_line-end
 slice_bounds-put_member_line-end c = le_refl _
@@ -48,29 +51,17 @@ put_member_line-requires c =
       pre.1,
     )
 
-pub shape_of-out-in_default-put_member_line : goal.shape_of-out-in_default-put_member_line
-shape_of-out-in_default-put_member_line c =
-    let pre = c.requires in
+pub returns-in_err-b : goal.returns-in_err-b
+returns-in_err-b c =
     let fill = c.fill in
     let put_byte = c.put_byte in
     let put-member-line = c.put_member_line in
-    length-puts
-    (stop (first put_byte.ensures c.in-Bytes.is)
-    (puts-as (ap member_bytes pre.2.1.is)
-    (put-member-line.ensures pre.2.1.seen pre.2.1.name pre.2.1.value
-    (held-member (filled-holds fill.result fill.ensures c.if-not-fill.false) pre.2.1)))
-    c.in_default-put_member_line.is)
-
-pub returns-in_default-put_member_line : goal.returns-in_default-put_member_line
-returns-in_default-put_member_line c =
-    let fill = c.fill in
-    let put_byte = c.put_byte in
-    let put-member-line = c.put_member_line in
-    λ m x. stop (first put_byte.ensures c.in-Bytes.is)
+    λ m x. failed c.from_residual-in_err-b.ensures.0
+    (stop (first put_byte.ensures c.in_ok-a.was)
     (puts-as (ap member_bytes x.is)
     (put-member-line.ensures x.seen x.name x.value
     (held-member (filled-holds fill.result fill.ensures c.if-not-fill.false) x)))
-    c.in_default-put_member_line.is
+    c.in_err-b.was)
 
 pub overflow_add-ab : goal.overflow_add-ab
 overflow_add-ab c =
@@ -81,11 +72,11 @@ overflow_add-ab c =
     let put-member-line = c.put_member_line in
     record {
       fits = lt_of_le_of_lt
-          (next (first put_byte.ensures c.in-Bytes.is)
+          (next (first put_byte.ensures c.in_ok-a.was)
           (puts-as (ap member_bytes pre.2.1.is)
           (put-member-line.ensures pre.2.1.seen pre.2.1.name pre.2.1.value
           (held-member (filled-holds fill.result fill.ensures c.if-not-fill.false) pre.2.1)))
-          c.in-Bytes-put_member_line.is).fits
+          c.in_ok-b.was).fits
           good.0.0;
     }
 
@@ -95,11 +86,11 @@ shape_of-out c =
     let fill = c.fill in
     let put_byte = c.put_byte in
     let put-member-line = c.put_member_line in
-    (next (first put_byte.ensures c.in-Bytes.is)
+    (next (first put_byte.ensures c.in_ok-a.was)
     (puts-as (ap member_bytes pre.2.1.is)
     (put-member-line.ensures pre.2.1.seen pre.2.1.name pre.2.1.value
     (held-member (filled-holds fill.result fill.ensures c.if-not-fill.false) pre.2.1)))
-    c.in-Bytes-put_member_line.is).same
+    c.in_ok-b.was).same
 
 pub returns : goal.returns
 returns c =
@@ -107,8 +98,8 @@ returns c =
     let put_byte = c.put_byte in
     let put-member-line = c.put_member_line in
     λ m x. done
-    (next (first put_byte.ensures c.in-Bytes.is)
+    (next (first put_byte.ensures c.in_ok-a.was)
     (puts-as (ap member_bytes x.is)
     (put-member-line.ensures x.seen x.name x.value
     (held-member (filled-holds fill.result fill.ensures c.if-not-fill.false) x)))
-    c.in-Bytes-put_member_line.is)
+    c.in_ok-b.was)

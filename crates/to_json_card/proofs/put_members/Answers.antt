@@ -1,3 +1,4 @@
+use Rattle.output.proofs.Laws.{failed}
 use borrow.Author.Rules.{rules}
 use mathlib.Core.Path.{refl, ap}
 use Prim.Native.Nat.{◌-◌}
@@ -12,11 +13,8 @@ use Rattle.to_json_card.proofs.put_members.Goals as goal
 pub loop-k-init : goal.loop-k-init
 loop-k-init c = (omega arith, refl, refl, λ cs h. members-start h c.args.out.now)
 
-pub bounds-codes-k : goal.bounds-codes-k
-bounds-codes-k c = omega (arith, c.requires.lines.1.wide, c.loop-k-test.true)
-
-pub loop-k-smaller-then-not-is_of : goal.loop-k-smaller-then-not-is_of
-loop-k-smaller-then-not-is_of c = omega arith
+pub bounds-lines-k : goal.bounds-lines-k
+bounds-lines-k c = omega (arith, c.requires.lines.1.wide, c.loop-k-test.true)
 
 pub loop-k-preserved-then-not-is_of : goal.loop-k-preserved-then-not-is_of
 loop-k-preserved-then-not-is_of c =
@@ -53,31 +51,20 @@ put_member_turn-requires c =
     let is-of = c.is_of in
     let line_at_lem = c.line_at-s in (
       omega (arith, loop.invariant.1, pre.parts),
-      omega (arith, ap length line_at_lem.ensures, line-short args.scratch.now args.starts.now loop.k (length args.text.now) pre.room, loop.invariant.2),
+      omega (arith, ap length line_at_lem.ensures, line-short args.lines.scratch.now args.lines.starts.now loop.k (length args.text.now) pre.room, loop.invariant.2),
       has-member pre.lines.1 loop.k loop-test.true is-of.result is-of.ensures c.if-not-is_of.false line_at_lem.ensures,
     )
 
-pub shape_of-out-in_default : goal.shape_of-out-in_default
-shape_of-out-in_default c =
-    let pre = c.requires in
+pub returns-in_err-m : goal.returns-in_err-m
+returns-in_err-m c =
     let loop = c.loop-k in
     let loop-test = c.loop-k-test in
     let is-of = c.is_of in
     let line_at_lem = c.line_at-s in
     let put-member-turn = c.put_member_turn in
-    length-puts
-    (members-stop pre.lines.1 loop.k loop-test.true is-of.result is-of.ensures c.if-not-is_of.false
-    (loop.invariant.3 pre.lines.0 pre.lines.1) line_at_lem.ensures put-member-turn.ensures c.in_default.is)
-
-pub returns-in_default : goal.returns-in_default
-returns-in_default c =
-    let loop = c.loop-k in
-    let loop-test = c.loop-k-test in
-    let is-of = c.is_of in
-    let line_at_lem = c.line_at-s in
-    let put-member-turn = c.put_member_turn in
-    λ cs h. members-stop h loop.k loop-test.true is-of.result is-of.ensures c.if-not-is_of.false (loop.invariant.3 cs h)
-    line_at_lem.ensures put-member-turn.ensures c.in_default.is
+    λ cs h. failed c.from_residual.ensures.0
+    (members-stop h loop.k loop-test.true is-of.result is-of.ensures c.if-not-is_of.false (loop.invariant.3 cs h)
+    line_at_lem.ensures put-member-turn.ensures c.in_err-m.was)
 
 pub overflow_add-at : goal.overflow_add-at
 overflow_add-at c =
@@ -90,11 +77,8 @@ overflow_add-at c =
     let put-member-turn = c.put_member_turn in
     rest-fit
     (members-next pre.lines.1 loop.k loop-test.true is-of.result is-of.ensures c.if-not-is_of.false
-    (loop.invariant.3 pre.lines.0 pre.lines.1) line_at_lem.ensures put-member-turn.ensures _ c.in-Bytes.is)
+    (loop.invariant.3 pre.lines.0 pre.lines.1) line_at_lem.ensures put-member-turn.ensures _ c.in_ok-m.was)
     good.0.0
-
-pub loop-k-smaller : goal.loop-k-smaller
-loop-k-smaller c = omega arith
 
 pub loop-k-preserved : goal.loop-k-preserved
 loop-k-preserved c =
@@ -106,7 +90,7 @@ loop-k-preserved c =
       omega arith,
       search rules,
       search rules,
-      λ cs h. members-next h loop.k loop-test.true is-of.result is-of.ensures c.if-not-is_of.false (loop.invariant.3 cs h) line_at_lem.ensures put-member-turn.ensures _ c.in-Bytes.is,
+      λ cs h. members-next h loop.k loop-test.true is-of.result is-of.ensures c.if-not-is_of.false (loop.invariant.3 cs h) line_at_lem.ensures put-member-turn.ensures _ c.in_ok-m.was,
     )
 
 pub shape_of-out : goal.shape_of-out

@@ -11,7 +11,4 @@ use Rattle.to_json_card.proofs.Members.{members_of}
 use Rattle.to_json_card.proofs.put_members.Given as goal
 
 abbrev pub invariant-loop-k : goal.invariant-loop-k
-invariant-loop-k l = (l.k ≤ l.n) × (length l.t ≡ length l.initial.t) × (length l.text ≡ length l.initial.text) × ((cs : List Classed) → Classified l.scratch l.starts l.codes l.n cs → Rest l.initial.out (members_in cs) (after (members_of (drop l.k cs))) l.at l.out)
-
-abbrev pub decreases-loop-k : goal.decreases-loop-k
-decreases-loop-k l = l.n - l.k
+invariant-loop-k l = (l.k ≤ l.lines.count) × (length l.t ≡ length l.initial.t) × (length l.text ≡ length l.initial.text) × ((cs : List Classed) → Classified l.lines.scratch.now l.lines.starts.now l.lines.codes.now l.lines.count cs → Rest l.initial.out (members_in cs) (after (members_of (drop l.k cs))) l.at l.out)

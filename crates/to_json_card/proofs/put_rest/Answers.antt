@@ -1,3 +1,4 @@
+use Rattle.output.proofs.Laws.{failed}
 use borrow.Author.Rules.{rules}
 use mathlib.Core.List.{List, [], ◌∷◌}
 use native.Mathlib.Nat.{le_refl}
@@ -7,34 +8,30 @@ use Rattle.from_card_lines.specs.Classified.{Classified}
 use Rattle.text.specs.Bytes.{flat}
 use Rattle.to_json_card.specs.Card.{end_pieces}
 use Rattle.to_json_card.proofs.put_rest.Goals as goal
-use Rattle.to_json_card.proofs.put_rest.Goals.{In-Bytes, In-Bytes-put_end}
+use Rattle.to_json_card.proofs.put_rest.Goals.{In_ok-a1, In_ok-a2}
 
 -- the card's classified lines, as they came
-abbrev Lines : In-Bytes → List Classed → Type 0
+abbrev Lines : In_ok-a1 → List Classed → Type 0
 Lines c cs =
     let args = c.args in
-    Classified args.scratch.now args.starts.now args.codes.now args.n cs
+    Classified args.lines.scratch.now args.lines.starts.now args.lines.codes.now args.lines.count cs
 
-abbrev s₁ : (c : In-Bytes) (cs : List Classed) → Lines c cs → Here
-s₁ c cs h = first! (flat (end_pieces cs) ∷ []) (c.put_middle.ensures cs h) c.in-Bytes.is
+abbrev s₁ : (c : In_ok-a1) (cs : List Classed) → Lines c cs → Here
+s₁ c cs h = first! (flat (end_pieces cs) ∷ []) (c.put_middle.ensures cs h) c.in_ok-a1.was
 
-abbrev told₁ : In-Bytes-put_end → In-Bytes
-told₁ c = (goal.at.In-Bytes-put_end c).In-Bytes
+abbrev told₁ : In_ok-a2 → In_ok-a1
+told₁ c = (goal.at.In_ok-a2 c).In_ok-a1
 
-abbrev s₂ : (c : In-Bytes-put_end) (cs : List Classed) → Lines (told₁ c) cs → Here
-s₂ c cs h = next! (s₁ (told₁ c) cs h) (c.put_end.ensures cs h) c.in-Bytes-put_end.is
+abbrev s₂ : (c : In_ok-a2) (cs : List Classed) → Lines (told₁ c) cs → Here
+s₂ c cs h = next! (s₁ (told₁ c) cs h) (c.put_end.ensures cs h) c.in_ok-a2.was
 
 pub put_middle-requires : goal.put_middle-requires
 put_middle-requires c = c.requires
 
-pub shape_of-out-in_default : goal.shape_of-out-in_default
-shape_of-out-in_default c =
-    let pre = c.requires in
-    let put-middle = c.put_middle in
-    length-puts (none (flat (end_pieces pre.lines.0) ∷ []) (put-middle.ensures pre.lines.0 pre.lines.1) c.in_default.is)
-
-pub returns-in_default : goal.returns-in_default
-returns-in_default c = λ cs h. none (flat (end_pieces cs) ∷ []) (c.put_middle.ensures cs h) c.in_default.is
+pub returns-in_err-a1 : goal.returns-in_err-a1
+returns-in_err-a1 c =
+    λ cs h. failed c.from_residual.ensures.0
+    (none (flat (end_pieces cs) ∷ []) (c.put_middle.ensures cs h) c.in_err-a1.was)
 
 pub slice_bounds-put_end-count : goal.slice_bounds-put_end-count
 slice_bounds-put_end-count c =
@@ -52,16 +49,10 @@ slice_bounds-put_end-end c = le_refl _
 pub put_end-requires : goal.put_end-requires
 put_end-requires c = (search rules, c.requires.lines)
 
-pub shape_of-out-in_default-put_end : goal.shape_of-out-in_default-put_end
-shape_of-out-in_default-put_end c =
-    let pre = c.requires in
-    let put-end = c.put_end in
-    length-puts
-    (stop! (s₁ (goal.at.shape_of-out-in_default-put_end c).In-Bytes pre.lines.0 pre.lines.1)
-    (put-end.ensures pre.lines.0 pre.lines.1) c.in_default-put_end.is)
-
-pub returns-in_default-put_end : goal.returns-in_default-put_end
-returns-in_default-put_end c = λ cs h. stop! (s₁ (goal.at.returns-in_default-put_end c).In-Bytes cs h) (c.put_end.ensures cs h) c.in_default-put_end.is
+pub returns-in_err-a2 : goal.returns-in_err-a2
+returns-in_err-a2 c =
+    λ cs h. failed c.from_residual-in_err-a2.ensures.0
+    (stop! (s₁ (goal.at.returns-in_err-a2 c).In_ok-a1 cs h) (c.put_end.ensures cs h) c.in_err-a2.was)
 
 pub overflow_add-b2 : goal.overflow_add-b2
 overflow_add-b2 c =

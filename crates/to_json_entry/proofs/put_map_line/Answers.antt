@@ -23,9 +23,6 @@ bounds-t-4 c = omega (arith, c.requires.rowed.sound.wide)
 pub bounds-t-5 : goal.bounds-t-5
 bounds-t-5 c = omega (arith, c.requires.rowed.sound.wide)
 
-pub bounds-counts-1 : goal.bounds-counts-1
-bounds-counts-1 c = omega (arith, c.requires.rowed.wide.counts)
-
 pub slice_bounds-put_entry-count : goal.slice_bounds-put_entry-count
 slice_bounds-put_entry-count c = let v = c.requires.rowed.sound.value in omega (arith, v.ordered, v.within)
 
@@ -56,12 +53,6 @@ returns-then-k-eq0 c =
     (line-bytes c.args.s.now c.args.t.now seen w e is q c.args.kind c.value_kind-vk.result c.args.key.now [] _ _ rd
     (c.value_kind-vk.ensures _ r) c.mark_rows.ensures (no-pref c.args.s.now c.args.t.now seen w e is q r c.if-k-eq0.true))
     c.put_entry.ensures
-
-pub bounds-froms-1 : goal.bounds-froms-1
-bounds-froms-1 c = omega (arith, c.requires.rowed.wide.froms)
-
-pub bounds-tos-1 : goal.bounds-tos-1
-bounds-tos-1 c = omega (arith, c.requires.rowed.wide.tos)
 
 pub slice_bounds-put_entry-count-2 : goal.slice_bounds-put_entry-count-2
 slice_bounds-put_entry-count-2 c = let v = c.requires.rowed.sound.value in omega (arith, v.ordered, v.within)
@@ -100,6 +91,6 @@ pub returns : goal.returns
 returns c =
     λ seen w e is rd q. let r = c.requires.rowed.row in puts-as
     (line-bytes c.args.s.now c.args.t.now seen w e is q c.args.kind c.value_kind-vk.result c.args.key.now
-    (part c.args.s.now (get_or c.args.froms.now 1 0) (get_or c.args.tos.now 1 0)) _ _ rd (c.value_kind-vk.ensures _ r)
+    (part c.args.s.now (get_or c.args.rows.froms.now 1 0) (get_or c.args.rows.tos.now 1 0)) _ _ rd (c.value_kind-vk.ensures _ r)
     c.mark_rows.ensures (the-pref c.args.s.now c.args.t.now seen w e is q r c.if-k-eq0.false))
     c.put_entry-2.ensures

@@ -1,23 +1,23 @@
+use Rattle.output.proofs.Laws.{failed}
 use Rattle.json_text.specs.Compact.{quoted}
 use Rattle.text.specs.Bytes.{lowered}
 use native.Mathlib.Nat.{le_refl}
 use mathlib.Core.List.{[], ◌∷◌}
-use Rattle.output.proofs.Rows.{Here, first!, next!, none, stop!, all, in!, fit!, same!, length-puts}
+use Rattle.output.proofs.Rows.{Here, first!, next!, none, stop!, all, in!, fit!, same! }
 use Rattle.to_json_head.proofs.put_kind_member.Goals as goal
-use Rattle.to_json_head.proofs.put_kind_member.Goals.{In-Bytes, In-Bytes-put_lower}
+use Rattle.to_json_head.proofs.put_kind_member.Goals.{In_ok-a, In_ok-b}
 
-abbrev s₁ : In-Bytes → Here
-s₁ c = first! (quoted (lowered c.args.v.now) [] ∷ []) c.put_text.ensures c.in-Bytes.is
+abbrev s₁ : In_ok-a → Here
+s₁ c = first! (quoted (lowered c.args.v.now) [] ∷ []) c.put_text.ensures c.in_ok-a.was
 
-abbrev s₂ : In-Bytes-put_lower → Here
+abbrev s₂ : In_ok-b → Here
 s₂ c =
-    next! (s₁ (goal.at.In-Bytes-put_lower c).In-Bytes) c.put_lower.ensures c.in-Bytes-put_lower.is
+    next! (s₁ (goal.at.In_ok-b c).In_ok-a) c.put_lower.ensures c.in_ok-b.was
 
-pub shape_of-out-in_default : goal.shape_of-out-in_default
-shape_of-out-in_default c = length-puts (none [] c.put_text.ensures c.in_default.is)
-
-pub returns-in_default : goal.returns-in_default
-returns-in_default c = none _ c.put_text.ensures c.in_default.is
+pub returns-in_err-a : goal.returns-in_err-a
+returns-in_err-a c =
+    failed c.from_residual.ensures.0
+    (none _ c.put_text.ensures c.in_err-a.was)
 
 pub slice_bounds-put_lower-count : goal.slice_bounds-put_lower-count
 slice_bounds-put_lower-count c = in! (s₁ c)
@@ -28,11 +28,10 @@ slice_bounds-put_lower-start c = in! (s₁ c)
 pub slice_bounds-put_lower-end : goal.slice_bounds-put_lower-end
 slice_bounds-put_lower-end c = le_refl _
 
-pub shape_of-out-in_default-put_lower : goal.shape_of-out-in_default-put_lower
-shape_of-out-in_default-put_lower c = length-puts (stop! (s₁ (goal.at.shape_of-out-in_default-put_lower c).In-Bytes) c.put_lower.ensures c.in_default-put_lower.is)
-
-pub returns-in_default-put_lower : goal.returns-in_default-put_lower
-returns-in_default-put_lower c = stop! (s₁ (goal.at.returns-in_default-put_lower c).In-Bytes) c.put_lower.ensures c.in_default-put_lower.is
+pub returns-in_err-b : goal.returns-in_err-b
+returns-in_err-b c =
+    failed c.from_residual-in_err-b.ensures.0
+    (stop! (s₁ (goal.at.returns-in_err-b c).In_ok-a) c.put_lower.ensures c.in_err-b.was)
 
 pub overflow_add-ab : goal.overflow_add-ab
 overflow_add-ab c = fit! (s₂ c) c.well_formed.0.0

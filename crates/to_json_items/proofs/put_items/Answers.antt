@@ -1,9 +1,10 @@
+use Rattle.output.proofs.Laws.{failed}
 use mathlib.Core.Path.{◌≡◌, refl, sym, ap, subst}
 use lib.ListN.{length}
 use Rattle.text.specs.Bytes.{Bytes, keep}
 use Rattle.text.proofs.Cases.{not-both}
 use Rattle.output.specs.Put.{Puts}
-use Rattle.output.specs.declared.Wrote.{Wrote}
+use Rattle.output.specs.Put.{Wrote}
 use Rattle.output.proofs.Laws.{puts-as}
 use Rattle.convert_values.specs.Values.{texts_of}
 use Rattle.to_json_items.specs.Items.{listed, is_own}
@@ -36,8 +37,10 @@ put_own-requires c = (c.requires.0, c.requires.1, λ e. not-both e refl)
 answered : {room bs after : Bytes} {r w : Wrote} → r ≡ w → Puts room bs r after → Puts room bs w after
 answered {room} {bs} {after} e p = subst (λ (u : Wrote). Puts room bs u after) e p
 
-pub returns-in_default : goal.returns-in_default
-returns-in_default c = answered c.in_default.is c.put_own.ensures
+pub returns-in_err-n : goal.returns-in_err-n
+returns-in_err-n c =
+    failed c.from_residual.ensures.0
+    (answered c.in_err-n.was c.put_own.ensures)
 
 pub returns : goal.returns
-returns c = answered c.in-Bytes.is c.put_own.ensures
+returns c = answered c.in_ok-n.was c.put_own.ensures

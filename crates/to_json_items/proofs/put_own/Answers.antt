@@ -1,4 +1,4 @@
-use Prim.Native.Nat.{◌-◌}
+use Rattle.output.proofs.Laws.{failed}
 use native.Mathlib.Nat.{le_refl}
 use native.Mathlib.Omega.{arith}
 use Rattle.output.proofs.Rests.{rest_in, rest-fit, rest-same}
@@ -54,15 +54,16 @@ put_item_if-requires c =
     let part-end = c.part_end-e in
     part-good args.d args.v.now loop.i _ part-end.ensures loop.invariant.good
 
-pub returns-in_default : goal.returns-in_default
-returns-in_default c =
-    let args = c.args in
+pub returns-in_err-n : goal.returns-in_err-n
+returns-in_err-n c =
+    failed c.from_residual.ensures.0
+    (let args = c.args in
     let loop = c.loop-n in
     let part-end = c.part_end-e in
     let is-own = c.is_own-on in
     let put-item-if = c.put_item_if in
     putting-full args.k args.d (texts_of 44 args.o.now) args.v.now loop.invariant _ part-end.ensures _ is-own.ensures
-    put-item-if.ensures c.in_default.is
+    put-item-if.ensures c.in_err-n.was)
 
 pub overflow_add-at : goal.overflow_add-at
 overflow_add-at c =
@@ -74,7 +75,7 @@ overflow_add-at c =
     let put-item-if = c.put_item_if in
     rest-fit
     (wrote args.k args.d (texts_of 44 args.o.now) args.v.now loop.invariant _ part-end.ensures _ is-own.ensures
-    put-item-if.ensures _ c.in-Bytes.is)
+    put-item-if.ensures _ c.in_ok-n.was)
     good.0.0
 
 pub shape_of-out-then-e-v : goal.shape_of-out-then-e-v
@@ -86,7 +87,7 @@ shape_of-out-then-e-v c =
     let put-item-if = c.put_item_if in
     rest-same
     (wrote args.k args.d (texts_of 44 args.o.now) args.v.now loop.invariant _ part-end.ensures _ is-own.ensures
-    put-item-if.ensures _ c.in-Bytes.is)
+    put-item-if.ensures _ c.in_ok-n.was)
 
 pub returns-then-e-v : goal.returns-then-e-v
 returns-then-e-v c =
@@ -96,7 +97,7 @@ returns-then-e-v c =
     let is-own = c.is_own-on in
     let put-item-if = c.put_item_if in
     putting-last args.k args.d (texts_of 44 args.o.now) args.v.now loop.invariant _ part-end.ensures _ is-own.ensures
-    put-item-if.ensures _ c.in-Bytes.is (omega (arith, c.if-e-v.true))
+    put-item-if.ensures _ c.in_ok-n.was (omega (arith, c.if-e-v.true))
 
 pub overflow_add-i : goal.overflow_add-i
 overflow_add-i c = omega (arith, c.if-e-v.false, c.well_formed.1.0)
@@ -112,4 +113,4 @@ loop-n-preserved c =
     let is-own = c.is_own-on in
     let put-item-if = c.put_item_if in
     putting-on args.k args.d (texts_of 44 args.o.now) args.v.now loop.invariant _ part-end.ensures _ is-own.ensures
-    put-item-if.ensures _ c.in-Bytes.is (omega (arith, c.if-e-v.false))
+    put-item-if.ensures _ c.in_ok-n.was (omega (arith, c.if-e-v.false))

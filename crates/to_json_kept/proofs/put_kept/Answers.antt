@@ -1,3 +1,4 @@
+use Rattle.output.proofs.Laws.{failed}
 -- Three pieces in a row: the head, the parameters, the tail with type and value. `s₁`, `s₂` and `s₃` say after each call what is written and which
 -- pieces are still to come. `kept-bytes` says that they are the compact entry of the kept line; that a group stands there is told by its place not
 -- being empty. A table that is sound has its name, group and value within s: so the slices are good. Full comes from `none` or `stop!`.
@@ -14,25 +15,25 @@ use Rattle.to_json_kept.specs.Entry.{tail_piece}
 use Rattle.convert_put.specs.Pieces.{inside}
 use native.Mathlib.Nat.{le_refl}
 use mathlib.Core.List.{[], ◌∷◌}
-use Rattle.output.proofs.Rows.{Here, first!, next!, none, stop!, all, in!, fit!, same!, length-puts}
+use Rattle.output.proofs.Rows.{Here, first!, next!, none, stop!, all, in!, fit!, same! }
 use Rattle.to_json_kept.proofs.put_kept.Goals as goal
-use Rattle.to_json_kept.proofs.put_kept.Goals.{In-Bytes, In-Bytes-put_params, In-Bytes-put_tail}
+use Rattle.to_json_kept.proofs.put_kept.Goals.{In_ok-x, In_ok-y, In_ok-z}
 
-abbrev s₁ : In-Bytes → Here
+abbrev s₁ : In_ok-x → Here
 s₁ c =
     first!
     (inside (ltb (get_or c.args.t.now 0 0) (get_or c.args.t.now 1 0))
     (map param_json (kept_line (line_in c.args.s.now c.args.t.now)).params) ∷ tail_piece c.args.s.now c.args.t.now
     (part c.args.s.now (get_or c.args.t.now 4 0) (get_or c.args.t.now 5 0)) ∷ [])
-    c.put_head.ensures c.in-Bytes.is
+    c.put_head.ensures c.in_ok-x.was
 
-abbrev s₂ : In-Bytes-put_params → Here
+abbrev s₂ : In_ok-y → Here
 s₂ c =
-    next! (s₁ (goal.at.In-Bytes-put_params c).In-Bytes) c.put_params.ensures c.in-Bytes-put_params.is
+    next! (s₁ (goal.at.In_ok-y c).In_ok-x) c.put_params.ensures c.in_ok-y.was
 
-abbrev s₃ : In-Bytes-put_tail → Here
+abbrev s₃ : In_ok-z → Here
 s₃ c =
-    next! (s₂ (goal.at.In-Bytes-put_tail c).In-Bytes-put_params) c.put_tail.ensures c.in-Bytes-put_tail.is
+    next! (s₂ (goal.at.In_ok-z c).In_ok-y) c.put_tail.ensures c.in_ok-z.was
 
 pub bounds-t-2 : goal.bounds-t-2
 bounds-t-2 c = omega (arith, c.requires.wide)
@@ -64,12 +65,10 @@ slice_bounds-put_head-start-2 c = let v = c.requires.group in omega (arith, v.or
 pub slice_bounds-put_head-end-2 : goal.slice_bounds-put_head-end-2
 slice_bounds-put_head-end-2 c = let v = c.requires.group in omega (arith, v.ordered, v.within)
 
-pub shape_of-out-in_default : goal.shape_of-out-in_default
-shape_of-out-in_default c = length-puts (none [] c.put_head.ensures c.in_default.is)
-
-pub returns-in_default : goal.returns-in_default
-returns-in_default c =
-    puts-as (kept-bytes c.args.s.now c.args.t.now c.requires.group) (none _ c.put_head.ensures c.in_default.is)
+pub returns-in_err-x : goal.returns-in_err-x
+returns-in_err-x c =
+    failed c.from_residual.ensures.0
+    (puts-as (kept-bytes c.args.s.now c.args.t.now c.requires.group) (none _ c.put_head.ensures c.in_err-x.was))
 
 pub slice_bounds-put_params-count : goal.slice_bounds-put_params-count
 slice_bounds-put_params-count c = in! (s₁ c)
@@ -83,12 +82,10 @@ slice_bounds-put_params-end c = le_refl _
 pub put_params-requires : goal.put_params-requires
 put_params-requires c = c.requires
 
-pub shape_of-out-in_default-put_params : goal.shape_of-out-in_default-put_params
-shape_of-out-in_default-put_params c = length-puts (stop! (s₁ (goal.at.shape_of-out-in_default-put_params c).In-Bytes) c.put_params.ensures c.in_default-put_params.is)
-
-pub returns-in_default-put_params : goal.returns-in_default-put_params
-returns-in_default-put_params c =
-    puts-as (kept-bytes c.args.s.now c.args.t.now c.requires.group) (stop! (s₁ (goal.at.returns-in_default-put_params c).In-Bytes) c.put_params.ensures c.in_default-put_params.is)
+pub returns-in_err-y : goal.returns-in_err-y
+returns-in_err-y c =
+    failed c.from_residual-in_err-y.ensures.0
+    (puts-as (kept-bytes c.args.s.now c.args.t.now c.requires.group) (stop! (s₁ (goal.at.returns-in_err-y c).In_ok-x) c.put_params.ensures c.in_err-y.was))
 
 pub overflow_add-xy : goal.overflow_add-xy
 overflow_add-xy c = fit! (s₂ c) c.well_formed.0.0
@@ -100,10 +97,10 @@ pub bounds-t-5 : goal.bounds-t-5
 bounds-t-5 c = omega (arith, c.requires.wide)
 
 pub slice_bounds-put_tail-count : goal.slice_bounds-put_tail-count
-slice_bounds-put_tail-count c = in! (s₂ (goal.at.slice_bounds-put_tail-count c).In-Bytes-put_params)
+slice_bounds-put_tail-count c = in! (s₂ (goal.at.slice_bounds-put_tail-count c).In_ok-y)
 
 pub slice_bounds-put_tail-start : goal.slice_bounds-put_tail-start
-slice_bounds-put_tail-start c = in! (s₂ (goal.at.slice_bounds-put_tail-start c).In-Bytes-put_params)
+slice_bounds-put_tail-start c = in! (s₂ (goal.at.slice_bounds-put_tail-start c).In_ok-y)
 
 pub slice_bounds-put_tail-end : goal.slice_bounds-put_tail-end
 slice_bounds-put_tail-end c = le_refl _
@@ -120,12 +117,10 @@ slice_bounds-put_tail-end-2 c = let v = c.requires.value in omega (arith, v.orde
 pub put_tail-requires : goal.put_tail-requires
 put_tail-requires c = c.requires
 
-pub shape_of-out-in_default-put_tail : goal.shape_of-out-in_default-put_tail
-shape_of-out-in_default-put_tail c = length-puts (stop! (s₂ (goal.at.shape_of-out-in_default-put_tail c).In-Bytes-put_params) c.put_tail.ensures c.in_default-put_tail.is)
-
-pub returns-in_default-put_tail : goal.returns-in_default-put_tail
-returns-in_default-put_tail c =
-    puts-as (kept-bytes c.args.s.now c.args.t.now c.requires.group) (stop! (s₂ (goal.at.returns-in_default-put_tail c).In-Bytes-put_params) c.put_tail.ensures c.in_default-put_tail.is)
+pub returns-in_err-z : goal.returns-in_err-z
+returns-in_err-z c =
+    failed c.from_residual-in_err-z.ensures.0
+    (puts-as (kept-bytes c.args.s.now c.args.t.now c.requires.group) (stop! (s₂ (goal.at.returns-in_err-z c).In_ok-y) c.put_tail.ensures c.in_err-z.was))
 
 pub overflow_add-xyz : goal.overflow_add-xyz
 overflow_add-xyz c =

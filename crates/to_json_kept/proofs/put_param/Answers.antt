@@ -1,3 +1,4 @@
+use Rattle.output.proofs.Laws.{failed}
 -- Four pieces in a row: a comma where a member came before, the name in lower case, a colon, all values of that name. `s₁` to `s₄` say after each
 -- call what is written and which pieces are still to come; they are param_piece by its definition (`all`). The name is the part of s from a to b,
 -- which is within s by its Span. Full comes from the comma (`none`) or from one of the three others (`stop!`).
@@ -10,11 +11,11 @@ use Rattle.line.specs.Params.{values_named}
 use Rattle.text.specs.Bytes.{lowered}
 use native.Mathlib.Nat.{le_refl}
 use mathlib.Core.List.{[], ◌∷◌}
-use Rattle.output.proofs.Rows.{Here, first!, next!, none, stop!, all, in!, fit!, same!, length-puts}
+use Rattle.output.proofs.Rows.{Here, first!, next!, none, stop!, all, in!, fit!, same! }
 use Rattle.to_json_kept.proofs.put_param.Goals as goal
-use Rattle.to_json_kept.proofs.put_param.Goals.{In-Bytes, In-Bytes-put_byte, In-Bytes-put_lower, In-Bytes-put_values}
+use Rattle.to_json_kept.proofs.put_param.Goals.{In_ok-c, In_ok-e, In_ok-d, In_ok-f}
 
-abbrev s₁ : In-Bytes → Here
+abbrev s₁ : In_ok-c → Here
 s₁ c =
     first!
     (quoted (lowered (part c.args.s.now c.args.a c.args.b)) [] ∷ (58 ∷ []) ∷ written
@@ -22,25 +23,24 @@ s₁ c =
     (values_named (lowered (part c.args.s.now c.args.a c.args.b))
     (line_in c.args.s.now c.args.t.now).params))
     [] ∷ [])
-    c.put_comma.ensures c.in-Bytes.is
+    c.put_comma.ensures c.in_ok-c.was
 
-abbrev s₂ : In-Bytes-put_lower → Here
+abbrev s₂ : In_ok-d → Here
 s₂ c =
-    next! (s₁ (goal.at.In-Bytes-put_lower c).In-Bytes) c.put_lower.ensures c.in-Bytes-put_lower.is
+    next! (s₁ (goal.at.In_ok-d c).In_ok-c) c.put_lower.ensures c.in_ok-d.was
 
-abbrev s₃ : In-Bytes-put_byte → Here
+abbrev s₃ : In_ok-e → Here
 s₃ c =
-    next! (s₂ (goal.at.In-Bytes-put_byte c).In-Bytes-put_lower) c.put_byte.ensures c.in-Bytes-put_byte.is
+    next! (s₂ (goal.at.In_ok-e c).In_ok-d) c.put_byte.ensures c.in_ok-e.was
 
-abbrev s₄ : In-Bytes-put_values → Here
+abbrev s₄ : In_ok-f → Here
 s₄ c =
-    next! (s₃ (goal.at.In-Bytes-put_values c).In-Bytes-put_byte) c.put_values.ensures c.in-Bytes-put_values.is
+    next! (s₃ (goal.at.In_ok-f c).In_ok-e) c.put_values.ensures c.in_ok-f.was
 
-pub shape_of-out-in_default : goal.shape_of-out-in_default
-shape_of-out-in_default c = length-puts (none [] c.put_comma.ensures c.in_default.is)
-
-pub returns-in_default : goal.returns-in_default
-returns-in_default c = none _ c.put_comma.ensures c.in_default.is
+pub returns-in_err-c : goal.returns-in_err-c
+returns-in_err-c c =
+    failed c.from_residual.ensures.0
+    (none _ c.put_comma.ensures c.in_err-c.was)
 
 pub slice_bounds-put_lower-count : goal.slice_bounds-put_lower-count
 slice_bounds-put_lower-count c = in! (s₁ c)
@@ -60,11 +60,10 @@ slice_bounds-put_lower-start-2 c = omega (arith, c.requires.1.ordered, c.require
 pub slice_bounds-put_lower-end-2 : goal.slice_bounds-put_lower-end-2
 slice_bounds-put_lower-end-2 c = omega (arith, c.requires.1.ordered, c.requires.1.within)
 
-pub shape_of-out-in_default-put_lower : goal.shape_of-out-in_default-put_lower
-shape_of-out-in_default-put_lower c = length-puts (stop! (s₁ (goal.at.shape_of-out-in_default-put_lower c).In-Bytes) c.put_lower.ensures c.in_default-put_lower.is)
-
-pub returns-in_default-put_lower : goal.returns-in_default-put_lower
-returns-in_default-put_lower c = stop! (s₁ (goal.at.returns-in_default-put_lower c).In-Bytes) c.put_lower.ensures c.in_default-put_lower.is
+pub returns-in_err-d : goal.returns-in_err-d
+returns-in_err-d c =
+    failed c.from_residual-in_err-d.ensures.0
+    (stop! (s₁ (goal.at.returns-in_err-d c).In_ok-c) c.put_lower.ensures c.in_err-d.was)
 
 pub overflow_add-cd : goal.overflow_add-cd
 overflow_add-cd c = fit! (s₂ c) c.well_formed.0.0
@@ -78,11 +77,10 @@ slice_bounds-put_byte-start c = in! (s₂ c)
 pub slice_bounds-put_byte-end : goal.slice_bounds-put_byte-end
 slice_bounds-put_byte-end c = le_refl _
 
-pub shape_of-out-in_default-put_byte : goal.shape_of-out-in_default-put_byte
-shape_of-out-in_default-put_byte c = length-puts (stop! (s₂ (goal.at.shape_of-out-in_default-put_byte c).In-Bytes-put_lower) c.put_byte.ensures c.in_default-put_byte.is)
-
-pub returns-in_default-put_byte : goal.returns-in_default-put_byte
-returns-in_default-put_byte c = stop! (s₂ (goal.at.returns-in_default-put_byte c).In-Bytes-put_lower) c.put_byte.ensures c.in_default-put_byte.is
+pub returns-in_err-e : goal.returns-in_err-e
+returns-in_err-e c =
+    failed c.from_residual-in_err-e.ensures.0
+    (stop! (s₂ (goal.at.returns-in_err-e c).In_ok-d) c.put_byte.ensures c.in_err-e.was)
 
 pub overflow_add-ce : goal.overflow_add-ce
 overflow_add-ce c = fit! (s₃ c) c.well_formed.0.0
@@ -99,11 +97,10 @@ slice_bounds-put_values-end c = le_refl _
 pub put_values-requires : goal.put_values-requires
 put_values-requires c = c.requires
 
-pub shape_of-out-in_default-put_values : goal.shape_of-out-in_default-put_values
-shape_of-out-in_default-put_values c = length-puts (stop! (s₃ (goal.at.shape_of-out-in_default-put_values c).In-Bytes-put_byte) c.put_values.ensures c.in_default-put_values.is)
-
-pub returns-in_default-put_values : goal.returns-in_default-put_values
-returns-in_default-put_values c = stop! (s₃ (goal.at.returns-in_default-put_values c).In-Bytes-put_byte) c.put_values.ensures c.in_default-put_values.is
+pub returns-in_err-f : goal.returns-in_err-f
+returns-in_err-f c =
+    failed c.from_residual-in_err-f.ensures.0
+    (stop! (s₃ (goal.at.returns-in_err-f c).In_ok-e) c.put_values.ensures c.in_err-f.was)
 
 pub overflow_add-cf : goal.overflow_add-cf
 overflow_add-cf c = fit! (s₄ c) c.well_formed.0.0

@@ -1,5 +1,5 @@
+use Rattle.output.proofs.Laws.{failed}
 use mathlib.Core.Path.{refl}
-use Prim.Native.Nat.{◌-◌}
 use native.Mathlib.Nat.{le_refl}
 use native.Mathlib.Omega.{arith}
 use Rattle.output.proofs.Laws.{next, stop, within}
@@ -48,23 +48,17 @@ slice_bounds-put_param_if-end c = le_refl _
 pub put_param_if-requires : goal.put_param_if-requires
 put_param_if-requires c = (c.requires, c.requires.rows.name c.loop-k.k c.loop-k-test.true)
 
-pub returns-in_default : goal.returns-in_default
-returns-in_default c =
-    going-full c.args.s.now c.args.t.now c.loop-k.invariant c.loop-k-test.true _ c.is_param-on.ensures (stop c.loop-k.invariant.so c.put_param_if.ensures c.in_default.is) refl
+pub returns-in_err-m : goal.returns-in_err-m
+returns-in_err-m c =
+    failed c.from_residual.ensures.0
+    (going-full c.args.s.now c.args.t.now c.loop-k.invariant c.loop-k-test.true _ c.is_param-on.ensures (stop c.loop-k.invariant.so c.put_param_if.ensures c.in_err-m.was) refl)
 
 pub overflow_add-at : goal.overflow_add-at
-overflow_add-at c = let h = next c.loop-k.invariant.so c.put_param_if.ensures c.in-Bytes.is in omega (arith, h.fits, c.well_formed.0.0)
-
-pub overflow_add-k : goal.overflow_add-k
-overflow_add-k c =
-    omega (arith, c.requires.wide, c.requires.few, c.loop-k-test.true)
-
-pub loop-k-smaller : goal.loop-k-smaller
-loop-k-smaller c = omega (arith, c.loop-k-test.true)
+overflow_add-at c = let h = next c.loop-k.invariant.so c.put_param_if.ensures c.in_ok-m.was in omega (arith, h.fits, c.well_formed.0.0)
 
 pub loop-k-preserved : goal.loop-k-preserved
 loop-k-preserved c =
-    going_on c.args.s.now c.args.t.now c.loop-k.invariant c.loop-k-test.true _ c.is_param-on.ensures (next c.loop-k.invariant.so c.put_param_if.ensures c.in-Bytes.is)
+    going_on c.args.s.now c.args.t.now c.loop-k.invariant c.loop-k-test.true _ c.is_param-on.ensures (next c.loop-k.invariant.so c.put_param_if.ensures c.in_ok-m.was)
 
 pub shape_of-out : goal.shape_of-out
 shape_of-out c = c.loop-k.invariant.so.same

@@ -1,4 +1,3 @@
-use Prim.Native.Nat.{◌-◌}
 use native.Mathlib.Omega.{arith}
 use Rattle.to_json_kept.proofs.Whole.{untyped-start, untyped-on, untyped-all, typed-here}
 use Rattle.to_json_kept.proofs.value_row.Goals as goal

@@ -1,5 +1,4 @@
 use mathlib.Core.Path.{refl}
-use Prim.Native.Nat.{◌-◌}
 use native.Mathlib.Omega.{arith}
 use Rattle.text.specs.Bytes.{lowered}
 use Rattle.line_table.specs.Table.{part}
@@ -59,15 +58,6 @@ overflow_add-m c =
     let loop-test = c.loop-k-test in
     let h = counting-on (lowered (part args.s.now args.a args.b)) args.s.now args.t.now loop.invariant loop-test.true _
     c.same_name-on.ensures _ c.one_if-m.ensures in omega (arith, h.few, h.upto, pre.0.few)
-
-pub overflow_add-k : goal.overflow_add-k
-overflow_add-k c =
-    let pre = c.requires in
-    let loop-test = c.loop-k-test in
-    omega (arith, pre.0.wide, pre.0.few, loop-test.true)
-
-pub loop-k-smaller : goal.loop-k-smaller
-loop-k-smaller c = omega (arith, c.loop-k-test.true)
 
 pub loop-k-preserved : goal.loop-k-preserved
 loop-k-preserved c =

@@ -1,4 +1,3 @@
-use Prim.Native.Nat.{◌-◌}
 use native.Mathlib.Omega.{arith}
 use Rattle.text.specs.Bytes.{lowered}
 use Rattle.line_table.specs.Table.{name_at}
@@ -97,15 +96,6 @@ returns-then-same_name c =
     let loop-test = c.loop-j-test in
     found (lowered (name_at args.s.now args.t.now args.k)) args.s.now args.t.now loop.j args.k loop-test.true _
     c.same_name.ensures c.if-same_name.true
-
-pub overflow_add-j : goal.overflow_add-j
-overflow_add-j c =
-    let pre = c.requires in
-    let loop-test = c.loop-j-test in
-    omega (arith, pre.0.wide, pre.0.few, pre.1, loop-test.true)
-
-pub loop-j-smaller : goal.loop-j-smaller
-loop-j-smaller c = omega (arith, c.loop-j-test.true)
 
 pub loop-j-preserved : goal.loop-j-preserved
 loop-j-preserved c =

@@ -1,5 +1,5 @@
+use Rattle.output.proofs.Laws.{failed}
 use mathlib.Core.Path.{refl}
-use Prim.Native.Nat.{◌-◌}
 use native.Mathlib.Nat.{le_refl}
 use native.Mathlib.Omega.{arith}
 use Rattle.text.specs.Bytes.{lowered}
@@ -115,31 +115,23 @@ slice_bounds-put_item-end-in-loop-k c =
     let loop-test = c.loop-k-test in
     let v = pre.0.rows.value loop.k loop-test.true in omega (arith, v.ordered, v.within)
 
-pub returns-in_default : goal.returns-in_default
-returns-in_default c =
-    let args = c.args in
+pub returns-in_err-m : goal.returns-in_err-m
+returns-in_err-m c =
+    failed c.from_residual.ensures.0
+    (let args = c.args in
     let loop = c.loop-k in
     let loop-test = c.loop-k-test in
     let same_name = c.same_name-on in
     let put_item = c.put_item in
     listing_full (lowered (part args.s.now args.a args.b)) args.s.now args.t.now loop.invariant loop-test.true _
-    same_name.ensures (stop loop.invariant.so put_item.ensures c.in_default.is) refl
+    same_name.ensures (stop loop.invariant.so put_item.ensures c.in_err-m.was) refl)
 
 pub overflow_add-at : goal.overflow_add-at
 overflow_add-at c =
     let good = c.well_formed in
     let loop = c.loop-k in
     let put_item = c.put_item in
-    let h = next loop.invariant.so put_item.ensures c.in-Bytes.is in omega (arith, h.fits, good.0.0)
-
-pub overflow_add-k : goal.overflow_add-k
-overflow_add-k c =
-    let pre = c.requires in
-    let loop-test = c.loop-k-test in
-    omega (arith, pre.0.wide, pre.0.few, loop-test.true)
-
-pub loop-k-smaller : goal.loop-k-smaller
-loop-k-smaller c = omega (arith, c.loop-k-test.true)
+    let h = next loop.invariant.so put_item.ensures c.in_ok-m.was in omega (arith, h.fits, good.0.0)
 
 pub loop-k-preserved : goal.loop-k-preserved
 loop-k-preserved c =
@@ -149,7 +141,7 @@ loop-k-preserved c =
     let same_name = c.same_name-on in
     let put_item = c.put_item in
     listing-on (lowered (part args.s.now args.a args.b)) args.s.now args.t.now loop.invariant loop-test.true _
-    same_name.ensures (next loop.invariant.so put_item.ensures c.in-Bytes.is)
+    same_name.ensures (next loop.invariant.so put_item.ensures c.in_ok-m.was)
 
 pub shape_of-out : goal.shape_of-out
 shape_of-out c = c.loop-k.invariant.so.same

@@ -1,3 +1,4 @@
+use Rattle.output.proofs.Laws.{failed}
 -- Three pieces in a row: a quote, the bytes in lower case, a quote. `s₁`, `s₂` and `s₃` say after each call what is written and which pieces are
 -- still to come. `quoted-row` says that the three are the JSON string of `lowered`. Full comes from the first quote (`none`), else from `stop!`.
 use Rattle.json_text.specs.Compact.{spelled_all}
@@ -6,26 +7,25 @@ use native.Mathlib.Nat.{le_refl}
 use mathlib.Core.List.{[], ◌∷◌}
 use Rattle.output.proofs.Laws.{puts-as}
 use Rattle.json_write.proofs.Spelling.{quoted-row}
-use Rattle.output.proofs.Rows.{Here, first!, next!, none, stop!, all, in!, fit!, same!, length-puts}
+use Rattle.output.proofs.Rows.{Here, first!, next!, none, stop!, all, in!, fit!, same! }
 use Rattle.to_json_kept_values.proofs.put_lower.Goals as goal
-use Rattle.to_json_kept_values.proofs.put_lower.Goals.{In-Bytes, In-Bytes-put_byte, In-Bytes-spell_lower}
+use Rattle.to_json_kept_values.proofs.put_lower.Goals.{In_ok-a, In_ok-c, In_ok-b}
 
-abbrev s₁ : In-Bytes → Here
-s₁ c = first! (spelled_all (lowered c.args.s.now) ∷ (34 ∷ []) ∷ []) c.put_byte.ensures c.in-Bytes.is
+abbrev s₁ : In_ok-a → Here
+s₁ c = first! (spelled_all (lowered c.args.s.now) ∷ (34 ∷ []) ∷ []) c.put_byte.ensures c.in_ok-a.was
 
-abbrev s₂ : In-Bytes-spell_lower → Here
+abbrev s₂ : In_ok-b → Here
 s₂ c =
-    next! (s₁ (goal.at.In-Bytes-spell_lower c).In-Bytes) c.spell_lower.ensures c.in-Bytes-spell_lower.is
+    next! (s₁ (goal.at.In_ok-b c).In_ok-a) c.spell_lower.ensures c.in_ok-b.was
 
-abbrev s₃ : In-Bytes-put_byte → Here
+abbrev s₃ : In_ok-c → Here
 s₃ c =
-    next! (s₂ (goal.at.In-Bytes-put_byte c).In-Bytes-spell_lower) c.put_byte-2.ensures c.in-Bytes-put_byte.is
+    next! (s₂ (goal.at.In_ok-c c).In_ok-b) c.put_byte-2.ensures c.in_ok-c.was
 
-pub shape_of-out-in_default : goal.shape_of-out-in_default
-shape_of-out-in_default c = length-puts (none [] c.put_byte.ensures c.in_default.is)
-
-pub returns-in_default : goal.returns-in_default
-returns-in_default c = puts-as (quoted-row (lowered c.args.s.now)) (none _ c.put_byte.ensures c.in_default.is)
+pub returns-in_err-a : goal.returns-in_err-a
+returns-in_err-a c =
+    failed c.from_residual.ensures.0
+    (puts-as (quoted-row (lowered c.args.s.now)) (none _ c.put_byte.ensures c.in_err-a.was))
 
 pub slice_bounds-spell_lower-count : goal.slice_bounds-spell_lower-count
 slice_bounds-spell_lower-count c = in! (s₁ c)
@@ -36,11 +36,10 @@ slice_bounds-spell_lower-start c = in! (s₁ c)
 pub slice_bounds-spell_lower-end : goal.slice_bounds-spell_lower-end
 slice_bounds-spell_lower-end c = le_refl _
 
-pub shape_of-out-in_default-spell_lower : goal.shape_of-out-in_default-spell_lower
-shape_of-out-in_default-spell_lower c = length-puts (stop! (s₁ (goal.at.shape_of-out-in_default-spell_lower c).In-Bytes) c.spell_lower.ensures c.in_default-spell_lower.is)
-
-pub returns-in_default-spell_lower : goal.returns-in_default-spell_lower
-returns-in_default-spell_lower c = puts-as (quoted-row (lowered c.args.s.now)) (stop! (s₁ (goal.at.returns-in_default-spell_lower c).In-Bytes) c.spell_lower.ensures c.in_default-spell_lower.is)
+pub returns-in_err-b : goal.returns-in_err-b
+returns-in_err-b c =
+    failed c.from_residual-in_err-b.ensures.0
+    (puts-as (quoted-row (lowered c.args.s.now)) (stop! (s₁ (goal.at.returns-in_err-b c).In_ok-a) c.spell_lower.ensures c.in_err-b.was))
 
 pub overflow_add-ab : goal.overflow_add-ab
 overflow_add-ab c = fit! (s₂ c) c.well_formed.0.0
@@ -54,11 +53,10 @@ slice_bounds-put_byte-start c = in! (s₂ c)
 pub slice_bounds-put_byte-end : goal.slice_bounds-put_byte-end
 slice_bounds-put_byte-end c = le_refl _
 
-pub shape_of-out-in_default-put_byte : goal.shape_of-out-in_default-put_byte
-shape_of-out-in_default-put_byte c = length-puts (stop! (s₂ (goal.at.shape_of-out-in_default-put_byte c).In-Bytes-spell_lower) c.put_byte-2.ensures c.in_default-put_byte.is)
-
-pub returns-in_default-put_byte : goal.returns-in_default-put_byte
-returns-in_default-put_byte c = puts-as (quoted-row (lowered c.args.s.now)) (stop! (s₂ (goal.at.returns-in_default-put_byte c).In-Bytes-spell_lower) c.put_byte-2.ensures c.in_default-put_byte.is)
+pub returns-in_err-c : goal.returns-in_err-c
+returns-in_err-c c =
+    failed c.from_residual-in_err-c.ensures.0
+    (puts-as (quoted-row (lowered c.args.s.now)) (stop! (s₂ (goal.at.returns-in_err-c c).In_ok-b) c.put_byte-2.ensures c.in_err-c.was))
 
 pub overflow_add-abc : goal.overflow_add-abc
 overflow_add-abc c = fit! (s₃ c) c.well_formed.0.0

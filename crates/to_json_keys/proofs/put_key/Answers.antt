@@ -1,31 +1,30 @@
+use Rattle.output.proofs.Laws.{failed}
 use Rattle.text.specs.Decimal.{decimal}
 use native.Mathlib.Nat.{le_refl}
 use mathlib.Core.List.{[], ◌∷◌}
 use Rattle.output.proofs.Laws.{puts-as}
 use Rattle.to_json_keys.proofs.Spelled.{key_row}
-use Rattle.output.proofs.Rows.{Here, first!, next!, none, stop!, all, in!, fit!, same!, length-puts}
+use Rattle.output.proofs.Rows.{Here, first!, next!, none, stop!, all, in!, fit!, same! }
 use Rattle.to_json_keys.proofs.put_key.Goals as goal
-use Rattle.to_json_keys.proofs.put_key.Goals.{In-Bytes, In-Bytes-put_byte, In-Bytes-put_number}
+use Rattle.to_json_keys.proofs.put_key.Goals.{In_ok-a, In_ok-b, In_ok-c}
 
-abbrev s₁ : In-Bytes → Here
-s₁ c = first! ((45 ∷ []) ∷ decimal c.args.n ∷ []) c.put_text.ensures c.in-Bytes.is
+abbrev s₁ : In_ok-a → Here
+s₁ c = first! ((45 ∷ []) ∷ decimal c.args.n ∷ []) c.put_text.ensures c.in_ok-a.was
 
-abbrev s₂ : In-Bytes-put_byte → Here
+abbrev s₂ : In_ok-b → Here
 s₂ c =
-    next! (s₁ (goal.at.In-Bytes-put_byte c).In-Bytes) c.put_byte.ensures c.in-Bytes-put_byte.is
+    next! (s₁ (goal.at.In_ok-b c).In_ok-a) c.put_byte.ensures c.in_ok-b.was
 
-abbrev s₃ : In-Bytes-put_number → Here
+abbrev s₃ : In_ok-c → Here
 s₃ c =
-    next! (s₂ (goal.at.In-Bytes-put_number c).In-Bytes-put_byte) c.put_number.ensures c.in-Bytes-put_number.is
+    next! (s₂ (goal.at.In_ok-c c).In_ok-b) c.put_number.ensures c.in_ok-c.was
 
-pub shape_of-out-in_default : goal.shape_of-out-in_default
-shape_of-out-in_default c = length-puts (none [] c.put_text.ensures c.in_default.is)
-
-pub returns-in_default : goal.returns-in_default
-returns-in_default c =
-    let args = c.args in
+pub returns-in_err-a : goal.returns-in_err-a
+returns-in_err-a c =
+    failed c.from_residual.ensures.0
+    (let args = c.args in
     let put-text = c.put_text in
-    puts-as (key_row args.prefix.now args.n) (none ((45 ∷ []) ∷ decimal args.n ∷ []) put-text.ensures c.in_default.is)
+    puts-as (key_row args.prefix.now args.n) (none ((45 ∷ []) ∷ decimal args.n ∷ []) put-text.ensures c.in_err-a.was))
 
 pub slice_bounds-put_byte-count : goal.slice_bounds-put_byte-count
 slice_bounds-put_byte-count c = in! (s₁ c)
@@ -36,15 +35,13 @@ slice_bounds-put_byte-start c = in! (s₁ c)
 pub slice_bounds-put_byte-end : goal.slice_bounds-put_byte-end
 slice_bounds-put_byte-end c = le_refl _
 
-pub shape_of-out-in_default-put_byte : goal.shape_of-out-in_default-put_byte
-shape_of-out-in_default-put_byte c = length-puts (stop! (s₁ (goal.at.shape_of-out-in_default-put_byte c).In-Bytes) c.put_byte.ensures c.in_default-put_byte.is)
-
-pub returns-in_default-put_byte : goal.returns-in_default-put_byte
-returns-in_default-put_byte c =
-    let args = c.args in
+pub returns-in_err-b : goal.returns-in_err-b
+returns-in_err-b c =
+    failed c.from_residual-in_err-b.ensures.0
+    (let args = c.args in
     let put_byte = c.put_byte in
     puts-as (key_row args.prefix.now args.n)
-    (stop! (s₁ (goal.at.returns-in_default-put_byte c).In-Bytes) put_byte.ensures c.in_default-put_byte.is)
+    (stop! (s₁ (goal.at.returns-in_err-b c).In_ok-a) put_byte.ensures c.in_err-b.was))
 
 pub overflow_add-ab : goal.overflow_add-ab
 overflow_add-ab c = fit! (s₂ c) c.well_formed.0.0
@@ -58,15 +55,13 @@ slice_bounds-put_number-start c = in! (s₂ c)
 pub slice_bounds-put_number-end : goal.slice_bounds-put_number-end
 slice_bounds-put_number-end c = le_refl _
 
-pub shape_of-out-in_default-put_number : goal.shape_of-out-in_default-put_number
-shape_of-out-in_default-put_number c = length-puts (stop! (s₂ (goal.at.shape_of-out-in_default-put_number c).In-Bytes-put_byte) c.put_number.ensures c.in_default-put_number.is)
-
-pub returns-in_default-put_number : goal.returns-in_default-put_number
-returns-in_default-put_number c =
-    let args = c.args in
+pub returns-in_err-c : goal.returns-in_err-c
+returns-in_err-c c =
+    failed c.from_residual-in_err-c.ensures.0
+    (let args = c.args in
     let put-number = c.put_number in
     puts-as (key_row args.prefix.now args.n)
-    (stop! (s₂ (goal.at.returns-in_default-put_number c).In-Bytes-put_byte) put-number.ensures c.in_default-put_number.is)
+    (stop! (s₂ (goal.at.returns-in_err-c c).In_ok-b) put-number.ensures c.in_err-c.was))
 
 pub overflow_add-abc : goal.overflow_add-abc
 overflow_add-abc c = fit! (s₃ c) c.well_formed.0.0

@@ -1,4 +1,3 @@
-use Prim.Native.Nat.{◌-◌}
 use native.Mathlib.Omega.{arith}
 use Rattle.to_json_keys.proofs.Spelled.{spells-empty, spells-low, spells-high, spells-below, spells-above, spells-longer, spells-over, spells-it, one-read, digit-read}
 use Rattle.to_json_keys.proofs.spelled_number.Goals as goal

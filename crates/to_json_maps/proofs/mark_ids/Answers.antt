@@ -1,6 +1,5 @@
 use borrow.Author.Rules.{rules}
 use mathlib.Core.Path.{refl, ◌∙◌}
-use Prim.Native.Nat.{◌-◌}
 use native.Mathlib.Omega.{arith}
 use Rattle.to_json_maps.proofs.Marking.{marking-start, marking-other, line-entering, marking-line, marking-end}
 use Rattle.to_json_maps.proofs.mark_ids.Goals as goal
@@ -11,11 +10,8 @@ loop-k-init c =
     let pre = c.requires in
     (omega arith, refl, refl, λ cs h. marking-start args.prefix.now args.i cs args.row.now pre.0)
 
-pub bounds-codes-k : goal.bounds-codes-k
-bounds-codes-k c = omega (arith, c.requires.2.1.wide, c.loop-k-test.true)
-
-pub loop-k-smaller-then-not-is_of : goal.loop-k-smaller-then-not-is_of
-loop-k-smaller-then-not-is_of c = omega arith
+pub bounds-lines-k : goal.bounds-lines-k
+bounds-lines-k c = omega (arith, c.requires.2.1.wide, c.loop-k-test.true)
 
 pub loop-k-preserved-then-not-is_of : goal.loop-k-preserved-then-not-is_of
 loop-k-preserved-then-not-is_of c =
@@ -40,9 +36,6 @@ mark_line-on-requires c =
       omega (arith, loop.invariant.2, pre.1),
       line-entering pre.2.1 loop.k loop-test.true args.i is-of.result is-of.ensures c.if-not-is_of.false pre.3 c.line_at-s.ensures,
     )
-
-pub loop-k-smaller : goal.loop-k-smaller
-loop-k-smaller c = omega arith
 
 pub loop-k-preserved : goal.loop-k-preserved
 loop-k-preserved c =

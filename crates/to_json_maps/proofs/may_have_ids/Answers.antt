@@ -2,7 +2,6 @@ use mathlib.Core.Path.{refl}
 use mathlib.Core.Bool.{false}
 use mathlib.Core.List.{[]}
 use lib.ListN.{replicate}
-use Prim.Native.Nat.{◌-◌}
 use native.Mathlib.Omega.{arith}
 use Rattle.text.proofs.Cases.{not-both}
 use Rattle.to_json_maps.proofs.Heads.{unmarked}
@@ -12,11 +11,8 @@ use Rattle.to_json_maps.proofs.may_have_ids.Goals as goal
 pub loop-k-init : goal.loop-k-init
 loop-k-init c = (omega arith, λ cs h. marking-start [] c.args.i cs (replicate 1025 0) unmarked)
 
-pub bounds-codes-k : goal.bounds-codes-k
-bounds-codes-k c = omega (arith, c.requires.0.1.wide, c.loop-k-test.true)
-
-pub loop-k-smaller-then-not-is_of : goal.loop-k-smaller-then-not-is_of
-loop-k-smaller-then-not-is_of c = omega arith
+pub bounds-lines-k : goal.bounds-lines-k
+bounds-lines-k c = omega (arith, c.requires.0.1.wide, c.loop-k-test.true)
 
 pub loop-k-preserved-then-not-is_of : goal.loop-k-preserved-then-not-is_of
 loop-k-preserved-then-not-is_of c =
@@ -27,9 +23,6 @@ loop-k-preserved-then-not-is_of c =
 
 pub returns-then-has_dash : goal.returns-then-has_dash
 returns-then-has_dash c = λ e. not-both refl e
-
-pub loop-k-smaller : goal.loop-k-smaller
-loop-k-smaller c = omega arith
 
 pub loop-k-preserved : goal.loop-k-preserved
 loop-k-preserved c =

@@ -1,11 +1,10 @@
+use Rattle.output.proofs.Laws.{failed}
 use borrow.Author.Rules.{rules}
 use mathlib.Core.Path.{refl, ◌∙◌}
 use mathlib.Core.List.{[]}
-use Prim.Native.Nat.{◌-◌}
 use native.Mathlib.Nat.{le_refl}
 use native.Mathlib.Omega.{arith}
 use Rattle.output.proofs.Rests.{rest-as, rest-next, rest-stop, rest-done, rest_in, rest-fit, rest-same}
-use Rattle.output.proofs.Rows.{length-puts}
 use Rattle.convert_put.proofs.Writing.{closed, opened}
 use Rattle.to_json_maps.proofs.Heads.{prefixes, prefix-short}
 use Rattle.to_json_maps.proofs.Turns.{mapping-start, mapping-end, mapping-other, has-turn, mapping-stop, mapping-next}
@@ -14,11 +13,8 @@ use Rattle.to_json_maps.proofs.put_entries.Goals as goal
 pub loop-k-init : goal.loop-k-init
 loop-k-init c = (omega arith, refl, λ cs h. mapping-start h c.args.out.now c.args.prefix.now c.args.i)
 
-pub bounds-codes-k : goal.bounds-codes-k
-bounds-codes-k c = omega (arith, c.requires.1.lines.1.wide, c.loop-k-test.true)
-
-pub loop-k-smaller-then-not-is_of : goal.loop-k-smaller-then-not-is_of
-loop-k-smaller-then-not-is_of c = omega arith
+pub bounds-lines-k : goal.bounds-lines-k
+bounds-lines-k c = omega (arith, c.requires.1.lines.1.wide, c.loop-k-test.true)
 
 pub loop-k-preserved-then-not-is_of : goal.loop-k-preserved-then-not-is_of
 loop-k-preserved-then-not-is_of c =
@@ -60,31 +56,17 @@ put_turn-requires c =
           (prefix-short args.i args.prefix.now pre.1.small pre.1.is),
     )
 
-pub shape_of-out-in_default : goal.shape_of-out-in_default
-shape_of-out-in_default c =
+pub returns-in_err-put : goal.returns-in_err-put
+returns-in_err-put c =
     let args = c.args in
     let pre = c.requires in
     let loop = c.loop-k in
     let loop-test = c.loop-k-test in
     let is-of = c.is_of in
     let line_at_lem = c.line_at-s in
-    length-puts
-    (mapping-stop pre.1.lines.1 args.out.now args.prefix.now args.i loop.k loop-test.true is-of.result
-    is-of.ensures (loop.invariant.2 pre.1.lines.0 pre.1.lines.1) c.if-not-is_of.false (omega (arith, pre.1.small))
-    args.row.now args.taken (pre.1.ids pre.1.lines.0 pre.1.lines.1) line_at_lem.ensures (pre.1.is ∙ prefixes args.i)
-    c.put_turn.result c.put_turn.new.out c.put_turn.ensures c.in_default.is)
-
-pub returns-in_default : goal.returns-in_default
-returns-in_default c =
-    let args = c.args in
-    let pre = c.requires in
-    let loop = c.loop-k in
-    let loop-test = c.loop-k-test in
-    let is-of = c.is_of in
-    let line_at_lem = c.line_at-s in
-    λ cs h. mapping-stop h args.out.now args.prefix.now args.i loop.k loop-test.true is-of.result is-of.ensures
+    λ cs h. failed c.from_residual.ensures.0 (mapping-stop h args.out.now args.prefix.now args.i loop.k loop-test.true is-of.result is-of.ensures
     (loop.invariant.2 cs h) c.if-not-is_of.false (omega (arith, pre.1.small)) args.row.now args.taken (pre.1.ids cs h) line_at_lem.ensures
-    (pre.1.is ∙ prefixes args.i) c.put_turn.result c.put_turn.new.out c.put_turn.ensures c.in_default.is
+    (pre.1.is ∙ prefixes args.i) c.put_turn.result c.put_turn.new.out c.put_turn.ensures c.in_err-put.was)
 
 pub overflow_add-at : goal.overflow_add-at
 overflow_add-at c =
@@ -99,11 +81,8 @@ overflow_add-at c =
     (mapping-next pre.1.lines.1 args.out.now args.prefix.now args.i loop.k loop-test.true is-of.result
     is-of.ensures (loop.invariant.2 pre.1.lines.0 pre.1.lines.1) c.if-not-is_of.false (omega (arith, pre.1.small))
     args.row.now args.taken (pre.1.ids pre.1.lines.0 pre.1.lines.1) line_at_lem.ensures (pre.1.is ∙ prefixes args.i)
-    c.put_turn.result c.put_turn.new.out c.put_turn.ensures _ _ c.in-Put.is).rest
+    c.put_turn.result c.put_turn.new.out c.put_turn.ensures _ c.in_ok-put.was).rest
     good.0.0
-
-pub loop-k-smaller : goal.loop-k-smaller
-loop-k-smaller c = omega arith
 
 pub loop-k-preserved : goal.loop-k-preserved
 loop-k-preserved c =
@@ -117,7 +96,7 @@ loop-k-preserved c =
       search rules,
       λ cs h. mapping-next h args.out.now args.prefix.now args.i loop.k loop-test.true is-of.result is-of.ensures
           (loop.invariant.2 cs h) c.if-not-is_of.false (omega (arith, pre.1.small)) args.row.now args.taken (pre.1.ids cs h) line_at_lem.ensures
-          (pre.1.is ∙ prefixes args.i) c.put_turn.result c.put_turn.new.out c.put_turn.ensures _ _ c.in-Put.is,
+          (pre.1.is ∙ prefixes args.i) c.put_turn.result c.put_turn.new.out c.put_turn.ensures _ c.in_ok-put.was,
     )
 
 pub shape_of-out-then-not-begun : goal.shape_of-out-then-not-begun
@@ -141,33 +120,16 @@ slice_bounds-put_byte-start c = rest_in (c.loop-k.invariant.2 c.requires.1.lines
 pub slice_bounds-put_byte-end : goal.slice_bounds-put_byte-end
 slice_bounds-put_byte-end c = le_refl _
 
-pub shape_of-out-in_default-put_byte : goal.shape_of-out-in_default-put_byte
-shape_of-out-in_default-put_byte c =
-    let args = c.args in
-    let pre = c.requires in
-    let loop = c.loop-k in
-    let loop-test = c.loop-k-test in
-    let put_byte = c.put_byte in
-    length-puts
-    (rest-stop []
-    (rest-as (opened _ c.if-not-begun.false)
-    (mapping-end pre.1.lines.1 args.out.now args.prefix.now args.i loop-test.false
-    (loop.invariant.2 pre.1.lines.0 pre.1.lines.1)))
-    put_byte.ensures c.in_default-put_byte.is)
-
-pub shape_of-t-in_default-put_byte : goal.shape_of-t-in_default-put_byte
-shape_of-t-in_default-put_byte c = c.loop-k.invariant.1
-
-pub returns-in_default-put_byte : goal.returns-in_default-put_byte
-returns-in_default-put_byte c =
+pub returns-in_err-m : goal.returns-in_err-m
+returns-in_err-m c =
     let args = c.args in
     let loop = c.loop-k in
     let loop-test = c.loop-k-test in
     let put_byte = c.put_byte in
-    λ cs h. rest-stop []
+    λ cs h. failed c.from_residual-in_err-m.ensures.0 (rest-stop []
     (rest-as (opened _ c.if-not-begun.false)
     (mapping-end h args.out.now args.prefix.now args.i loop-test.false (loop.invariant.2 cs h)))
-    put_byte.ensures c.in_default-put_byte.is
+    put_byte.ensures c.in_err-m.was)
 
 pub overflow_add-all : goal.overflow_add-all
 overflow_add-all c =
@@ -182,7 +144,7 @@ overflow_add-all c =
     (rest-as (opened _ c.if-not-begun.false)
     (mapping-end pre.1.lines.1 args.out.now args.prefix.now args.i loop-test.false
     (loop.invariant.2 pre.1.lines.0 pre.1.lines.1)))
-    put_byte.ensures c.in-Bytes.is)
+    put_byte.ensures c.in_ok-m.was)
     good.0.0
 
 pub shape_of-out : goal.shape_of-out
@@ -197,7 +159,7 @@ shape_of-out c =
     (rest-as (opened _ c.if-not-begun.false)
     (mapping-end pre.1.lines.1 args.out.now args.prefix.now args.i loop-test.false
     (loop.invariant.2 pre.1.lines.0 pre.1.lines.1)))
-    put_byte.ensures c.in-Bytes.is)
+    put_byte.ensures c.in_ok-m.was)
 
 pub shape_of-t : goal.shape_of-t
 shape_of-t c = c.loop-k.invariant.1
@@ -212,4 +174,4 @@ returns c =
     (rest-next []
     (rest-as (opened _ c.if-not-begun.false)
     (mapping-end h args.out.now args.prefix.now args.i loop-test.false (loop.invariant.2 cs h)))
-    put_byte.ensures c.in-Bytes.is)
+    put_byte.ensures c.in_ok-m.was)

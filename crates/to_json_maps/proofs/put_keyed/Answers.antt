@@ -1,6 +1,6 @@
+use Rattle.output.proofs.Laws.{failed}
 use native.Mathlib.Nat.{le_refl, lt_of_le_of_lt}
 use Rattle.output.proofs.Laws.{first, first-full, next, stop, more, done, within, puts-as}
-use Rattle.output.proofs.Rows.{length-puts}
 use Rattle.convert.specs.ToJson.{entry_json}
 use Rattle.convert_put.specs.Pieces.{member_bytes}
 use Rattle.to_json_entry.specs.Entry.{keyed}
@@ -11,21 +11,19 @@ use Rattle.to_json_maps.proofs.put_keyed.Goals as goal
 pub kind_of_line-kind-requires : goal.kind_of_line-kind-requires
 kind_of_line-kind-requires c = c.requires.rowed.sound
 
-pub shape_of-out-in_default : goal.shape_of-out-in_default
-shape_of-out-in_default c = length-puts (first-full c.put_map_head.ensures c.in_default.is)
-
-pub returns-in_default : goal.returns-in_default
-returns-in_default c =
+pub returns-in_err-a : goal.returns-in_err-a
+returns-in_err-a c =
     let args = c.args in
     let put-map-head = c.put_map_head in
-    λ e x. puts-as (piece_is (map_at args.i) args.begun args.key.now e)
-    (more (member_bytes (entry_json (map_at args.i) (keyed args.key.now e))) (first-full put-map-head.ensures c.in_default.is))
+    λ e x. failed c.from_residual.ensures.0
+    (puts-as (piece_is (map_at args.i) args.begun args.key.now e)
+    (more (member_bytes (entry_json (map_at args.i) (keyed args.key.now e))) (first-full put-map-head.ensures c.in_err-a.was)))
 
 pub slice_bounds-put_map_line-count : goal.slice_bounds-put_map_line-count
-slice_bounds-put_map_line-count c = within (first c.put_map_head.ensures c.in-Bytes.is)
+slice_bounds-put_map_line-count c = within (first c.put_map_head.ensures c.in_ok-a.was)
 
 pub slice_bounds-put_map_line-start : goal.slice_bounds-put_map_line-start
-slice_bounds-put_map_line-start c = within (first c.put_map_head.ensures c.in-Bytes.is)
+slice_bounds-put_map_line-start c = within (first c.put_map_head.ensures c.in_ok-a.was)
 
 pub slice_bounds-put_map_line-end : goal.slice_bounds-put_map_line-end
 slice_bounds-put_map_line-end c = le_refl _
@@ -45,34 +43,20 @@ put_map_line-requires c =
       converts = pre.converts.entry;
     }
 
-pub shape_of-out-in_default-put_map_line : goal.shape_of-out-in_default-put_map_line
-shape_of-out-in_default-put_map_line c =
-    let args = c.args in
-    let pre = c.requires in
-    let types_of = c.types_of-types in
-    let form_of = c.form_of-form in
-    let kind-of-line = c.kind_of_line-kind in
-    let put-map-head = c.put_map_head in
-    let put-map-line = c.put_map_line in
-    length-puts
-    (stop (first put-map-head.ensures c.in-Bytes.is)
-    (entry-puts pre.converts types_of.result form_of.result types_of.ensures form_of.ensures.0 kind-of-line.result _
-    args.key.now _ _ kind-of-line.ensures put-map-line.ensures)
-    c.in_default-put_map_line.is)
-
-pub returns-in_default-put_map_line : goal.returns-in_default-put_map_line
-returns-in_default-put_map_line c =
+pub returns-in_err-b : goal.returns-in_err-b
+returns-in_err-b c =
     let args = c.args in
     let types_of = c.types_of-types in
     let form_of = c.form_of-form in
     let kind-of-line = c.kind_of_line-kind in
     let put-map-head = c.put_map_head in
     let put-map-line = c.put_map_line in
-    λ e x. puts-as (piece_is (map_at args.i) args.begun args.key.now e)
-    (stop (first put-map-head.ensures c.in-Bytes.is)
+    λ e x. failed c.from_residual-in_err-b.ensures.0
+    (puts-as (piece_is (map_at args.i) args.begun args.key.now e)
+    (stop (first put-map-head.ensures c.in_ok-a.was)
     (entry-puts x types_of.result form_of.result types_of.ensures form_of.ensures.0 kind-of-line.result _
     args.key.now _ _ kind-of-line.ensures put-map-line.ensures)
-    c.in_default-put_map_line.is)
+    c.in_err-b.was))
 
 pub overflow_add-ab : goal.overflow_add-ab
 overflow_add-ab c =
@@ -86,10 +70,10 @@ overflow_add-ab c =
     let put-map-line = c.put_map_line in
     record {
       fits = lt_of_le_of_lt
-          (next (first put-map-head.ensures c.in-Bytes.is)
+          (next (first put-map-head.ensures c.in_ok-a.was)
           (entry-puts pre.converts types_of.result form_of.result types_of.ensures form_of.ensures.0
           kind-of-line.result _ args.key.now _ _ kind-of-line.ensures put-map-line.ensures)
-          c.in-Bytes-put_map_line.is).fits
+          c.in_ok-b.was).fits
           good.0.0;
     }
 
@@ -102,10 +86,10 @@ shape_of-out c =
     let kind-of-line = c.kind_of_line-kind in
     let put-map-head = c.put_map_head in
     let put-map-line = c.put_map_line in
-    (next (first put-map-head.ensures c.in-Bytes.is)
+    (next (first put-map-head.ensures c.in_ok-a.was)
     (entry-puts pre.converts types_of.result form_of.result types_of.ensures form_of.ensures.0 kind-of-line.result _
     args.key.now _ _ kind-of-line.ensures put-map-line.ensures)
-    c.in-Bytes-put_map_line.is).same
+    c.in_ok-b.was).same
 
 pub returns : goal.returns
 returns c =
@@ -117,7 +101,7 @@ returns c =
     let put-map-line = c.put_map_line in
     λ e x. puts-as (piece_is (map_at args.i) args.begun args.key.now e)
     (done
-    (next (first put-map-head.ensures c.in-Bytes.is)
+    (next (first put-map-head.ensures c.in_ok-a.was)
     (entry-puts x types_of.result form_of.result types_of.ensures form_of.ensures.0 kind-of-line.result _
     args.key.now _ _ kind-of-line.ensures put-map-line.ensures)
-    c.in-Bytes-put_map_line.is))
+    c.in_ok-b.was))

@@ -1,10 +1,9 @@
+use Rattle.output.proofs.Laws.{failed}
 use borrow.Author.Rules.{rules}
 use mathlib.Core.Path.{refl}
-use Prim.Native.Nat.{◌-◌}
 use native.Mathlib.Nat.{le_refl}
 use native.Mathlib.Omega.{arith}
 use Rattle.output.proofs.Rests.{rest_all, rest-as, rest-next, rest-stop, rest-done, rest_in, rest-fit, rest-same}
-use Rattle.output.proofs.Rows.{length-puts}
 use Rattle.convert.specs.Table.{maps}
 use Rattle.to_json_maps.proofs.Whole.{all_maps, maps-bytes, maps-step, maps-end}
 use Rattle.to_json_maps.proofs.put_maps.Goals as goal
@@ -24,22 +23,13 @@ slice_bounds-put_map-end c = le_refl _
 pub put_map-requires : goal.put_map-requires
 put_map-requires c = (omega (arith, c.loop-i.invariant.1, c.requires.0), c.requires.1, c.loop-i-test.true)
 
-pub shape_of-out-in_default : goal.shape_of-out-in_default
-shape_of-out-in_default c =
-    let pre = c.requires in
+pub returns-in_err-m : goal.returns-in_err-m
+returns-in_err-m c =
     let loop = c.loop-i in
     let loop-test = c.loop-i-test in
     let put_map = c.put_map in
-    length-puts
-    (rest-stop _ (rest-as (maps-step loop.i pre.1.0 loop-test.true) (loop.invariant.2 pre.1.0 pre.1.1))
-    (put_map.ensures pre.1.0 pre.1.1) c.in_default.is)
-
-pub returns-in_default : goal.returns-in_default
-returns-in_default c =
-    let loop = c.loop-i in
-    let loop-test = c.loop-i-test in
-    let put_map = c.put_map in
-    λ cs h. rest-stop _ (rest-as (maps-step loop.i cs loop-test.true) (loop.invariant.2 cs h)) (put_map.ensures cs h) c.in_default.is
+    λ cs h. failed c.from_residual.ensures.0
+    (rest-stop _ (rest-as (maps-step loop.i cs loop-test.true) (loop.invariant.2 cs h)) (put_map.ensures cs h) c.in_err-m.was)
 
 pub overflow_add-at : goal.overflow_add-at
 overflow_add-at c =
@@ -50,11 +40,8 @@ overflow_add-at c =
     let put_map = c.put_map in
     rest-fit
     (rest-next _ (rest-as (maps-step loop.i pre.1.0 loop-test.true) (loop.invariant.2 pre.1.0 pre.1.1))
-    (put_map.ensures pre.1.0 pre.1.1) c.in-Bytes.is)
+    (put_map.ensures pre.1.0 pre.1.1) c.in_ok-m.was)
     good.0.0
-
-pub loop-i-smaller : goal.loop-i-smaller
-loop-i-smaller c = omega arith
 
 pub loop-i-preserved : goal.loop-i-preserved
 loop-i-preserved c =
@@ -63,7 +50,7 @@ loop-i-preserved c =
     let put_map = c.put_map in (
       omega arith,
       search rules,
-      λ cs h. rest-next _ (rest-as (maps-step loop.i cs loop-test.true) (loop.invariant.2 cs h)) (put_map.ensures cs h) c.in-Bytes.is,
+      λ cs h. rest-next _ (rest-as (maps-step loop.i cs loop-test.true) (loop.invariant.2 cs h)) (put_map.ensures cs h) c.in_ok-m.was,
     )
 
 pub shape_of-out : goal.shape_of-out

@@ -1,6 +1,6 @@
 use mathlib.Core.Path.{◌≡◌}
 use mathlib.Core.List.{List}
-use Prim.Native.Nat.{◌-◌, ◌≤◌}
+use Prim.Native.Nat.{◌≤◌}
 use lib.ListN.{length, drop}
 use Rattle.output.specs.Put.{Rest}
 use Rattle.convert.specs.Table.{maps}
@@ -10,7 +10,4 @@ use Rattle.to_json_maps.proofs.Whole.{all_maps, maps_after}
 use Rattle.to_json_maps.proofs.put_maps.Given as goal
 
 abbrev pub invariant-loop-i : goal.invariant-loop-i
-invariant-loop-i l = (l.i ≤ 7) × (length l.t ≡ length l.initial.t) × ((cs : List Classed) → Classified l.scratch l.starts l.codes l.n cs → Rest l.initial.out (all_maps cs) (maps_after l.i (drop l.i maps) cs) l.at l.out)
-
-abbrev pub decreases-loop-i : goal.decreases-loop-i
-decreases-loop-i l = 7 - l.i
+invariant-loop-i l = (l.i ≤ 7) × (length l.t ≡ length l.initial.t) × ((cs : List Classed) → Classified l.lines.scratch.now l.lines.starts.now l.lines.codes.now l.lines.count cs → Rest l.initial.out (all_maps cs) (maps_after l.i (drop l.i maps) cs) l.at l.out)

@@ -9,7 +9,7 @@ use Rattle.to_json_keys.proofs.Going.{made-low}
 use Rattle.to_json_maps.specs.Maps.{map_at}
 use Rattle.to_json_maps.proofs.Rows.{held-entry, held-converts, no_key, own_key}
 use Rattle.to_json_maps.proofs.Marking.{filled-holds, filled_none}
-use Rattle.to_json_maps.proofs.Turns.{said-as, key-made, goes-made, key-own, goes-own, piece-as}
+use Rattle.to_json_maps.proofs.Turns.{said-as, key-made, goes-made, key-own, goes-own, piece-as, stopped}
 use Rattle.to_json_maps.proofs.put_turn.Goals as goal
 
 pub fill-requires : goal.fill-requires
@@ -41,8 +41,8 @@ put_made-requires c =
       omega (arith, key-short args.prefix.now next-number.result (made-low pre.1.turning.going pre.1.turning.few (next-number.ensures args.prefix.now _ pre.1.turning.blocked pre.1.turning.going.from)), pre.1.short),
     )
 
-pub returns-in_default : goal.returns-in_default
-returns-in_default c =
+pub returns-in_err-bytes : goal.returns-in_err-bytes
+returns-in_err-bytes c =
     let args = c.args in
     let scan-rows = c.scan_rows-ids in
     let if2 = c.if-ids-eq0 in
@@ -51,11 +51,10 @@ returns-in_default c =
     let holds = filled-holds c.fill.result c.fill.ensures c.if-not-fill.false in
     λ ids used e x.
     let made = next-number.ensures args.prefix.now ids x.blocked x.going.from in
-    let keyless = no_key x.enters.seen x.enters.slot args.s.now c.fill.new.t (held-entry holds x.enters) scan-rows.ensures if2.true in (
-      piece-as (map_at args.i) args.begun e (key-made x made keyless)
-          (said-as c.in_default.is (put-made.ensures e (held-converts holds x.enters))),
-      tt,
-    )
+    let keyless = no_key x.enters.seen x.enters.slot args.s.now c.fill.new.t (held-entry holds x.enters) scan-rows.ensures if2.true in
+    stopped _ _ _ _ c.from_residual.ensures.0
+    (piece-as (map_at args.i) args.begun e (key-made x made keyless)
+    (said-as c.in_err-bytes.was (put-made.ensures e (held-converts holds x.enters))))
 
 pub returns-then-ids-eq0 : goal.returns-then-ids-eq0
 returns-then-ids-eq0 c =
@@ -69,7 +68,7 @@ returns-then-ids-eq0 c =
     let made = next-number.ensures args.prefix.now ids x.blocked x.going.from in
     let keyless = no_key x.enters.seen x.enters.slot args.s.now c.fill.new.t (held-entry holds x.enters) scan-rows.ensures if2.true in (
       piece-as (map_at args.i) args.begun e (key-made x made keyless)
-          (said-as c.in-Bytes.is (put-made.ensures e (held-converts holds x.enters))),
+          (said-as c.in_ok-bytes.was (put-made.ensures e (held-converts holds x.enters))),
       goes-made x made keyless,
     )
 
@@ -79,8 +78,8 @@ slice_bounds-put_keyed-count c = let v = first-id c.scan_rows-ids.ensures c.if-i
 pub slice_bounds-put_keyed-start : goal.slice_bounds-put_keyed-start
 slice_bounds-put_keyed-start c = let v = first-id c.scan_rows-ids.ensures c.if-ids-eq0.false in omega (arith, v.ordered, v.within)
 
-pub slice_bounds-put_keyed-end-4 : goal.slice_bounds-put_keyed-end-4
-slice_bounds-put_keyed-end-4 c = let v = first-id c.scan_rows-ids.ensures c.if-ids-eq0.false in omega (arith, v.ordered, v.within)
+pub slice_bounds-put_keyed-end : goal.slice_bounds-put_keyed-end
+slice_bounds-put_keyed-end c = let v = first-id c.scan_rows-ids.ensures c.if-ids-eq0.false in omega (arith, v.ordered, v.within)
 
 pub put_keyed-requires : goal.put_keyed-requires
 put_keyed-requires c =
@@ -99,17 +98,18 @@ put_keyed-requires c =
           pre.1.turning.enters;
     }
 
-pub returns-in_default-put_keyed : goal.returns-in_default-put_keyed
-returns-in_default-put_keyed c =
+pub returns-in_err-bytes-2 : goal.returns-in_err-bytes-2
+returns-in_err-bytes-2 c =
     let args = c.args in
     let scan-rows = c.scan_rows-ids in
     let if2 = c.if-ids-eq0 in
     let put-keyed = c.put_keyed in
-    λ ids used e x. let o = own_key x.enters.seen x.enters.slot args.s.now c.fill.new.t
-    (held-entry (filled-holds c.fill.result c.fill.ensures c.if-not-fill.false) x.enters) scan-rows.ensures if2.false in (
-      piece-as (map_at args.i) args.begun e (key-own x o.1 ∙ o.0) (said-as c.in_default-put_keyed.is (put-keyed.ensures e (held-converts (filled-holds c.fill.result c.fill.ensures c.if-not-fill.false) x.enters))),
-      tt,
-    )
+    λ ids used e x.
+    let holds = filled-holds c.fill.result c.fill.ensures c.if-not-fill.false in
+    let o = own_key x.enters.seen x.enters.slot args.s.now c.fill.new.t (held-entry holds x.enters) scan-rows.ensures if2.false in
+    stopped _ _ _ _ c.from_residual-in_err-bytes-2.ensures.0
+    (piece-as (map_at args.i) args.begun e (key-own x o.1 ∙ o.0)
+    (said-as c.in_err-bytes-2.was (put-keyed.ensures e (held-converts holds x.enters))))
 
 pub returns : goal.returns
 returns c =
@@ -119,6 +119,6 @@ returns c =
     let put-keyed = c.put_keyed in
     λ ids used e x. let o = own_key x.enters.seen x.enters.slot args.s.now c.fill.new.t
     (held-entry (filled-holds c.fill.result c.fill.ensures c.if-not-fill.false) x.enters) scan-rows.ensures if2.false in (
-      piece-as (map_at args.i) args.begun e (key-own x o.1 ∙ o.0) (said-as c.in-Bytes-put_keyed.is (put-keyed.ensures e (held-converts (filled-holds c.fill.result c.fill.ensures c.if-not-fill.false) x.enters))),
+      piece-as (map_at args.i) args.begun e (key-own x o.1 ∙ o.0) (said-as c.in_ok-bytes-2.was (put-keyed.ensures e (held-converts (filled-holds c.fill.result c.fill.ensures c.if-not-fill.false) x.enters))),
       goes-own x o.1,
     )

@@ -1,3 +1,4 @@
+use Rattle.output.proofs.Laws.{failed}
 use native.Mathlib.Omega.{arith}
 use lib.ListN.{get_or}
 use Rattle.output.proofs.Laws.{puts-as}
@@ -20,15 +21,10 @@ slice_bounds-read_text-start c = let v = c.requires.0.rowed.sound.value in omega
 pub slice_bounds-read_text-end : goal.slice_bounds-read_text-end
 slice_bounds-read_text-end c = let v = c.requires.0.rowed.sound.value in omega (arith, v.ordered, v.within)
 
-pub returns-in_default : goal.returns-in_default
-returns-in_default c =
-    λ seen n j x. never-full c.args.scratch.now (part c.args.s.now (get_or c.args.t.now 4 0) (get_or c.args.t.now 5 0)) c.read_text.ensures (value-fits c.args.s.now (get_or c.args.t.now 4 0) (get_or c.args.t.now 5 0) c.requires.1) c.in_default.is
-
-pub bounds-froms-4 : goal.bounds-froms-4
-bounds-froms-4 c = omega (arith, c.requires.0.rowed.wide.froms)
-
-pub bounds-tos-4 : goal.bounds-tos-4
-bounds-tos-4 c = omega (arith, c.requires.0.rowed.wide.tos)
+pub returns-in_err-k : goal.returns-in_err-k
+returns-in_err-k c =
+    λ seen n j x. failed c.from_residual.ensures.0
+    (never-full c.args.scratch.now (part c.args.s.now (get_or c.args.t.now 4 0) (get_or c.args.t.now 5 0)) c.read_text.ensures (value-fits c.args.s.now (get_or c.args.t.now 4 0) (get_or c.args.t.now 5 0) c.requires.1) c.in_err-k.was)
 
 pub slice_bounds-put_pointed-count : goal.slice_bounds-put_pointed-count
 slice_bounds-put_pointed-count c =
@@ -44,15 +40,15 @@ slice_bounds-put_pointed-end c =
 
 pub slice_bounds-put_pointed-count-2 : goal.slice_bounds-put_pointed-count-2
 slice_bounds-put_pointed-count-2 c =
-    let h = scratch-holds c.args.scratch.now (part c.args.s.now (get_or c.args.t.now 4 0) (get_or c.args.t.now 5 0)) _ c.read_text.ensures c.in-Bytes.is in omega (arith, h.1)
+    let h = scratch-holds c.args.scratch.now (part c.args.s.now (get_or c.args.t.now 4 0) (get_or c.args.t.now 5 0)) _ c.read_text.ensures c.in_ok-k.was in omega (arith, h.1)
 
 pub slice_bounds-put_pointed-start-2 : goal.slice_bounds-put_pointed-start-2
 slice_bounds-put_pointed-start-2 c =
-    let h = scratch-holds c.args.scratch.now (part c.args.s.now (get_or c.args.t.now 4 0) (get_or c.args.t.now 5 0)) _ c.read_text.ensures c.in-Bytes.is in omega (arith, h.1)
+    let h = scratch-holds c.args.scratch.now (part c.args.s.now (get_or c.args.t.now 4 0) (get_or c.args.t.now 5 0)) _ c.read_text.ensures c.in_ok-k.was in omega (arith, h.1)
 
 pub slice_bounds-put_pointed-end-2 : goal.slice_bounds-put_pointed-end-2
 slice_bounds-put_pointed-end-2 c =
-    let h = scratch-holds c.args.scratch.now (part c.args.s.now (get_or c.args.t.now 4 0) (get_or c.args.t.now 5 0)) _ c.read_text.ensures c.in-Bytes.is in omega (arith, h.1)
+    let h = scratch-holds c.args.scratch.now (part c.args.s.now (get_or c.args.t.now 4 0) (get_or c.args.t.now 5 0)) _ c.read_text.ensures c.in_ok-k.was in omega (arith, h.1)
 
 pub put_pointed-requires : goal.put_pointed-requires
 put_pointed-requires c =
@@ -60,4 +56,4 @@ put_pointed-requires c =
 
 pub returns : goal.returns
 returns c =
-    λ seen n j x. let h = scratch-holds c.args.scratch.now (part c.args.s.now (get_or c.args.t.now 4 0) (get_or c.args.t.now 5 0)) _ c.read_text.ensures c.in-Bytes.is in puts-as (member-bytes c.args.s.now c.args.t.now c.requires.0.rowed.row (pointed-of seen (line_in c.args.s.now c.args.t.now) n j x) _ h.0) c.put_pointed.ensures
+    λ seen n j x. let h = scratch-holds c.args.scratch.now (part c.args.s.now (get_or c.args.t.now 4 0) (get_or c.args.t.now 5 0)) _ c.read_text.ensures c.in_ok-k.was in puts-as (member-bytes c.args.s.now c.args.t.now c.requires.0.rowed.row (pointed-of seen (line_in c.args.s.now c.args.t.now) n j x) _ h.0) c.put_pointed.ensures

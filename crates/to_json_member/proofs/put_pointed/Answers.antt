@@ -1,35 +1,35 @@
+use Rattle.output.proofs.Laws.{failed}
 use Rattle.json_text.specs.Compact.{spelled_all}
 use Rattle.json_compact.specs.Squeezed.{squeezed}
 use Rattle.convert_pointer.specs.Name.{name_in}
 use native.Mathlib.Nat.{le_refl}
 use mathlib.Core.List.{[], ◌∷◌}
-use Rattle.output.proofs.Rows.{Here, first!, next!, none, stop!, all, in!, fit!, same!, length-puts}
+use Rattle.output.proofs.Rows.{Here, first!, next!, none, stop!, all, in!, fit!, same! }
 use Rattle.to_json_member.proofs.put_pointed.Goals as goal
-use Rattle.to_json_member.proofs.put_pointed.Goals.{In-Bytes, In-Bytes-put_compact, In-Bytes-put_text, In-Bytes-spell_pointer}
+use Rattle.to_json_member.proofs.put_pointed.Goals.{In_ok-a, In_ok-d, In_ok-c, In_ok-b}
 
-abbrev s₁ : In-Bytes → Here
+abbrev s₁ : In_ok-a → Here
 s₁ c =
     let args = c.args in
     let put_byte = c.put_byte in
-    first! (spelled_all (name_in args.p.now) ∷ (34 ∷ 58 ∷ []) ∷ squeezed args.text.now ∷ []) put_byte.ensures c.in-Bytes.is
+    first! (spelled_all (name_in args.p.now) ∷ (34 ∷ 58 ∷ []) ∷ squeezed args.text.now ∷ []) put_byte.ensures c.in_ok-a.was
 
-abbrev s₂ : In-Bytes-spell_pointer → Here
+abbrev s₂ : In_ok-b → Here
 s₂ c =
-    next! (s₁ (goal.at.In-Bytes-spell_pointer c).In-Bytes) c.spell_pointer.ensures c.in-Bytes-spell_pointer.is
+    next! (s₁ (goal.at.In_ok-b c).In_ok-a) c.spell_pointer.ensures c.in_ok-b.was
 
-abbrev s₃ : In-Bytes-put_text → Here
+abbrev s₃ : In_ok-c → Here
 s₃ c =
-    next! (s₂ (goal.at.In-Bytes-put_text c).In-Bytes-spell_pointer) c.put_text.ensures c.in-Bytes-put_text.is
+    next! (s₂ (goal.at.In_ok-c c).In_ok-b) c.put_text.ensures c.in_ok-c.was
 
-abbrev s₄ : In-Bytes-put_compact → Here
+abbrev s₄ : In_ok-d → Here
 s₄ c =
-    next! (s₃ (goal.at.In-Bytes-put_compact c).In-Bytes-put_text) c.put_compact.ensures.puts c.in-Bytes-put_compact.is
+    next! (s₃ (goal.at.In_ok-d c).In_ok-c) c.put_compact.ensures.puts c.in_ok-d.was
 
-pub shape_of-out-in_default : goal.shape_of-out-in_default
-shape_of-out-in_default c = length-puts (none [] c.put_byte.ensures c.in_default.is)
-
-pub returns-in_default : goal.returns-in_default
-returns-in_default c = none _ c.put_byte.ensures c.in_default.is
+pub returns-in_err-a : goal.returns-in_err-a
+returns-in_err-a c =
+    failed c.from_residual.ensures.0
+    (none _ c.put_byte.ensures c.in_err-a.was)
 
 pub slice_bounds-spell_pointer-count : goal.slice_bounds-spell_pointer-count
 slice_bounds-spell_pointer-count c = in! (s₁ c)
@@ -43,11 +43,10 @@ slice_bounds-spell_pointer-end c = le_refl _
 pub spell_pointer-requires : goal.spell_pointer-requires
 spell_pointer-requires c = c.requires
 
-pub shape_of-out-in_default-spell_pointer : goal.shape_of-out-in_default-spell_pointer
-shape_of-out-in_default-spell_pointer c = length-puts (stop! (s₁ (goal.at.shape_of-out-in_default-spell_pointer c).In-Bytes) c.spell_pointer.ensures c.in_default-spell_pointer.is)
-
-pub returns-in_default-spell_pointer : goal.returns-in_default-spell_pointer
-returns-in_default-spell_pointer c = stop! (s₁ (goal.at.returns-in_default-spell_pointer c).In-Bytes) c.spell_pointer.ensures c.in_default-spell_pointer.is
+pub returns-in_err-b : goal.returns-in_err-b
+returns-in_err-b c =
+    failed c.from_residual-in_err-b.ensures.0
+    (stop! (s₁ (goal.at.returns-in_err-b c).In_ok-a) c.spell_pointer.ensures c.in_err-b.was)
 
 pub overflow_add-ab : goal.overflow_add-ab
 overflow_add-ab c = fit! (s₂ c) c.well_formed.0.0
@@ -61,11 +60,10 @@ slice_bounds-put_text-start c = in! (s₂ c)
 pub slice_bounds-put_text-end : goal.slice_bounds-put_text-end
 slice_bounds-put_text-end c = le_refl _
 
-pub shape_of-out-in_default-put_text : goal.shape_of-out-in_default-put_text
-shape_of-out-in_default-put_text c = length-puts (stop! (s₂ (goal.at.shape_of-out-in_default-put_text c).In-Bytes-spell_pointer) c.put_text.ensures c.in_default-put_text.is)
-
-pub returns-in_default-put_text : goal.returns-in_default-put_text
-returns-in_default-put_text c = stop! (s₂ (goal.at.returns-in_default-put_text c).In-Bytes-spell_pointer) c.put_text.ensures c.in_default-put_text.is
+pub returns-in_err-c : goal.returns-in_err-c
+returns-in_err-c c =
+    failed c.from_residual-in_err-c.ensures.0
+    (stop! (s₂ (goal.at.returns-in_err-c c).In_ok-b) c.put_text.ensures c.in_err-c.was)
 
 pub overflow_add-ac : goal.overflow_add-ac
 overflow_add-ac c = fit! (s₃ c) c.well_formed.0.0
@@ -79,11 +77,10 @@ slice_bounds-put_compact-start c = in! (s₃ c)
 pub slice_bounds-put_compact-end : goal.slice_bounds-put_compact-end
 slice_bounds-put_compact-end c = le_refl _
 
-pub shape_of-out-in_default-put_compact : goal.shape_of-out-in_default-put_compact
-shape_of-out-in_default-put_compact c = length-puts (stop! (s₃ (goal.at.shape_of-out-in_default-put_compact c).In-Bytes-put_text) c.put_compact.ensures.puts c.in_default-put_compact.is)
-
-pub returns-in_default-put_compact : goal.returns-in_default-put_compact
-returns-in_default-put_compact c = stop! (s₃ (goal.at.returns-in_default-put_compact c).In-Bytes-put_text) c.put_compact.ensures.puts c.in_default-put_compact.is
+pub returns-in_err-d : goal.returns-in_err-d
+returns-in_err-d c =
+    failed c.from_residual-in_err-d.ensures.0
+    (stop! (s₃ (goal.at.returns-in_err-d c).In_ok-c) c.put_compact.ensures.puts c.in_err-d.was)
 
 pub overflow_add-ad : goal.overflow_add-ad
 overflow_add-ad c = fit! (s₄ c) c.well_formed.0.0

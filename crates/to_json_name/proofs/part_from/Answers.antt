@@ -1,4 +1,3 @@
-use Prim.Native.Nat.{◌-◌}
 use native.Mathlib.Omega.{arith}
 use Rattle.to_json_name.proofs.Parts.{passing-start, passing-here, passing-on, passing-out}
 use Rattle.to_json_name.proofs.part_from.Goals as goal
@@ -11,9 +10,6 @@ returns-then-e-v c = passing-out c.args.v.now c.loop-j.at c.loop-j.j _ c.loop-j.
 
 pub overflow_add-at : goal.overflow_add-at
 overflow_add-at c = omega (arith, c.if-e-v.false, c.well_formed.0.0)
-
-pub loop-j-smaller : goal.loop-j-smaller
-loop-j-smaller c = omega (arith, c.loop-j-test.true)
 
 pub loop-j-preserved : goal.loop-j-preserved
 loop-j-preserved c = (omega (arith, c.loop-j-test.true), passing-on c.args.v.now c.loop-j.at c.loop-j.j _ c.loop-j.invariant.1 c.part_end-e.ensures (omega (arith, c.if-e-v.false)))

@@ -1,27 +1,27 @@
+use Rattle.output.proofs.Laws.{failed}
 use Rattle.to_json_name.specs.Name.{components_from}
 use mathlib.Core.Bool.{false}
 use native.Mathlib.Nat.{le_refl}
 use mathlib.Core.List.{[], ◌∷◌}
-use Rattle.output.proofs.Rows.{Here, first!, next!, none, stop!, all, in!, fit!, same!, length-puts}
+use Rattle.output.proofs.Rows.{Here, first!, next!, none, stop!, all, in!, fit!, same! }
 use Rattle.to_json_name.proofs.put_components.Goals as goal
-use Rattle.to_json_name.proofs.put_components.Goals.{In-Bytes, In-Bytes-put_byte, In-Bytes-put_parts}
+use Rattle.to_json_name.proofs.put_components.Goals.{In_ok-a, In_ok-c, In_ok-b}
 
-abbrev s₁ : In-Bytes → Here
-s₁ c = first! (components_from 7 c.args.v.now 0 false ∷ (93 ∷ []) ∷ []) c.put_byte.ensures c.in-Bytes.is
+abbrev s₁ : In_ok-a → Here
+s₁ c = first! (components_from 7 c.args.v.now 0 false ∷ (93 ∷ []) ∷ []) c.put_byte.ensures c.in_ok-a.was
 
-abbrev s₂ : In-Bytes-put_parts → Here
+abbrev s₂ : In_ok-b → Here
 s₂ c =
-    next! (s₁ (goal.at.In-Bytes-put_parts c).In-Bytes) c.put_parts.ensures c.in-Bytes-put_parts.is
+    next! (s₁ (goal.at.In_ok-b c).In_ok-a) c.put_parts.ensures c.in_ok-b.was
 
-abbrev s₃ : In-Bytes-put_byte → Here
+abbrev s₃ : In_ok-c → Here
 s₃ c =
-    next! (s₂ (goal.at.In-Bytes-put_byte c).In-Bytes-put_parts) c.put_byte-2.ensures c.in-Bytes-put_byte.is
+    next! (s₂ (goal.at.In_ok-c c).In_ok-b) c.put_byte-2.ensures c.in_ok-c.was
 
-pub shape_of-out-in_default : goal.shape_of-out-in_default
-shape_of-out-in_default c = length-puts (none [] c.put_byte.ensures c.in_default.is)
-
-pub returns-in_default : goal.returns-in_default
-returns-in_default c = none _ c.put_byte.ensures c.in_default.is
+pub returns-in_err-a : goal.returns-in_err-a
+returns-in_err-a c =
+    failed c.from_residual.ensures.0
+    (none _ c.put_byte.ensures c.in_err-a.was)
 
 pub slice_bounds-put_parts-count : goal.slice_bounds-put_parts-count
 slice_bounds-put_parts-count c = in! (s₁ c)
@@ -35,11 +35,10 @@ slice_bounds-put_parts-end c = le_refl _
 pub put_parts-requires : goal.put_parts-requires
 put_parts-requires c = c.requires
 
-pub shape_of-out-in_default-put_parts : goal.shape_of-out-in_default-put_parts
-shape_of-out-in_default-put_parts c = length-puts (stop! (s₁ (goal.at.shape_of-out-in_default-put_parts c).In-Bytes) c.put_parts.ensures c.in_default-put_parts.is)
-
-pub returns-in_default-put_parts : goal.returns-in_default-put_parts
-returns-in_default-put_parts c = stop! (s₁ (goal.at.returns-in_default-put_parts c).In-Bytes) c.put_parts.ensures c.in_default-put_parts.is
+pub returns-in_err-b : goal.returns-in_err-b
+returns-in_err-b c =
+    failed c.from_residual-in_err-b.ensures.0
+    (stop! (s₁ (goal.at.returns-in_err-b c).In_ok-a) c.put_parts.ensures c.in_err-b.was)
 
 pub overflow_add-ab : goal.overflow_add-ab
 overflow_add-ab c = fit! (s₂ c) c.well_formed.0.0
@@ -53,11 +52,10 @@ slice_bounds-put_byte-start c = in! (s₂ c)
 pub slice_bounds-put_byte-end : goal.slice_bounds-put_byte-end
 slice_bounds-put_byte-end c = le_refl _
 
-pub shape_of-out-in_default-put_byte : goal.shape_of-out-in_default-put_byte
-shape_of-out-in_default-put_byte c = length-puts (stop! (s₂ (goal.at.shape_of-out-in_default-put_byte c).In-Bytes-put_parts) c.put_byte-2.ensures c.in_default-put_byte.is)
-
-pub returns-in_default-put_byte : goal.returns-in_default-put_byte
-returns-in_default-put_byte c = stop! (s₂ (goal.at.returns-in_default-put_byte c).In-Bytes-put_parts) c.put_byte-2.ensures c.in_default-put_byte.is
+pub returns-in_err-c : goal.returns-in_err-c
+returns-in_err-c c =
+    failed c.from_residual-in_err-c.ensures.0
+    (stop! (s₂ (goal.at.returns-in_err-c c).In_ok-b) c.put_byte-2.ensures c.in_err-c.was)
 
 pub overflow_add-abc : goal.overflow_add-abc
 overflow_add-abc c = fit! (s₃ c) c.well_formed.0.0

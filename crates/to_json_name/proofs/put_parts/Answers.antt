@@ -1,5 +1,5 @@
+use Rattle.output.proofs.Laws.{failed}
 use mathlib.Core.Path.{refl}
-use Prim.Native.Nat.{◌-◌}
 use native.Mathlib.Nat.{le_refl}
 use native.Mathlib.Omega.{arith}
 use Rattle.output.proofs.Rests.{rest_all, rest-done, rest_in, rest-fit, rest-same}
@@ -26,13 +26,14 @@ put_part-requires c =
     let loop = c.loop-k in
     (pre, passing-here args.v.now loop.from loop.k loop.k loop.invariant.1 refl, c.part_end-end.ensures)
 
-pub returns-in_default : goal.returns-in_default
-returns-in_default c =
-    let args = c.args in
+pub returns-in_err-n : goal.returns-in_err-n
+returns-in_err-n c =
+    failed c.from_residual.ensures.0
+    (let args = c.args in
     let loop = c.loop-k in
     let loop-test = c.loop-k-test in
     let put-part = c.put_part in
-    parts-full args.v.now loop.k loop.begun loop-test.true loop.invariant.2 put-part.ensures c.in_default.is
+    parts-full args.v.now loop.k loop.begun loop-test.true loop.invariant.2 put-part.ensures c.in_err-n.was)
 
 pub overflow_add-at : goal.overflow_add-at
 overflow_add-at c =
@@ -41,14 +42,8 @@ overflow_add-at c =
     let loop = c.loop-k in
     let loop-test = c.loop-k-test in
     let put-part = c.put_part in
-    rest-fit (parts-on args.v.now loop.k loop.begun loop-test.true loop.invariant.2 put-part.ensures _ c.in-Bytes.is)
+    rest-fit (parts-on args.v.now loop.k loop.begun loop-test.true loop.invariant.2 put-part.ensures _ c.in_ok-n.was)
     good.0.0
-
-pub overflow_add-k : goal.overflow_add-k
-overflow_add-k c = omega (arith, c.loop-k-test.true)
-
-pub loop-k-smaller : goal.loop-k-smaller
-loop-k-smaller c = omega (arith, c.loop-k-test.true)
 
 pub loop-k-preserved : goal.loop-k-preserved
 loop-k-preserved c =
@@ -59,7 +54,7 @@ loop-k-preserved c =
     let put-part = c.put_part in (
       omega (arith, loop-test.true),
       passing-next args.v.now loop.from loop.k _ loop.invariant.1 part-end.ensures _ c.part_after-from.ensures.0 c.part_after-from.ensures.1,
-      parts-on args.v.now loop.k loop.begun loop-test.true loop.invariant.2 put-part.ensures _ c.in-Bytes.is,
+      parts-on args.v.now loop.k loop.begun loop-test.true loop.invariant.2 put-part.ensures _ c.in_ok-n.was,
     )
 
 pub shape_of-out : goal.shape_of-out

@@ -11,6 +11,3 @@ use Rattle.to_json_name.proofs.put_parts.Given as goal
 
 abbrev pub invariant-loop-k : goal.invariant-loop-k
 invariant-loop-k l = (l.k ≤ 7) × Passing l.v l.from l.k × Rest l.initial.out (components_from 7 l.v 0 false) (components_from (7 - l.k) l.v l.k l.begun) l.at l.out
-
-abbrev pub decreases-loop-k : goal.decreases-loop-k
-decreases-loop-k l = 7 - l.k

@@ -17,9 +17,6 @@ returns-then-is_of c =
     let is-of = c.is_of in
     first-here args.codes.now args.n args.q is-of.result loop.k loop-test.true loop.invariant.1 is-of.ensures c.if-is_of.true
 
-pub loop-k-smaller : goal.loop-k-smaller
-loop-k-smaller c = omega arith
-
 pub loop-k-preserved : goal.loop-k-preserved
 loop-k-preserved c =
     let args = c.args in

@@ -7,8 +7,8 @@ use Rattle.to_json_sections.proofs.put_kind_of.Goals as goal
 pub first_of-k-requires : goal.first_of-k-requires
 first_of-k-requires c = c.requires.1.1.wide
 
-pub returns-then-k-n : goal.returns-then-k-n
-returns-then-k-n c = λ cs h. puts-as (kind-none h c.first_of-k.ensures c.if-k-n.true) (done (start _))
+pub returns-then-k-lines : goal.returns-then-k-lines
+returns-then-k-lines c = λ cs h. puts-as (kind-none h c.first_of-k.ensures c.if-k-lines.true) (done (start _))
 
 pub fill-requires : goal.fill-requires
 fill-requires c = c.requires.0
@@ -16,7 +16,7 @@ fill-requires c = c.requires.0
 pub returns-then-not-fill : goal.returns-then-not-fill
 returns-then-not-fill c =
     let first_of = c.first_of-k in
-    let if1 = c.if-k-n in
+    let if1 = c.if-k-lines in
     let line_at_lem = c.line_at-s in
     let fill = c.fill in
     λ cs h. found-unread h first_of.ensures if1.false line_at_lem.ensures
@@ -40,7 +40,7 @@ slice_bounds-put_kind-end c = let v = (filled-holds c.fill.result c.fill.ensures
 pub returns : goal.returns
 returns c =
     let first_of = c.first_of-k in
-    let if1 = c.if-k-n in
+    let if1 = c.if-k-lines in
     let line_at_lem = c.line_at-s in
     let fill = c.fill in
     λ cs h. puts-as

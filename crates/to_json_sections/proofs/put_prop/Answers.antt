@@ -1,3 +1,4 @@
+use Rattle.output.proofs.Laws.{failed}
 use mathlib.Core.Path.{sym, ◌∙◌}
 use mathlib.Core.List.{[]}
 use native.Mathlib.Nat.{le_refl, lt_of_le_of_lt}
@@ -17,17 +18,18 @@ fill-requires c = c.requires.0
 pub returns-then-not-fill : goal.returns-then-not-fill
 returns-then-not-fill c = λ k x. none-some (sym (filled_none _ _ c.fill.result c.fill.ensures c.if-not-fill.true) ∙ x.read)
 
-pub returns-in_default : goal.returns-in_default
-returns-in_default c =
+pub returns-in_err-a : goal.returns-in_err-a
+returns-in_err-a c =
     let args = c.args in
     let put-prop-head = c.put_prop_head in
-    λ k x. puts-as (piece_is args.begun k) (more (written (kept_json k) []) (first-full put-prop-head.ensures c.in_default.is))
+    λ k x. failed c.from_residual.ensures.0
+    (puts-as (piece_is args.begun k) (more (written (kept_json k) []) (first-full put-prop-head.ensures c.in_err-a.was)))
 
 pub slice_bounds-put_kept-count : goal.slice_bounds-put_kept-count
-slice_bounds-put_kept-count c = within (first c.put_prop_head.ensures c.in-Bytes.is)
+slice_bounds-put_kept-count c = within (first c.put_prop_head.ensures c.in_ok-a.was)
 
 pub slice_bounds-put_kept-start : goal.slice_bounds-put_kept-start
-slice_bounds-put_kept-start c = within (first c.put_prop_head.ensures c.in-Bytes.is)
+slice_bounds-put_kept-start c = within (first c.put_prop_head.ensures c.in_ok-a.was)
 
 pub slice_bounds-put_kept-end : goal.slice_bounds-put_kept-end
 slice_bounds-put_kept-end c = le_refl _
@@ -37,26 +39,16 @@ put_kept-requires c =
     let fill = c.fill in
     (filled-holds fill.result fill.ensures c.if-not-fill.false).sound
 
-pub shape_of-out-in_default-put_kept : goal.shape_of-out-in_default-put_kept
-shape_of-out-in_default-put_kept c =
-    let pre = c.requires in
-    let fill = c.fill in
-    let put-prop-head = c.put_prop_head in
-    let put-kept = c.put_kept in
-    length-puts
-    (stop (first put-prop-head.ensures c.in-Bytes.is)
-    (held_kept (filled-holds fill.result fill.ensures c.if-not-fill.false) pre.1.1 put-kept.ensures)
-    c.in_default-put_kept.is)
-
-pub returns-in_default-put_kept : goal.returns-in_default-put_kept
-returns-in_default-put_kept c =
+pub returns-in_err-b : goal.returns-in_err-b
+returns-in_err-b c =
     let args = c.args in
     let fill = c.fill in
     let put-prop-head = c.put_prop_head in
     let put-kept = c.put_kept in
-    λ k x. puts-as (piece_is args.begun k)
-    (stop (first put-prop-head.ensures c.in-Bytes.is)
-    (held_kept (filled-holds fill.result fill.ensures c.if-not-fill.false) x put-kept.ensures) c.in_default-put_kept.is)
+    λ k x. failed c.from_residual-in_err-b.ensures.0
+    (puts-as (piece_is args.begun k)
+    (stop (first put-prop-head.ensures c.in_ok-a.was)
+    (held_kept (filled-holds fill.result fill.ensures c.if-not-fill.false) x put-kept.ensures) c.in_err-b.was))
 
 pub overflow_add-ab : goal.overflow_add-ab
 overflow_add-ab c =
@@ -67,9 +59,9 @@ overflow_add-ab c =
     let put-kept = c.put_kept in
     record {
       fits = lt_of_le_of_lt
-          (next (first put-prop-head.ensures c.in-Bytes.is)
+          (next (first put-prop-head.ensures c.in_ok-a.was)
           (held_kept (filled-holds fill.result fill.ensures c.if-not-fill.false) pre.1.1 put-kept.ensures)
-          c.in-Bytes-put_kept.is).fits
+          c.in_ok-b.was).fits
           good.0.0;
     }
 
@@ -79,8 +71,8 @@ shape_of-out c =
     let fill = c.fill in
     let put-prop-head = c.put_prop_head in
     let put-kept = c.put_kept in
-    (next (first put-prop-head.ensures c.in-Bytes.is)
-    (held_kept (filled-holds fill.result fill.ensures c.if-not-fill.false) pre.1.1 put-kept.ensures) c.in-Bytes-put_kept.is).same
+    (next (first put-prop-head.ensures c.in_ok-a.was)
+    (held_kept (filled-holds fill.result fill.ensures c.if-not-fill.false) pre.1.1 put-kept.ensures) c.in_ok-b.was).same
 
 pub returns : goal.returns
 returns c =
@@ -90,5 +82,5 @@ returns c =
     let put-kept = c.put_kept in
     λ k x. puts-as (piece_is args.begun k)
     (done
-    (next (first put-prop-head.ensures c.in-Bytes.is)
-    (held_kept (filled-holds fill.result fill.ensures c.if-not-fill.false) x put-kept.ensures) c.in-Bytes-put_kept.is))
+    (next (first put-prop-head.ensures c.in_ok-a.was)
+    (held_kept (filled-holds fill.result fill.ensures c.if-not-fill.false) x put-kept.ensures) c.in_ok-b.was))

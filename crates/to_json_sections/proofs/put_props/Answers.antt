@@ -1,3 +1,4 @@
+use Rattle.output.proofs.Laws.{failed}
 use borrow.Author.Rules.{rules}
 use mathlib.Core.Path.{refl, ◌∙◌}
 use mathlib.Core.List.{[]}
@@ -13,11 +14,8 @@ use Rattle.to_json_sections.proofs.put_props.Goals as goal
 pub loop-k-init : goal.loop-k-init
 loop-k-init c = (omega arith, refl, λ cs h. props-start h c.args.out.now)
 
-pub bounds-codes-k : goal.bounds-codes-k
-bounds-codes-k c = omega (arith, c.requires.1.1.wide, c.loop-k-test.true)
-
-pub loop-k-smaller-then-not-is_of : goal.loop-k-smaller-then-not-is_of
-loop-k-smaller-then-not-is_of c = omega arith
+pub bounds-lines-k : goal.bounds-lines-k
+bounds-lines-k c = omega (arith, c.requires.1.1.wide, c.loop-k-test.true)
 
 pub loop-k-preserved-then-not-is_of : goal.loop-k-preserved-then-not-is_of
 loop-k-preserved-then-not-is_of c =
@@ -48,27 +46,16 @@ put_prop-requires c =
       has_kept pre.1.1 loop.k loop-test.true is-of.result is-of.ensures c.if-not-is_of.false c.line_at-s.ensures,
     )
 
-pub shape_of-out-in_default : goal.shape_of-out-in_default
-shape_of-out-in_default c =
-    let pre = c.requires in
+pub returns-in_err-m : goal.returns-in_err-m
+returns-in_err-m c =
     let loop = c.loop-k in
     let loop-test = c.loop-k-test in
     let is-of = c.is_of in
     let line_at_lem = c.line_at-s in
     let put-prop = c.put_prop in
-    length-puts
-    (props-stop pre.1.1 loop.k loop-test.true is-of.result is-of.ensures c.if-not-is_of.false loop.begun
-    (loop.invariant.2 pre.1.0 pre.1.1) line_at_lem.ensures put-prop.ensures c.in_default.is)
-
-pub returns-in_default : goal.returns-in_default
-returns-in_default c =
-    let loop = c.loop-k in
-    let loop-test = c.loop-k-test in
-    let is-of = c.is_of in
-    let line_at_lem = c.line_at-s in
-    let put-prop = c.put_prop in
-    λ cs h. props-stop h loop.k loop-test.true is-of.result is-of.ensures c.if-not-is_of.false loop.begun (loop.invariant.2 cs h)
-    line_at_lem.ensures put-prop.ensures c.in_default.is
+    λ cs h. failed c.from_residual.ensures.0
+    (props-stop h loop.k loop-test.true is-of.result is-of.ensures c.if-not-is_of.false loop.begun (loop.invariant.2 cs h)
+    line_at_lem.ensures put-prop.ensures c.in_err-m.was)
 
 pub overflow_add-at : goal.overflow_add-at
 overflow_add-at c =
@@ -81,11 +68,8 @@ overflow_add-at c =
     let put-prop = c.put_prop in
     rest-fit
     (props-next pre.1.1 loop.k loop-test.true is-of.result is-of.ensures c.if-not-is_of.false loop.begun
-    (loop.invariant.2 pre.1.0 pre.1.1) line_at_lem.ensures put-prop.ensures _ c.in-Bytes.is)
+    (loop.invariant.2 pre.1.0 pre.1.1) line_at_lem.ensures put-prop.ensures _ c.in_ok-m.was)
     good.0.0
-
-pub loop-k-smaller : goal.loop-k-smaller
-loop-k-smaller c = omega arith
 
 pub loop-k-preserved : goal.loop-k-preserved
 loop-k-preserved c =
@@ -96,7 +80,7 @@ loop-k-preserved c =
     let put-prop = c.put_prop in (
       omega arith,
       search rules,
-      λ cs h. props-next h loop.k loop-test.true is-of.result is-of.ensures c.if-not-is_of.false loop.begun (loop.invariant.2 cs h) line_at_lem.ensures put-prop.ensures _ c.in-Bytes.is,
+      λ cs h. props-next h loop.k loop-test.true is-of.result is-of.ensures c.if-not-is_of.false loop.begun (loop.invariant.2 cs h) line_at_lem.ensures put-prop.ensures _ c.in_ok-m.was,
     )
 
 pub shape_of-out-then-not-begun : goal.shape_of-out-then-not-begun
@@ -117,31 +101,16 @@ slice_bounds-put_byte-start c = rest_in (c.loop-k.invariant.2 c.requires.1.0 c.r
 pub slice_bounds-put_byte-end : goal.slice_bounds-put_byte-end
 slice_bounds-put_byte-end c = le_refl _
 
-pub shape_of-out-in_default-put_byte : goal.shape_of-out-in_default-put_byte
-shape_of-out-in_default-put_byte c =
-    let pre = c.requires in
+pub returns-in_err-m-2 : goal.returns-in_err-m-2
+returns-in_err-m-2 c =
     let loop = c.loop-k in
     let loop-test = c.loop-k-test in
     let put_byte = c.put_byte in
-    length-puts
+    λ cs h. failed c.from_residual-in_err-m-2.ensures.0
     (rest-stop []
     (rest-as (end-some _ c.if-not-begun.false)
-    (rest-as (props-end pre.1.1 loop.begun loop.k loop-test.false ∙ from-nil loop.begun)
-    (loop.invariant.2 pre.1.0 pre.1.1)))
-    put_byte.ensures c.in_default-put_byte.is)
-
-pub shape_of-t-in_default-put_byte : goal.shape_of-t-in_default-put_byte
-shape_of-t-in_default-put_byte c = c.loop-k.invariant.1
-
-pub returns-in_default-put_byte : goal.returns-in_default-put_byte
-returns-in_default-put_byte c =
-    let loop = c.loop-k in
-    let loop-test = c.loop-k-test in
-    let put_byte = c.put_byte in
-    λ cs h. rest-stop []
-    (rest-as (end-some _ c.if-not-begun.false)
     (rest-as (props-end h loop.begun loop.k loop-test.false ∙ from-nil loop.begun) (loop.invariant.2 cs h)))
-    put_byte.ensures c.in_default-put_byte.is
+    put_byte.ensures c.in_err-m-2.was)
 
 pub overflow_add-all : goal.overflow_add-all
 overflow_add-all c =
@@ -155,7 +124,7 @@ overflow_add-all c =
     (rest-as (end-some _ c.if-not-begun.false)
     (rest-as (props-end pre.1.1 loop.begun loop.k loop-test.false ∙ from-nil loop.begun)
     (loop.invariant.2 pre.1.0 pre.1.1)))
-    put_byte.ensures c.in-Bytes-put_byte.is)
+    put_byte.ensures c.in_ok-m-2.was)
     good.0.0
 
 pub shape_of-out : goal.shape_of-out
@@ -169,7 +138,7 @@ shape_of-out c =
     (rest-as (end-some _ c.if-not-begun.false)
     (rest-as (props-end pre.1.1 loop.begun loop.k loop-test.false ∙ from-nil loop.begun)
     (loop.invariant.2 pre.1.0 pre.1.1)))
-    put_byte.ensures c.in-Bytes-put_byte.is)
+    put_byte.ensures c.in_ok-m-2.was)
 
 pub shape_of-t : goal.shape_of-t
 shape_of-t c = c.loop-k.invariant.1
@@ -183,4 +152,4 @@ returns c =
     (rest-next []
     (rest-as (end-some _ c.if-not-begun.false)
     (rest-as (props-end h loop.begun loop.k loop-test.false ∙ from-nil loop.begun) (loop.invariant.2 cs h)))
-    put_byte.ensures c.in-Bytes-put_byte.is)
+    put_byte.ensures c.in_ok-m-2.was)

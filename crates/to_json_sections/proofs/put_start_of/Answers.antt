@@ -9,11 +9,11 @@ use Rattle.to_json_sections.proofs.put_start_of.Goals as goal
 pub first_of-k-requires : goal.first_of-k-requires
 first_of-k-requires c = c.requires.1.1.wide
 
-pub returns-then-k-n : goal.returns-then-k-n
-returns-then-k-n c =
+pub returns-then-k-lines : goal.returns-then-k-lines
+returns-then-k-lines c =
     let args = c.args in
     let first_of = c.first_of-k in
-    let if1 = c.if-k-n in
+    let if1 = c.if-k-lines in
     λ cs h. puts-as (ap start_bytes (uid-made h first_of.ensures args.stem.now args.number args.stem.now if1.true))
     c.put_start.ensures
 
@@ -23,7 +23,7 @@ fill-requires c = c.requires.0
 pub returns-then-not-fill : goal.returns-then-not-fill
 returns-then-not-fill c =
     let first_of = c.first_of-k in
-    let if1 = c.if-k-n in
+    let if1 = c.if-k-lines in
     let line_at_lem = c.line_at-s in
     let fill = c.fill in
     λ cs h. found-unread h first_of.ensures if1.false line_at_lem.ensures
@@ -48,7 +48,7 @@ pub returns : goal.returns
 returns c =
     let args = c.args in
     let first_of = c.first_of-k in
-    let if1 = c.if-k-n in
+    let if1 = c.if-k-lines in
     let line_at_lem = c.line_at-s in
     let fill = c.fill in
     λ cs h. puts-as

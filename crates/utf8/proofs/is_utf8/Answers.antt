@@ -1,4 +1,3 @@
-use Prim.Native.Nat.{◌-◌}
 use native.Mathlib.Omega.{arith}
 use mathlib.Core.Path.{refl, ◌∙◌}
 use Rattle.utf8.proofs.Steps.{one-as, utf8-all, utf8-not}
@@ -11,16 +10,16 @@ pub returns-then-a-s : goal.returns-then-a-s
 returns-then-a-s c = utf8-all c.args.s.now _ (c.loop-i.invariant.1 ∙ c.ascii_end-a.ensures.2) c.if-a-s.true
 
 pub loop-i-smaller : goal.loop-i-smaller
-loop-i-smaller c = let o = one-as c.args.s.now c.ascii_end-a.result c.character_end.ensures c.in-Next.is in omega (arith, c.ascii_end-a.ensures.0)
+loop-i-smaller c = let o = one-as c.args.s.now c.ascii_end-a.result c.character_end.ensures c.in-Ok.is in omega (arith, c.ascii_end-a.ensures.0)
 
 pub loop-i-preserved : goal.loop-i-preserved
 loop-i-preserved c =
     let s = c.args.s.now in
-    let o = one-as s c.ascii_end-a.result c.character_end.ensures c.in-Next.is in
+    let o = one-as s c.ascii_end-a.result c.character_end.ensures c.in-Ok.is in
     (o.1, c.loop-i.invariant.1 ∙ c.ascii_end-a.ensures.2 ∙ o.2)
 
-pub returns-in-Bad : goal.returns-in-Bad
-returns-in-Bad c =
+pub returns-in-Err : goal.returns-in-Err
+returns-in-Err c =
     let s = c.args.s.now in
     utf8-not s c.ascii_end-a.result (c.loop-i.invariant.1 ∙ c.ascii_end-a.ensures.2)
-    (one-as s c.ascii_end-a.result c.character_end.ensures c.in-Bad.is)
+    (one-as s c.ascii_end-a.result c.character_end.ensures c.in-Err.is)

@@ -1,8 +1,8 @@
 use Rattle.stream_reader.proofs.Run.{feed-all, turn_end, turn-go, turn-halt}
 use Rattle.line_frame.proofs.Physical.{lf-from, lf-within}
 use native.Mathlib.Omega.{arith}
-use Prim.Native.Nat.{◌-◌}
-use mathlib.Core.Path.{refl, ap, ◌∙◌}
+use borrow.Author.Tests.{eqb-true, eqb-false}
+use mathlib.Core.Path.{refl, sym, ap, ◌∙◌}
 use Rattle.stream_reader.proofs.State.feed.Goals as goal
 
 pub loop-i-init : goal.loop-i-init
@@ -46,15 +46,15 @@ returns-then-e-piece c =
 pub overflow_add-i : goal.overflow_add-i
 overflow_add-i c = omega (arith, c.if-e-piece.false, c.well_formed.1)
 
-pub shape_of-card-then-w-ne0 : goal.shape_of-card-then-w-ne0
-shape_of-card-then-w-ne0 c =
+pub shape_of-card-then-not-is_more : goal.shape_of-card-then-not-is_more
+shape_of-card-then-not-is_more c =
     let loop = c.loop-i in
     let copy-in = c.copy_in in
     let end_line = c.end_line in
     end_line.auto.card ∙ copy-in.auto.card ∙ loop.invariant.1
 
-pub returns-then-w-ne0 : goal.returns-then-w-ne0
-returns-then-w-ne0 c =
+pub returns-then-not-is_more : goal.returns-then-not-is_more
+returns-then-not-is_more c =
     let args = c.args in
     let loop = c.loop-i in
     let lf-at = c.lf_at-e in
@@ -67,7 +67,7 @@ returns-then-w-ne0 c =
     let end_line = c.end_line in
     let e = turn-halt args.self args.card.now args.piece.now loop.s loop.card loop.i loop.invariant.2 _ lf-at.ensures _
     copy-in.ensures _ along.ensures if1.false _ kind.ensures _ verdict.ensures _ end_line.ensures _
-    c.next_line-s.ensures c.if-w-ne0.true _ bump.ensures _ c.told.ensures in record { value = ap (λ x. x.0) e; card_after = ap (λ x. x.1) e }
+    c.next_line-s.ensures (eqb-false _ _ (sym c.is_more.ensures ∙ c.if-not-is_more.true)) _ bump.ensures _ c.told.ensures in record { value = ap (λ x. x.0) e; card_after = ap (λ x. x.1) e }
 
 pub loop-i-smaller : goal.loop-i-smaller
 loop-i-smaller c =
@@ -91,7 +91,7 @@ loop-i-preserved c =
     let end_line = c.end_line in (
       omega (arith, if1.false),
       end_line.auto.card ∙ copy-in.auto.card ∙ loop.invariant.1,
-      turn-go args.self args.card.now args.piece.now loop.s loop.card loop.i loop.invariant.2 _ lf-at.ensures _ copy-in.ensures _ along.ensures if1.false _ kind.ensures _ verdict.ensures _ end_line.ensures _ c.next_line-s.ensures c.if-w-ne0.false,
+      turn-go args.self args.card.now args.piece.now loop.s loop.card loop.i loop.invariant.2 _ lf-at.ensures _ copy-in.ensures _ along.ensures if1.false _ kind.ensures _ verdict.ensures _ end_line.ensures _ c.next_line-s.ensures (eqb-true _ _ (sym c.is_more.ensures ∙ c.if-not-is_more.false)),
     )
 
 pub shape_of-card : goal.shape_of-card

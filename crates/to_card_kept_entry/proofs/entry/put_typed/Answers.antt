@@ -22,7 +22,7 @@ overflow_add-a c =
     let args = c.args in
     let put-text = c.put_text in
     record {
-      fits = let g = grew args.b.now args.n c.requires.n_in_bounds (ascii "value") _ put-text.result put-text.ensures c.in-Bytes.is
+      fits = let g = grew args.b.now args.n c.requires.n_in_bounds (ascii "value") _ put-text.result put-text.ensures c.in-Ok.is
           in omega (arith, g.within, good.0.0);
     }
 
@@ -30,29 +30,16 @@ pub put_value-requires : goal.put_value-requires
 put_value-requires c =
     let args = c.args in
     let put-text = c.put_text in
-    let g = grew args.b.now args.n c.requires.n_in_bounds (ascii "value") _ put-text.result put-text.ensures c.in-Bytes.is in
+    let g = grew args.b.now args.n c.requires.n_in_bounds (ascii "value") _ put-text.result put-text.ensures c.in-Ok.is in
     record { n_in_bounds = omega (arith, g.within, g.long); table_length_in_bounds = c.requires.table_length_in_bounds }
 
-pub returns-in_default-put_value : goal.returns-in_default-put_value
-returns-in_default-put_value c =
+pub returns-in_err-rows-clause-puts_typed : goal.returns-in_err-rows-clause-puts_typed
+returns-in_err-rows-clause-puts_typed c =
     let args = c.args in
     let put-text = c.put_text in
-    record {
-      bounds = record { long = c.put_value.ensures.bounds.long ∙ part_same args.b.now args.n c.requires.n_in_bounds (ascii "value") _ put-text.result put-text.ensures; wide = c.put_value.ensures.bounds.wide };
-      rows_in = tt;
-      puts_typed = typed_wrong args.b.now args.n args.t.now args.m args.s.now args.at c.requires.n_in_bounds _ _
-          (grew args.b.now args.n c.requires.n_in_bounds (ascii "value") _ put-text.result put-text.ensures c.in-Bytes.is) c.put_value.result _ _
-          c.put_value.ensures.adds_value c.in_default-put_value.is;
-    }
-
-pub slice_bounds-is_word-count : goal.slice_bounds-is_word-count
-slice_bounds-is_word-count c = let g = rows_in c.put_value.ensures.rows_in c.in-More.is in omega (arith, g.0, g.1, c.put_value.ensures.bounds.long)
-
-pub slice_bounds-is_word-start : goal.slice_bounds-is_word-start
-slice_bounds-is_word-start c = let g = rows_in c.put_value.ensures.rows_in c.in-More.is in omega (arith, g.0, g.1, c.put_value.ensures.bounds.long)
-
-pub slice_bounds-is_word-end : goal.slice_bounds-is_word-end
-slice_bounds-is_word-end c = let g = rows_in c.put_value.ensures.rows_in c.in-More.is in omega (arith, g.0, g.1, c.put_value.ensures.bounds.long)
+    rw c.from_residual.ensures (typed_wrong args.b.now args.n args.t.now args.m args.s.now args.at c.requires.n_in_bounds _ _
+    (grew args.b.now args.n c.requires.n_in_bounds (ascii "value") _ put-text.result put-text.ensures c.in-Ok.is) c.put_value.result _ _
+    c.put_value.ensures.adds_value c.in_err-rows.was)
 
 pub returns-then-not-is_word : goal.returns-then-not-is_word
 returns-then-not-is_word c =
@@ -62,18 +49,18 @@ returns-then-not-is_word c =
       bounds = record { long = c.put_value.ensures.bounds.long ∙ part_same args.b.now args.n c.requires.n_in_bounds (ascii "value") _ put-text.result put-text.ensures; wide = c.put_value.ensures.bounds.wide };
       rows_in = tt;
       puts_typed = typed-other args.b.now args.n args.t.now args.m args.s.now args.at c.requires.n_in_bounds _ _
-          (grew args.b.now args.n c.requires.n_in_bounds (ascii "value") _ put-text.result put-text.ensures c.in-Bytes.is) c.put_value.result _ _
-          c.put_value.ensures.adds_value _ _ c.in-More.is (sym c.is_word.ensures ∙ c.if-not-is_word.true);
+          (grew args.b.now args.n c.requires.n_in_bounds (ascii "value") _ put-text.result put-text.ensures c.in-Ok.is) c.put_value.result _ _
+          c.put_value.ensures.adds_value _ _ c.in_ok-rows.was (sym c.is_word.ensures ∙ c.if-not-is_word.true);
     }
 
 pub returns : goal.returns
 returns c =
     let args = c.args in
     let put-text = c.put_text in
-    let g = grew args.b.now args.n c.requires.n_in_bounds (ascii "value") _ put-text.result put-text.ensures c.in-Bytes.is in record {
+    let g = grew args.b.now args.n c.requires.n_in_bounds (ascii "value") _ put-text.result put-text.ensures c.in-Ok.is in record {
       bounds = record { long = c.put_value.ensures.bounds.long ∙ part_same args.b.now args.n c.requires.n_in_bounds (ascii "value") _ put-text.result put-text.ensures; wide = c.put_value.ensures.bounds.wide };
-      rows_in = typed-rows g (rows_in c.put_value.ensures.rows_in c.in-More.is);
+      rows_in = typed-rows g (rows_in c.put_value.ensures.rows_in c.in_ok-rows.was);
       puts_typed = typed-all args.b.now args.n args.t.now args.m args.s.now args.at c.requires.n_in_bounds _ _
-          (grew args.b.now args.n c.requires.n_in_bounds (ascii "value") _ put-text.result put-text.ensures c.in-Bytes.is) c.put_value.result _ _
-          c.put_value.ensures.adds_value _ _ c.in-More.is (sym c.is_word.ensures ∙ c.if-not-is_word.false);
+          (grew args.b.now args.n c.requires.n_in_bounds (ascii "value") _ put-text.result put-text.ensures c.in-Ok.is) c.put_value.result _ _
+          c.put_value.ensures.adds_value _ _ c.in_ok-rows.was (sym c.is_word.ensures ∙ c.if-not-is_word.false);
     }

@@ -16,7 +16,7 @@ returns-in_default c =
 
 pub put_string-requires : goal.put_string-requires
 put_string-requires c =
-    let g = rows_in c.put_type.ensures.rows_in c.in-More.is in
+    let g = rows_in c.put_type.ensures.rows_in c.in-Some.is in
     omega (arith, g.1, c.put_type.ensures.bounds.long)
 
 pub returns-in_default-put_string : goal.returns-in_default-put_string
@@ -24,7 +24,7 @@ returns-in_default-put_string c =
     let a = c.args in
     record {
       bounds = record { long = c.put_string.ensures.b_len_unchanged ∙ c.put_type.ensures.bounds.long; wide = c.put_type.ensures.bounds.wide };
-      fills_rest = rest-valueless a.b.now a.t.now a.f a.e a.s.now a.kind a.value c.put_type.result _ _ c.put_type.ensures.puts_type _ _ c.in-More.is c.put_string.result _ c.put_string.ensures.puts_at c.in_default-put_string.is;
+      fills_rest = rest-valueless a.b.now a.t.now a.f a.e a.s.now a.kind a.value c.put_type.result _ _ c.put_type.ensures.puts_type _ _ c.in-Some.is c.put_string.result _ c.put_string.ensures.puts_at c.in_default-put_string.is;
     }
 
 pub returns : goal.returns
@@ -32,7 +32,7 @@ returns c =
     let a = c.args in
     let h = c.put_head.ensures in
     let wide = c.put_type.ensures.bounds.wide in
-    let g = rows_in c.put_type.ensures.rows_in c.in-More.is in record {
+    let g = rows_in c.put_type.ensures.rows_in c.in-Some.is in record {
       bounds = record { long = c.put_string.ensures.b_len_unchanged ∙ c.put_type.ensures.bounds.long; wide = ap length h ∙ headed-length _ _ _ _ _ _ _ ∙ wide };
-      fills_rest = rest-whole a.b.now a.t.now a.f a.e a.s.now a.kind a.value c.put_type.result _ _ c.put_type.ensures.puts_type _ _ c.in-More.is c.put_string.result _ c.put_string.ensures.puts_at c.requires.end_in_bounds c.requires.e_le_end (omega (arith, wide, c.requires.table_length_in_bounds)) g.2 _ c.in-End.is h;
+      fills_rest = rest-whole a.b.now a.t.now a.f a.e a.s.now a.kind a.value c.put_type.result _ _ c.put_type.ensures.puts_type _ _ c.in-Some.is c.put_string.result _ c.put_string.ensures.puts_at c.requires.end_in_bounds c.requires.e_le_end (omega (arith, wide, c.requires.table_length_in_bounds)) g.2 _ c.in-Some-put_string.is h;
     }

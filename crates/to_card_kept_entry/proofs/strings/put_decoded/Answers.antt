@@ -29,7 +29,7 @@ overflow_add-result c =
     let good = c.well_formed in
     let a = c.args in
     let w = bare-end.ensures if1.false in
-    let g = grew a.b.now a.n (pre) (text_at a.s.now a.at) _ put-text.result (bare-puts w put-text.ensures) c.in-Bytes.is in
+    let g = grew a.b.now a.n (pre) (text_at a.s.now a.at) _ put-text.result (bare-puts w put-text.ensures) c.in-Ok.is in
     record { fits = omega (arith, g.within, good.0.0) }
 
 pub returns : goal.returns
@@ -40,4 +40,4 @@ returns c =
     let put-text = c.put_text in
     let a = c.args in
     let w = bare-end.ensures if1.false in
-    grew a.b.now a.n (pre) (text_at a.s.now a.at) _ put-text.result (bare-puts w put-text.ensures) c.in-Bytes.is
+    grew a.b.now a.n (pre) (text_at a.s.now a.at) _ put-text.result (bare-puts w put-text.ensures) c.in-Ok.is

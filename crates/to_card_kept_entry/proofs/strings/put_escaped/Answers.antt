@@ -19,7 +19,7 @@ overflow_add-result c =
     let decode-into = c.decode_into in
     record {
       fits = let g = grew args.b.now args.n (pre) (text_at args.s.now args.at) _ decode-into.result decode-into.ensures
-          c.in-Bytes.is in omega (arith, g.within, good.0.0);
+          c.in-Ok.is in omega (arith, g.within, good.0.0);
     }
 
 pub returns : goal.returns
@@ -27,4 +27,4 @@ returns c =
     let pre = c.requires in
     let args = c.args in
     let decode-into = c.decode_into in
-    grew args.b.now args.n (pre) (text_at args.s.now args.at) _ decode-into.result decode-into.ensures c.in-Bytes.is
+    grew args.b.now args.n (pre) (text_at args.s.now args.at) _ decode-into.result decode-into.ensures c.in-Ok.is

@@ -21,8 +21,8 @@ returns-then-look-eq-RIGHT_BRACKET c =
     sole_none args.s.now args.at skip-space.result look.result skip-space.ensures look.ensures.0 if1.false
     skip-space2.result look2.result skip-space2.ensures look2.ensures.0 c.if-look-eq-RIGHT_BRACKET.true
 
-pub returns-in-Go : goal.returns-in-Go
-returns-in-Go c =
+pub returns-in-Continue : goal.returns-in-Continue
+returns-in-Continue c =
     let args = c.args in
     let skip-space = c.skip_space-i in
     let look = c.look in
@@ -33,10 +33,10 @@ returns-in-Go c =
     let separator = c.separator in
     sole-many args.s.now args.at skip-space.result look.result skip-space.ensures look.ensures.0 if1.false
     skip-space2.result look2.result skip-space2.ensures look2.ensures.0 if2.false c.element_at-p.result c.element_at-p.ensures.tells_element _
-    (turn-as separator.ensures c.in-Go.is)
+    (turn-as separator.ensures c.in-Continue.is)
 
-pub returns-in-Stop : goal.returns-in-Stop
-returns-in-Stop c =
+pub returns-in-Break : goal.returns-in-Break
+returns-in-Break c =
     let args = c.args in
     let skip-space = c.skip_space-i in
     let look = c.look in
@@ -47,4 +47,4 @@ returns-in-Stop c =
     let separator = c.separator in
     sole-elem args.s.now args.at skip-space.result look.result skip-space.ensures look.ensures.0 if1.false
     skip-space2.result look2.result skip-space2.ensures look2.ensures.0 if2.false c.element_at-p.result c.element_at-p.ensures.tells_element _
-    (turn-as separator.ensures c.in-Stop.is) c.string_in-in-Stop.result c.string_in-in-Stop.ensures
+    (turn-as separator.ensures c.in-Break.is) c.string_in-in-Break.result c.string_in-in-Break.ensures

@@ -6,35 +6,10 @@ use Rattle.to_card_kept_entry.proofs.strings.Putting.{puts-long}
 use Rattle.to_card_kept_entry.proofs.table.Params.{param-full, name_in, param-other, param-value, param-all, rows-lower}
 use Rattle.to_card_kept_entry.proofs.table.put_param.Goals as goal
 
-pub returns-in_default : goal.returns-in_default
-returns-in_default c =
+pub returns-in_err-k-clause-puts_param : goal.returns-in_err-k-clause-puts_param
+returns-in_err-k-clause-puts_param c =
     let args = c.args in
-    let put-decoded = c.put_decoded in record {
-      bounds = record { long = puts-long args.b.now args.n (text_at args.s.now args.q) put-decoded.result _ put-decoded.ensures; wide = refl };
-      rows_in = tt;
-      puts_param = param-full args.b.now args.n args.t.now args.m args.s.now args.q args.at c.requires.n_in_bounds put-decoded.result _ put-decoded.ensures c.in_default.is;
-    }
-
-pub slice_bounds-is_word-count : goal.slice_bounds-is_word-count
-slice_bounds-is_word-count c =
-    let args = c.args in
-    let put-decoded = c.put_decoded in
-    let g = name_in args.b.now args.n args.t.now args.m args.s.now args.q args.at c.requires.n_in_bounds put-decoded.result _
-    put-decoded.ensures _ c.in-End.is in omega (arith, g.to, g.within, g.long)
-
-pub slice_bounds-is_word-start : goal.slice_bounds-is_word-start
-slice_bounds-is_word-start c =
-    let args = c.args in
-    let put-decoded = c.put_decoded in
-    let g = name_in args.b.now args.n args.t.now args.m args.s.now args.q args.at c.requires.n_in_bounds put-decoded.result _
-    put-decoded.ensures _ c.in-End.is in omega (arith, g.to, g.within, g.long)
-
-pub slice_bounds-is_word-end : goal.slice_bounds-is_word-end
-slice_bounds-is_word-end c =
-    let args = c.args in
-    let put-decoded = c.put_decoded in
-    let g = name_in args.b.now args.n args.t.now args.m args.s.now args.q args.at c.requires.n_in_bounds put-decoded.result _
-    put-decoded.ensures _ c.in-End.is in omega (arith, g.to, g.within, g.long)
+    let put-decoded = c.put_decoded in rw c.from_residual.ensures (param-full args.b.now args.n args.t.now args.m args.s.now args.q args.at c.requires.n_in_bounds put-decoded.result _ put-decoded.ensures c.in_err-k.was)
 
 pub returns-then-not-is_word : goal.returns-then-not-is_word
 returns-then-not-is_word c =
@@ -43,7 +18,7 @@ returns-then-not-is_word c =
     record {
       bounds = record { long = puts-long args.b.now args.n (text_at args.s.now args.q) put-decoded.result _ put-decoded.ensures; wide = refl };
       rows_in = tt;
-      puts_param = param-other args.b.now args.n args.t.now args.m args.s.now args.q args.at c.requires.n_in_bounds put-decoded.result _ put-decoded.ensures _ c.in-End.is (sym c.is_word.ensures ∙ c.if-not-is_word.true);
+      puts_param = param-other args.b.now args.n args.t.now args.m args.s.now args.q args.at c.requires.n_in_bounds put-decoded.result _ put-decoded.ensures _ c.in_ok-k.was (sym c.is_word.ensures ∙ c.if-not-is_word.true);
     }
 
 pub returns-then-equals : goal.returns-then-equals
@@ -53,7 +28,7 @@ returns-then-equals c =
     record {
       bounds = record { long = puts-long args.b.now args.n (text_at args.s.now args.q) put-decoded.result _ put-decoded.ensures; wide = refl };
       rows_in = tt;
-      puts_param = param-value args.b.now args.n args.t.now args.m args.s.now args.q args.at c.requires.n_in_bounds put-decoded.result _ put-decoded.ensures _ c.in-End.is (sym c.equals.ensures ∙ c.if-equals.true);
+      puts_param = param-value args.b.now args.n args.t.now args.m args.s.now args.q args.at c.requires.n_in_bounds put-decoded.result _ put-decoded.ensures _ c.in_ok-k.was (sym c.equals.ensures ∙ c.if-equals.true);
     }
 
 pub put_values-requires : goal.put_values-requires
@@ -61,7 +36,7 @@ put_values-requires c =
     let args = c.args in
     let put-decoded = c.put_decoded in
     let g = name_in args.b.now args.n args.t.now args.m args.s.now args.q args.at c.requires.n_in_bounds put-decoded.result _
-    put-decoded.ensures _ c.in-End.is in record {
+    put-decoded.ensures _ c.in_ok-k.was in record {
       n_in_bounds = omega (arith, g.within, g.long);
       table_length_in_bounds = c.requires.table_length_in_bounds;
       at_in_bounds = c.requires.at_in_bounds;
@@ -75,10 +50,10 @@ returns c =
     let equals = c.equals in
     let if2 = c.if-equals in
     let g = name_in args.b.now args.n args.t.now args.m args.s.now args.q args.at c.requires.n_in_bounds put-decoded.result _
-    put-decoded.ensures _ c.in-End.is in record {
+    put-decoded.ensures _ c.in_ok-k.was in record {
       bounds = record { long = c.put_values.ensures.bounds.long ∙ g.long; wide = c.put_values.ensures.bounds.wide };
       rows_in = rows-lower args.n _ _ (length args.b.now) c.put_values.result (omega (arith, g.to)) g.long c.put_values.ensures.rows_in;
       puts_param = param-all args.b.now args.n args.t.now args.m args.s.now args.q args.at c.requires.n_in_bounds put-decoded.result _
-          put-decoded.ensures _ c.in-End.is (sym is_word.ensures ∙ c.if-not-is_word.false) (sym equals.ensures ∙ if2.false) c.put_values.result
+          put-decoded.ensures _ c.in_ok-k.was (sym is_word.ensures ∙ c.if-not-is_word.false) (sym equals.ensures ∙ if2.false) c.put_values.result
           _ _ c.put_values.ensures.adds_values;
     }

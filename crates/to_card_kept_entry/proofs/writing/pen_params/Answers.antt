@@ -34,12 +34,6 @@ pen_row-p-requires c = (c.requires, c.loop-i-test.true)
 pub overflow_add-at : goal.overflow_add-at
 overflow_add-at c = record { fits = omega (arith, pens-in (pens-then c.loop-i.invariant.1.pens c.pen_row-p.ensures.pens), c.well_formed.0.0) }
 
-pub overflow_add-i : goal.overflow_add-i
-overflow_add-i c = omega (arith, c.requires.few, c.loop-i-test.true)
-
-pub loop-i-smaller : goal.loop-i-smaller
-loop-i-smaller c = omega (arith, c.loop-i-test.true)
-
 pub loop-i-preserved : goal.loop-i-preserved
 loop-i-preserved c =
     let w = c.loop-i-test in

@@ -1,7 +1,0 @@
-use mathlib.Core.Path.{refl}
-use Rattle.text_words.specs.Words.{no_lf}
-use Rattle.text_words.proofs.is_line.Goals as goal
-
-pub returns : goal.returns
-unfolding no_lf
-returns c = refl
