@@ -69,7 +69,7 @@ after-15 stem n lent s e f = answer-is stem n lent s
 pub too_long : (stem : Bytes) (n lent : ℕ) (s : Bytes) → is_stem_text stem ≡ true → is_card_number n ≡ true → card_room < size_of s → card_to_json stem n lent s ≡ no 3 0
 too_long stem n lent s e f h = after-15 stem n lent s e f ∙ ap (λ b. pick b (no 3 0) (fit lent (inner stem n s))) (lt-ltb card_room (size_of s) h)
 
-the_rest : (stem : Bytes) (n lent : ℕ) (s : Bytes) → is_stem_text stem ≡ true → is_card_number n ≡ true → size_of s ≤ card_room → card_to_json stem n lent s ≡ fit lent (inner stem n s)
+pub the_rest : (stem : Bytes) (n lent : ℕ) (s : Bytes) → is_stem_text stem ≡ true → is_card_number n ≡ true → size_of s ≤ card_room → card_to_json stem n lent s ≡ fit lent (inner stem n s)
 the_rest stem n lent s e f h = after-15 stem n lent s e f ∙ ap (λ b. pick b (no 3 0) (fit lent (inner stem n s))) (le-ltb card_room (size_of s) h)
 
 pub size-length : (s : Bytes) → size_of s ≤ card_room → length s ≤ card_room
@@ -81,9 +81,11 @@ size-length s h = omega (arith, h)
 pub seen-refused : (out : Bytes) (a : Answer) (n p : ℕ) → a ≡ no n p → ServesAnswer out a (refused n p) out
 seen-refused out a n p e = record { said = sym (ap outcome_of e); left = sym (ap (left_by out) e) }
 
-pub seen : (stem : Bytes) (n : ℕ) (s out before : Bytes) (r : Outcome) (after : Bytes) → is_stem_text stem ≡ true → is_card_number n ≡ true → size_of s ≤ card_room → before ≡ out
+pub seen : (out : Bytes) (a b : Answer) (r : Outcome) (after : Bytes) → a ≡ fit (length out) b → Serves out b r after → ServesAnswer out a r after
+seen out a b r after e s = record { said = s.said ∙ sym (ap outcome_of e); left = s.left ∙ sym (ap (left_by out) e) }
+
+-- past 15 and 3 (bytes): what scratch of some size gives is what the caller sees
+pub seen-past : (stem : Bytes) (n : ℕ) (s out before : Bytes) (r : Outcome) (after : Bytes) → is_stem_text stem ≡ true → is_card_number n ≡ true → size_of s ≤ card_room → before ≡ out
     → Serves before (inner stem n s) r after → ServesAnswer out (card_to_json stem n (length out) s) r after
-seen stem n s out before r after e f h b served =
-    let is = the_rest stem n (length out) s e f h in
-    let there = subst (λ x. Serves x (inner stem n s) r after) b served in
-    record { said = there.said ∙ sym (ap outcome_of is); left = there.left ∙ sym (ap (left_by out) is) }
+seen-past stem n s out before r after e f h b served =
+    seen out (card_to_json stem n (length out) s) (inner stem n s) r after (the_rest stem n (length out) s e f h) (subst (λ x. Serves x (inner stem n s) r after) b served)

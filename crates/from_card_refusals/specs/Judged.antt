@@ -10,7 +10,7 @@ use Rattle.from_card_garbled.specs.Garbled.{found}
 use Rattle.from_card_refusals.specs.declared.Judged.{Judged}
 use Rattle.served.specs.declared.Refusal.{Refusal}
 
--- of these lines: the first of 7, 8 and 9 , which names have come, and whether the first is VERSION:4.0
+-- of these lines: the first of 7, 8 and 9, which names have come, and whether the first is VERSION:4.0
 unfoldable pub judged : List Line → Judged
 judged ls = record {
   misused = found (first_from 1 misused ls);

@@ -4,6 +4,7 @@
 ghost use Rattle.std.specs.Prelude.{◌≡◌, ◌≤◌, ◌<◌, length, drop};
 ghost use Rattle.text.specs.Bytes.{code};
 ghost use Rattle.text.specs.Places.{byte_at, Gives};
+ghost use Rattle.output.specs.Put.{Puts};
 ghost use Rattle.json_compact.specs.Compacts.{Compacts, WritesPiece};
 ghost use Rattle.json_compact.specs.Squeezed.{piece};
 ghost use Rattle.json_compact.specs.Stands.{Deletes, Stands};
@@ -103,6 +104,16 @@ fn run_end(s: &[u8], at: usize) -> usize
     }
 }
 
+// A run of pieces, copied whole. Where white space follows white space there is none, and then nothing is called.
+fn put_run(out: &mut [u8], run: &[u8]) -> Result<usize, Full>
+    ensures { Puts out.old run.now result out.new }
+{
+    if run.len() == 0 {
+        return Ok(0);
+    }
+    put_text(out, run)
+}
+
 // The compact text of the value that a text holds: what stands as it is written is copied whole. (A text that is no JSON is written piece by piece too, up to
 // where no piece is read.)
 pub fn put_compact(out: &mut [u8], s: &[u8]) -> Result<usize, Full>
@@ -112,7 +123,7 @@ pub fn put_compact(out: &mut [u8], s: &[u8]) -> Result<usize, Full>
     let mut i = 0;
     loop {
         let j = run_end(s, i);
-        let m = put_text(&mut out[at..], &s[i..j])?;
+        let m = put_run(&mut out[at..], &s[i..j])?;
         at += m;
         if j >= s.len() {
             return Ok(at);

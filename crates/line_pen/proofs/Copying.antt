@@ -1,15 +1,24 @@
--- How bytes are copied: by blocks, and by a last block over bytes that are written already.
+-- How bytes are copied: one by one, by blocks, and by a last block over bytes that are written already.
 use mathlib.Core.Path.{◌≡◌, sym, ap, ◌∙◌}
 use Prim.Native.Nat.{ℕ, ◌+◌, ◌-◌, ◌≤◌, ◌<◌}
 use mathlib.Core.List.{List, [], ◌++◌, append_assoc, append-nil}
 use native.Mathlib.Omega.{arith}
 use borrow.Rule.Slice.PartMut.{mid_of, post_of, put_mid}
-use lib.ListN.{length, take, drop, length-take, length-drop, drop_of_length-le, take-append-drop}
+use lib.ListN.{length, take, drop, get_or, set, length-take, length-drop, drop_of_length-le, take-append-drop}
 use lib.Seq.{take-nil, take_all, take-take, take-add, take-append-le, drop-drop, drop_at}
-use Rattle.output.specs.Put.{put}
-use Rattle.output.proofs.Laws.{put-fits, length-put}
+use Rattle.output.specs.Put.{put, Sofar}
+use Rattle.output.proofs.Laws.{put-fits, length-put, byte, sofar-as}
 use Rattle.line_pen.specs.Pen.{Fills}
 use Rattle.line_pen.proofs.Filling.{then}
+use Rattle.line_pen.proofs.Laws.{one_more}
+
+-- one more byte of s is stored
+pub byte_more : {room out : List ℕ} (s : List ℕ) (i : ℕ) → i < length s → i < length out → Sofar room (take i s) i out → Sofar room (take (i + 1) s) (i + 1) (set out i (get_or s i 0))
+byte_more s i h l f = sofar-as (one_more s i h) (byte _ f l)
+
+-- all of s is written
+pub bytes-done : {room out : List ℕ} {i : ℕ} (s : List ℕ) → length s ≤ i → Sofar room (take i s) i out → out ≡ put room s
+bytes-done {room} {out} {i} s h f = f.left ∙ ap (put room) (take_all i s h)
 
 -- ---- blocks, one after the other
 

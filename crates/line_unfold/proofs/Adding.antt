@@ -1,34 +1,36 @@
 -- Adding to what was written so far.
-use mathlib.Core.Path.{◌≡◌, refl, sym, ap, ◌∙◌}
-use mathlib.Core.List.{◌++◌, append_assoc}
-use Prim.Native.Nat.{ℕ, ◌+◌, ◌-◌, ◌≤◌}
+use mathlib.Core.Path.{◌≡◌, refl, sym, ap, subst, ◌∙◌}
+use mathlib.Core.List.{[], ◌∷◌, ◌++◌, append_assoc, append-nil}
+use Prim.Native.Nat.{ℕ, ◌+◌, ◌≤◌, ◌<◌}
+use native.Mathlib.Nat.{add-zero}
 use native.Mathlib.Omega.{arith}
-use borrow.Rule.Slice.PartMut.{put_mid}
-use lib.ListN.{length, take, drop, length-append}
-use lib.Seq.{take_at, drop_at, drop-drop}
+use lib.ListN.{length, take, get_or, set}
+use lib.Seq.{take_all, length-take-le}
 use Rattle.text.specs.Bytes.{Bytes}
-use Rattle.output.specs.Put.{put, Rest}
-use Rattle.output.proofs.Laws.{put-fits, length-put}
+use Rattle.output.specs.Put.{Sofar, Rest}
+use Rattle.output.proofs.Laws.{byte, sofar-as}
+use Rattle.output.proofs.Pieces.{one_more}
 use Rattle.line_unfold.specs.Table.{Adds}
 
--- src is copied over what stands from `at` on
-pub adds-copied : (out src : Bytes) (at : ℕ) (mid : Bytes) → at + length src ≤ length out → mid ≡ src
-    → Adds out at src (at + length src) (put_mid at (at + length src - at) out mid)
-adds-copied out src at mid h e = record {
-  is = refl;
-  goes = λ room x so.
-      let n : at + length src - at ≡ length src = omega arith in
-      let k : at + length src ≡ length (x ++ src) = simp length-append (omega (arith, so.is)) in
-      let o : out ≡ x ++ drop (length x) room = so.left ∙ put-fits room x (omega (arith, so.is, so.fits)) in
-      let t : take at out ≡ x = ap (take at) o ∙ take_at x _ at (sym so.is) in
-      let d : drop at out ≡ drop at room = ap (drop at) o ∙ drop_at x _ at (sym so.is) ∙ ap (λ i. drop i room) (sym so.is) in
-      let q : drop (at + length src - at) (drop at out) ≡ drop (length (x ++ src)) room =
-      ap (λ i. drop i (drop at out)) n ∙ ap (drop (length src)) d ∙ drop-drop (length src) at room ∙ ap (λ i. drop i room) k
-      in
-      let f : length (x ++ src) ≤ length room = omega (arith, k, h, so.same) in
-      let l : put_mid at (at + length src - at) out mid ≡ put room (x ++ src) = rw (t, e, q) (sym (append_assoc x src _) ∙ sym (put-fits room (x ++ src) f)) in
-      record { is = k; fits = omega (arith, k, f); same = ap length l ∙ length-put room (x ++ src); left = l };
-}
+-- ---- byte by byte
+
+module _ (out src : Bytes) (at : ℕ) where
+  pub adds_none : Adds out at (take 0 src) (at + 0) out
+  adds_none = record { is = refl; goes = λ room x so. rw (append-nil x, add-zero at) so }
+
+  pub adds-more : (after : Bytes) (i : ℕ) → Adds out at (take i src) (at + i) after → i < length src → at + i < length after
+      → Adds out at (take (i + 1) src) (at + (i + 1)) (set after (at + i) (get_or src i 0))
+  adds-more after i a h l =
+      let n : (at + i) + 1 ≡ at + (i + 1) = omega arith in
+      record {
+        is = ap (λ m. at + m) (sym (length-take-le (i + 1) src (omega arith)));
+        goes = λ room x so.
+            subst (λ m. Sofar room (x ++ take (i + 1) src) m (set after (at + i) (get_or src i 0))) n
+            (sofar-as (append_assoc x (take i src) (get_or src i 0 ∷ []) ∙ ap (λ y. x ++ y) (one_more src i h)) (byte (get_or src i 0) (a.goes room x so) l));
+      }
+
+  pub adds-all : (after : Bytes) (i : ℕ) → Adds out at (take i src) (at + i) after → length src ≤ i → Adds out at src (at + i) after
+  adds-all after i a h = subst (λ y. Adds out at y (at + i) after) (take_all i src h) a
 
 pub rest-adds : {room whole out src after : Bytes} {at r : ℕ} (todo : Bytes) → Rest room whole (src ++ todo) at out → Adds out at src r after
     → Rest room whole todo r after

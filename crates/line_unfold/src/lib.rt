@@ -26,14 +26,15 @@ fn folds(line: &[u8]) -> bool
     in_class(line[0], Class::Blank)
 }
 
-// Adds src to what stands before `at`. There is room.
+// Adds src to what stands before `at`. There is room: no early way out, so the loop copies by vectors.
 fn append(out: &mut [u8], at: usize, src: &[u8]) -> usize
     requires { at + length src.now ≤ length out.old }
     ensures { Adds out.old at src.now result out.new }
 {
-    let end = at + src.len();
-    out[at..end].copy_from_slice(src);
-    end
+    for i in 0..src.len() {
+        out[at + i] = src[i];
+    }
+    at + src.len()
 }
 
 // How many lines; the table has the start of each line, and the end of the last. At most `most` lines are taken, so that a short table does for few lines.

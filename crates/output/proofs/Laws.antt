@@ -65,16 +65,6 @@ said-full room x e =
     (λ h. let z : ◌≡◌ {A = ℕ} 0 1 = cc (answer-fits room x h) in omega arith)
     (λ h. h)
 
--- what fits is copied over the front of the room, and of what does not fit as much as there is room for
-pub copied : {room x front : Bytes} → length x ≤ length room → front ≡ x → Puts room x (Ok (length x)) (front ++ drop (length x) room)
-copied {room} {x} {front} h e = record { said = sym (answer-fits room x h); left = ap (λ f. f ++ drop (length x) room) e ∙ sym (put-fits room x h) }
-
-pub copied-short : {room x out : Bytes} → length room < length x → out ≡ take (length room) x → Puts room x (Err full) out
-unfolding put
-copied-short {room} {x} {out} h e =
-    let h₁ : length room ≤ length x = omega arith in
-    record { said = sym (answer-over room x h); left = e ∙ sym (rw (drop_of_length-le room h₁, append-nil)) }
-
 -- nothing is written yet
 pub start : (room : Bytes) → Sofar room [] 0 room
 unfolding put

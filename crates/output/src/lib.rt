@@ -9,18 +9,17 @@ ghost use Rattle.output.specs.Put.{Puts};
 #[derive(Clone, Copy)]
 pub struct Full;
 
-// Copies src to the start of out, or as much as there is room for.
+// Copies src to the start of out, or as much as there is room for: by a loop, since the library's method is a call of `memmove`, which nothing else here needs.
 pub fn put_text(out: &mut [u8], src: &[u8]) -> Result<usize, Full>
     ensures { Puts out.old src.now result out.new }
 {
-    let n = src.len();
-    let room = out.len();
-    if n > room {
-        out.copy_from_slice(&src[..room]);
-        return Err(Full);
+    for i in 0..src.len() {
+        if i >= out.len() {
+            return Err(Full);
+        }
+        out[i] = src[i];
     }
-    out[..n].copy_from_slice(src);
-    Ok(n)
+    Ok(src.len())
 }
 
 // One byte.

@@ -8,7 +8,7 @@ pub struct Refusal {
     pub place: usize,
 }
 
-// Why a conversion put no text at the front of the room that it was lent: a refusal, or the text fills the room.
+// Why a conversion put no text at the front of the room that it was lent: a refusal, or the text is longer than the room (or the card has more lines than the tables).
 #[derive(Clone, Copy)]
 pub enum Unmade {
     Refused(Refusal),

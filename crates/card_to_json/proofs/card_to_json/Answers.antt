@@ -6,7 +6,7 @@ use Rattle.text.specs.Bytes.{Bytes}
 use Rattle.convert.specs.Answers.{card_room, card_to_json as answer}
 use Rattle.served.specs.Served.{Outcome, Serves as Answered}
 use Rattle.card_to_json.specs.Inner.{inner, Serves}
-use Rattle.card_to_json.proofs.Serving.{no-stem, no_number, too_long, size-length, served-there, kept-there, too-small, seen-refused, seen}
+use Rattle.card_to_json.proofs.Serving.{no-stem, no_number, too_long, size-length, served-there, kept-there, too-small, seen-refused, seen-past}
 use Rattle.card_to_json.proofs.card_to_json.Goals.{After-size_of, After-served_in-2, then-card-le-SMALL+in_default, else-card-le-SMALL}
 use Rattle.card_to_json.proofs.card_to_json.Goals.{then-card-le-MEDIUM+in_default-served_in, else-card-le-MEDIUM}
 use Rattle.card_to_json.proofs.card_to_json.Goals as goal
@@ -31,7 +31,7 @@ served : (c : After-size_of) → c.size_of.result ≤ card_room → (out : Bytes
 served c h out is r after s =
     let stems = sym c.is_stem.ensures ∙ c.if-not-is_stem.false in
     let numbers = sym c.is_card_number.ensures ∙ c.if-not-is_card_number.false in
-    seen c.args.stem.now c.args.number c.args.card.now c.args.out.now out r after stems numbers (omega (arith, c.size_of.ensures, h)) is s
+    seen-past c.args.stem.now c.args.number c.args.card.now c.args.out.now out r after stems numbers (omega (arith, c.size_of.ensures, h)) is s
 
 -- neither of the smaller scratches wrote there
 unwritten : (c : After-served_in-2) → c.if-card-le-MEDIUM.out ≡ c.args.out.now

@@ -13,7 +13,7 @@ use Rattle.json_compact.proofs.Pieces.{turn_on, turn-less, turn-bad, turn_end}
 use Rattle.json_compact.proofs.Text.{compacts}
 use Rattle.json_compact.proofs.Stands.{stands-part}
 use Rattle.json_compact.proofs.put_compact.Goals as goal
-use Rattle.json_compact.proofs.put_compact.Goals.{After-put_text, In_ok-m, In_ok-n}
+use Rattle.json_compact.proofs.put_compact.Goals.{After-put_run, In_ok-m, In_ok-n}
 
 pub loop-m-init : goal.loop-m-init
 loop-m-init c = (search rules, rest_all _ _)
@@ -21,34 +21,34 @@ loop-m-init c = (search rules, rest_all _ _)
 pub run_end-j-requires : goal.run_end-j-requires
 run_end-j-requires c = c.loop-m.invariant.0
 
-pub slice_bounds-put_text-count : goal.slice_bounds-put_text-count
-slice_bounds-put_text-count c = rest_in c.loop-m.invariant.1
+pub slice_bounds-put_run-count : goal.slice_bounds-put_run-count
+slice_bounds-put_run-count c = rest_in c.loop-m.invariant.1
 
-pub slice_bounds-put_text-start : goal.slice_bounds-put_text-start
-slice_bounds-put_text-start c = rest_in c.loop-m.invariant.1
+pub slice_bounds-put_run-start : goal.slice_bounds-put_run-start
+slice_bounds-put_run-start c = rest_in c.loop-m.invariant.1
 
-pub slice_bounds-put_text-end : goal.slice_bounds-put_text-end
-slice_bounds-put_text-end c = le_refl _
+pub slice_bounds-put_run-end : goal.slice_bounds-put_run-end
+slice_bounds-put_run-end c = le_refl _
 
-pub slice_bounds-put_text-count-in-loop-m : goal.slice_bounds-put_text-count-in-loop-m
-slice_bounds-put_text-count-in-loop-m c = c.run_end-j.ensures.from
+pub slice_bounds-put_run-count-in-loop-m : goal.slice_bounds-put_run-count-in-loop-m
+slice_bounds-put_run-count-in-loop-m c = c.run_end-j.ensures.from
 
-pub slice_bounds-put_text-start-in-loop-m : goal.slice_bounds-put_text-start-in-loop-m
-slice_bounds-put_text-start-in-loop-m c = c.run_end-j.ensures.from
+pub slice_bounds-put_run-start-in-loop-m : goal.slice_bounds-put_run-start-in-loop-m
+slice_bounds-put_run-start-in-loop-m c = c.run_end-j.ensures.from
 
-pub slice_bounds-put_text-end-in-loop-m : goal.slice_bounds-put_text-end-in-loop-m
-slice_bounds-put_text-end-in-loop-m c = c.run_end-j.ensures.within
+pub slice_bounds-put_run-end-in-loop-m : goal.slice_bounds-put_run-end-in-loop-m
+slice_bounds-put_run-end-in-loop-m c = c.run_end-j.ensures.within
 
 -- what stands there as it is written is written
-run : (c : After-put_text)
-    → Puts (mid_of c.loop-m.at (length c.loop-m.out - c.loop-m.at) c.loop-m.out) c.run_end-j.ensures.text c.put_text.result c.put_text.new.out
-run c = puts-as (stands-part c.args.s.now c.run_end-j.ensures) c.put_text.ensures
+run : (c : After-put_run)
+    → Puts (mid_of c.loop-m.at (length c.loop-m.out - c.loop-m.at) c.loop-m.out) c.run_end-j.ensures.text c.put_run.result c.put_run.new.out
+run c = puts-as (stands-part c.args.s.now c.run_end-j.ensures) c.put_run.ensures
 
 pub returns-in_err-m : goal.returns-in_err-m
 returns-in_err-m c =
     let s = c.args.s.now in
     let run-end = c.run_end-j in
-    let full = rest-stop (squeezed (drop run-end.result s)) (rest-as run-end.ensures.so c.loop-m.invariant.1) (run (goal.at.returns-in_err-m c).After-put_text) c.in_err-m.was in
+    let full = rest-stop (squeezed (drop run-end.result s)) (rest-as run-end.ensures.so c.loop-m.invariant.1) (run (goal.at.returns-in_err-m c).After-put_run) c.in_err-m.was in
     compacts s (failed c.from_residual.ensures.0 full)
 
 -- after such a run
@@ -56,7 +56,7 @@ abbrev ran : In_ok-m → Going
 ran c =
     let s = c.args.s.now in
     let run-end = c.run_end-j in
-    going (rest-next (squeezed (drop run-end.result s)) (rest-as run-end.ensures.so c.loop-m.invariant.1) (run (goal.at.In_ok-m c).After-put_text) c.in_ok-m.was)
+    going (rest-next (squeezed (drop run-end.result s)) (rest-as run-end.ensures.so c.loop-m.invariant.1) (run (goal.at.In_ok-m c).After-put_run) c.in_ok-m.was)
 
 pub overflow_add-at : goal.overflow_add-at
 overflow_add-at c = rest-fit (ran c).left c.well_formed.0.0

@@ -93,8 +93,9 @@ pub sound_object-returns-in_err-e-in-Sound-clause-judged :
 sound_object-returns-in_err-e-in-Sound-clause-judged t c =
     let loop = c.loop-v in
     let s = c.args.s.now in
+    let told = judged-as s (value c.args.depth (drop c.in-Sound.v s)) is_sound c.sound_value-told.ensures.judged c.in_err-e-in-Sound.was in
     let bad = members-bad c.args.depth s c.args.at loop.i loop.places loop.prints loop.k loop.invariant.3 c.note_name.new.places c.note_name.new.prints
-    c.note_name.result c.note_name.ensures.notes _ (c.in_ok-v.was ∙ ap Ok c.in-Sound.is) c.in_err-e-in-Sound.field-0.0 c.in_err-e-in-Sound.ensures.judged in
+    c.note_name.result c.note_name.ensures.notes _ (c.in_ok-v.was ∙ ap Ok c.in-Sound.is) c.in_err-e-in-Sound.field-0.0 told in
     judged-as s (pairs (value c.args.depth) (drop c.args.at s)) (sound_members []) bad
     (sym (same-error c.from_residual-in_err-e-in-Sound.result c.from_residual-in_err-e-in-Sound.ensures.1))
 
@@ -110,25 +111,25 @@ sound_object-loop-v-preserved t c =
     let named = c.in_ok-v.was ∙ ap Ok c.in-Sound.is in
     let found = c.in_ok-e-in-Sound.was ∙ ap Ok c.in-Sound-2.is in
     let w = subst (NotesIn loop.i n) named c.note_name.ensures.notes_in in
-    let judged = judged-as s (value c.args.depth (drop from s)) is_sound c.sound_value.ensures.judged found in
-    let o = onward-as from n c.sound_value.ensures.onward found in
+    let judged = judged-as s (value c.args.depth (drop from s)) is_sound c.sound_value-told.ensures.judged found in
+    let o = onward-as from n c.sound_value-told.ensures.onward found in
     let h = turn-as c.separator.ensures c.in-Continue.is in
     let l : m ≤ length ps = omega (arith, loop.invariant.0, loop.invariant.1, loop.invariant.2, loop.invariant.4, c.requires.at_in_bounds, c.requires.s_len_bound, c.requires.s_len_bound_2, c.requires.prints_len, c.note_name.auto.places, c.note_name.auto.prints) in
     let l' : m ≤ length fs = omega (arith, loop.invariant.0, loop.invariant.1, loop.invariant.2, loop.invariant.4, c.requires.at_in_bounds, c.requires.s_len_bound, c.requires.s_len_bound_2, c.requires.prints_len, c.note_name.auto.places, c.note_name.auto.prints) in
-    let same = take_put m (length ps - m) ps c.sound_value.new.places l in
-    let same' = take_put m (length fs - m) fs c.sound_value.new.prints l' in (
+    let same = take_put m (length ps - m) ps c.sound_value-told.new.places l in
+    let same' = take_put m (length fs - m) fs c.sound_value-told.new.prints l' in (
       omega (arith, w.0, o.0, h.within.0, loop.invariant.0),
       h.within.1,
-      same_len_mid m (length ps - m) ps c.sound_value.new.places c.sound_value.auto.places ∙ c.note_name.auto.places ∙ loop.invariant.2,
+      same_len_mid m (length ps - m) ps c.sound_value-told.new.places c.sound_value-told.auto.places ∙ c.note_name.auto.places ∙ loop.invariant.2,
       members-on c.args.depth s c.args.at loop.i loop.places loop.prints loop.k loop.invariant.3 ps fs c.note_name.result c.note_name.ensures.notes _ named _ judged _ h _ _ same same',
-      same_len_mid m (length fs - m) fs c.sound_value.new.prints c.sound_value.auto.prints ∙ c.note_name.auto.prints ∙ loop.invariant.4,
+      same_len_mid m (length fs - m) fs c.sound_value-told.new.prints c.sound_value-told.auto.prints ∙ c.note_name.auto.prints ∙ loop.invariant.4,
     )
 
 pub sound_object-returns-in-Break-clause-judged : goal.sound_object-returns-in-Break-clause-judged
 sound_object-returns-in-Break-clause-judged t c =
     let loop = c.loop-v in
     let s = c.args.s.now in
-    let judged = judged-as s (value c.args.depth (drop c.in-Sound.v s)) is_sound c.sound_value.ensures.judged (c.in_ok-e-in-Sound.was ∙ ap Ok c.in-Sound-2.is) in
+    let judged = judged-as s (value c.args.depth (drop c.in-Sound.v s)) is_sound c.sound_value-told.ensures.judged (c.in_ok-e-in-Sound.was ∙ ap Ok c.in-Sound-2.is) in
     let last = members-last c.args.depth s c.args.at loop.i loop.places loop.prints loop.k loop.invariant.3 c.note_name.new.places c.note_name.new.prints
     c.note_name.result c.note_name.ensures.notes _ (c.in_ok-v.was ∙ ap Ok c.in-Sound.is) _ judged _ (turn-as c.separator.ensures c.in-Break.is) in
     judged-as s (pairs (value c.args.depth) (drop c.args.at s)) (sound_members []) last (sym c.sound.ensures)
@@ -137,7 +138,7 @@ pub sound_object-returns-in-Unsound-2-clause-judged : goal.sound_object-returns-
 sound_object-returns-in-Unsound-2-clause-judged t c =
     let loop = c.loop-v in
     let s = c.args.s.now in
-    let judged = judged-as s (value c.args.depth (drop c.in-Sound.v s)) is_sound c.sound_value.ensures.judged (c.in_ok-e-in-Sound.was ∙ ap Ok c.in-Unsound-2.is) in
+    let judged = judged-as s (value c.args.depth (drop c.in-Sound.v s)) is_sound c.sound_value-told.ensures.judged (c.in_ok-e-in-Sound.was ∙ ap Ok c.in-Unsound-2.is) in
     let rest = members-rest c.args.depth s c.args.at loop.i loop.places loop.prints loop.k loop.invariant.3 c.note_name.new.places c.note_name.new.prints
     c.note_name.result c.note_name.ensures.notes _ (c.in_ok-v.was ∙ ap Ok c.in-Sound.is) _ judged _ c.members_after.ensures in
     judged-as s (pairs (value c.args.depth) (drop c.args.at s)) (sound_members []) rest (sym c.unsound.ensures)

@@ -1,7 +1,7 @@
 use Rattle.output.proofs.Laws.{failed}
 use native.Mathlib.Nat.{le_refl}
 use mathlib.Core.List.{[], ◌∷◌}
-use Rattle.output.proofs.Rows.{Here, first!, next!, none, stop!, all, in!, fit!, same!, length-puts}
+use Rattle.output.proofs.Rows.{Here, first!, next!, none, stop!, all, in!, fit!, same! }
 use Rattle.output.proofs.put_two.Goals as goal
 use Rattle.output.proofs.put_two.Goals.{In_ok-n, In_ok-m}
 
