@@ -8,7 +8,7 @@ pub struct Refusal {
     pub place: usize,
 }
 
-// Why a conversion put no text at the front of the room that it was lent: a refusal, or the text is longer than the room (or the card has more lines than the tables).
+// Why a conversion put no text at the front of the room that it was lent: a refusal, or the room or a table is too small for it: each service says when.
 #[derive(Clone, Copy)]
 pub enum Unmade {
     Refused(Refusal),
