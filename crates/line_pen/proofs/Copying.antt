@@ -5,7 +5,7 @@ use mathlib.Core.List.{List, [], ◌++◌, append_assoc, append-nil}
 use native.Mathlib.Omega.{arith}
 use borrow.Rule.Slice.PartMut.{mid_of, post_of, put_mid}
 use lib.ListN.{length, take, drop, get_or, set, length-take, length-drop, drop_of_length-le, take-append-drop}
-use lib.Seq.{take-nil, take_all, take-take, take-add, take-append-le, drop-drop, drop_at}
+use lib.Seq.{take-nil, take_all, take-take, take-add, take_at, take-append-le, drop-drop, drop_at}
 use Rattle.output.specs.Put.{put, Sofar}
 use Rattle.output.proofs.Laws.{put-fits, length-put, byte, sofar-as}
 use Rattle.line_pen.specs.Pen.{Fills}
@@ -19,6 +19,18 @@ byte_more s i h l f = sofar-as (one_more s i h) (byte _ f l)
 -- all of s is written
 pub bytes-done : {room out : List ℕ} {i : ℕ} (s : List ℕ) → length s ≤ i → Sofar room (take i s) i out → out ≡ put room s
 bytes-done {room} {out} {i} s h f = f.left ∙ ap (put room) (take_all i s h)
+
+-- what is written stands in front
+in-front : {room x out : List ℕ} {at : ℕ} → Sofar room x at out → take at out ≡ x
+in-front {room} {x} {out} {at} f =
+    let h : length x ≤ length room = omega arith in
+    ap (take at) (f.left ∙ put-fits room x h) ∙ take_at x _ at (sym f.is)
+
+-- a block that was read from s, and written
+pub block-done : {zeros block room out : List ℕ} {j k : ℕ} (s : List ℕ) → j ≡ 16 → k ≡ 16 → Sofar zeros (take j s) j block → Sofar room (take k block) k out → out ≡ put room (take 16 s)
+block-done {zeros} {block} {room} {out} {j} {k} s e d p q =
+    let t : take k block ≡ take j block = ap (λ (n : ℕ). take n block) (d ∙ sym e) in
+    q.left ∙ ap (put room) (t ∙ in-front p ∙ ap (λ (n : ℕ). take n s) e)
 
 -- ---- blocks, one after the other
 
